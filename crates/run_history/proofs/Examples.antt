@@ -1,0 +1,433 @@
+-- The definitions at values that were worked out by hand from the RISC-V manual's formats and the ELF specification.
+use Rattle.std.proofs.Common.{◌≡◌, ℕ, true, false, List, [], ◌∷◌, ◌++◌, length, map, Some, None, refl}
+use Rattle.std.specs.Prelude.{pos, negsuc, flat_map, option_and_then}
+use Rattle.rx_io.specs.declared.bytes.Item.{Item}
+use Rattle.rv_isa.specs.declared.instr.Instr.TheVariants.{Lui, Jal, Branch, Load, Store, OpImm, Op, Ecall}
+use Rattle.rv_isa.specs.declared.instr.BranchOp.TheVariants.{Beq}
+use Rattle.rv_isa.specs.declared.instr.LoadOp.TheVariants.{Lw}
+use Rattle.rv_isa.specs.declared.instr.StoreOp.TheVariants.{Sw}
+use Rattle.rv_isa.specs.declared.instr.ImmOp.TheVariants.{Addi}
+use Rattle.rv_isa.specs.declared.instr.RegOp.TheVariants.{Add}
+use Rattle.rv_isa.specs.Words.{little_bytes, little_number, opcode, rd, funct3, rs1, rs2, funct7, imm_i, imm_s, imm_b, imm_u, imm_j}
+use Rattle.rv_isa.specs.Table.{row, branch_row, load_row, store_row, imm_row, op_row, system_row}
+use Rattle.run_history.specs.declared.image.Image.{Image}
+use Rattle.run_history.specs.declared.answer.Cause.TheVariants.{BadAccess, BadJump, BadCall, Hang}
+use Rattle.run_history.specs.Memory.{Area, execute, read, write, byte_at, permitted, bytes_at, put_bytes}
+use Rattle.run_history.specs.Image.{base, heap_start, heap_end, stack_top, zeros, memory_of, written}
+use Rattle.run_history.specs.Machine.{Machine, State, register, with_register, offset, start_machine, Goes, Emits, Ends, Fails}
+use Rattle.run_history.specs.Instruction.{jal, branch, load, store}
+use Rattle.run_history.specs.Call.{received, answered, send, call}
+use Rattle.run_history.specs.Run.{instruction, effect, effect_within, next, run, sent_to}
+
+-- A program that sends back each message. Its words, as an assembler gives them:
+abbrev pub echo : List ℕ
+echo =
+    0xfffff437
+    ∷ 0x00810433
+    ∷ 0x000014b7
+    ∷ 0x00040513
+    ∷ 0x00048593
+    ∷ 0x00100893
+    ∷ 0x00000073
+    ∷ 0x00200293
+    ∷ 0x00560463
+    ∷ 0xfe9ff06f
+    ∷ 0x00050313
+    ∷ 0x00058513
+    ∷ 0x00040593
+    ∷ 0x00030613
+    ∷ 0x00200893
+    ∷ 0x00000073
+    ∷ 0xfcdff06f
+    ∷ []
+
+-- and what they say:
+pub echo_rows : map row echo ≡
+    Some (Lui 8 (negsuc 4095))  -- lui x8, 0xfffff
+    ∷ Some (Op Add 8 2 8)  -- add x8, x2, x8
+    ∷ Some (Lui 9 (pos 4096))  -- lui x9, 1
+    ∷ Some (OpImm Addi 10 8 (pos 0))  -- addi x10, x8, 0
+    ∷ Some (OpImm Addi 11 9 (pos 0))  -- addi x11, x9, 0
+    ∷ Some (OpImm Addi 17 0 (pos 1))  -- addi x17, x0, 1
+    ∷ Some Ecall  -- ecall
+    ∷ Some (OpImm Addi 5 0 (pos 2))  -- addi x5, x0, 2
+    ∷ Some (Branch Beq 12 5 (pos 8))  -- beq x12, x5, 8
+    ∷ Some (Jal 0 (negsuc 23))  -- jal x0, -24
+    ∷ Some (OpImm Addi 6 10 (pos 0))  -- addi x6, x10, 0
+    ∷ Some (OpImm Addi 10 11 (pos 0))  -- addi x10, x11, 0
+    ∷ Some (OpImm Addi 11 8 (pos 0))  -- addi x11, x8, 0
+    ∷ Some (OpImm Addi 12 6 (pos 0))  -- addi x12, x6, 0
+    ∷ Some (OpImm Addi 17 0 (pos 2))  -- addi x17, x0, 2
+    ∷ Some Ecall  -- ecall
+    ∷ Some (Jal 0 (negsuc 51))  -- jal x0, -52
+    ∷ []
+unfolding row branch_row imm_row op_row system_row opcode rd funct3 rs1 rs2 funct7 imm_i imm_b imm_u imm_j
+echo_rows = refl
+
+-- lw x7, -8(x2) and sw x5, -4(x2)
+pub row_of_load : row 0xff812383 ≡ Some (Load Lw 7 2 (negsuc 7))
+unfolding row load_row opcode rd funct3 rs1 imm_i
+row_of_load = refl
+
+pub row_of_store : row 0xfe512e23 ≡ Some (Store Sw 2 5 (negsuc 3))
+unfolding row store_row opcode funct3 rs1 rs2 imm_s
+row_of_store = refl
+
+-- no instruction is all zeros or all ones
+pub row_of_zeros : row 0x00000000 ≡ None
+unfolding row opcode
+row_of_zeros = refl
+
+pub row_of_ones : row 0xffffffff ≡ None
+unfolding row opcode
+row_of_ones = refl
+
+-- sub x5, x6, x7: the fields of the R format
+pub fields_of_sub : opcode 0x407302b3 ∷ rd 0x407302b3 ∷ funct3 0x407302b3 ∷ rs1 0x407302b3 ∷ rs2 0x407302b3 ∷ funct7 0x407302b3 ∷ [] ≡ 0b0110011 ∷ 5 ∷ 0b000 ∷ 6 ∷ 7 ∷ 0b0100000 ∷ []
+unfolding opcode rd funct3 rs1 rs2 funct7
+fields_of_sub = refl
+
+-- mulhu x31, x1, x16
+pub fields_of_mulhu : opcode 0x0300bfb3 ∷ rd 0x0300bfb3 ∷ funct3 0x0300bfb3 ∷ rs1 0x0300bfb3 ∷ rs2 0x0300bfb3 ∷ funct7 0x0300bfb3 ∷ [] ≡ 0b0110011 ∷ 31 ∷ 0b011 ∷ 1 ∷ 16 ∷ 0b0000001 ∷ []
+unfolding opcode rd funct3 rs1 rs2 funct7
+fields_of_mulhu = refl
+
+-- and x31, x31, x31
+pub fields_of_and : opcode 0x01ffffb3 ∷ rd 0x01ffffb3 ∷ funct3 0x01ffffb3 ∷ rs1 0x01ffffb3 ∷ rs2 0x01ffffb3 ∷ funct7 0x01ffffb3 ∷ [] ≡ 0b0110011 ∷ 31 ∷ 0b111 ∷ 31 ∷ 31 ∷ 0 ∷ []
+unfolding opcode rd funct3 rs1 rs2 funct7
+fields_of_and = refl
+
+-- immediates, the least and the greatest of each format: addi x5, x0, -1; -2048; 2047
+pub immediates_i : imm_i 0xfff00293 ∷ imm_i 0x80000293 ∷ imm_i 0x7ff00293 ∷ [] ≡ negsuc 0 ∷ negsuc 2047 ∷ pos 2047 ∷ []
+unfolding imm_i
+immediates_i = refl
+
+-- sw x5, -4(x2); -2048(x2); 2047(x2)
+pub immediates_s : imm_s 0xfe512e23 ∷ imm_s 0x80512023 ∷ imm_s 0x7e512fa3 ∷ [] ≡ negsuc 3 ∷ negsuc 2047 ∷ pos 2047 ∷ []
+unfolding imm_s
+immediates_s = refl
+
+-- beq x0, x0, -4096; 4094; 2048
+pub immediates_b : imm_b 0x80000063 ∷ imm_b 0x7e000fe3 ∷ imm_b 0x000000e3 ∷ [] ≡ negsuc 4095 ∷ pos 4094 ∷ pos 2048 ∷ []
+unfolding imm_b
+immediates_b = refl
+
+-- lui x9, 1; 0x80000; 0x7ffff
+pub immediates_u : imm_u 0x000014b7 ∷ imm_u 0x800004b7 ∷ imm_u 0x7ffff4b7 ∷ [] ≡ pos 4096 ∷ negsuc 2147483647 ∷ pos 2147479552 ∷ []
+unfolding imm_u
+immediates_u = refl
+
+-- jal x0, -1048576; 1048574; 2048; 4096
+pub immediates_j : imm_j 0x8000006f ∷ imm_j 0x7ffff06f ∷ imm_j 0x0010006f ∷ imm_j 0x0000106f ∷ [] ≡ negsuc 1048575 ∷ pos 1048574 ∷ pos 2048 ∷ pos 4096 ∷ []
+unfolding imm_j
+immediates_j = refl
+
+-- bytes of a number, the lowest first, and back
+pub bytes_of_word : little_bytes 4 0xfffff437 ≡ 0x37 ∷ 0xf4 ∷ 0xff ∷ 0xff ∷ []
+bytes_of_word = refl
+
+pub low_bytes_of_word : little_bytes 2 0x12345678 ≡ 0x78 ∷ 0x56 ∷ []
+low_bytes_of_word = refl
+
+pub word_of_bytes : little_number (0x78 ∷ 0x56 ∷ 0x34 ∷ 0x12 ∷ []) ≡ 0x12345678
+word_of_bytes = refl
+
+-- the program's bytes in a file
+abbrev pub echo_bytes : List ℕ
+echo_bytes =
+    0x37 ∷ 0xf4 ∷ 0xff ∷ 0xff
+    ∷ 0x33 ∷ 0x04 ∷ 0x81 ∷ 0x00
+    ∷ 0xb7 ∷ 0x14 ∷ 0x00 ∷ 0x00
+    ∷ 0x13 ∷ 0x05 ∷ 0x04 ∷ 0x00
+    ∷ 0x93 ∷ 0x85 ∷ 0x04 ∷ 0x00
+    ∷ 0x93 ∷ 0x08 ∷ 0x10 ∷ 0x00
+    ∷ 0x73 ∷ 0x00 ∷ 0x00 ∷ 0x00
+    ∷ 0x93 ∷ 0x02 ∷ 0x20 ∷ 0x00
+    ∷ 0x63 ∷ 0x04 ∷ 0x56 ∷ 0x00
+    ∷ 0x6f ∷ 0xf0 ∷ 0x9f ∷ 0xfe
+    ∷ 0x13 ∷ 0x03 ∷ 0x05 ∷ 0x00
+    ∷ 0x13 ∷ 0x85 ∷ 0x05 ∷ 0x00
+    ∷ 0x93 ∷ 0x05 ∷ 0x04 ∷ 0x00
+    ∷ 0x13 ∷ 0x06 ∷ 0x03 ∷ 0x00
+    ∷ 0x93 ∷ 0x08 ∷ 0x20 ∷ 0x00
+    ∷ 0x73 ∷ 0x00 ∷ 0x00 ∷ 0x00
+    ∷ 0x6f ∷ 0xf0 ∷ 0xdf ∷ 0xfc
+    ∷ []
+
+pub echo_in_bytes : flat_map (little_bytes 4) echo ≡ echo_bytes
+echo_in_bytes = refl
+
+-- the program in one segment that may be read and executed, in a window of 4 MiB
+abbrev pub echo_image : Image
+echo_image = record { entry = 0x10000; window = 4194304; segments = record { vaddr = 0x10000; flags = 5; memsz = 68; filled = echo_bytes } ∷ [] }
+
+pub echo_base : base echo_image ≡ 0x10000
+echo_base = refl
+
+pub echo_heap_start : heap_start echo_image ≡ 0x11000
+echo_heap_start = refl
+
+pub echo_heap_end : heap_end echo_image ≡ 0x3ff000
+echo_heap_end = refl
+
+pub echo_stack_top : stack_top echo_image ≡ 0x410000
+echo_stack_top = refl
+
+-- two segments, the higher one first, and neither at a page's begin
+abbrev pub two_segments : Image
+two_segments =
+    record { entry = 0x12345; window = 8388608; segments = record { vaddr = 0x20ff0; flags = 6; memsz = 0x20; filled = [] } ∷ record { vaddr = 0x12345; flags = 5; memsz = 4; filled = [] } ∷ [] }
+
+pub two_segments_window : base two_segments ∷ heap_start two_segments ∷ heap_end two_segments ∷ stack_top two_segments ∷ [] ≡ 0x12000 ∷ 0x22000 ∷ 0x801000 ∷ 0x812000 ∷ []
+two_segments_window = refl
+
+-- a segment of exactly one page: the heap begins at its end
+pub whole_page : heap_start (record { entry = 0x10000; window = 4194304; segments = record { vaddr = 0x10000; flags = 5; memsz = 0x1000; filled = [] } ∷ [] }) ≡ 0x11000
+whole_page = refl
+
+-- the header (52 bytes) and the one program header (32 bytes) of the written file
+abbrev pub echo_headers : List ℕ
+echo_headers =
+    0x7f ∷ 0x45 ∷ 0x4c ∷ 0x46 ∷ 0x01 ∷ 0x01 ∷ 0x01 ∷ 0x00  -- magic; ELFCLASS32, ELFDATA2LSB, EV_CURRENT, no ABI extension
+    ∷ 0x00 ∷ 0x00 ∷ 0x00 ∷ 0x00 ∷ 0x00 ∷ 0x00 ∷ 0x00 ∷ 0x00  -- padding of e_ident
+    ∷ 0x02 ∷ 0x00 ∷ 0xf3 ∷ 0x00 ∷ 0x01 ∷ 0x00 ∷ 0x00 ∷ 0x00  -- ET_EXEC, EM_RISCV, EV_CURRENT
+    ∷ 0x00 ∷ 0x00 ∷ 0x01 ∷ 0x00  -- e_entry 0x10000
+    ∷ 0x34 ∷ 0x00 ∷ 0x00 ∷ 0x00  -- e_phoff 52
+    ∷ 0x00 ∷ 0x00 ∷ 0x00 ∷ 0x00  -- e_shoff
+    ∷ 0x00 ∷ 0x00 ∷ 0x00 ∷ 0x00  -- e_flags
+    ∷ 0x34 ∷ 0x00 ∷ 0x20 ∷ 0x00 ∷ 0x01 ∷ 0x00  -- e_ehsize 52, e_phentsize 32, e_phnum 1
+    ∷ 0x00 ∷ 0x00 ∷ 0x00 ∷ 0x00 ∷ 0x00 ∷ 0x00  -- e_shentsize, e_shnum, e_shstrndx
+    ∷ 0x01 ∷ 0x00 ∷ 0x00 ∷ 0x00  -- PT_LOAD
+    ∷ 0x54 ∷ 0x00 ∷ 0x00 ∷ 0x00  -- p_offset 84
+    ∷ 0x00 ∷ 0x00 ∷ 0x01 ∷ 0x00  -- p_vaddr 0x10000
+    ∷ 0x00 ∷ 0x00 ∷ 0x01 ∷ 0x00  -- p_paddr 0x10000
+    ∷ 0x44 ∷ 0x00 ∷ 0x00 ∷ 0x00  -- p_filesz 68
+    ∷ 0x44 ∷ 0x00 ∷ 0x00 ∷ 0x00  -- p_memsz 68
+    ∷ 0x05 ∷ 0x00 ∷ 0x00 ∷ 0x00  -- PF_R and PF_X
+    ∷ 0x01 ∷ 0x00 ∷ 0x00 ∷ 0x00  -- p_align 1
+    ∷ []
+
+pub echo_written : written echo_image ≡ echo_headers ++ echo_bytes
+echo_written = refl
+
+pub echo_headers_length : length echo_headers ≡ 84
+echo_headers_length = refl
+
+-- memory at the start: the program, the heap, and a stack of 64 KiB
+pub echo_memory : memory_of echo_image ≡
+    record { start = 0x10000; flags = 5; bytes = echo_bytes ++ zeros 0 }
+    ∷ record { start = 0x11000; flags = 6; bytes = zeros 0x3ee000 }
+    ∷ record { start = 0x400000; flags = 6; bytes = zeros 0x10000 }
+    ∷ []
+echo_memory = refl
+
+-- two areas that touch: 100 to 103 may be read and written, 104 to 107 may be read and executed
+abbrev pub two_areas : List Area
+two_areas =
+    record { start = 100; flags = 6; bytes = 10 ∷ 20 ∷ 30 ∷ 40 ∷ [] } ∷ record { start = 104; flags = 5; bytes = 50 ∷ 60 ∷ 70 ∷ 80 ∷ [] } ∷ []
+
+pub bytes_read : byte_at read two_areas 99 ∷ byte_at read two_areas 100 ∷ byte_at read two_areas 103 ∷ byte_at read two_areas 104 ∷ byte_at read two_areas 107 ∷ byte_at read two_areas 108 ∷ [] ≡ None ∷ Some 10 ∷ Some 40 ∷ Some 50 ∷ Some 80 ∷ None ∷ []
+bytes_read = refl
+
+-- an area that doesn't permit this has no byte for it
+pub bytes_by_permission : byte_at write two_areas 103 ∷ byte_at write two_areas 104 ∷ byte_at execute two_areas 103 ∷ byte_at execute two_areas 104 ∷ [] ≡ Some 40 ∷ None ∷ None ∷ Some 50 ∷ []
+bytes_by_permission = refl
+
+-- a read may cross the seam, a write may not, and neither may go past the end
+pub across_the_seam : permitted read two_areas 102 4 ∷ permitted write two_areas 102 4 ∷ permitted write two_areas 100 4 ∷ permitted execute two_areas 104 4 ∷ [] ≡ true ∷ false ∷ true ∷ true ∷ []
+unfolding permitted
+across_the_seam = refl
+
+pub past_the_end : permitted read two_areas 104 4 ∷ permitted read two_areas 105 4 ∷ permitted read two_areas 99 1 ∷ permitted read two_areas 108 1 ∷ [] ≡ true ∷ false ∷ false ∷ false ∷ []
+unfolding permitted
+past_the_end = refl
+
+-- no byte at all is permitted anywhere
+pub no_bytes : permitted write two_areas 5000 0 ∷ permitted write two_areas 4294967295 0 ∷ [] ≡ true ∷ true ∷ []
+unfolding permitted
+no_bytes = refl
+
+-- no access goes past 2 ^ 32, whatever an area has there
+abbrev pub last_bytes : List Area
+last_bytes = record { start = 4294967294; flags = 6; bytes = 1 ∷ 2 ∷ 3 ∷ 4 ∷ [] } ∷ []
+
+pub at_the_last_address : permitted read last_bytes 4294967295 1 ∷ permitted read last_bytes 4294967294 2 ∷ permitted read last_bytes 4294967295 2 ∷ permitted read last_bytes 4294967295 4 ∷ [] ≡ true ∷ true ∷ false ∷ false ∷ []
+unfolding permitted
+at_the_last_address = refl
+
+pub bytes_across_the_seam : bytes_at read two_areas 102 4 ≡ 30 ∷ 40 ∷ 50 ∷ 60 ∷ []
+bytes_across_the_seam = refl
+
+pub bytes_put : put_bytes two_areas 101 (7 ∷ 8 ∷ []) ≡ record { start = 100; flags = 6; bytes = 10 ∷ 7 ∷ 8 ∷ 40 ∷ [] } ∷ record { start = 104; flags = 5; bytes = 50 ∷ 60 ∷ 70 ∷ 80 ∷ [] } ∷ []
+bytes_put = refl
+
+-- a byte that may not be written stays
+pub bytes_put_across_the_seam : put_bytes two_areas 103 (7 ∷ 8 ∷ []) ≡ record { start = 100; flags = 6; bytes = 10 ∷ 20 ∷ 30 ∷ 7 ∷ [] } ∷ record { start = 104; flags = 5; bytes = 50 ∷ 60 ∷ 70 ∷ 80 ∷ [] } ∷ []
+bytes_put_across_the_seam = refl
+
+-- an address and an offset, modulo 2 ^ 32
+pub offsets : offset 0 (negsuc 3) ∷ offset 4 (negsuc 3) ∷ offset 4294967292 (pos 8) ∷ offset 0x10040 (negsuc 51) ∷ offset 0 (negsuc 4095) ∷ [] ≡ 0xfffffffc ∷ 0 ∷ 4 ∷ 0x1000c ∷ 0xfffff000 ∷ []
+offsets = refl
+
+-- A machine at the program's fourth word, with the program at 0 and a buffer of 8 bytes behind it. Connection 3 is
+-- open; the list has something in place 0, which isn't seen.
+abbrev pub waiting : Machine
+waiting =
+    record {
+      pc = 12;
+      registers =
+          99 ∷ 0 ∷ 0 ∷ 0 ∷ 0 ∷ 0 ∷ 0 ∷ 0 ∷ 68 ∷ 8 ∷ 0 ∷ 0 ∷ 0 ∷ 0 ∷ 0 ∷ 0
+          ∷ 0 ∷ 0 ∷ 0 ∷ 0 ∷ 0 ∷ 0 ∷ 0 ∷ 0 ∷ 0 ∷ 0 ∷ 0 ∷ 0 ∷ 0 ∷ 0 ∷ 0 ∷ 0
+          ∷ [];
+      memory = record { start = 0; flags = 5; bytes = echo_bytes } ∷ record { start = 68; flags = 6; bytes = 0 ∷ 0 ∷ 0 ∷ 0 ∷ 0 ∷ 0 ∷ 0 ∷ 0 ∷ [] } ∷ [];
+      blocks = [];
+      allocations = 0;
+      taken = 0;
+      connections = false ∷ false ∷ false ∷ true ∷ [];
+      since = 0;
+    }
+
+pub register_zero : register waiting 0 ∷ register waiting 8 ∷ register waiting 9 ∷ [] ≡ 0 ∷ 68 ∷ 8 ∷ []
+register_zero = refl
+
+pub no_write_to_zero : with_register 0 5 (1 ∷ 2 ∷ 3 ∷ []) ≡ 1 ∷ 2 ∷ 3 ∷ []
+no_write_to_zero = refl
+
+pub write_to_two : with_register 2 5 (1 ∷ 2 ∷ 3 ∷ []) ≡ 1 ∷ 2 ∷ 5 ∷ []
+write_to_two = refl
+
+-- the start of the program: its entry, and the stack's top in x2
+pub echo_start : (start_machine echo_image).pc ∷ register (start_machine echo_image) 1 ∷ register (start_machine echo_image) 2 ∷ register (start_machine echo_image) 31 ∷ [] ≡ 0x10000 ∷ 0 ∷ 0x410000 ∷ 0 ∷ []
+unfolding start_machine
+echo_start = refl
+
+-- jumps: -12 from 12; 6 isn't a multiple of 4, which is a failure only if the branch is taken
+pub jump_back : jal 0 (negsuc 11) waiting ≡ Goes (record waiting { pc = 0; since = 1 })
+jump_back = refl
+
+pub jump_below_zero : jal 0 (negsuc 15) waiting ≡ Goes (record waiting { pc = 0xfffffffc; since = 1 })
+jump_below_zero = refl
+
+pub jump_between : jal 1 (pos 6) waiting ≡ Fails BadJump
+jump_between = refl
+
+pub branch_between : branch Beq 0 1 (pos 6) waiting ≡ Fails BadJump
+branch_between = refl
+
+pub branch_not_taken : branch Beq 0 8 (pos 6) waiting ≡ Goes (record waiting { pc = 16; since = 1 })
+branch_not_taken = refl
+
+-- loads of the program's first word into x5 and into x0, and of the buffer's end
+pub load_first : load Lw 5 0 (pos 0) waiting ≡ Goes (record waiting { pc = 16; registers = with_register 5 0xfffff437 waiting.registers; since = 1 })
+unfolding permitted
+load_first = refl
+
+pub load_into_zero : load Lw 0 0 (pos 0) waiting ≡ Goes (record waiting { pc = 16; since = 1 })
+unfolding permitted
+load_into_zero = refl
+
+pub load_past_the_end : load Lw 5 8 (pos 5) waiting ≡ Fails BadAccess
+unfolding permitted
+load_past_the_end = refl
+
+-- stores into the buffer, and into the program
+pub store_into_buffer : store Sw 8 9 (pos 4) waiting ≡
+    Goes
+    (record waiting {
+      pc = 16;
+      memory = record { start = 0; flags = 5; bytes = echo_bytes } ∷ record { start = 68; flags = 6; bytes = 0 ∷ 0 ∷ 0 ∷ 0 ∷ 8 ∷ 0 ∷ 0 ∷ 0 ∷ [] } ∷ [];
+      since = 1;
+    })
+unfolding permitted
+store_into_buffer = refl
+
+pub store_into_program : store Sw 0 8 (pos 0) waiting ≡ Fails BadAccess
+unfolding permitted
+store_into_program = refl
+
+-- sends: 65,536 bytes, a closed connection, one that isn't there, a buffer that isn't there, and no bytes
+abbrev pub sending : ℕ → ℕ → ℕ → Machine
+sending conn at count = record waiting { registers = with_register 10 conn (with_register 11 at (with_register 12 count waiting.registers)) }
+
+pub send_too_long : send (sending 0 0 65536) ≡ Goes (answered 2 (sending 0 0 65536))
+send_too_long = refl
+
+pub send_to_closed : send (sending 0 0 65535) ≡ Goes (answered 1 (sending 0 0 65535))
+send_to_closed = refl
+
+pub send_to_absent : send (sending 5000 68 1) ≡ Goes (answered 1 (sending 5000 68 1))
+send_to_absent = refl
+
+pub send_past_the_end : send (sending 3 70 7) ≡ Fails BadAccess
+unfolding permitted
+send_past_the_end = refl
+
+pub send_nothing : send (sending 3 5000 0) ≡ Goes (answered 0 (sending 3 5000 0))
+unfolding permitted
+send_nothing = refl
+
+pub send_some : send (sending 3 64 5) ≡ Emits 3 (0x6f ∷ 0xf0 ∷ 0xdf ∷ 0xfc ∷ 0 ∷ []) (answered 0 (sending 3 64 5))
+unfolding permitted
+send_some = refl
+
+-- a call with no such number, and an end
+pub no_such_call : call 0 [] waiting ≡ Fails BadCall
+no_such_call = refl
+
+pub end_with_code : call 5 [] (sending 7 0 0) ≡ Ends 7
+end_with_code = refl
+
+-- an empty budget is tested before all else; no word is fetched from where none may be executed
+pub hang_first : effect_within 0 [] [] (record waiting { pc = 5000 }) ≡ Fails Hang
+hang_first = refl
+
+pub fetch_outside : effect [] [] (record waiting { pc = 68 }) ≡ Fails BadAccess
+unfolding effect permitted
+fetch_outside = refl
+
+-- the sends of a connection, in their order
+pub bytes_sent : sent_to 3 (record { conn = 3; bytes = 1 ∷ 2 ∷ []; taken = 1 } ∷ record { conn = 0; bytes = 9 ∷ []; taken = 1 } ∷ record { conn = 3; bytes = 3 ∷ []; taken = 2 } ∷ []) ≡ 1 ∷ 2 ∷ 3 ∷ []
+bytes_sent = refl
+
+pub none_sent : sent_to 1 (record { conn = 3; bytes = 1 ∷ 2 ∷ []; taken = 1 } ∷ []) ≡ []
+none_sent = refl
+
+-- the machine waits, and has received a message and sent it back
+abbrev pub before : State
+before = record { machine = waiting; sends = []; ended = None }
+
+abbrev pub message : Item
+message = record { kind = 2; conn = 3; bytes = 104 ∷ 105 ∷ [] }
+
+-- three instructions, and then it wants an item
+pub echo_waits : option_and_then (λ (s : State). Some s.machine.pc) (run [] [] before 3) ≡ Some 24
+unfolding next effect permitted instruction row branch_row imm_row op_row system_row opcode rd funct3 rs1 rs2 funct7 imm_i imm_b imm_u imm_j received
+echo_waits = refl
+
+pub echo_wants : run [] [] before 4 ≡ None
+unfolding next effect permitted instruction row branch_row imm_row op_row system_row opcode rd funct3 rs1 rs2 funct7 imm_i imm_b imm_u imm_j received
+echo_wants = refl
+
+-- with the message there, thirteen instructions send it back and are at the same place again
+pub echo_answers : run (message ∷ []) [] before 13 ≡
+    Some
+    (record {
+      machine =
+          record {
+            pc = 12;
+            registers =
+                99 ∷ 0 ∷ 0 ∷ 0 ∷ 0 ∷ 2 ∷ 2 ∷ 0 ∷ 68 ∷ 8 ∷ 0 ∷ 68 ∷ 2 ∷ 0 ∷ 0 ∷ 0
+                ∷ 0 ∷ 2 ∷ 0 ∷ 0 ∷ 0 ∷ 0 ∷ 0 ∷ 0 ∷ 0 ∷ 0 ∷ 0 ∷ 0 ∷ 0 ∷ 0 ∷ 0 ∷ 0
+                ∷ [];
+            memory = record { start = 0; flags = 5; bytes = echo_bytes } ∷ record { start = 68; flags = 6; bytes = 104 ∷ 105 ∷ 0 ∷ 0 ∷ 0 ∷ 0 ∷ 0 ∷ 0 ∷ [] } ∷ [];
+            blocks = [];
+            allocations = 0;
+            taken = 1;
+            connections = false ∷ false ∷ false ∷ true ∷ [];
+            since = 9;
+          };
+      sends = record { conn = 3; bytes = 104 ∷ 105 ∷ []; taken = 1 } ∷ [];
+      ended = None;
+    })
+unfolding next effect permitted instruction row branch_row imm_row op_row system_row opcode rd funct3 rs1 rs2 funct7 imm_i imm_b imm_u imm_j received
+echo_answers = refl

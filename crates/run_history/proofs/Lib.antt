@@ -1,0 +1,5 @@
+pub mod Shapes
+pub mod Runs
+pub mod Connections
+pub mod Outputs
+pub mod Examples

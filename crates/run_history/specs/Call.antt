@@ -1,0 +1,59 @@
+-- One guest call: an ECALL, with its number in x17. A call that answers goes on behind the ECALL.
+use Rattle.std.specs.Prelude.{ℕ, ◌+◌, Bool, true, false, not, List, length, take, Option, Some, None, slice_get, slice_set, unwrap_or, nat_lt, if◌then◌else◌, ◌==◌}
+use Rattle.rx_io.specs.declared.bytes.Item.{Item}
+use Rattle.run_history.specs.declared.answer.Cause.TheVariants.{BadAccess, BadCall}
+use Rattle.run_history.specs.Memory.{read, write, permitted, bytes_at, put_bytes}
+use Rattle.run_history.specs.Machine.{Machine, register, with_register, next_pc, Effect, Goes, Emits, Ends, Wants, Fails}
+
+-- the connections that may be sent to, once an item was taken: an open (kind 1) adds its own, a close (3) removes it
+abbrev pub connections_after : Item → List Bool → List Bool
+connections_after item connections =
+    if item.kind == 1 then slice_set connections item.conn true else
+    if item.kind == 3 then slice_set connections item.conn false else
+    connections
+
+-- The machine once its recv took an item: the first bytes of it, at most x11, stand at x10; x10 is its full length,
+-- x11 its connection and x12 its kind.
+unfoldable pub received : Item → Machine → Machine
+received item m = record m {
+  pc = next_pc m;
+  registers = with_register 10 (length item.bytes) (with_register 11 item.conn (with_register 12 item.kind m.registers));
+  memory = put_bytes m.memory (register m 10) (take (register m 11) item.bytes);
+  taken = m.taken + 1;
+  connections = connections_after item m.connections;
+  since = 0;
+}
+
+-- what a recv does with the item that is next, if it is there
+abbrev pub takes : Machine → Option Item → Effect
+takes m None = Wants
+takes m (Some item) = Goes (received item m)
+
+-- call 1, recv: x10 the buffer's address, x11 its length, all of it writable
+abbrev pub recv : List Item → Machine → Effect
+recv items m = if permitted write m.memory (register m 10) (register m 11) then takes m (slice_get items m.taken) else Fails BadAccess
+
+-- the machine once a call answered
+abbrev pub answered : ℕ → Machine → Machine
+answered value m = record m { pc = next_pc m; registers = with_register 10 value m.registers; since = m.since + 1 }
+
+abbrev pub may_send : Machine → ℕ → Bool
+may_send m conn = unwrap_or (slice_get m.connections conn) false
+
+-- Call 2, send: x10 the connection, x11 the address, x12 the length. It answers 2 for more than 65,535 bytes, 1 for a
+-- connection that isn't open, and else 0; an empty send sends nothing.
+abbrev pub send : Machine → Effect
+send m =
+    if nat_lt 65535 (register m 12) then Goes (answered 2 m) else
+    if not (may_send m (register m 10)) then Goes (answered 1 m) else
+    if not (permitted read m.memory (register m 11) (register m 12)) then Fails BadAccess else
+    if register m 12 == 0 then Goes (answered 0 m) else
+    Emits (register m 10) (bytes_at read m.memory (register m 11) (register m 12)) (answered 0 m)
+
+-- the call of a number
+abbrev pub call : ℕ → List Item → Machine → Effect
+call number items m =
+    if number == 1 then recv items m else
+    if number == 2 then send m else
+    if number == 5 then Ends (register m 10) else
+    Fails BadCall

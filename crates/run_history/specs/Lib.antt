@@ -1,0 +1,7 @@
+pub mod Memory
+pub mod Image
+pub mod Machine
+pub mod Instruction
+pub mod Call
+pub mod Run
+pub mod Laws

@@ -1,0 +1,78 @@
+-- The machine's state.
+use Rattle.std.specs.Prelude.{ℕ, ◌+◌, ◌%◌, ◌^◌, ℤ, Bool, false, List, [], Option, None, replicate, slice_index, slice_set, if◌then◌else◌, ◌==◌}
+use Rattle.std.specs.Int.{cast_unsigned, w32}
+use Rattle.run_history.specs.declared.answer.Cause.{Cause}
+use Rattle.run_history.specs.declared.image.Image.{Image}
+use Rattle.run_history.specs.Memory.{Area}
+use Rattle.run_history.specs.Image.{memory_of, stack_top}
+
+-- what an instruction reads and changes
+pub record Machine : Type 0 where
+  pub pc : ℕ
+  -- 32 of them
+  pub registers : List ℕ
+  pub memory : List Area
+  -- the live blocks, each an address and a size
+  pub blocks : List (ℕ × ℕ)
+  -- the answers of the allocator that were used
+  pub allocations : ℕ
+  -- the items taken
+  pub taken : ℕ
+  -- for each connection below 4096, whether its open was taken and its close wasn't
+  pub connections : List Bool
+  -- the instructions since the last item was taken, or since the start
+  pub since : ℕ
+
+-- a send: to which connection, the bytes, and the items that were taken when it was made
+pub record Send : Type 0 where
+  pub conn : ℕ
+  pub bytes : List ℕ
+  pub taken : ℕ
+
+-- the machine, what it has sent so far, and the code with which it ended itself, if it did
+pub record State : Type 0 where
+  pub machine : Machine
+  pub sends : List Send
+  pub ended : Option ℕ
+
+-- register 0 reads as 0, and a write to it is dropped (RISC-V manual, "Programmers' Model for Base Integer ISA")
+abbrev pub register : Machine → ℕ → ℕ
+register m n = if n == 0 then 0 else slice_index m.registers n
+
+abbrev pub with_register : ℕ → ℕ → List ℕ → List ℕ
+with_register n value registers = if n == 0 then registers else slice_set registers n value
+
+-- an address and a signed offset, modulo 2 ^ 32
+abbrev pub offset : ℕ → ℤ → ℕ
+offset at by = (at + cast_unsigned w32 by) % 2 ^ 32
+
+abbrev pub next_pc : Machine → ℕ
+next_pc m = (m.pc + 4) % 2 ^ 32
+
+unfoldable pub no_connections : List Bool
+no_connections = replicate 4096 false
+
+-- the machine at the start: the entry, the stack's top in x2, and all other registers 0
+unfoldable pub start_machine : Image → Machine
+start_machine image = record {
+  pc = image.entry;
+  registers = slice_set (replicate 32 0) 2 (stack_top image % 2 ^ 32);
+  memory = memory_of image;
+  blocks = [];
+  allocations = 0;
+  taken = 0;
+  connections = no_connections;
+  since = 0;
+}
+
+unfoldable pub start : Image → State
+start image = record { machine = start_machine image; sends = []; ended = None }
+
+-- What one instruction does: it goes on, sends bytes to a connection, ends the program with a code, wants an item
+-- that isn't there, or fails and changes nothing.
+pub data Effect : Type 0 where
+  Goes : Machine → Effect
+  Emits : ℕ → List ℕ → Machine → Effect
+  Ends : ℕ → Effect
+  Wants : Effect
+  Fails : Cause → Effect

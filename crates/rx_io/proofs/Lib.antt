@@ -1,0 +1,3 @@
+pub mod Composing
+mod Plans
+mod Places

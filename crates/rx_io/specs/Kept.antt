@@ -1,0 +1,24 @@
+-- What the files in memory tell.
+use Rattle.std.specs.Prelude.{Some, unwrap_or, []}
+use Rattle.rx_io.specs.Named.{Contents}
+use Rattle.rx_io.specs.Planned.{Plan}
+use Rattle.rx_io.specs.Shelves.{found}
+use Rattle.rx_io.specs.declared.memory_files.MemoryFiles.{MemoryFiles}
+use Rattle.rx_io.specs.declared.tame_files.TameFiles.{TameFiles}
+
+abbrev pub memory_contents : MemoryFiles → Contents
+memory_contents s = found s.files.files.items
+
+abbrev pub memory_files_plan : MemoryFiles → Plan
+memory_files_plan s = s.fails
+
+-- the files that are there
+abbrev pub tame_found : TameFiles → Contents
+tame_found s = found s.files.files.items
+
+-- each name is told as there, a missing one as empty
+abbrev pub or_empty : Contents → Contents
+or_empty files name = Some (unwrap_or (files name) [])
+
+abbrev pub tame_contents : TameFiles → Contents
+tame_contents s = or_empty (tame_found s)

@@ -1,0 +1,14 @@
+pub mod Outside
+pub mod Faults
+pub mod Taking
+pub mod Named
+pub mod Planned
+pub mod Sources
+pub mod Sinks
+pub mod Shelves
+pub mod Kept
+pub mod Listening
+pub mod Connections
+pub mod Reading
+pub mod Laws
+pub mod Prefix

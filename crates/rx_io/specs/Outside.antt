@@ -1,0 +1,18 @@
+-- What an object outside tells of its content. It tells it optionally: the forms in memory do, the adapters over
+-- real things don't, and of what isn't told nothing is claimed.
+use Rattle.std.specs.Prelude.{◌≡◌, ℕ, List, [], ◌++◌, Option, Some, None, IfSome}
+
+-- the bytes taken from a source so far, and those that are left
+pub record Stream : Type 0 where
+  pub taken : List ℕ
+  pub left : List ℕ
+
+-- these bytes were taken from the front of what was left
+abbrev pub Took : Option Stream → Option Stream → List ℕ → Type 0
+Took None new bytes = Unit {0}
+Took (Some old) None bytes = ⊥
+Took (Some old) (Some new) bytes = (new.taken ≡ old.taken ++ bytes) × (old.left ≡ bytes ++ new.left)
+
+-- no byte is left
+abbrev pub IsDrained : Option Stream → Type 0
+IsDrained source = IfSome source (λ stream. stream.left ≡ [])

@@ -1,0 +1,34 @@
+-- What the sources in memory tell.
+use Rattle.std.specs.Prelude.{ℕ, min, List, [], length, take, drop, Option, None, Some}
+use Rattle.rx_io.specs.Outside.{Stream}
+use Rattle.rx_io.specs.Planned.{Plan}
+use Rattle.rx_io.specs.declared.tame_source.TameSource.{TameSource}
+use Rattle.rx_io.specs.declared.memory_source.MemorySource.{MemorySource}
+
+-- none of these bytes was taken yet
+abbrev pub fresh : List ℕ → Stream
+fresh bytes = record { taken = []; left = bytes }
+
+-- how many bytes a call gives: at most so many per call, as many as the buffer has room for, and as are left
+abbrev pub piece_len : ℕ → ℕ → Stream → ℕ
+piece_len most room stream = min (min most room) (length stream.left)
+
+abbrev pub tame_stream : TameSource → Stream
+tame_stream s = record { taken = take s.at s.bytes.items; left = drop s.at s.bytes.items }
+
+abbrev pub tame_most : TameSource → ℕ
+tame_most s = s.most
+
+-- how many bytes a call of a source gives at most, or this number where there is no source
+abbrev pub most_or : ℕ → Option TameSource → ℕ
+most_or most None = most
+most_or most (Some source) = tame_most source
+
+abbrev pub memory_stream : MemorySource → Stream
+memory_stream s = tame_stream s.source
+
+abbrev pub memory_most : MemorySource → ℕ
+memory_most s = tame_most s.source
+
+abbrev pub memory_plan : MemorySource → Plan
+memory_plan s = s.fails

@@ -1,0 +1,47 @@
+// Calls of std that are tried again where they were interrupted, a bounded number of times.
+ghost use Rattle.std.specs.Prelude.{◌≡◌, ℕ, ◌<◌, ◌≤◌, List, [], length, take, Option, IfSome};
+ghost use Rattle.std.specs.Io.KnownBytes.{Appends, Consumes, IsAtEnd};
+
+use std::io::{ErrorKind, Read, Write};
+
+/// How often a call is tried before its interruption is a fault.
+pub const TRIES: u32 = 1000;
+
+/// One read, or none where it failed.
+pub fn read_some<R: Read>(reader: &mut R, buf: &mut [u8]) -> Option<usize>
+    ensures count { IfSome result (λ n. n ≤ length buf.old) }
+    ensures bytes { IfSome result (λ n. Consumes (R.remaining reader.old) (R.remaining reader.new) (take n buf.new)) }
+    ensures end { IfSome result (λ n. n ≡ 0 → 0 < length buf.old → IsAtEnd (R.remaining reader.new)) }
+{
+    'tries: for _ in 0..TRIES {
+        match reader.read(buf) {
+            Ok(count) => return Some(count),
+            Err(e) => {
+                if e.kind() != ErrorKind::Interrupted {
+                    return None;
+                }
+            }
+        }
+    }
+    None
+}
+
+/// One write of at least a byte, or none where it failed or took no byte.
+pub fn write_some<W: Write>(writer: &mut W, bytes: &[u8]) -> Option<usize>
+    ensures some { IfSome result (λ n. 0 < n) }
+    ensures count { IfSome result (λ n. n ≤ length bytes.now) }
+    ensures bytes { IfSome result (λ n. Appends (W.contents writer.old) (W.contents writer.new) (take n bytes.now)) }
+{
+    'tries: for _ in 0..TRIES {
+        match writer.write(bytes) {
+            Ok(0) => return None,
+            Ok(count) => return Some(count),
+            Err(e) => {
+                if e.kind() != ErrorKind::Interrupted {
+                    return None;
+                }
+            }
+        }
+    }
+    None
+}

@@ -1,0 +1,75 @@
+// Objects outside that are lent.
+use crate::{Files, IoFault, Listener, LoadFault, Sink, Source};
+use std::alloc::Global;
+
+impl<T: Source> Source for &mut T {
+    ghost told = { λ s. T.told s.now };
+
+    ghost faults = { λ s. T.faults s.now };
+
+    ghost countable = { λ s. T.countable s.now };
+
+    fn take(&mut self, buf: &mut [u8]) -> Result<usize, IoFault> {
+        Source::take(&mut **self, buf)
+    }
+}
+
+impl<T: Sink> Sink for &mut T {
+    ghost told = { λ s. T.told s.now };
+
+    ghost faults = { λ s. T.faults s.now };
+
+    ghost countable = { λ s. T.countable s.now };
+
+    fn give(&mut self, bytes: &[u8]) -> Result<usize, IoFault> {
+        Sink::give(&mut **self, bytes)
+    }
+}
+
+impl<T: Files> Files for &mut T {
+    ghost told = { λ s. T.told s.now };
+
+    ghost faults = { λ s. T.faults s.now };
+
+    fn load(&mut self, alloc: Global, name: &str, limit: u64) -> Result<Vec<u8>, LoadFault> {
+        Files::load(&mut **self, alloc, name, limit)
+    }
+
+    fn start(&mut self, name: &str) -> Result<(), IoFault> {
+        Files::start(&mut **self, name)
+    }
+
+    fn add(&mut self, name: &str, bytes: &[u8]) -> Result<(), IoFault> {
+        Files::add(&mut **self, name, bytes)
+    }
+}
+
+impl<T: Listener> Listener for &mut T {
+    ghost told = { λ s. T.told s.now };
+
+    ghost present = { λ s. T.present s.now };
+
+    ghost faults = { λ s. T.faults s.now };
+
+    ghost connection_faults = { λ s. T.connection_faults s.now };
+
+    fn bind(&mut self, port: u16) -> Result<(), IoFault> {
+        Listener::bind(&mut **self, port)
+    }
+
+    fn accept(&mut self) -> Result<(), IoFault> {
+        Listener::accept(&mut **self)
+    }
+
+    fn take(&mut self, buf: &mut [u8]) -> Result<usize, IoFault> {
+        Listener::take(&mut **self, buf)
+    }
+
+    fn give(&mut self, bytes: &[u8]) -> Result<usize, IoFault> {
+        Listener::give(&mut **self, bytes)
+    }
+
+    fn close(&mut self) {
+        Listener::close(&mut **self)
+    }
+}

@@ -1,0 +1,137 @@
+// The files of the system.
+ghost use Rattle.std.specs.Prelude.{◌≡◌, ◌≤◌, None, IfOk, true, vec_len};
+ghost use Rattle.std.specs.Io.KnownBytes.{Appends};
+ghost use Rattle.rx_io.specs.Reading.{ReadsWhole};
+
+use crate::attempts::{TRIES, read_some, write_some};
+use crate::{Files, IoFault, LoadFault};
+use std::alloc::Global;
+use std::fs::OpenOptions;
+use std::io::{ErrorKind, Read, Write};
+use std::rt;
+
+/// The files of the system, by their paths. Of them nothing is told.
+#[derive(Drop)]
+pub struct StdFiles<'a, R: rt::Files> {
+    rt: &'a R,
+    faults: u64,
+}
+
+impl<'a, R: rt::Files> StdFiles<'a, R> {
+    pub fn make(rt: &'a R) -> StdFiles<'a, R>
+        ensures { ⟦<StdFiles<'a, R> as Files>⟧.faults result ≡ 0 }
+    {
+        StdFiles { rt, faults: 0 }
+    }
+}
+
+fn open<R: rt::Files>(rt: &R, how: &OpenOptions, name: &str) -> Option<R::File> {
+    for _ in 0..TRIES {
+        match how.open(rt, name) {
+            Ok(file) => return Some(file),
+            Err(e) => {
+                if e.kind() != ErrorKind::Interrupted {
+                    return None;
+                }
+            }
+        }
+    }
+    None
+}
+
+// All that a reader has left, of which no more than one byte past the limit is taken.
+fn read_whole<R: Read>(reader: &mut R, alloc: Global, limit: u64) -> Result<Vec<u8>, LoadFault>
+    ensures within { IfOk result (λ bytes. vec_len bytes ≤ limit) }
+    ensures bytes { ReadsWhole (R.remaining reader.old) limit result }
+{
+    let mut bytes = Vec::new(alloc);
+    'pieces: for _ in 0..u64::MAX {
+        let mut buffer = [0u8; 4096];
+        // At most one byte past the limit in all, which is then found to be too many.
+        let room = (limit - bytes.len() as u64).min(4095) as usize + 1;
+        let piece = &mut buffer[..room];
+        let Some(count) = read_some(reader, piece) else {
+            return Err(LoadFault::Failed);
+        };
+        if count == 0 {
+            return Ok(bytes);
+        }
+        if bytes.extend_from_slice(&piece[..count]).is_err() {
+            return Err(LoadFault::Memory);
+        }
+        if bytes.len() as u64 > limit {
+            return Err(LoadFault::TooLarge);
+        }
+    }
+    Err(LoadFault::Failed)
+}
+
+// Writes all of the bytes, or says that it failed.
+fn write_whole<W: Write>(writer: &mut W, bytes: &[u8]) -> bool
+    ensures { result ≡ true → Appends (W.contents writer.old) (W.contents writer.new) bytes.now }
+{
+    let mut rest = bytes;
+    'pieces: while rest.len() > 0 {
+        let Some(count) = write_some(writer, rest) else {
+            return false;
+        };
+        (_, rest) = rest.split_at(count);
+    }
+    true
+}
+
+fn load_from<R: rt::Files>(
+    rt: &R,
+    alloc: Global,
+    name: &str,
+    limit: u64,
+) -> Result<Vec<u8>, LoadFault>
+    ensures within { IfOk result (λ bytes. vec_len bytes ≤ limit) }
+{
+    let Some(mut file) = open(rt, OpenOptions::new().read(true), name) else {
+        return Err(LoadFault::Failed);
+    };
+    read_whole(&mut file, alloc, limit)
+}
+
+fn add_to<R: rt::Files>(rt: &R, name: &str, bytes: &[u8]) -> bool {
+    let Some(mut file) = open(rt, OpenOptions::new().append(true).create(true), name) else {
+        return false;
+    };
+    write_whole(&mut file, bytes)
+}
+
+impl<R: rt::Files> Files for StdFiles<'_, R> {
+    ghost told = { λ _. None };
+
+    ghost faults = { λ s. s.faults };
+
+    fn load(&mut self, alloc: Global, name: &str, limit: u64) -> Result<Vec<u8>, LoadFault> {
+        let result = load_from(self.rt, alloc, name, limit);
+        if let Err(LoadFault::Failed) = result {
+            self.faults = self.faults.saturating_add(1);
+        }
+        result
+    }
+
+    fn start(&mut self, name: &str) -> Result<(), IoFault> {
+        let made = open(
+            self.rt,
+            OpenOptions::new().write(true).create(true).truncate(true),
+            name,
+        );
+        if made.is_none() {
+            self.faults = self.faults.saturating_add(1);
+            return Err(IoFault::Failed);
+        }
+        Ok(())
+    }
+
+    fn add(&mut self, name: &str, bytes: &[u8]) -> Result<(), IoFault> {
+        if !add_to(self.rt, name, bytes) {
+            self.faults = self.faults.saturating_add(1);
+            return Err(IoFault::Failed);
+        }
+        Ok(())
+    }
+}

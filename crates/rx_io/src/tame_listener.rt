@@ -1,0 +1,166 @@
+// A listener in memory that never fails.
+ghost use Rattle.std.specs.Prelude.{◌≡◌, ◌<◌, ◌≤◌, ℕ, Bool, true, false, [], length, min, Option, Some, IfOk, OnOk, vec_len, vec_capacity, is_some};
+ghost use Rattle.rx_io.specs.Faults.{HasCause};
+ghost use Rattle.rx_io.specs.Listening.{Binds, Accepts, ListenTakes, ListenGives, Logs, closed, IsPresentAfter};
+ghost use Rattle.rx_io.specs.Planned.{GivesBy};
+ghost use Rattle.rx_io.specs.Sources.{most_or};
+ghost use Rattle.rx_io.specs.Taking.{Takes};
+
+use crate::{Bytes, IoFault, ListenEntry, Listener, Source, TameSource};
+use std::alloc::Global;
+use std::vec::IntoIter;
+
+/// Connections whose inputs are prepared. It never answers `Failed`: past the last input an accepted connection has
+/// an empty one.
+#[derive(Drop)]
+pub struct TameListener {
+    alloc: Global,
+    inputs: IntoIter<Vec<u8>>,
+    present: Option<TameSource>,
+    most: usize,
+    calls: Vec<ListenEntry>,
+    ghost goes_on: { 1 ≤ most },
+    ghost same_most: { most_or most present ≡ most },
+    ghost room_to_close: { is_some present ≡ true → vec_len calls < vec_capacity calls },
+}
+
+impl TameListener {
+    ghost use Rattle.rx_io.specs.Connections.{tame_calls, tame_present, tame_inputs, listener_most, contents_of_all};
+
+    /// The connections' inputs, in the order in which they are accepted. A call takes or gives at most `most` bytes.
+    pub fn make(alloc: Global, inputs: Vec<Vec<u8>>, most: usize) -> TameListener
+        requires { 1 ≤ most }
+        ensures calls { tame_calls result ≡ [] }
+        ensures present { tame_present result ≡ false }
+        ensures inputs { tame_inputs result ≡ contents_of_all inputs.items }
+        ensures most { listener_most result ≡ most }
+    {
+        TameListener {
+            alloc,
+            inputs: inputs.into_iter(),
+            present: None,
+            most,
+            calls: Vec::new(alloc),
+        }
+    }
+
+    /// All calls with their answers, in order.
+    pub fn calls(&self) -> &[ListenEntry]
+        ensures { result.now ≡ tame_calls self.now }
+    {
+        &self.calls
+    }
+}
+
+impl Listener for TameListener {
+    ghost use Rattle.rx_io.specs.Connections.{tame_calls, tame_present, tame_inputs, tame_open, listener_most, AcceptsNext, IsSameConnection, HasSameInputs};
+    ghost use Rattle.rx_io.specs.Sources.{piece_len};
+
+    ghost told = { λ s. Some (tame_calls s) };
+
+    ghost present = { λ s. tame_present s };
+
+    ghost faults = { λ s. 0 };
+
+    ghost connection_faults = { λ s. 0 };
+
+    fn bind(&mut self, port: u16) -> Result<(), IoFault>
+        ensures call { Binds (Some (tame_calls self.old)) (Some (tame_calls self.new)) port result }
+        ensures present { tame_present self.new ≡ tame_present self.old }
+        ensures cause { HasCause 0 0 result }
+        ensures same { IsSameConnection self.old self.new }
+        ensures inputs { HasSameInputs self.old self.new }
+    {
+        match self.calls.reserve(2) {
+            Ok(()) => {}
+            Err(_) => return Err(IoFault::Memory),
+        }
+        self.calls.push_reserved(ListenEntry::Bound(port));
+        Ok(())
+    }
+
+    fn accept(&mut self) -> Result<(), IoFault>
+        ensures call { Accepts (Some (tame_calls self.old)) (Some (tame_calls self.new)) result }
+        ensures present { IsPresentAfter (tame_present self.old) (tame_present self.new) result }
+        ensures cause { HasCause 0 0 result }
+        ensures connection { AcceptsNext self.old self.new result }
+    {
+        match self.calls.reserve(2) {
+            Ok(()) => {}
+            Err(_) => return Err(IoFault::Memory),
+        }
+        let input = match self.inputs.next() {
+            Some(input) => input,
+            None => Vec::new(self.alloc),
+        };
+        self.present = Some(TameSource::make(input, self.most));
+        self.calls.push_reserved(ListenEntry::Accepted);
+        Ok(())
+    }
+
+    fn take(&mut self, buf: &mut [u8]) -> Result<usize, IoFault>
+        requires connected { tame_present self.old ≡ true }
+        requires room { 0 < length buf.old }
+        ensures count { IfOk result (λ n. n ≤ length buf.old) }
+        ensures call { ListenTakes (Some (tame_calls self.old)) (Some (tame_calls self.new)) result buf.new }
+        ensures present { tame_present self.new ≡ true }
+        ensures cause { HasCause 0 0 result }
+        ensures bytes { Takes (Some (tame_open self.old)) (Some (tame_open self.new)) result buf.new }
+        ensures answer { GivesBy false (piece_len (listener_most self.old) (length buf.old) (tame_open self.old)) result }
+        ensures inputs { HasSameInputs self.old self.new }
+    {
+        let room = buf.len();
+        match self.calls.reserve(2) {
+            Ok(()) => {}
+            Err(_) => return Err(IoFault::Memory),
+        }
+        let Some(source) = &mut self.present else {
+            unreachable!()
+        };
+        let bytes = match source.next_piece(room).to_vec(self.alloc) {
+            Ok(bytes) => Bytes::from_vec(bytes),
+            Err(_) => return Err(IoFault::Memory),
+        };
+        let result = source.take(buf);
+        self.calls.push_reserved(ListenEntry::Took { bytes, room });
+        result
+    }
+
+    fn give(&mut self, bytes: &[u8]) -> Result<usize, IoFault>
+        requires connected { tame_present self.old ≡ true }
+        requires offered { 0 < length bytes.now }
+        ensures some { IfOk result (λ n. 0 < n) }
+        ensures count { IfOk result (λ n. n ≤ length bytes.now) }
+        ensures call { ListenGives (Some (tame_calls self.old)) (Some (tame_calls self.new)) result bytes.now }
+        ensures present { tame_present self.new ≡ true }
+        ensures cause { HasCause 0 0 result }
+        ensures answer { GivesBy false (min (listener_most self.old) (length bytes.now)) result }
+        ensures same { IsSameConnection self.old self.new }
+        ensures inputs { HasSameInputs self.old self.new }
+    {
+        match self.calls.reserve(2) {
+            Ok(()) => {}
+            Err(_) => return Err(IoFault::Memory),
+        }
+        let offered = bytes.len();
+        let count = self.most.min(offered);
+        let (piece, _) = bytes.split_at(count);
+        let bytes = match piece.to_vec(self.alloc) {
+            Ok(bytes) => Bytes::from_vec(bytes),
+            Err(_) => return Err(IoFault::Memory),
+        };
+        self.calls
+            .push_reserved(ListenEntry::Gave { bytes, offered });
+        Ok(count)
+    }
+
+    fn close(&mut self)
+        requires { tame_present self.old ≡ true }
+        ensures call { Logs (Some (tame_calls self.old)) (Some (tame_calls self.new)) closed }
+        ensures present { tame_present self.new ≡ false }
+        ensures inputs { HasSameInputs self.old self.new }
+    {
+        self.calls.push_reserved(ListenEntry::Closed);
+        self.present = None;
+    }
+}

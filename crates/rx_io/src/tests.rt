@@ -1,0 +1,226 @@
+// One happy path per form, and what no clause says: that calls succeed, what std does, and interrupted calls.
+ghost use Rattle.std.specs.Prelude.{◌≡◌, ℕ, ◌+◌, ◌<◌};
+
+use super::*;
+use std::alloc::Global;
+use std::io::{ErrorKind, Read};
+use std::marker::Brand;
+use std::process::Abort;
+use std::sync::ledger::{Blank, Ledger};
+use std::test::Fail;
+use std::{fs, io};
+
+// A reader that is interrupted so often before it gives a 7.
+#[derive(Drop)]
+struct Interrupted(u32);
+
+impl Read for Interrupted {
+    fn read(&mut self, buf: &mut [u8]) -> io::Result<usize> {
+        if self.0 > 0 {
+            self.0 -= 1;
+            return Err(io::Error::from(ErrorKind::Interrupted));
+        }
+        if buf.len() == 0 {
+            return Ok(0);
+        }
+        buf[0] = 7;
+        Ok(1)
+    }
+}
+
+// Takes the two first bytes, and counts a step for each call.
+fn take_two<S: Source + Drop, L: Ledger>(
+    rt: &impl Abort,
+    mut source: S,
+    steps: &mut Steps<L>,
+) -> [u8; 2]
+    ensures { steps.new ≡ steps.old + 2 }
+{
+    let mut first = [0u8; 1];
+    let mut second = [0u8; 1];
+    steps.tick();
+    assert_eq!(rt; source.take(&mut first), Ok(1));
+    steps.tick();
+    assert_eq!(rt; source.take(&mut second), Ok(1));
+    [first[0], second[0]]
+}
+
+// What needs a counter is generic over its ledger, and is handed the blank of which the counter is made.
+fn counted<L: Ledger>(rt: &impl Abort, blank: Blank, source: &mut TameSource) -> [u8; 2]
+    requires name { blank.name ≡ L.name }
+    requires parts { blank.parts ≡ L.parts }
+    requires some { 0 < blank.parts }
+{
+    let mut steps = Steps::<L>::start(blank);
+    take_two(rt, source, &mut steps)
+}
+
+#[test]
+fn a_counter_is_started(rt: HostRuntime) -> Result<(), Fail> {
+    let alloc = rt.alloc();
+    let mut source = TameSource::make([7, 8, 9].to_vec(alloc)?, 2);
+    let two = counted::<Brand>(&rt, Blank::new(1), &mut source);
+    assert_eq!(rt; two, [7, 8]);
+    Ok(())
+}
+
+#[test]
+fn a_source_fails_where_it_is_to(rt: HostRuntime) -> Result<(), Fail> {
+    let alloc = rt.alloc();
+    let mut source = MemorySource::make([1, 2, 3].to_vec(alloc)?, [2].to_vec(alloc)?, 2);
+    let mut buf = [0u8; 4];
+    assert_eq!(rt; source.take(&mut buf), Ok(2));
+    assert_eq!(rt; source.take(&mut buf), Err(IoFault::Failed));
+    assert_eq!(rt; source.take(&mut buf), Ok(1));
+    assert_eq!(rt; buf, [3, 2, 0, 0]);
+    assert_eq!(rt; source.take(&mut buf), Ok(0));
+    Ok(())
+}
+
+#[test]
+fn sinks_keep_what_they_took(rt: HostRuntime) -> Result<(), Fail> {
+    let alloc = rt.alloc();
+    let mut tame = TameSink::make(alloc, 2);
+    let mut sink = MemorySink::make(alloc, [2].to_vec(alloc)?, 3);
+    assert_eq!(rt; (&mut tame).give(b"abc"), Ok(2));
+    assert_eq!(rt; sink.give(b"abcd"), Ok(3));
+    assert_eq!(rt; sink.give(b"d"), Err(IoFault::Failed));
+    assert_eq!(rt; sink.give(b"d"), Ok(1));
+    assert_eq!(rt; tame.bytes(), b"ab".as_slice());
+    assert_eq!(rt; sink.bytes(), b"abcd".as_slice());
+    Ok(())
+}
+
+// Works over any files in which nothing fails but what is missing.
+fn use_files<F: Files + Drop>(
+    rt: &impl Abort,
+    alloc: Global,
+    mut files: F,
+    missing: &str,
+) -> Result<(), Fail> {
+    assert_eq!(rt; files.start("rx_io_a"), Ok(()));
+    assert_eq!(rt; files.add("rx_io_a", b"abc"), Ok(()));
+    assert_eq!(rt; files.add("rx_io_a", b"de"), Ok(()));
+    assert!(rt; matches!(files.load(alloc, "rx_io_a", 4), Err(LoadFault::TooLarge)));
+    let bytes = files.load(alloc, "rx_io_a", 5).ok().ok_or("not loaded")?;
+    assert_eq!(rt; bytes.as_slice(), b"abcde".as_slice());
+    assert!(rt; matches!(files.load(alloc, missing, 5), Err(LoadFault::Failed)));
+    assert_eq!(rt; files.add("rx_io_b", b"f"), Ok(()));
+    assert_eq!(rt; files.start("rx_io_a"), Ok(()));
+    let bytes = files.load(alloc, "rx_io_a", 0).ok().ok_or("not loaded")?;
+    assert_eq!(rt; bytes.len(), 0);
+    Ok(())
+}
+
+#[test]
+fn memory_files_hold_their_files(rt: HostRuntime) -> Result<(), Fail> {
+    let alloc = rt.alloc();
+    let mut files = MemoryFiles::make(alloc, Vec::new(alloc), [11].to_vec(alloc)?);
+    use_files(&rt, alloc, &mut files, "rx_io_missing")?;
+    assert_eq!(rt; files.add("rx_io_b", b"g"), Ok(()));
+    assert_eq!(rt; files.start("rx_io_b"), Err(IoFault::Failed));
+    assert_eq!(rt;
+        files.bytes_of("rx_io_b").ok_or("no file")?,
+        b"fg".as_slice()
+    );
+    assert!(rt; files.bytes_of("rx_io_missing").is_none());
+    Ok(())
+}
+
+#[test]
+fn a_missing_name_is_loaded_as_an_empty_file(rt: HostRuntime) -> Result<(), Fail> {
+    let alloc = rt.alloc();
+    let mut held = Vec::new(alloc);
+    held.push((String::from_str(alloc, "a")?, b"xy".to_vec(alloc)?))?;
+    let mut files = TameFiles::make(alloc, held);
+    let bytes = files.load(alloc, "b", 0).ok().ok_or("not loaded")?;
+    assert_eq!(rt; bytes.len(), 0);
+    assert!(rt; files.bytes_of("b").is_none());
+    assert_eq!(rt; files.start("b"), Ok(()));
+    assert_eq!(rt; files.add("a", b"z"), Ok(()));
+    assert_eq!(rt; files.bytes_of("a").ok_or("no file")?, b"xyz".as_slice());
+    assert_eq!(rt; files.bytes_of("b").ok_or("no file")?.len(), 0);
+    Ok(())
+}
+
+#[test]
+fn files_of_the_system_are_made_and_loaded(rt: HostRuntime) -> Result<(), Fail> {
+    use_files(&rt, rt.alloc(), StdFiles::make(&rt), "rx_io_no_folder/a")?;
+    fs::remove_file(&rt, "rx_io_a")?;
+    fs::remove_file(&rt, "rx_io_b")?;
+    Ok(())
+}
+
+#[test]
+fn a_long_file_is_loaded_whole(rt: HostRuntime) -> Result<(), Fail> {
+    let alloc = rt.alloc();
+    let mut files = StdFiles::make(&rt);
+    let bytes = vec![in alloc; 5u8; 10_000]?;
+    assert_eq!(rt; files.add("rx_io_long", bytes.as_slice()), Ok(()));
+    let whole = files.load(alloc, "rx_io_long", 10_000);
+    let short = files.load(alloc, "rx_io_long", 9_999);
+    fs::remove_file(&rt, "rx_io_long")?;
+    assert_eq!(rt; whole.ok().ok_or("not loaded")?.len(), 10_000);
+    assert!(rt; matches!(short, Err(LoadFault::TooLarge)));
+    Ok(())
+}
+
+#[test]
+fn the_standard_streams_answer(rt: HostRuntime) {
+    let mut buf = [0u8; 1];
+    assert!(rt; StdSource::make(&rt).take(&mut buf).is_ok());
+    assert_eq!(rt; StdSink::make(&rt).give(b"\n"), Ok(1));
+}
+
+#[test]
+fn an_interrupted_read_is_tried_again(rt: HostRuntime) {
+    let mut buf = [0u8; 2];
+    assert_eq!(rt; attempts::read_some(&mut Interrupted(3), &mut buf), Some(1));
+    assert_eq!(rt;
+        attempts::read_some(&mut Interrupted(u32::MAX), &mut buf),
+        None
+    );
+}
+
+// A call's number in the order of the enum, and its sizes.
+fn shape(entry: &ListenEntry) -> (u8, usize, usize) {
+    match entry {
+        ListenEntry::Bound(port) => (0, *port as usize, 0),
+        ListenEntry::Accepted => (1, 0, 0),
+        ListenEntry::Took { bytes, room } => (2, bytes.as_slice().len(), *room),
+        ListenEntry::Gave { bytes, offered } => (3, bytes.as_slice().len(), *offered),
+        ListenEntry::Closed => (4, 0, 0),
+        ListenEntry::Failed(_) => (5, 0, 0),
+    }
+}
+
+#[test]
+fn a_listener_tells_its_calls(rt: HostRuntime) -> Result<(), Fail> {
+    let alloc = rt.alloc();
+    let mut inputs = Vec::new(alloc);
+    inputs.push(b"abc".to_vec(alloc)?)?;
+    let mut listener = TameListener::make(alloc, inputs, 2);
+    let mut buf = [0u8; 4];
+    assert_eq!(rt; listener.bind(80), Ok(()));
+    assert_eq!(rt; listener.accept(), Ok(()));
+    assert_eq!(rt; listener.take(&mut buf), Ok(2));
+    assert_eq!(rt; listener.give(b"xyz"), Ok(2));
+    listener.close();
+    // Past the last input.
+    assert_eq!(rt; listener.accept(), Ok(()));
+    assert_eq!(rt; listener.take(&mut buf), Ok(0));
+    let wanted = [
+        (0u8, 80usize, 0usize),
+        (1, 0, 0),
+        (2, 2, 4),
+        (3, 2, 3),
+        (4, 0, 0),
+        (1, 0, 0),
+        (2, 0, 4),
+    ];
+    assert_eq!(rt; listener.calls().len(), wanted.len());
+    for (entry, want) in listener.calls().iter().zip(wanted.iter()) {
+        assert_eq!(rt; shape(entry), *want);
+    }
+    Ok(())
+}

@@ -1,0 +1,146 @@
+// The top call: the words in, the answer and its status out.
+ghost use Rattle.std.specs.Prelude.{◌≡◌, ◌≤◌, ◌+◌, ◌↔◌, map, string_bytes};
+ghost use Rattle.run_history.specs.declared.image.Image.{Image};
+ghost use Rattle.rx_io.specs.Faults.{Rose};
+ghost use Rattle.rx_serve.specs.Causes.{RefusesWords, IsTooLarge, IsNotBuilt, IsOfSession, IsOfRun, Serves};
+ghost use Rattle.rx_serve.specs.Headline.{NamesImage, Headline};
+ghost use Rattle.rx_serve.specs.Loading.{LoadsImage};
+ghost use Rattle.rx_serve.specs.Patience.{IsPatient, IsBeforeSession, IsUntouched};
+ghost use Rattle.rx_serve.specs.Status.{status_of};
+
+use crate::elf_image::{ProgramFault, read_program};
+use crate::session::serve;
+use crate::words::read_words;
+use run_history::{Answer, Choices, Image};
+use rx_io::{Files, Listener, LoadFault, Sink, Source, Steps};
+use std::alloc::Global;
+use std::sync::ledger::Ledger;
+
+/// The greatest number of bytes of a program file.
+const MAX_PROGRAM: u64 = 16 << 20;
+
+/// How a command ended: its answer, the status for the shell, how many of the run's choices were recorded and those
+/// that weren't, and how many instructions the run has and how many items it took.
+#[derive(Debug, Drop)]
+pub struct End {
+    pub answer: Answer,
+    pub status: u8,
+    pub recorded: u64,
+    pub tail: Choices,
+    pub steps: u64,
+    pub taken: u64,
+}
+
+// The status of an answer.
+fn status_of_answer(answer: Answer) -> u8
+    ensures { result ≡ status_of answer }
+{
+    match answer {
+        Answer::Finished | Answer::Exited(0) => 0,
+        Answer::Exited(_) => 1,
+        Answer::BadWords => 2,
+        Answer::ProgramNotBuilt
+        | Answer::ElfRefused(_)
+        | Answer::AsmRefused { .. }
+        | Answer::RecordRefused { .. }
+        | Answer::CountsRefused { .. }
+        | Answer::Short { .. }
+        | Answer::Mismatch { .. }
+        | Answer::TooLarge => 3,
+        Answer::InputRefused { .. } | Answer::MessageTooLong { .. } => 4,
+        Answer::GaveUp { .. } => 5,
+        Answer::LimitItems | Answer::LimitEvents => 6,
+        Answer::ReadFault => 7,
+        Answer::WriteFault => 8,
+        Answer::FileFault => 9,
+        Answer::Memory => 10,
+    }
+}
+
+// Loads a program file and reads its image.
+fn load_image<F: Files>(alloc: Global, files: &mut F, name: &str) -> Result<Image, Answer>
+    ensures loads { LoadsImage (F.told files.old) name.now (F.faults files.old) (F.faults files.new) result }
+    ensures same { F.told files.new ≡ F.told files.old }
+    ensures later { F.faults files.old ≤ F.faults files.new }
+{
+    let file = match files.load(alloc, name, MAX_PROGRAM) {
+        Ok(file) => file,
+        Err(LoadFault::Failed) => return Err(Answer::FileFault),
+        Err(LoadFault::TooLarge) => return Err(Answer::TooLarge),
+        Err(LoadFault::Memory) => return Err(Answer::Memory),
+    };
+    match read_program(alloc, file.as_slice()) {
+        Ok(image) => Ok(image),
+        Err(ProgramFault::NotBuilt) => Err(Answer::ProgramNotBuilt),
+        Err(ProgramFault::Memory) => Err(Answer::Memory),
+    }
+}
+
+impl End {
+    ghost use Rattle.rx_serve.specs.Ended.{IsEndOf};
+
+    // An answer that comes before a session, or a session's.
+    fn of(alloc: Global, answer: Answer, taken: u64, steps: u64) -> End
+        ensures { IsEndOf result answer taken steps }
+    {
+        End {
+            answer,
+            status: status_of_answer(answer),
+            recorded: 0,
+            tail: Choices::from_vec(Vec::new(alloc)),
+            steps,
+            taken,
+        }
+    }
+}
+
+/// Runs a command over any outside: `words` are those behind the program's own name. `run PROGRAM --record RECORD
+/// --report REPORT --frame whole` loads the program, gives it the frames of `input` as it asks for them, and gives what it
+/// sends to `output` as frames.
+pub fn run_rx<F: Files, S: Source, K: Sink, N: Listener, L: Ledger>(
+    alloc: Global,
+    words: &[String],
+    files: &mut F,
+    input: &mut S,
+    output: &mut K,
+    listener: &mut N,
+    steps: &mut Steps<L>,
+) -> End
+    ensures headline { (image : Image) → NamesImage (F.told files.old) (map string_bytes words.now) image
+        → Headline image (S.told input.old) (S.told input.new) (K.told output.old) (K.told output.new) result }
+
+    // Replies come in time, and no input is read before the program needs it.
+    ensures patience { (image : Image) → NamesImage (F.told files.old) (map string_bytes words.now) image
+        → IsPatient image (S.told input.old) (S.told input.new) (K.told output.old) (K.told output.new) result }
+
+    // Each answer comes only by its own cause, and no two causes hold at once: so each but a fault comes exactly there.
+    ensures bad_words { (result.answer ≡ Answer.BadWords) ↔ RefusesWords (map string_bytes words.now) }
+    ensures too_large { result.answer ≡ Answer.TooLarge → IsTooLarge (F.told files.old) (map string_bytes words.now) }
+    ensures not_built { result.answer ≡ Answer.ProgramNotBuilt → IsNotBuilt (F.told files.old) (map string_bytes words.now) }
+    ensures session { IsOfSession result.answer → Serves (F.told files.old) (map string_bytes words.now)
+        (S.told input.old) (S.told input.new) (K.told output.old) (K.told output.new) result }
+    ensures file_fault { result.answer ≡ Answer.FileFault → Rose (F.faults files.old) (F.faults files.new) }
+    ensures read_fault { result.answer ≡ Answer.ReadFault → Rose (S.faults input.old) (S.faults input.new) }
+    ensures write_fault { result.answer ≡ Answer.WriteFault → Rose (K.faults output.old) (K.faults output.new) }
+    ensures only { IsOfRun result.answer }
+
+    // What is left alone.
+    ensures untouched { IsBeforeSession result.answer → IsUntouched (S.told input.old) (S.told input.new) (K.told output.old) (K.told output.new) result }
+    ensures files { F.told files.new ≡ F.told files.old }
+    ensures listener { listener.new ≡ listener.old }
+
+    ensures status { result.status ≡ status_of result.answer }
+    ensures counted { steps.new ≡ steps.old + result.steps }
+{
+    // `run` has one trunk, its input and output: no command of today listens.
+    let _ = listener;
+    let Some(run) = read_words(words) else {
+        return End::of(alloc, Answer::BadWords, 0, 0);
+    };
+    let image = match load_image(alloc, files, run.program) {
+        Ok(image) => image,
+        Err(answer) => return End::of(alloc, answer, 0, 0),
+    };
+    let (answer, counts) = serve(alloc, &image, input, output, steps);
+    End::of(alloc, answer, counts.taken, counts.steps)
+}

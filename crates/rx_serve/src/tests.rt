@@ -1,0 +1,587 @@
+// What no clause says of a command: that it comes to its answer, with which counts, and that a reply is written before
+// the next read. The programs and the counts are worked by hand from the manual.
+ghost use Rattle.std.specs.Prelude.{◌≡◌, ◌<◌, None};
+
+use crate::{End, ProgramFlaw, flaw_of, run_rx};
+use run_history::{Answer, Cause};
+use rx_io::{
+    IoFault, MemoryFiles, MemorySink, MemorySource, Sink, Source, Steps, TameFiles, TameListener,
+};
+use std::alloc::{AllocError, Global};
+use std::cell::RefCell;
+use std::marker::Brand;
+use std::process::Abort;
+use std::sync::ledger::{Blank, Ledger};
+use std::test::Fail;
+
+// The words of a command that runs the program `p`.
+const RUN: &str = "run p --record r --report t --frame whole";
+
+// Receives into the stack's last 4096 bytes, and sends each message back.
+const ECHO: [u32; 17] = [
+    0xfffff437, // lui  s0, 0xfffff
+    0x00810433, // add  s0, sp, s0
+    0x000014b7, // lui  s1, 1
+    0x00040513, // addi a0, s0, 0
+    0x00048593, // addi a1, s1, 0
+    0x00100893, // addi a7, x0, 1
+    0x00000073, // ecall
+    0x00200293, // addi t0, x0, 2
+    0x00560463, // beq  a2, t0, 8
+    0xfe9ff06f, // jal  x0, -24
+    0x00050313, // addi t1, a0, 0
+    0x00058513, // addi a0, a1, 0
+    0x00040593, // addi a1, s0, 0
+    0x00030613, // addi a2, t1, 0
+    0x00200893, // addi a7, x0, 2
+    0x00000073, // ecall
+    0xfcdff06f, // jal  x0, -52
+];
+
+const OPEN: [u8; 5] = [1, 0, 0, 0, 0];
+
+const HI: [u8; 8] = [2, 0, 0, 3, 0, 0x68, 0x69, 0x0a];
+
+const OPEN_AND_HI: [u8; 13] = [1, 0, 0, 0, 0, 2, 0, 0, 3, 0, 0x68, 0x69, 0x0a];
+
+// A command and what stands outside: the program file `p` of these words, the input, how many bytes a call on a stream
+// moves at most, and the numbers of the calls that fail.
+#[derive(Clone, Copy)]
+struct Setting<'a> {
+    alloc: Global,
+    words: &'a str,
+    program: &'a [u32],
+    input: &'a [u8],
+    most: usize,
+    source_fails: &'a [u64],
+    sink_fails: &'a [u64],
+    file_fails: &'a [u64],
+}
+
+impl<'a> Setting<'a> {
+    fn of(alloc: Global, program: &'a [u32], input: &'a [u8]) -> Setting<'a> {
+        Setting {
+            alloc,
+            words: RUN,
+            program,
+            input,
+            most: 10_000,
+            source_fails: &[],
+            sink_fails: &[],
+            file_fails: &[],
+        }
+    }
+}
+
+// How a command ended, and all that stands in the sink.
+#[derive(Drop)]
+struct Outcome {
+    end: End,
+    output: Vec<u8>,
+}
+
+// An executable of these words in one segment (System V ABI, "ELF Header" and "Program Header"; RISC-V ELF psABI).
+fn executable(alloc: Global, words: &[u32]) -> Result<Vec<u8>, Fail> {
+    let count = u32::try_from(words.len()).ok().ok_or("too long")?;
+    let size = count.checked_mul(4).ok_or("too long")?.to_le_bytes();
+    let mut file = Vec::new(alloc);
+    file.extend_from_slice(&[0x7f, b'E', b'L', b'F', 1, 1, 1, 0, 0, 0, 0, 0, 0, 0, 0, 0])?;
+    file.extend_from_slice(&[2, 0, 0xf3, 0, 1, 0, 0, 0])?; // e_type, e_machine, e_version
+    file.extend_from_slice(&[0, 0, 1, 0, 0x34, 0, 0, 0])?; // e_entry, e_phoff
+    file.extend_from_slice(&[0, 0, 0, 0, 0, 0, 0, 0])?; // e_shoff, e_flags
+    file.extend_from_slice(&[0x34, 0, 0x20, 0, 1, 0])?; // e_ehsize, e_phentsize, e_phnum
+    file.extend_from_slice(&[0, 0, 0, 0, 0, 0])?; // e_shentsize, e_shnum, e_shstrndx
+    file.extend_from_slice(&[1, 0, 0, 0, 0x54, 0, 0, 0])?; // p_type, p_offset
+    file.extend_from_slice(&[0, 0, 1, 0, 0, 0, 1, 0])?; // p_vaddr, p_paddr
+    file.extend_from_slice(&size)?; // p_filesz
+    file.extend_from_slice(&size)?; // p_memsz
+    file.extend_from_slice(&[5, 0, 0, 0, 1, 0, 0, 0])?; // p_flags, p_align
+    for word in words {
+        file.extend_from_slice(&word.to_le_bytes())?;
+    }
+    Ok(file)
+}
+
+// The words of a line.
+fn words_of(alloc: Global, line: &str) -> Result<Vec<String>, AllocError> {
+    let mut words = Vec::new(alloc);
+    for word in line.split(' ') {
+        words.push(String::from_str(alloc, word)?)?;
+    }
+    Ok(words)
+}
+
+// The program file `p`.
+fn program_file(alloc: Global, words: &[u32]) -> Result<Vec<(String, Vec<u8>)>, Fail> {
+    let mut files = Vec::new(alloc);
+    files.push((String::from_str(alloc, "p")?, executable(alloc, words)?))?;
+    Ok(files)
+}
+
+// Runs a command with a counter of its own.
+fn run_counted<L: Ledger>(setting: &Setting<'_>, blank: Blank) -> Result<Outcome, Fail>
+    requires name { blank.name ≡ L.name }
+    requires parts { blank.parts ≡ L.parts }
+    requires some { 0 < blank.parts }
+{
+    let alloc = setting.alloc;
+    let words = words_of(alloc, setting.words)?;
+    let held = program_file(alloc, setting.program)?;
+    let most = setting.most.max(1);
+    let mut files = MemoryFiles::make(alloc, held, setting.file_fails.to_vec(alloc)?);
+    let mut input = MemorySource::make(
+        setting.input.to_vec(alloc)?,
+        setting.source_fails.to_vec(alloc)?,
+        most,
+    );
+    let mut output = MemorySink::make(alloc, setting.sink_fails.to_vec(alloc)?, most);
+    let mut listener = TameListener::make(alloc, Vec::new(alloc), 1);
+    let mut steps = Steps::<L>::start(blank);
+    let end = run_rx(
+        alloc,
+        words.as_slice(),
+        &mut files,
+        &mut input,
+        &mut output,
+        &mut listener,
+        &mut steps,
+    );
+    Ok(Outcome {
+        end,
+        output: output.bytes().to_vec(alloc)?,
+    })
+}
+
+fn outcome_of(setting: &Setting<'_>) -> Result<Outcome, Fail> {
+    run_counted::<Brand>(setting, Blank::new(1))
+}
+
+// Runs a command, and compares its answer with its status, how many items it took and instructions it did, and what
+// stands in the sink.
+fn expect_end(
+    rt: &impl Abort,
+    name: &str,
+    setting: &Setting<'_>,
+    want: (Answer, u8, u64, u64),
+    output: &[u8],
+) -> Result<(), Fail> {
+    let outcome = outcome_of(setting)?;
+    let end = &outcome.end;
+    assert_eq!(rt;
+        (end.answer, end.status, end.taken, end.steps),
+        want,
+        "at {name}"
+    );
+    assert_eq!(rt; end.tail.as_slice().len(), 0, "at {name}");
+    assert_eq!(rt; outcome.output.as_slice(), output, "at {name}");
+    Ok(())
+}
+
+#[test]
+fn an_echo_answers_each_message(rt: HostRuntime) -> Result<(), Fail> {
+    for most in [10_000, 1] {
+        let mut setting = Setting::of(rt.alloc(), &ECHO, &OPEN_AND_HI);
+        setting.most = most;
+        expect_end(
+            &rt,
+            "a message",
+            &setting,
+            (Answer::Finished, 0, 2, 26),
+            &HI,
+        )?;
+        setting.input = &[];
+        expect_end(&rt, "no input", &setting, (Answer::Finished, 0, 0, 6), &[])?;
+    }
+    Ok(())
+}
+
+#[test]
+fn a_message_of_4096_bytes_is_echoed(rt: HostRuntime) -> Result<(), Fail> {
+    let mut input = Vec::new(rt.alloc());
+    input.extend_from_slice(&[1, 0, 0, 0, 0, 2, 0, 0, 0, 0x10])?;
+    for i in 0..4096u16 {
+        input.push((i % 251) as u8)?;
+    }
+    let setting = Setting::of(rt.alloc(), &ECHO, input.as_slice());
+    let reply = input.as_slice().get(5..).ok_or("no frame")?;
+    expect_end(
+        &rt,
+        "4096 bytes",
+        &setting,
+        (Answer::Finished, 0, 2, 26),
+        reply,
+    )?;
+    Ok(())
+}
+
+// The input is refused at the first byte of the frame that is refused.
+#[test]
+fn a_refused_frame_is_named_by_its_offset(rt: HostRuntime) -> Result<(), Fail> {
+    for (name, front, last, want) in [
+        (
+            "a message first",
+            [].as_slice(),
+            [2, 0, 0, 1, 0, 9].as_slice(),
+            (0, 0, 6),
+        ),
+        (
+            "an opening of connection 1",
+            &[],
+            &[1, 1, 0, 0, 0],
+            (0, 0, 6),
+        ),
+        (
+            "an opening of connection 256",
+            &[],
+            &[1, 0, 1, 0, 0],
+            (0, 0, 6),
+        ),
+        (
+            "an opening with a payload",
+            &[],
+            &[1, 0, 0, 1, 0, 9],
+            (0, 0, 6),
+        ),
+        ("half an opening", &[], &[1, 0, 0], (0, 0, 6)),
+        ("a second opening", &OPEN, &OPEN, (5, 1, 13)),
+        ("a close", &OPEN, &[3, 0, 0, 0, 0], (5, 1, 13)),
+        ("connection 1", &OPEN, &[2, 1, 0, 1, 0, 9], (5, 1, 13)),
+        ("no payload", &OPEN, &[2, 0, 0, 0, 0], (5, 1, 13)),
+        ("4097 bytes", &OPEN, &[2, 0, 0, 1, 0x10], (5, 1, 13)),
+        ("a header of four bytes", &OPEN, &[2, 0, 0, 1], (5, 1, 13)),
+        (
+            "two bytes of three",
+            &OPEN,
+            &[2, 0, 0, 3, 0, 0x68, 0x69],
+            (5, 1, 13),
+        ),
+        (
+            "a frame behind a frame",
+            &OPEN_AND_HI,
+            &[3, 0, 0, 0, 0],
+            (13, 2, 26),
+        ),
+    ] {
+        let (offset, taken, steps) = want;
+        let mut input = front.to_vec(rt.alloc())?;
+        input.extend_from_slice(last)?;
+        let setting = Setting::of(rt.alloc(), &ECHO, input.as_slice());
+        let refused = Answer::InputRefused { kind: 7, offset };
+        let output = if taken == 2 { HI.as_slice() } else { &[] };
+        expect_end(&rt, name, &setting, (refused, 4, taken, steps), output)?;
+    }
+    Ok(())
+}
+
+// Behind the opening there are 1000 messages of one byte at most. There are 13 instructions up to the first one's recv,
+// and 13 from each one's to the next.
+#[test]
+fn a_session_takes_a_thousand_messages(rt: HostRuntime) -> Result<(), Fail> {
+    let mut input = OPEN.to_vec(rt.alloc())?;
+    for _ in 0..1000 {
+        input.extend_from_slice(&[2, 0, 0, 1, 0, 0x78])?;
+    }
+    let mut more = input.as_slice().to_vec(rt.alloc())?;
+    more.extend_from_slice(&[2, 0, 0, 1, 0, 0x78])?;
+    let replies = input.as_slice().get(5..).ok_or("no frames")?;
+    let offset = 6005;
+    for (bytes, answer, status) in [
+        (&input, Answer::Finished, 0),
+        (&more, Answer::InputRefused { kind: 7, offset }, 4),
+    ] {
+        let setting = Setting::of(rt.alloc(), &ECHO, bytes.as_slice());
+        let want = (answer, status, 1001, 13_013);
+        expect_end(&rt, "a thousand", &setting, want, replies)?;
+    }
+    Ok(())
+}
+
+#[test]
+fn words_of_another_form_are_refused(rt: HostRuntime) -> Result<(), Fail> {
+    for words in [
+        "",
+        "run p --record r",
+        "walk p --record r --report t --frame whole",
+        "run p --record p --report t --frame whole",
+        "run p --record r --report r --frame whole",
+        "run p --record r --report - --frame whole",
+        "run  --record r --report t --frame whole",
+        "run p --record r --report t --frame half",
+        "run p --report t --record r --frame whole",
+        "run p --record r --report t --frame whole x",
+    ] {
+        let mut setting = Setting::of(rt.alloc(), &ECHO, &OPEN_AND_HI);
+        setting.words = words;
+        expect_end(&rt, words, &setting, (Answer::BadWords, 2, 0, 0), &[])?;
+    }
+    Ok(())
+}
+
+#[test]
+fn a_program_file_is_looked_at_first(rt: HostRuntime) -> Result<(), Fail> {
+    let mut multiplies = ECHO;
+    multiplies[16] = 0x02b5_0533; // mul a0, a0, a1
+    for (name, program) in [("mul", multiplies.as_slice()), ("no code", &[])] {
+        let setting = Setting::of(rt.alloc(), program, &OPEN_AND_HI);
+        let want = (Answer::ProgramNotBuilt, 3, 0, 0);
+        expect_end(&rt, name, &setting, want, &[])?;
+    }
+    let mut missing = Setting::of(rt.alloc(), &ECHO, &OPEN_AND_HI);
+    missing.words = "run q --record r --report t --frame whole";
+    expect_end(
+        &rt,
+        "a missing name",
+        &missing,
+        (Answer::FileFault, 9, 0, 0),
+        &[],
+    )?;
+    let mut failing = Setting::of(rt.alloc(), &ECHO, &OPEN_AND_HI);
+    failing.file_fails = &[1];
+    expect_end(&rt, "a load", &failing, (Answer::FileFault, 9, 0, 0), &[])?;
+    Ok(())
+}
+
+#[test]
+fn a_program_ends_itself(rt: HostRuntime) -> Result<(), Fail> {
+    // addi a0, x0, CODE; addi a7, x0, 5; ecall
+    for (first, code, status) in [
+        (0x0000_0513, 0, 0),
+        (0x0010_0513, 1, 1),
+        (0xfff0_0513, 0xffff_ffff, 1),
+    ] {
+        let program = [first, 0x0050_0893, 0x0000_0073];
+        let setting = Setting::of(rt.alloc(), &program, &OPEN_AND_HI);
+        let want = (Answer::Exited(code), status, 0, 3);
+        expect_end(&rt, "exit", &setting, want, &[])?;
+    }
+    Ok(())
+}
+
+// A recv, and a load from address 0.
+const RECV_AND_LOAD: [u32; 8] = [
+    0xfffff437, 0x00810433, 0x000014b7, 0x00040513, 0x00048593, 0x00100893, 0x00000073, 0x00002283,
+];
+
+#[test]
+fn a_program_fails(rt: HostRuntime) -> Result<(), Fail> {
+    for (name, program, point, cause, steps) in [
+        // addi a7, x0, 0; ecall
+        (
+            "call 0",
+            [0x0000_0893, 0x0000_0073].as_slice(),
+            0,
+            Cause::BadCall,
+            1,
+        ),
+        // addi a7, x0, 7; ecall
+        ("call 7", &[0x0070_0893, 0x0000_0073], 0, Cause::BadCall, 1),
+        // lw t0, 0(x0)
+        ("a load", &[0x0000_2283], 0, Cause::BadAccess, 0),
+        // addi x0, x0, 0
+        ("behind the code", &[0x0000_0013], 0, Cause::BadAccess, 1),
+        // jal x0, 2
+        ("into a word", &[0x0020_006f], 0, Cause::BadJump, 0),
+        // jal x0, 0
+        ("to itself", &[0x0000_006f], 0, Cause::Hang, 1_000_000),
+        ("behind a recv", &RECV_AND_LOAD, 1, Cause::BadAccess, 7),
+    ] {
+        let setting = Setting::of(rt.alloc(), program, &OPEN_AND_HI);
+        let want = (Answer::GaveUp { point, cause }, 5, point, steps);
+        expect_end(&rt, name, &setting, want, &[])?;
+    }
+    Ok(())
+}
+
+// The source of one message is called for two headers, a payload and the end; byte by byte 14 times.
+#[test]
+fn a_failed_read_ends_the_session(rt: HostRuntime) -> Result<(), Fail> {
+    for (most, first, last, taken, steps, stands) in [
+        (10_000, 1, 1, 0, 6, 0),
+        (10_000, 2, 3, 1, 13, 0),
+        (10_000, 4, 4, 2, 26, 8),
+        (1, 1, 5, 0, 6, 0),
+        (1, 6, 13, 1, 13, 0),
+        (1, 14, 14, 2, 26, 8),
+    ] {
+        let output = HI.get(..stands).ok_or("too many")?;
+        for call in first..=last {
+            let fails = [call];
+            let mut setting = Setting::of(rt.alloc(), &ECHO, &OPEN_AND_HI);
+            setting.most = most;
+            setting.source_fails = &fails;
+            let want = (Answer::ReadFault, 7, taken, steps);
+            expect_end(&rt, "a read", &setting, want, output)?;
+        }
+    }
+    Ok(())
+}
+
+// A reply's frame is given in two calls, its header and its payload; byte by byte in 8.
+#[test]
+fn a_failed_write_leaves_the_first_bytes(rt: HostRuntime) -> Result<(), Fail> {
+    for (most, call, stands) in [
+        (10_000, 1, 0),
+        (10_000, 2, 5),
+        (1, 1, 0),
+        (1, 2, 1),
+        (1, 5, 4),
+        (1, 6, 5),
+        (1, 8, 7),
+    ] {
+        let output = HI.get(..stands).ok_or("too many")?;
+        let fails = [call];
+        let mut setting = Setting::of(rt.alloc(), &ECHO, &OPEN_AND_HI);
+        setting.most = most;
+        setting.sink_fails = &fails;
+        expect_end(
+            &rt,
+            "a write",
+            &setting,
+            (Answer::WriteFault, 8, 2, 22),
+            output,
+        )?;
+    }
+    Ok(())
+}
+
+// A call that isn't reached doesn't fail: the source is called 4 times, the sink twice.
+#[test]
+fn a_session_ends_with_its_last_call(rt: HostRuntime) -> Result<(), Fail> {
+    let mut setting = Setting::of(rt.alloc(), &ECHO, &OPEN_AND_HI);
+    setting.source_fails = &[5];
+    setting.sink_fails = &[3];
+    expect_end(&rt, "no call", &setting, (Answer::Finished, 0, 2, 26), &HI)?;
+    Ok(())
+}
+
+// A source and a sink that never fail and write their calls into one log: `R` for a read, and the bytes of a write.
+#[derive(Drop)]
+struct LoggedSource<'a> {
+    rest: &'a [u8],
+    log: &'a RefCell<Vec<u8>>,
+}
+
+#[derive(Drop)]
+struct LoggedSink<'a> {
+    log: &'a RefCell<Vec<u8>>,
+}
+
+fn note(log: &RefCell<Vec<u8>>, bytes: &[u8]) -> Result<(), AllocError> {
+    match log.try_borrow_mut() {
+        Ok(mut log) => log.extend_from_slice(bytes),
+        Err(_) => Err(AllocError),
+    }
+}
+
+impl Source for LoggedSource<'_> {
+    ghost told = { λ _. None };
+
+    ghost faults = { λ _. 0 };
+
+    ghost countable = { λ _. tt };
+
+    fn take(&mut self, buf: &mut [u8]) -> Result<usize, IoFault> {
+        match note(self.log, b"R") {
+            Ok(()) => {}
+            Err(_) => return Err(IoFault::Memory),
+        }
+        let count = buf.len().min(self.rest.len());
+        let (piece, rest) = self.rest.split_at(count);
+        buf[..count].copy_from_slice(piece);
+        self.rest = rest;
+        Ok(count)
+    }
+}
+
+impl Sink for LoggedSink<'_> {
+    ghost told = { λ _. None };
+
+    ghost faults = { λ _. 0 };
+
+    ghost countable = { λ _. tt };
+
+    fn give(&mut self, bytes: &[u8]) -> Result<usize, IoFault> {
+        match note(self.log, bytes) {
+            Ok(()) => Ok(bytes.len()),
+            Err(_) => Err(IoFault::Memory),
+        }
+    }
+}
+
+// Runs the echo on two messages over a source and a sink with one log.
+fn run_logged<L: Ledger>(alloc: Global, log: &RefCell<Vec<u8>>, blank: Blank) -> Result<End, Fail>
+    requires name { blank.name ≡ L.name }
+    requires parts { blank.parts ≡ L.parts }
+    requires some { 0 < blank.parts }
+{
+    let words = words_of(alloc, RUN)?;
+    let mut files = TameFiles::make(alloc, program_file(alloc, &ECHO)?);
+    let mut input = LoggedSource {
+        rest: &[
+            1, 0, 0, 0, 0, 2, 0, 0, 1, 0, b'a', 2, 0, 0, 2, 0, b'b', b'c',
+        ],
+        log,
+    };
+    let mut output = LoggedSink { log };
+    let mut listener = TameListener::make(alloc, Vec::new(alloc), 1);
+    let mut steps = Steps::<L>::start(blank);
+    Ok(run_rx(
+        alloc,
+        words.as_slice(),
+        &mut files,
+        &mut input,
+        &mut output,
+        &mut listener,
+        &mut steps,
+    ))
+}
+
+#[test]
+fn a_reply_is_written_before_the_next_read(rt: HostRuntime) -> Result<(), Fail> {
+    let alloc = rt.alloc();
+    let log = RefCell::new(Vec::new(alloc));
+    let end = run_logged::<Brand>(alloc, &log, Blank::new(1))?;
+    assert_eq!(rt; end.answer, Answer::Finished);
+    // The opening's read, two reads of the first message and its reply, two of the second and its reply, and the end.
+    let calls = log.into_inner();
+    assert_eq!(rt;
+        calls.as_slice(),
+        b"RRR\x02\0\0\x01\0aRR\x02\0\0\x02\0bcR".as_slice()
+    );
+    Ok(())
+}
+
+// The first byte or word that is wrong is named.
+#[test]
+fn a_flaw_is_named_by_its_place(rt: HostRuntime) -> Result<(), Fail> {
+    let alloc = rt.alloc();
+    let mut file = executable(alloc, &ECHO)?;
+    assert_eq!(rt; flaw_of(file.as_slice()), None);
+    assert_eq!(rt; flaw_of(b"\x7fELF"), Some(ProgramFlaw::Length(4)));
+    let multiplies = executable(alloc, &[0x00100893, 0x02b50533])?;
+    let flaw = flaw_of(multiplies.as_slice());
+    assert!(rt;
+        matches!(
+            flaw,
+            Some(ProgramFlaw::Word {
+                place: 88,
+                word: 0x02b50533
+            })
+        )
+    );
+    // For x86-64.
+    assert!(rt; file.len() > 18);
+    file[18] = 62;
+    let flaw = flaw_of(file.as_slice());
+    assert!(rt;
+        matches!(
+            flaw,
+            Some(ProgramFlaw::HeaderByte {
+                place: 18,
+                found: 62,
+                wanted: 243
+            })
+        )
+    );
+    Ok(())
+}
