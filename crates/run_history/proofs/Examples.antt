@@ -3,19 +3,20 @@ use Rattle.std.proofs.Common.{◌≡◌, ℕ, true, false, List, [], ◌∷◌, 
 use Rattle.std.specs.Prelude.{pos, negsuc, flat_map, option_and_then}
 use Rattle.rx_io.specs.declared.bytes.Item.{Item}
 use Rattle.rv_isa.specs.declared.instr.Instr.TheVariants.{Lui, Jal, Branch, Load, Store, OpImm, Op, Ecall}
-use Rattle.rv_isa.specs.declared.instr.BranchOp.TheVariants.{Beq}
-use Rattle.rv_isa.specs.declared.instr.LoadOp.TheVariants.{Lw}
-use Rattle.rv_isa.specs.declared.instr.StoreOp.TheVariants.{Sw}
-use Rattle.rv_isa.specs.declared.instr.ImmOp.TheVariants.{Addi}
-use Rattle.rv_isa.specs.declared.instr.RegOp.TheVariants.{Add}
+use Rattle.rv_isa.specs.declared.instr.BranchOp.TheVariants.{Beq, Blt, Bgeu}
+use Rattle.rv_isa.specs.declared.instr.LoadOp.TheVariants.{Lb, Lh, Lw, Lbu, Lhu}
+use Rattle.rv_isa.specs.declared.instr.StoreOp.TheVariants.{Sb, Sh, Sw}
+use Rattle.rv_isa.specs.declared.instr.ImmOp.TheVariants.{Addi, Srai}
+use Rattle.rv_isa.specs.declared.instr.RegOp.TheVariants.{Add, Div}
 use Rattle.rv_isa.specs.Words.{little_bytes, little_number, opcode, rd, funct3, rs1, rs2, funct7, imm_i, imm_s, imm_b, imm_u, imm_j}
-use Rattle.rv_isa.specs.Table.{row, branch_row, load_row, store_row, imm_row, op_row, system_row}
+use Rattle.rv_isa.specs.Table.{row, branch_row, branch_op, load_row, load_op, store_row, store_op, imm_row, imm_op, op_row, reg_op, base_op, system_row}
+use Rattle.rv_isa.specs.Meaning.{displaced, indirect_target, word_sum, is_less_signed, shifted_right_signed, quotient_signed, extended}
 use Rattle.run_history.specs.declared.image.Image.{Image}
-use Rattle.run_history.specs.declared.answer.Cause.TheVariants.{BadAccess, BadJump, BadCall, Hang}
+use Rattle.run_history.specs.declared.answer.Cause.TheVariants.{BadAccess, BadJump, AssertFailed, BadCall, Hang}
 use Rattle.run_history.specs.Memory.{Area, execute, read, write, byte_at, permitted, bytes_at, put_bytes}
 use Rattle.run_history.specs.Image.{base, heap_start, heap_end, stack_top, zeros, memory_of, written}
-use Rattle.run_history.specs.Machine.{Machine, State, register, with_register, offset, start_machine, Goes, Emits, Ends, Fails}
-use Rattle.run_history.specs.Instruction.{jal, branch, load, store}
+use Rattle.run_history.specs.Machine.{Machine, State, register, with_register, start_machine, Goes, Emits, Ends, Fails}
+use Rattle.run_history.specs.Instruction.{auipc, jal, jalr, branch, load, store, op_imm, op, fence, ebreak}
 use Rattle.run_history.specs.Call.{received, answered, send, call}
 use Rattle.run_history.specs.Run.{instruction, effect, effect_within, next, run, sent_to}
 
@@ -61,16 +62,16 @@ pub echo_rows : map row echo ≡
     ∷ Some Ecall  -- ecall
     ∷ Some (Jal 0 (negsuc 51))  -- jal x0, -52
     ∷ []
-unfolding row branch_row imm_row op_row system_row opcode rd funct3 rs1 rs2 funct7 imm_i imm_b imm_u imm_j
+unfolding row branch_row branch_op imm_row imm_op op_row reg_op base_op system_row opcode rd funct3 rs1 rs2 funct7 imm_i imm_b imm_u imm_j
 echo_rows = refl
 
 -- lw x7, -8(x2) and sw x5, -4(x2)
 pub row_of_load : row 0xff812383 ≡ Some (Load Lw 7 2 (negsuc 7))
-unfolding row load_row opcode rd funct3 rs1 imm_i
+unfolding row load_row load_op opcode rd funct3 rs1 imm_i
 row_of_load = refl
 
 pub row_of_store : row 0xfe512e23 ≡ Some (Store Sw 2 5 (negsuc 3))
-unfolding row store_row opcode funct3 rs1 rs2 imm_s
+unfolding row store_row store_op opcode funct3 rs1 rs2 imm_s
 row_of_store = refl
 
 -- no instruction is all zeros or all ones
@@ -266,7 +267,8 @@ pub bytes_put_across_the_seam : put_bytes two_areas 103 (7 ∷ 8 ∷ []) ≡ rec
 bytes_put_across_the_seam = refl
 
 -- an address and an offset, modulo 2 ^ 32
-pub offsets : offset 0 (negsuc 3) ∷ offset 4 (negsuc 3) ∷ offset 4294967292 (pos 8) ∷ offset 0x10040 (negsuc 51) ∷ offset 0 (negsuc 4095) ∷ [] ≡ 0xfffffffc ∷ 0 ∷ 4 ∷ 0x1000c ∷ 0xfffff000 ∷ []
+pub offsets : displaced 0 (negsuc 3) ∷ displaced 4 (negsuc 3) ∷ displaced 4294967292 (pos 8) ∷ displaced 0x10040 (negsuc 51) ∷ displaced 0 (negsuc 4095) ∷ [] ≡ 0xfffffffc ∷ 0 ∷ 4 ∷ 0x1000c ∷ 0xfffff000 ∷ []
+unfolding displaced
 offsets = refl
 
 -- A machine at the program's fourth word, with the program at 0 and a buffer of 8 bytes behind it. Connection 3 is
@@ -303,32 +305,93 @@ echo_start = refl
 
 -- jumps: -12 from 12; 6 isn't a multiple of 4, which is a failure only if the branch is taken
 pub jump_back : jal 0 (negsuc 11) waiting ≡ Goes (record waiting { pc = 0; since = 1 })
+unfolding displaced
 jump_back = refl
 
 pub jump_below_zero : jal 0 (negsuc 15) waiting ≡ Goes (record waiting { pc = 0xfffffffc; since = 1 })
+unfolding displaced
 jump_below_zero = refl
 
 pub jump_between : jal 1 (pos 6) waiting ≡ Fails BadJump
+unfolding displaced
 jump_between = refl
 
 pub branch_between : branch Beq 0 1 (pos 6) waiting ≡ Fails BadJump
+unfolding displaced
 branch_between = refl
 
 pub branch_not_taken : branch Beq 0 8 (pos 6) waiting ≡ Goes (record waiting { pc = 16; since = 1 })
 branch_not_taken = refl
 
+-- a branch on what it compares: 8 in x9 is less than 68 in x8
+pub branch_taken : branch Blt 9 8 (negsuc 3) waiting ≡ Goes (record waiting { pc = 8; since = 1 })
+unfolding displaced is_less_signed
+branch_taken = refl
+
+pub branch_passed : branch Bgeu 9 8 (negsuc 3) waiting ≡ Goes (record waiting { pc = 16; since = 1 })
+branch_passed = refl
+
+-- indirect jumps: bit 0 of the target is cleared, bit 1 isn't; the base is read before the return address is written
+pub indirect_jump : jalr 8 8 (negsuc 2) waiting ≡ Goes (record waiting { pc = 64; registers = with_register 8 16 waiting.registers; since = 1 })
+unfolding displaced indirect_target
+indirect_jump = refl
+
+pub indirect_jump_between : jalr 1 8 (pos 3) waiting ≡ Fails BadJump
+unfolding displaced indirect_target
+indirect_jump_between = refl
+
+-- an upper immediate is added to the place of its own instruction
+pub upper_to_pc : auipc 5 (negsuc 4095) waiting ≡ Goes (record waiting { pc = 16; registers = with_register 5 0xfffff00c waiting.registers; since = 1 })
+unfolding displaced
+upper_to_pc = refl
+
+-- an ordering does nothing, and a breakpoint is a failed assertion
+pub ordering : fence waiting ≡ Goes (record waiting { pc = 16; since = 1 })
+ordering = refl
+
+pub breakpoint : ebreak waiting ≡ Fails (AssertFailed 0)
+breakpoint = refl
+
+-- 68 divided by 0, and -256 shifted right with its sign
+pub division_by_zero : op Div 5 8 0 waiting ≡ Goes (record waiting { pc = 16; registers = with_register 5 0xffffffff waiting.registers; since = 1 })
+unfolding quotient_signed
+division_by_zero = refl
+
+pub shift_with_sign : op_imm Srai 5 9 (pos 4) (record waiting { registers = with_register 9 0xffffff00 waiting.registers }) ≡
+    Goes (record waiting { pc = 16; registers = with_register 5 0xfffffff0 (with_register 9 0xffffff00 waiting.registers); since = 1 })
+unfolding shifted_right_signed
+shift_with_sign = refl
+
 -- loads of the program's first word into x5 and into x0, and of the buffer's end
 pub load_first : load Lw 5 0 (pos 0) waiting ≡ Goes (record waiting { pc = 16; registers = with_register 5 0xfffff437 waiting.registers; since = 1 })
-unfolding permitted
+unfolding permitted displaced
 load_first = refl
 
 pub load_into_zero : load Lw 0 0 (pos 0) waiting ≡ Goes (record waiting { pc = 16; since = 1 })
-unfolding permitted
+unfolding permitted displaced
 load_into_zero = refl
 
 pub load_past_the_end : load Lw 5 8 (pos 5) waiting ≡ Fails BadAccess
-unfolding permitted
+unfolding permitted displaced
 load_past_the_end = refl
+
+-- parts of the program's first word, 0xfffff437, with and without their signs
+pub load_byte : load Lb 5 0 (pos 1) waiting ≡ Goes (record waiting { pc = 16; registers = with_register 5 0xfffffff4 waiting.registers; since = 1 })
+unfolding permitted displaced extended
+load_byte = refl
+
+pub load_byte_unsigned : load Lbu 5 0 (pos 1) waiting ≡ Goes (record waiting { pc = 16; registers = with_register 5 0xf4 waiting.registers; since = 1 })
+unfolding permitted displaced
+load_byte_unsigned = refl
+
+pub load_half : load Lh 5 0 (pos 0) waiting ≡ Goes (record waiting { pc = 16; registers = with_register 5 0xfffff437 waiting.registers; since = 1 })
+unfolding permitted displaced extended
+load_half = refl
+
+-- across the seam between the program and the buffer
+pub load_half_unsigned : load Lhu 5 8 (negsuc 0) waiting ≡ Goes (record waiting { pc = 16; registers = with_register 5 0xfc waiting.registers; since = 1 })
+unfolding permitted displaced
+load_half_unsigned = refl
 
 -- stores into the buffer, and into the program
 pub store_into_buffer : store Sw 8 9 (pos 4) waiting ≡
@@ -338,12 +401,40 @@ pub store_into_buffer : store Sw 8 9 (pos 4) waiting ≡
       memory = record { start = 0; flags = 5; bytes = echo_bytes } ∷ record { start = 68; flags = 6; bytes = 0 ∷ 0 ∷ 0 ∷ 0 ∷ 8 ∷ 0 ∷ 0 ∷ 0 ∷ [] } ∷ [];
       since = 1;
     })
-unfolding permitted
+unfolding permitted displaced
 store_into_buffer = refl
 
 pub store_into_program : store Sw 0 8 (pos 0) waiting ≡ Fails BadAccess
-unfolding permitted
+unfolding permitted displaced
 store_into_program = refl
+
+-- the low bytes of a register, up to the buffer's end and past it
+abbrev pub storing : Machine
+storing = record waiting { registers = with_register 9 0x123456f8 waiting.registers }
+
+pub store_byte : store Sb 8 9 (pos 7) storing ≡
+    Goes
+    (record storing {
+      pc = 16;
+      memory = record { start = 0; flags = 5; bytes = echo_bytes } ∷ record { start = 68; flags = 6; bytes = 0 ∷ 0 ∷ 0 ∷ 0 ∷ 0 ∷ 0 ∷ 0 ∷ 0xf8 ∷ [] } ∷ [];
+      since = 1;
+    })
+unfolding permitted displaced
+store_byte = refl
+
+pub store_half : store Sh 8 9 (pos 6) storing ≡
+    Goes
+    (record storing {
+      pc = 16;
+      memory = record { start = 0; flags = 5; bytes = echo_bytes } ∷ record { start = 68; flags = 6; bytes = 0 ∷ 0 ∷ 0 ∷ 0 ∷ 0 ∷ 0 ∷ 0xf8 ∷ 0x56 ∷ [] } ∷ [];
+      since = 1;
+    })
+unfolding permitted displaced
+store_half = refl
+
+pub store_half_past_the_end : store Sh 8 9 (pos 7) storing ≡ Fails BadAccess
+unfolding permitted displaced
+store_half_past_the_end = refl
 
 -- sends: 65,536 bytes, a closed connection, one that isn't there, a buffer that isn't there, and no bytes
 abbrev pub sending : ℕ → ℕ → ℕ → Machine
@@ -401,11 +492,11 @@ message = record { kind = 2; conn = 3; bytes = 104 ∷ 105 ∷ [] }
 
 -- three instructions, and then it wants an item
 pub echo_waits : option_and_then (λ (s : State). Some s.machine.pc) (run [] [] before 3) ≡ Some 24
-unfolding next effect permitted instruction row branch_row imm_row op_row system_row opcode rd funct3 rs1 rs2 funct7 imm_i imm_b imm_u imm_j received
+unfolding next effect permitted instruction row branch_row branch_op imm_row imm_op op_row reg_op base_op system_row opcode rd funct3 rs1 rs2 funct7 imm_i imm_b imm_u imm_j received displaced word_sum
 echo_waits = refl
 
 pub echo_wants : run [] [] before 4 ≡ None
-unfolding next effect permitted instruction row branch_row imm_row op_row system_row opcode rd funct3 rs1 rs2 funct7 imm_i imm_b imm_u imm_j received
+unfolding next effect permitted instruction row branch_row branch_op imm_row imm_op op_row reg_op base_op system_row opcode rd funct3 rs1 rs2 funct7 imm_i imm_b imm_u imm_j received displaced word_sum
 echo_wants = refl
 
 -- with the message there, thirteen instructions send it back and are at the same place again
@@ -429,5 +520,5 @@ pub echo_answers : run (message ∷ []) [] before 13 ≡
       sends = record { conn = 3; bytes = 104 ∷ 105 ∷ []; taken = 1 } ∷ [];
       ended = None;
     })
-unfolding next effect permitted instruction row branch_row imm_row op_row system_row opcode rd funct3 rs1 rs2 funct7 imm_i imm_b imm_u imm_j received
+unfolding next effect permitted instruction row branch_row branch_op imm_row imm_op op_row reg_op base_op system_row opcode rd funct3 rs1 rs2 funct7 imm_i imm_b imm_u imm_j received displaced word_sum
 echo_answers = refl

@@ -4,16 +4,17 @@ use Rattle.std.specs.Prelude.{ℤ, slice_get}
 use Rattle.std.proofs.lemmas.Bool.{cond_both, cases_Bool, not-false, ltb-false, eqb-false}
 use Rattle.rx_io.specs.declared.bytes.Item.{Item}
 use Rattle.rv_isa.specs.declared.instr.Instr.{Instr}
-use Rattle.rv_isa.specs.declared.instr.Instr.TheVariants.{Lui, Jal, Branch, Load, Store, OpImm, Op, Ecall}
+use Rattle.rv_isa.specs.declared.instr.Instr.TheVariants.{Lui, Auipc, Jal, Jalr, Branch, Load, Store, OpImm, Op, Fence, Ecall, Ebreak}
 use Rattle.rv_isa.specs.declared.instr.BranchOp.{BranchOp}
 use Rattle.rv_isa.specs.declared.instr.LoadOp.{LoadOp}
 use Rattle.rv_isa.specs.declared.instr.StoreOp.{StoreOp}
 use Rattle.rv_isa.specs.Table.{row}
+use Rattle.rv_isa.specs.Meaning.{is_taken, displaced}
 use Rattle.run_history.specs.declared.answer.Cause.TheVariants.{BadAccess, BadJump, BadInstruction, BadCall, Hang}
 use Rattle.run_history.specs.declared.choice.Choice.{Choice}
 use Rattle.run_history.specs.Memory.{Area, read, write, execute, permitted, bytes_at}
-use Rattle.run_history.specs.Machine.{Machine, register, with_register, next_pc, offset, Effect, Goes, Emits, Ends, Wants, Fails}
-use Rattle.run_history.specs.Instruction.{goes_on, writes, jumps, compares, branch, load, store}
+use Rattle.run_history.specs.Machine.{Machine, register, with_register, next_pc, Effect, Goes, Emits, Ends, Wants, Fails}
+use Rattle.run_history.specs.Instruction.{goes_on, writes, jumps, branch, load, store}
 use Rattle.run_history.specs.Call.{takes, may_send, answered, send, call}
 use Rattle.run_history.specs.Run.{instruction, executed, word_at, effect}
 
@@ -75,8 +76,8 @@ answered_alone value m =
 
 branch_alone : (operation : BranchOp) (rs1 rs2 : ℕ) (imm : ℤ) (m : Machine) → Alone m (branch operation rs1 rs2 imm m)
 branch_alone operation rs1 rs2 imm m =
-    cond_both (compares operation (register m rs1) (register m rs2)) (jumps (offset m.pc imm) m.registers m) (goes_on (next_pc m) m.registers m.memory m) (Alone m)
-    (λ _. jumps_alone (offset m.pc imm) m.registers m refl)
+    cond_both (is_taken operation (register m rs1) (register m rs2)) (jumps (displaced m.pc imm) m.registers m) (goes_on (next_pc m) m.registers m.memory m) (Alone m)
+    (λ _. jumps_alone (displaced m.pc imm) m.registers m refl)
     (λ _. goes_alone (next_pc m) m.registers m.memory m refl)
 
 load_alone : (operation : LoadOp) (rd rs1 : ℕ) (imm : ℤ) (m : Machine) → Alone m (load operation rd rs1 imm m)
@@ -129,13 +130,17 @@ call_shape m number =
 pub instruction_shape : (instr : Instr) (m : Machine) → Shape m (λ items choices. instruction instr items choices m)
 unfolding instruction
 instruction_shape (Lui rd imm) m = Same _ (writes_alone rd _ m) (λ items choices. refl)
+instruction_shape (Auipc rd imm) m = Same _ (writes_alone rd _ m) (λ items choices. refl)
 instruction_shape (Jal rd imm) m = Same _ (jumps_alone _ (with_register rd (next_pc m) m.registers) m (length-with_register rd _ m.registers)) (λ items choices. refl)
+instruction_shape (Jalr rd rs1 imm) m = Same _ (jumps_alone _ (with_register rd (next_pc m) m.registers) m (length-with_register rd _ m.registers)) (λ items choices. refl)
 instruction_shape (Branch operation rs1 rs2 imm) m = Same _ (branch_alone operation rs1 rs2 imm m) (λ items choices. refl)
 instruction_shape (Load operation rd rs1 imm) m = Same _ (load_alone operation rd rs1 imm m) (λ items choices. refl)
 instruction_shape (Store operation rs1 rs2 imm) m = Same _ (store_alone operation rs1 rs2 imm m) (λ items choices. refl)
 instruction_shape (OpImm operation rd rs1 imm) m = Same _ (writes_alone rd _ m) (λ items choices. refl)
 instruction_shape (Op operation rd rs1 rs2) m = Same _ (writes_alone rd _ m) (λ items choices. refl)
+instruction_shape (Fence word) m = Same _ (goes_alone (next_pc m) m.registers m.memory m refl) (λ items choices. refl)
 instruction_shape Ecall m = call_shape m (register m 17)
+instruction_shape Ebreak m = Same _ (λ h. cc) (λ items choices. refl)
 
 executed_shape : (found : Option Instr) (m : Machine) → Shape m (λ items choices. executed found items choices m)
 executed_shape None m = Same (Fails BadInstruction) (λ h. cc) (λ items choices. refl)

@@ -1,6 +1,5 @@
 -- The machine's state.
-use Rattle.std.specs.Prelude.{ℕ, ◌+◌, ◌%◌, ◌^◌, ℤ, Bool, false, List, [], Option, None, replicate, slice_index, slice_set, if◌then◌else◌, ◌==◌}
-use Rattle.std.specs.Int.{cast_unsigned, w32}
+use Rattle.std.specs.Prelude.{ℕ, ◌+◌, ◌%◌, ◌^◌, Bool, false, List, [], Option, None, replicate, slice_index, slice_set, if◌then◌else◌, ◌==◌}
 use Rattle.run_history.specs.declared.answer.Cause.{Cause}
 use Rattle.run_history.specs.declared.image.Image.{Image}
 use Rattle.run_history.specs.Memory.{Area}
@@ -41,10 +40,6 @@ register m n = if n == 0 then 0 else slice_index m.registers n
 
 abbrev pub with_register : ℕ → ℕ → List ℕ → List ℕ
 with_register n value registers = if n == 0 then registers else slice_set registers n value
-
--- an address and a signed offset, modulo 2 ^ 32
-abbrev pub offset : ℕ → ℤ → ℕ
-offset at by = (at + cast_unsigned w32 by) % 2 ^ 32
 
 abbrev pub next_pc : Machine → ℕ
 next_pc m = (m.pc + 4) % 2 ^ 32

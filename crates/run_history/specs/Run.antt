@@ -3,7 +3,7 @@
 use Rattle.std.specs.Prelude.{◌≡◌, ℕ, zero, suc, List, [], ◌∷◌, ◌++◌, length, Option, Some, None, is_some, option_and_then, flat_map, nat_le, if◌then◌else◌, ◌==◌}
 use Rattle.rx_io.specs.declared.bytes.Item.{Item}
 use Rattle.rv_isa.specs.declared.instr.Instr.{Instr}
-use Rattle.rv_isa.specs.declared.instr.Instr.TheVariants.{Lui, Jal, Branch, Load, Store, OpImm, Op, Ecall}
+use Rattle.rv_isa.specs.declared.instr.Instr.TheVariants.{Lui, Auipc, Jal, Jalr, Branch, Load, Store, OpImm, Op, Fence, Ecall, Ebreak}
 use Rattle.rv_isa.specs.Table.{row}
 use Rattle.rv_isa.specs.Words.{little_number}
 use Rattle.run_history.specs.declared.answer.Cause.TheVariants.{BadAccess, BadInstruction, Hang}
@@ -11,19 +11,23 @@ use Rattle.run_history.specs.declared.choice.Choice.{Choice}
 use Rattle.run_history.specs.declared.image.Image.{Image}
 use Rattle.run_history.specs.Memory.{execute, permitted, bytes_at}
 use Rattle.run_history.specs.Machine.{Machine, Send, State, register, start, Effect, Goes, Emits, Ends, Wants, Fails}
-use Rattle.run_history.specs.Instruction.{lui, jal, branch, load, store, op_imm, op}
+use Rattle.run_history.specs.Instruction.{lui, auipc, jal, jalr, branch, load, store, op_imm, op, fence, ebreak}
 use Rattle.run_history.specs.Call.{call}
 
 -- what an instruction does
 unfoldable pub instruction : Instr → List Item → List Choice → Machine → Effect
 instruction (Lui rd imm) items choices m = lui rd imm m
+instruction (Auipc rd imm) items choices m = auipc rd imm m
 instruction (Jal rd imm) items choices m = jal rd imm m
+instruction (Jalr rd rs1 imm) items choices m = jalr rd rs1 imm m
 instruction (Branch operation rs1 rs2 imm) items choices m = branch operation rs1 rs2 imm m
 instruction (Load operation rd rs1 imm) items choices m = load operation rd rs1 imm m
 instruction (Store operation rs1 rs2 imm) items choices m = store operation rs1 rs2 imm m
 instruction (OpImm operation rd rs1 imm) items choices m = op_imm operation rd rs1 imm m
 instruction (Op operation rd rs1 rs2) items choices m = op operation rd rs1 rs2 m
+instruction (Fence word) items choices m = fence m
 instruction Ecall items choices m = call (register m 17) items m
+instruction Ebreak items choices m = ebreak m
 
 -- the word at an address
 abbrev pub word_at : Machine → ℕ

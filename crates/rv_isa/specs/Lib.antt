@@ -1,3 +1,5 @@
+pub mod Listing
+pub mod Meaning
 pub mod Ranges
 pub mod Table
 pub mod Words

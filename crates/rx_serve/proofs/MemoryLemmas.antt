@@ -2,6 +2,7 @@
 use Rattle.std.proofs.Common.{◌≡◌, ℕ, zero, suc, ◌+◌, ◌-◌, ◌*◌, ◌^◌, ◌/◌, ◌%◌, ◌<◌, ◌≤◌, Bool, true, false, ◌&&◌, List, [], ◌∷◌, ◌++◌, length, take, drop, get_or, set, slice_get, slice_set, Some, None, is_some, unwrap_or, refl, add-one, sym, ap, subst, ◌∙◌, inl, inr, arith, lit<, if◌then◌else◌}
 use Rattle.std.proofs.lemmas.List.{at_drop_more, at_drop_all, set_split, append_assoc, append-nil, take_more, take_all, length_push}
 use Rattle.std.proofs.lemmas.Bool.{le-leb, lt-leb, leb-true, cases_lt}
+use Rattle.std.proofs.lemmas.Nat.{pow-add}
 use Rattle.std.proofs.Math.Bool.{and-false}
 use Rattle.std.proofs.Math.Nat.{pow-suc, pow-le-pow_right, mul-le-mul_right}
 use Rattle.rv_isa.specs.Words.{little_number, little_bytes}
@@ -121,6 +122,13 @@ part-small place byte small fits = let p : byte ≤ 255 = omega arith in mul-le-
 
 pub place-four : (k : ℕ) → k ≤ 4 → 256 ^ k ≤ 2 ^ 32
 place-four k below = pow-le-pow_right {n = 256} (lit< tt) below
+
+-- a place in bytes is one in bits
+pub place-bits : (k : ℕ) → 256 ^ k ≡ 2 ^ (8 * k)
+place-bits zero = refl
+place-bits (suc k) =
+    let more : 8 * k + 8 ≡ 8 * suc k = omega arith in
+    pow-suc 256 k ∙ ap (λ n. n * 256) (place-bits k) ∙ sym (pow-add 2 (8 * k) 8) ∙ ap (λ n. 2 ^ n) more
 
 pub pow-more : (k : ℕ) → 256 ^ k * 256 ≡ 256 ^ (k + 1)
 pow-more k = rw (add-one, pow-suc)

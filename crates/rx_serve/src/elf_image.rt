@@ -1,9 +1,9 @@
 // The program file: an executable of one segment of code, as it is written.
-ghost use Rattle.std.specs.Prelude.{◌≡◌, ◌+◌, ◌^◌, ◌<◌, ◌≤◌, ℕ, List, [], length, IfOk, IsErrOf, is_some};
-ghost use Rattle.rx_serve.specs.Program.{IsBuilt, code_image, has_rows, headers};
+ghost use Rattle.std.specs.Prelude.{◌≡◌, ◌+◌, ◌^◌, ◌<◌, ◌≤◌, ℕ, List, [], length, IfOk, IsErrOf};
+ghost use Rattle.rx_serve.specs.Program.{IsBuilt, code_image, is_built, has_row, has_rows, headers};
 
 use run_history::{FileBytes, Image, Segment, Segments};
-use rv_isa::decode;
+use rv_isa::{BranchOp, ImmOp, Instr, LoadOp, RegOp, StoreOp, decode};
 use std::alloc::Global;
 
 /// Where the code stands in memory, and where the program begins.
@@ -44,14 +44,40 @@ pub fn headers_of(count: u32) -> [u8; HEADERS]
     ]
 }
 
-// Whether each word of the code is in a row of the instruction table.
+// Whether a program may have this instruction so far.
+fn is_built(instr: &Instr) -> bool
+    ensures { result ≡ is_built instr.now }
+{
+    match *instr {
+        Instr::Lui { .. } | Instr::Jal { .. } | Instr::Ecall => true,
+        Instr::Branch { op, .. } => op == BranchOp::Beq,
+        Instr::Load { op, .. } => op == LoadOp::Lw,
+        Instr::Store { op, .. } => op == StoreOp::Sw,
+        Instr::OpImm { op, .. } => op == ImmOp::Addi,
+        Instr::Op { op, .. } => op == RegOp::Add,
+        Instr::Auipc { .. } | Instr::Jalr { .. } | Instr::Fence { .. } | Instr::Ebreak => false,
+    }
+}
+
+// Whether a word is one of these instructions.
+#[tactic(auto, unfolding(crate::specs::Program::has_row))]
+pub fn has_row(word: u32) -> bool
+    ensures { result ≡ has_row word }
+{
+    match decode(word) {
+        Some(instr) => is_built(&instr),
+        None => false,
+    }
+}
+
+// Whether each word of the code is one of these instructions.
 pub fn all_rows(code: &[u8]) -> bool
     ensures { result ≡ has_rows code.now }
 {
     let mut rest = code;
     'words: while let [a, b, c, d, after @ ..] = rest {
         let word = *a as u32 + 256 * (*b as u32 + 256 * (*c as u32 + 256 * *d as u32));
-        if decode(word).is_none() {
+        if !has_row(word) {
             return false;
         }
         rest = after;

@@ -1,5 +1,5 @@
 // The memory of a guest: areas of bytes, each with its permissions.
-ghost use Rattle.std.specs.Prelude.{◌≡◌, ◌+◌, ◌-◌, ◌^◌, ◌<◌, ◌≤◌, ℕ, length, slice_get, slice_set, true, false, IfOk, MatchOption, if◌then◌else◌};
+ghost use Rattle.std.specs.Prelude.{◌≡◌, ◌+◌, ◌-◌, ◌*◌, ◌^◌, ◌<◌, ◌≤◌, ℕ, length, slice_get, slice_set, true, false, IfOk, MatchOption, if◌then◌else◌};
 ghost use Rattle.rv_isa.specs.Words.{little_bytes};
 ghost use Rattle.run_history.specs.Memory.{covers, byte_at, permitted, bytes_at, put_byte, put_bytes};
 ghost use Rattle.run_history.specs.Image.{zeros, segment_area, blank_area, memory_of};
@@ -186,7 +186,8 @@ impl GuestSpace {
     fn number_at(&self, flag: u32, at: u32, size: u32) -> Result<u32, BadAccess>
         requires kind { 0 < flag }
         requires small { size ≤ 4 }
-        ensures { Reads flag self.now at size result }
+        ensures value { Reads flag self.now at size result }
+        ensures few { IfOk result (λ value. value < 2 ^ (8 * size)) }
     {
         if u64::from(at) + u64::from(size) > ADDRESSES {
             return Err(BadAccess);
@@ -215,7 +216,8 @@ impl GuestSpace {
     #[inline(always)]
     pub fn load(&self, at: u32, size: u32) -> Result<u32, BadAccess>
         requires { size ≤ 4 }
-        ensures { Reads 4 self.now at size result }
+        ensures value { Reads 4 self.now at size result }
+        ensures few { IfOk result (λ value. value < 2 ^ (8 * size)) }
     {
         self.number_at(READ, at, size)
     }

@@ -2,8 +2,7 @@
 ghost use Rattle.std.specs.Prelude.{ℕ, List, length, IfNone, OnSome};
 ghost use Rattle.rx_serve.specs.Program.{IsBuilt};
 
-use crate::elf_image::{HEADERS, MAX_CODE, all_rows, headers_of};
-use rv_isa::decode;
+use crate::elf_image::{HEADERS, MAX_CODE, all_rows, has_row, headers_of};
 
 /// What keeps a file from being the written form of code: the first of these that holds.
 #[derive(Clone, Copy, Debug, PartialEq, Eq)]
@@ -12,7 +11,7 @@ pub enum ProgramFlaw {
     Length(usize),
     /// The byte at this place of the headers.
     HeaderByte { place: usize, found: u8, wanted: u8 },
-    /// The word at this place of the file is in no row of the instruction table.
+    /// The word at this place of the file is none of the eight instructions.
     Word { place: usize, word: u32 },
 }
 
@@ -30,13 +29,13 @@ fn header_flaw(header: &[u8], wanted_header: &[u8]) -> ProgramFlaw {
     ProgramFlaw::Length(header.len())
 }
 
-// The first word of code that is in no row.
+// The first word of code that a program may not have.
 fn word_flaw(code: &[u8]) -> ProgramFlaw {
     let mut place = HEADERS;
     let mut rest = code;
     'words: while let [a, b, c, d, after @ ..] = rest {
         let word = u32::from_le_bytes([*a, *b, *c, *d]);
-        if decode(word).is_none() {
+        if !has_row(word) {
             return ProgramFlaw::Word { place, word };
         }
         place = place.saturating_add(4);

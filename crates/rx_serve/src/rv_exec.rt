@@ -1,15 +1,19 @@
-// One instruction on registers and a memory (RISC-V unprivileged manual, "RV32I Base Integer Instruction Set").
+// One instruction on registers and a memory (RISC-V unprivileged manual, "RV32I Base Integer Instruction Set" and the
+// "M" standard extension). What the operations give is rv_isa's.
 ghost use Rattle.std.specs.Prelude.{◌≡◌, ◌≢◌, ◌+◌, ◌%◌, ◌^◌, ◌≤◌, List, IfOk, MatchResult};
 ghost use Rattle.rv_isa.specs.Ranges.{IsRegister, IsInRange};
 ghost use Rattle.run_history.specs.Memory.{Area};
-ghost use Rattle.run_history.specs.Machine.{Machine, offset};
-ghost use Rattle.run_history.specs.Instruction.{compares, value_with_immediate, value_of_registers, load_size, store_size, lui, jal, branch, load, store, op_imm, op};
+ghost use Rattle.run_history.specs.Machine.{Machine};
+ghost use Rattle.run_history.specs.Instruction.{lui, auipc, jal, jalr, branch, load, store, op_imm, op, fence};
 ghost use Rattle.rx_serve.specs.Execution.{value_of, with_value, fetched, GoesOn, Does};
 ghost use Rattle.rx_serve.specs.Stepping.{StepsTo};
 
 use crate::guest_space::GuestSpace;
 use run_history::{Cause, Regs};
-use rv_isa::{BranchOp, ImmOp, Instr, LoadOp, RegOp, StoreOp, decode};
+use rv_isa::{
+    BranchOp, ImmOp, Instr, LoadOp, RegOp, StoreOp, alu, alu_imm, bytes_loaded, bytes_stored,
+    compare, decode, displace, extend, target_of_jalr, upper_word,
+};
 use rx_io::Steps;
 use std::sync::ledger::Ledger;
 
@@ -43,65 +47,23 @@ fn write(regs: &mut Regs, rd: u8, value: u32)
     regs.pc = regs.pc.wrapping_add(4);
 }
 
-/// Whether a branch's comparison holds.
-#[inline(always)]
-fn compares(op: BranchOp, a: u32, b: u32) -> bool
-    ensures { result ≡ compares op a b }
-{
-    match op {
-        BranchOp::Beq => a == b,
-    }
-}
-
-/// How many bytes a load touches.
-#[inline(always)]
-fn load_size(op: LoadOp) -> u32
-    ensures value { result ≡ load_size op }
-    ensures small { result ≤ 4 }
-{
-    match op {
-        LoadOp::Lw => 4,
-    }
-}
-
-/// How many bytes a store touches.
-#[inline(always)]
-fn store_size(op: StoreOp) -> u32
-    ensures value { result ≡ store_size op }
-    ensures small { result ≤ 4 }
-{
-    match op {
-        StoreOp::Sw => 4,
-    }
-}
-
-/// The value of an operation on a register and an immediate.
-#[inline(always)]
-fn value_with_immediate(op: ImmOp, a: u32, imm: i32) -> u32
-    ensures { result ≡ value_with_immediate op a imm }
-{
-    match op {
-        ImmOp::Addi => a.wrapping_add_signed(imm),
-    }
-}
-
-/// The value of an operation on two registers.
-#[inline(always)]
-fn value_of_registers(op: RegOp, a: u32, b: u32) -> u32
-    ensures { result ≡ value_of_registers op a b }
-{
-    match op {
-        RegOp::Add => a.wrapping_add(b),
-    }
-}
-
 /// LUI.
 #[inline(always)]
 fn lui(regs: &mut Regs, rd: u8, imm: i32)
     requires { IsRegister rd }
     ensures { (m : Machine) (memory : List Area) → GoesOn (lui rd imm) m regs.old memory regs.new memory }
 {
-    write(regs, rd, imm.cast_unsigned());
+    write(regs, rd, upper_word(imm));
+}
+
+/// AUIPC.
+#[inline(always)]
+fn auipc(regs: &mut Regs, rd: u8, imm: i32)
+    requires { IsRegister rd }
+    ensures { (m : Machine) (memory : List Area) → GoesOn (auipc rd imm) m regs.old memory regs.new memory }
+{
+    let value = displace(regs.pc, imm);
+    write(regs, rd, value);
 }
 
 /// JAL: where the target is no multiple of 4, the register isn't written.
@@ -111,11 +73,28 @@ fn jal(regs: &mut Regs, rd: u8, imm: i32) -> Result<(), Cause>
     ensures { (m : Machine) (memory : List Area) → Does (jal rd imm) m regs.old memory result regs.new memory }
 {
     let next = regs.pc.wrapping_add(4);
-    let target = regs.pc.wrapping_add_signed(imm);
+    let target = displace(regs.pc, imm);
     if target % 4 != 0 {
         return Err(Cause::BadJump);
     }
     set_value(regs, rd, next);
+    regs.pc = target;
+    Ok(())
+}
+
+/// JALR: the base is read before the register is written, which may be the same one.
+#[inline(always)]
+fn jalr(regs: &mut Regs, rd: u8, rs1: u8, imm: i32) -> Result<(), Cause>
+    requires written { IsRegister rd }
+    requires first { IsRegister rs1 }
+    ensures { (m : Machine) (memory : List Area) → Does (jalr rd rs1 imm) m regs.old memory result regs.new memory }
+{
+    let return_address = regs.pc.wrapping_add(4);
+    let target = target_of_jalr(value_of(regs, rs1), imm);
+    if target % 4 != 0 {
+        return Err(Cause::BadJump);
+    }
+    set_value(regs, rd, return_address);
     regs.pc = target;
     Ok(())
 }
@@ -127,11 +106,11 @@ fn branch(regs: &mut Regs, op: BranchOp, rs1: u8, rs2: u8, imm: i32) -> Result<(
     requires second { IsRegister rs2 }
     ensures { (m : Machine) (memory : List Area) → Does (branch op rs1 rs2 imm) m regs.old memory result regs.new memory }
 {
-    if !compares(op, value_of(regs, rs1), value_of(regs, rs2)) {
+    if !compare(op, value_of(regs, rs1), value_of(regs, rs2)) {
         regs.pc = regs.pc.wrapping_add(4);
         return Ok(());
     }
-    let target = regs.pc.wrapping_add_signed(imm);
+    let target = displace(regs.pc, imm);
     if target % 4 != 0 {
         return Err(Cause::BadJump);
     }
@@ -153,12 +132,10 @@ fn load(
     requires first { IsRegister rs1 }
     ensures { (m : Machine) → Does (load op rd rs1 imm) m regs.old space.now result regs.new space.now }
 {
-    let at = value_of(regs, rs1).wrapping_add_signed(imm);
-    match space.load(at, load_size(op)) {
+    let at = displace(value_of(regs, rs1), imm);
+    match space.load(at, bytes_loaded(op)) {
         Ok(value) => {
-            match op {
-                LoadOp::Lw => write(regs, rd, value),
-            }
+            write(regs, rd, extend(op, value));
             Ok(())
         }
         Err(_) => Err(Cause::BadAccess),
@@ -179,8 +156,8 @@ fn store(
     requires second { IsRegister rs2 }
     ensures { (m : Machine) → Does (store op rs1 rs2 imm) m regs.old space.old result regs.new space.new }
 {
-    let at = value_of(regs, rs1).wrapping_add_signed(imm);
-    match space.store(at, store_size(op), value_of(regs, rs2)) {
+    let at = displace(value_of(regs, rs1), imm);
+    match space.store(at, bytes_stored(op), value_of(regs, rs2)) {
         Ok(()) => {
             regs.pc = regs.pc.wrapping_add(4);
             Ok(())
@@ -196,7 +173,7 @@ fn op_imm(regs: &mut Regs, op: ImmOp, rd: u8, rs1: u8, imm: i32)
     requires first { IsRegister rs1 }
     ensures { (m : Machine) (memory : List Area) → GoesOn (op_imm op rd rs1 imm) m regs.old memory regs.new memory }
 {
-    let value = value_with_immediate(op, value_of(regs, rs1), imm);
+    let value = alu_imm(op, value_of(regs, rs1), imm);
     write(regs, rd, value);
 }
 
@@ -208,8 +185,16 @@ fn op(regs: &mut Regs, operation: RegOp, rd: u8, rs1: u8, rs2: u8)
     requires second { IsRegister rs2 }
     ensures { (m : Machine) (memory : List Area) → GoesOn (op operation rd rs1 rs2) m regs.old memory regs.new memory }
 {
-    let value = value_of_registers(operation, value_of(regs, rs1), value_of(regs, rs2));
+    let value = alu(operation, value_of(regs, rs1), value_of(regs, rs2));
     write(regs, rd, value);
+}
+
+/// FENCE.
+#[inline(always)]
+fn fence(regs: &mut Regs)
+    ensures { (m : Machine) (memory : List Area) → GoesOn fence m regs.old memory regs.new memory }
+{
+    regs.pc = regs.pc.wrapping_add(4);
 }
 
 /// The instruction at the program counter.
@@ -240,7 +225,12 @@ fn execute(regs: &mut Regs, space: &mut GuestSpace, i: &Instr) -> Result<(), Cau
             lui(regs, rd, imm);
             Ok(())
         }
+        Instr::Auipc { rd, imm } => {
+            auipc(regs, rd, imm);
+            Ok(())
+        }
         Instr::Jal { rd, imm } => jal(regs, rd, imm),
+        Instr::Jalr { rd, rs1, imm } => jalr(regs, rd, rs1, imm),
         Instr::Branch { op, rs1, rs2, imm } => branch(regs, op, rs1, rs2, imm),
         Instr::Load { op, rd, rs1, imm } => load(regs, space, op, rd, rs1, imm),
         Instr::Store { op, rs1, rs2, imm } => store(regs, space, op, rs1, rs2, imm),
@@ -257,6 +247,11 @@ fn execute(regs: &mut Regs, space: &mut GuestSpace, i: &Instr) -> Result<(), Cau
             op(regs, operation, rd, rs1, rs2);
             Ok(())
         }
+        Instr::Fence { .. } => {
+            fence(regs);
+            Ok(())
+        }
+        Instr::Ebreak => Err(Cause::AssertFailed(0)),
         Instr::Ecall => unreachable!(),
     }
 }

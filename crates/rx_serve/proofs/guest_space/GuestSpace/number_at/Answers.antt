@@ -1,14 +1,14 @@
-use Rattle.std.proofs.Common.{◌≡◌, ◌+◌, ◌*◌, ◌^◌, ◌≤◌, ◌<◌, is_some, Some, sym, ◌∙◌, ap, arith}
+use Rattle.std.proofs.Common.{◌≡◌, ◌+◌, ◌*◌, ◌^◌, ◌≤◌, ◌<◌, is_some, Some, sym, ◌∙◌, ap, subst, arith}
 use Rattle.rv_isa.specs.Words.{little_number}
 use Rattle.run_history.specs.Memory.{byte_at, each_covered, bytes_at}
-use Rattle.rx_serve.proofs.MemoryLemmas.{permitted-far, permitted-near, permitted-miss, place-small, place-four, part-small, each_covered-more, little_number-more, pow-more}
+use Rattle.rx_serve.proofs.MemoryLemmas.{permitted-far, permitted-near, permitted-miss, place-small, place-four, place-bits, part-small, each_covered-more, little_number-more, pow-more}
 use Rattle.rx_serve.proofs.guest_space.GuestSpace.number_at.Goals as goal
 
-pub returns-then-from-gt-ADDRESSES : goal.returns-then-from-gt-ADDRESSES
-returns-then-from-gt-ADDRESSES c = permitted-far _ _ c.args.at c.args.size (omega arith)
+pub returns-then-from-gt-ADDRESSES-clause-value : goal.returns-then-from-gt-ADDRESSES-clause-value
+returns-then-from-gt-ADDRESSES-clause-value c = permitted-far _ _ c.args.at c.args.size (omega arith)
 
-pub returns-in_default : goal.returns-in_default
-returns-in_default c =
+pub returns-in_default-clause-value : goal.returns-in_default-clause-value
+returns-in_default-clause-value c =
     let near : c.args.at + c.args.size ≤ 2 ^ 32 = omega arith in
     permitted-miss c.args.flag _ _ c.loop-k.k _ near c.loop-k-test.true (ap is_some (sym c.byte_at.ensures ∙ c.in_default.is))
 
@@ -50,10 +50,15 @@ overflow_cast-result c =
     let last : c.loop-k.k ≤ 4 = omega arith in
     omega (arith, place-four c.loop-k.k last)
 
-pub returns : goal.returns
-returns c =
+pub returns-clause-value : goal.returns-clause-value
+returns-clause-value c =
     let near : c.args.at + c.args.size ≤ 2 ^ 32 = omega arith in
     let last : c.loop-k.k ≡ c.args.size = omega arith in (
       permitted-near c.args.flag c.args.self.now _ _ near ∙ ap (λ n. each_covered c.args.flag c.args.self.now c.args.at n) (sym last) ∙ c.loop-k.invariant.covered,
       c.loop-k.invariant.value ∙ ap (λ n. little_number (bytes_at c.args.flag c.args.self.now c.args.at n)) last,
     )
+
+pub returns-clause-few : goal.returns-clause-few
+returns-clause-few c =
+    let last : c.loop-k.k ≡ c.args.size = omega arith in
+    subst (λ n. c.loop-k.value < n) (c.loop-k.invariant.place ∙ place-bits c.loop-k.k ∙ ap (λ n. 2 ^ (8 * n)) last) c.loop-k.invariant.small
