@@ -1,5 +1,7 @@
 -- The definitions at values that were worked out by hand from the RISC-V manual's formats and the ELF specification.
-use Rattle.std.proofs.Common.{◌≡◌, ℕ, true, false, List, [], ◌∷◌, ◌++◌, length, map, Some, None, refl}
+use Rattle.std.proofs.Common.{◌≡◌, ℕ, true, false, List, [], ◌∷◌, ◌++◌, length, map, Some, None, refl, lit<, lit≤}
+use Rattle.std.specs.List.{All}
+use Rattle.std.proofs.lemmas.List.Elements.{All-cons, All-nil}
 use Rattle.std.specs.Prelude.{pos, negsuc, flat_map, option_and_then}
 use Rattle.rx_io.specs.declared.bytes.Item.{Item}
 use Rattle.rv_isa.specs.declared.instr.Instr.TheVariants.{Lui, Jal, Branch, Load, Store, OpImm, Op, Ecall}
@@ -11,10 +13,12 @@ use Rattle.rv_isa.specs.declared.instr.RegOp.TheVariants.{Add, Div}
 use Rattle.rv_isa.specs.Words.{little_bytes, little_number, opcode, rd, funct3, rs1, rs2, funct7, imm_i, imm_s, imm_b, imm_u, imm_j}
 use Rattle.rv_isa.specs.Table.{row, branch_row, branch_op, load_row, load_op, store_row, store_op, imm_row, imm_op, op_row, reg_op, base_op, system_row}
 use Rattle.rv_isa.specs.Meaning.{displaced, indirect_target, word_sum, is_less_signed, shifted_right_signed, quotient_signed, extended}
-use Rattle.run_history.specs.declared.image.Image.{Image}
+use Rattle.elf_image.specs.declared.image.Image.{Image}
+use Rattle.elf_image.specs.declared.segment.Segment.{Segment}
+use Rattle.elf_image.specs.Layout.{heap_floor, IsPlaced, overlap, no_load, bad_entry, too_large, layout_refusal}
 use Rattle.run_history.specs.declared.answer.Cause.TheVariants.{BadAccess, BadJump, AssertFailed, BadCall, Hang}
-use Rattle.run_history.specs.Memory.{Area, execute, read, write, byte_at, permitted, bytes_at, put_bytes}
-use Rattle.run_history.specs.Image.{base, heap_start, heap_end, stack_top, zeros, memory_of, written}
+use Rattle.elf_image.specs.Memory.{Area, execute, read, write, byte_at, permitted, bytes_at, put_bytes}
+use Rattle.elf_image.specs.Image.{base, heap_start, heap_end, stack_top, zeros, memory_of, written}
 use Rattle.run_history.specs.Machine.{Machine, State, register, with_register, start_machine, Goes, Emits, Ends, Fails}
 use Rattle.run_history.specs.Instruction.{auipc, jal, jalr, branch, load, store, op_imm, op, fence, ebreak}
 use Rattle.run_history.specs.Call.{received, answered, send, call}
@@ -159,8 +163,29 @@ pub echo_in_bytes : flat_map (little_bytes 4) echo ≡ echo_bytes
 echo_in_bytes = refl
 
 -- the program in one segment that may be read and executed, in a window of 4 MiB
+abbrev pub echo_segment : Segment
+echo_segment = record { vaddr = 0x10000; flags = 5; memsz = 68; filled = echo_bytes }
+
+abbrev pub echo_segments : List Segment
+echo_segments = echo_segment ∷ []
+
+pub echo_placed : All IsPlaced echo_segments
+echo_placed = All-cons IsPlaced echo_segment [] (record { some = lit< tt; given = lit≤ tt; below = lit≤ tt }) (All-nil IsPlaced)
+
+pub echo_accepted : layout_refusal 0x10000 4194304 echo_segments ≡ None
+unfolding layout_refusal overlap no_load bad_entry too_large
+echo_accepted = refl
+
 abbrev pub echo_image : Image
-echo_image = record { entry = 0x10000; window = 4194304; segments = record { vaddr = 0x10000; flags = 5; memsz = 68; filled = echo_bytes } ∷ [] }
+echo_image = record {
+  entry = 0x10000;
+  window = 4194304;
+  segments = echo_segments;
+  in_window = record { whole = refl; least = lit≤ tt; most = lit≤ tt };
+  placed = echo_placed;
+  few = lit< tt;
+  accepted = echo_accepted;
+}
 
 pub echo_base : base echo_image ≡ 0x10000
 echo_base = refl
@@ -175,15 +200,40 @@ pub echo_stack_top : stack_top echo_image ≡ 0x410000
 echo_stack_top = refl
 
 -- two segments, the higher one first, and neither at a page's begin
+abbrev pub higher : Segment
+higher = record { vaddr = 0x20ff0; flags = 6; memsz = 0x20; filled = [] }
+
+abbrev pub lower : Segment
+lower = record { vaddr = 0x12344; flags = 5; memsz = 5; filled = [] }
+
+abbrev pub higher_first : List Segment
+higher_first = higher ∷ lower ∷ []
+
+pub higher_first_placed : All IsPlaced higher_first
+higher_first_placed =
+    All-cons IsPlaced higher (lower ∷ []) (record { some = lit< tt; given = lit≤ tt; below = lit≤ tt })
+    (All-cons IsPlaced lower [] (record { some = lit< tt; given = lit≤ tt; below = lit≤ tt }) (All-nil IsPlaced))
+
+pub higher_first_accepted : layout_refusal 0x12344 8388608 higher_first ≡ None
+unfolding layout_refusal overlap no_load bad_entry too_large
+higher_first_accepted = refl
+
 abbrev pub two_segments : Image
-two_segments =
-    record { entry = 0x12345; window = 8388608; segments = record { vaddr = 0x20ff0; flags = 6; memsz = 0x20; filled = [] } ∷ record { vaddr = 0x12345; flags = 5; memsz = 4; filled = [] } ∷ [] }
+two_segments = record {
+  entry = 0x12344;
+  window = 8388608;
+  segments = higher_first;
+  in_window = record { whole = refl; least = lit≤ tt; most = lit≤ tt };
+  placed = higher_first_placed;
+  few = lit< tt;
+  accepted = higher_first_accepted;
+}
 
 pub two_segments_window : base two_segments ∷ heap_start two_segments ∷ heap_end two_segments ∷ stack_top two_segments ∷ [] ≡ 0x12000 ∷ 0x22000 ∷ 0x801000 ∷ 0x812000 ∷ []
 two_segments_window = refl
 
 -- a segment of exactly one page: the heap begins at its end
-pub whole_page : heap_start (record { entry = 0x10000; window = 4194304; segments = record { vaddr = 0x10000; flags = 5; memsz = 0x1000; filled = [] } ∷ [] }) ≡ 0x11000
+pub whole_page : heap_floor (record { vaddr = 0x10000; flags = 5; memsz = 0x1000; filled = [] } ∷ []) ≡ 0x11000
 whole_page = refl
 
 -- the header (52 bytes) and the one program header (32 bytes) of the written file

@@ -3,3 +3,4 @@ pub mod Runs
 pub mod Connections
 pub mod Outputs
 pub mod Examples
+pub mod Within

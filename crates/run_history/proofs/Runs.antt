@@ -8,20 +8,20 @@ use Rattle.rx_io.specs.declared.bytes.Item.{Item}
 use Rattle.run_history.specs.declared.answer.Cause.{Cause}
 use Rattle.run_history.specs.declared.answer.Cause.TheVariants.{Hang}
 use Rattle.run_history.specs.declared.choice.Choice.{Choice}
-use Rattle.run_history.specs.declared.image.Image.{Image}
-use Rattle.run_history.specs.Memory.{write, permitted}
+use Rattle.elf_image.specs.declared.image.Image.{Image}
+use Rattle.elf_image.specs.Memory.{write, permitted}
 use Rattle.run_history.specs.Machine.{Machine, State, register, with_register, no_connections, start, start_machine, Effect, Goes, Emits, Ends, Wants, Fails}
 use Rattle.run_history.specs.Call.{takes, received, connections_after}
 use Rattle.run_history.specs.Run.{effect, effect_within, after, next, run, stays_quiet, quiet_run}
 use Rattle.run_history.proofs.Shapes.{Keeps, MaySend, Alone, Shape, Same, Takes, effect_shape, length-with_register}
 
 -- to go on by nothing changes nothing
-and_then_same : {X : Type 0} (o : Option X) → option_and_then (λ x. Some x) o ≡ o
+pub and_then_same : {X : Type 0} (o : Option X) → option_and_then (λ x. Some x) o ≡ o
 and_then_same None = refl
 and_then_same (Some x) = refl
 
 -- to go on twice is to go on by both, one after the other
-and_then_twice : {X Y Z : Type 0} (f : X → Option Y) (g : Y → Option Z) (o : Option X) → option_and_then g (option_and_then f o) ≡ option_and_then (λ x. option_and_then g (f x)) o
+pub and_then_twice : {X Y Z : Type 0} (f : X → Option Y) (g : Y → Option Z) (o : Option X) → option_and_then g (option_and_then f o) ≡ option_and_then (λ x. option_and_then g (f x)) o
 and_then_twice f g None = refl
 and_then_twice f g (Some x) = refl
 
@@ -226,7 +226,7 @@ quiet_run_one budget s t u n first second =
     rw add-one (ap (option_and_then (λ mid. stays_quiet (effect_within budget [] [] mid))) first ∙ ap stays_quiet second)
 
 -- a quiet effect goes on
-quiet_goes : (e : Effect) (m : Machine) → stays_quiet e ≡ Some m → e ≡ Goes m
+pub quiet_goes : (e : Effect) (m : Machine) → stays_quiet e ≡ Some m → e ≡ Goes m
 quiet_goes (Goes new) m h = ap Goes (same_Some new m h)
 quiet_goes (Emits conn bytes new) m h = absurd (none-some m h)
 quiet_goes (Ends code) m h = absurd (none-some m h)

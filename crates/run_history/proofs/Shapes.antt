@@ -12,7 +12,7 @@ use Rattle.rv_isa.specs.Table.{row}
 use Rattle.rv_isa.specs.Meaning.{is_taken, displaced}
 use Rattle.run_history.specs.declared.answer.Cause.TheVariants.{BadAccess, BadJump, BadInstruction, BadCall, Hang}
 use Rattle.run_history.specs.declared.choice.Choice.{Choice}
-use Rattle.run_history.specs.Memory.{Area, read, write, execute, permitted, bytes_at}
+use Rattle.elf_image.specs.Memory.{Area, read, write, execute, permitted, bytes_at}
 use Rattle.run_history.specs.Machine.{Machine, register, with_register, next_pc, Effect, Goes, Emits, Ends, Wants, Fails}
 use Rattle.run_history.specs.Instruction.{goes_on, writes, jumps, branch, load, store}
 use Rattle.run_history.specs.Call.{takes, may_send, answered, send, call}

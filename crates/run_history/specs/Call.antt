@@ -2,7 +2,7 @@
 use Rattle.std.specs.Prelude.{ℕ, ◌+◌, Bool, true, false, not, List, length, take, Option, Some, None, slice_get, slice_set, unwrap_or, nat_lt, if◌then◌else◌, ◌==◌}
 use Rattle.rx_io.specs.declared.bytes.Item.{Item}
 use Rattle.run_history.specs.declared.answer.Cause.TheVariants.{BadAccess, BadCall}
-use Rattle.run_history.specs.Memory.{read, write, permitted, bytes_at, put_bytes}
+use Rattle.elf_image.specs.Memory.{read, write, permitted, bytes_at, put_bytes}
 use Rattle.run_history.specs.Machine.{Machine, register, with_register, next_pc, Effect, Goes, Emits, Ends, Wants, Fails}
 
 -- the connections that may be sent to, once an item was taken: an open (kind 1) adds its own, a close (3) removes it

@@ -9,7 +9,7 @@ use Rattle.rv_isa.specs.declared.instr.RegOp.{RegOp}
 use Rattle.rv_isa.specs.Words.{little_bytes, little_number}
 use Rattle.rv_isa.specs.Meaning.{value_of, imm_value_of, is_taken, displaced, indirect_target, to_word, load_size, loaded, store_size}
 use Rattle.run_history.specs.declared.answer.Cause.TheVariants.{BadAccess, BadJump, AssertFailed}
-use Rattle.run_history.specs.Memory.{Area, read, write, permitted, bytes_at, put_bytes}
+use Rattle.elf_image.specs.Memory.{Area, read, write, permitted, bytes_at, put_bytes}
 use Rattle.run_history.specs.Machine.{Machine, register, with_register, next_pc, Effect, Goes, Fails}
 
 -- the machine goes on at an address, with these registers and this memory

@@ -1,5 +1,3 @@
-pub mod Memory
-pub mod Image
 pub mod Machine
 pub mod Instruction
 pub mod Call

@@ -1,9 +1,9 @@
 -- The machine's state.
 use Rattle.std.specs.Prelude.{ℕ, ◌+◌, ◌%◌, ◌^◌, Bool, false, List, [], Option, None, replicate, slice_index, slice_set, if◌then◌else◌, ◌==◌}
 use Rattle.run_history.specs.declared.answer.Cause.{Cause}
-use Rattle.run_history.specs.declared.image.Image.{Image}
-use Rattle.run_history.specs.Memory.{Area}
-use Rattle.run_history.specs.Image.{memory_of, stack_top}
+use Rattle.elf_image.specs.declared.image.Image.{Image}
+use Rattle.elf_image.specs.Memory.{Area}
+use Rattle.elf_image.specs.Image.{memory_of, stack_top}
 
 -- what an instruction reads and changes
 pub record Machine : Type 0 where

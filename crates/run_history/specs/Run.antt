@@ -8,8 +8,8 @@ use Rattle.rv_isa.specs.Table.{row}
 use Rattle.rv_isa.specs.Words.{little_number}
 use Rattle.run_history.specs.declared.answer.Cause.TheVariants.{BadAccess, BadInstruction, Hang}
 use Rattle.run_history.specs.declared.choice.Choice.{Choice}
-use Rattle.run_history.specs.declared.image.Image.{Image}
-use Rattle.run_history.specs.Memory.{execute, permitted, bytes_at}
+use Rattle.elf_image.specs.declared.image.Image.{Image}
+use Rattle.elf_image.specs.Memory.{execute, permitted, bytes_at}
 use Rattle.run_history.specs.Machine.{Machine, Send, State, register, start, Effect, Goes, Emits, Ends, Wants, Fails}
 use Rattle.run_history.specs.Instruction.{lui, auipc, jal, jalr, branch, load, store, op_imm, op, fence, ebreak}
 use Rattle.run_history.specs.Call.{call}
@@ -62,6 +62,14 @@ next items choices s = if is_some s.ended then None else after s (effect items c
 abbrev pub run : List Item → List Choice → State → ℕ → Option State
 run items choices s zero = Some s
 run items choices s (suc steps) = option_and_then (next items choices) (run items choices s steps)
+
+-- the same, where each instruction comes within a budget of instructions since the last item
+unfoldable pub next_within : ℕ → List Item → List Choice → State → Option State
+next_within budget items choices s = if is_some s.ended then None else after s (effect_within budget items choices s.machine)
+
+abbrev pub run_within : ℕ → List Item → List Choice → State → ℕ → Option State
+run_within budget items choices s zero = Some s
+run_within budget items choices s (suc steps) = option_and_then (next_within budget items choices) (run_within budget items choices s steps)
 
 -- one instruction that is nothing but a step within the budget: no send, no end, no item, no failure
 abbrev pub stays_quiet : Effect → Option Machine

@@ -28,8 +28,6 @@ pub enum Answer {
     Exited(u32),
     /// The words of the command line aren't those of a command.
     BadWords,
-    /// The program file isn't of the one form that is built so far.
-    ProgramNotBuilt,
     /// The program file is refused, by the number of the refusal.
     ElfRefused(u8),
     /// The assembly text is refused at this line.

@@ -1,14 +1,19 @@
-//! `rx`: runs a guest program on the frames of standard input, and writes what it sends as frames on standard output.
+//! `rx`: runs a guest program on the frames of standard input, and writes what it sends as frames on standard output;
+//! assembles programs.
 #![tactic(auto)]
 
 ghost use Rattle.std.specs.Prelude.{◌≡◌, ◌<◌};
 
 mod message;
+#[cfg(test)]
+mod tests;
 
+use elf_image::{RefusedField, field_of_refusal};
 use message::Message;
 use run_history::Answer;
+use rv_asm::explain;
 use rx_io::{Files, StdFiles, StdSink, StdSource, Steps, TameListener};
-use rx_serve::{End, ProgramFlaw, flaw_of, run_rx};
+use rx_serve::{End, WINDOW, run_rx};
 use std::env;
 use std::marker::Brand;
 use std::process::ExitCode;
@@ -19,7 +24,7 @@ const NO_MEMORY: u8 = 10;
 
 const BAD_WORDS: u8 = 2;
 
-// The greatest number of bytes of a program file.
+// The greatest number of bytes of a program file, and of a text.
 const MAX_PROGRAM: u64 = 16 << 20;
 
 // Runs the command of these words over the real streams and files.
@@ -45,17 +50,30 @@ fn run<L: Ledger>(rt: &HostRuntime, words: &[String], blank: Blank) -> End
     )
 }
 
-// What keeps the program file from being one, where that was the answer.
-fn flaw(rt: &HostRuntime, answer: Answer, words: &[String]) -> Option<ProgramFlaw> {
-    if answer != Answer::ProgramNotBuilt {
+// What is wrong with the text, where that was the answer.
+fn explanation(rt: &HostRuntime, answer: Answer, words: &[String]) -> Option<String> {
+    let Answer::AsmRefused { kind, line } = answer else {
         return None;
-    }
+    };
+    let source = words.get(1)?;
+    let text = StdFiles::make(rt)
+        .load(rt.alloc(), source.as_str(), MAX_PROGRAM)
+        .ok()?;
+    explain(rt.alloc(), text.as_slice(), kind, line).ok()
+}
+
+// The field that the program file is refused for, where that was the answer.
+fn refused_field(rt: &HostRuntime, answer: Answer, words: &[String]) -> Option<RefusedField> {
+    let Answer::ElfRefused(kind) = answer else {
+        return None;
+    };
     let program = words.get(1)?;
-    let file = StdFiles::make(rt).load(rt.alloc(), program.as_str(), MAX_PROGRAM);
-    match file {
-        Ok(file) => flaw_of(file.as_slice()),
-        Err(_) => None,
-    }
+    let file = StdFiles::make(rt)
+        .load(rt.alloc(), program.as_str(), MAX_PROGRAM)
+        .ok()?;
+    field_of_refusal(rt.alloc(), file.as_slice(), kind, WINDOW)
+        .ok()
+        .flatten()
 }
 
 fn main(rt: HostRuntime) -> ExitCode {
@@ -79,7 +97,8 @@ fn main(rt: HostRuntime) -> ExitCode {
         let message = Message {
             answer: end.answer,
             words: words.as_slice(),
-            flaw: flaw(&rt, end.answer, words.as_slice()),
+            field: refused_field(&rt, end.answer, words.as_slice()),
+            explanation: explanation(&rt, end.answer, words.as_slice()),
         };
         let _ = eprintln!(rt; "rx: {message}");
     }

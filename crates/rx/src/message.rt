@@ -1,46 +1,22 @@
 // What a person reads on standard error.
+use elf_image::{ElfRefusal, RefusedField};
 use run_history::{Answer, Cause};
-use rx_serve::ProgramFlaw;
 use std::fmt;
 
 /// The sentence for an answer to these words: what was wrong, where, and what would be right.
-#[derive(Clone, Copy, Debug)]
+#[derive(Debug, Drop)]
 pub struct Message<'a> {
     pub answer: Answer,
     pub words: &'a [String],
-    /// What keeps the program file from being one, where that was found out.
-    pub flaw: Option<ProgramFlaw>,
+    /// The field that a program file is refused for, where it was found.
+    pub field: Option<RefusedField>,
+    /// What is wrong with a refused text, where it was found.
+    pub explanation: Option<String>,
 }
 
-/// The words of `run`, with the names that a person gives in capital letters.
-const USAGE: &str = "rx run PROGRAM --record RECORD --report REPORT --frame whole";
-
-// The field of an executable's headers that has the byte at a place (System V ABI, "ELF Header", "Program Header").
-fn field_of(place: usize) -> &'static str {
-    match place {
-        0..=3 => "the mark of ELF",
-        4..=15 => "e_ident",
-        16..=17 => "e_type",
-        18..=19 => "e_machine",
-        20..=23 => "e_version",
-        24..=27 => "e_entry",
-        28..=31 => "e_phoff",
-        32..=35 => "e_shoff",
-        36..=39 => "e_flags",
-        40..=41 => "e_ehsize",
-        42..=43 => "e_phentsize",
-        44..=45 => "e_phnum",
-        46..=51 => "the sections",
-        52..=55 => "p_type",
-        56..=59 => "p_offset",
-        60..=63 => "p_vaddr",
-        64..=67 => "p_paddr",
-        68..=71 => "p_filesz",
-        72..=75 => "p_memsz",
-        76..=79 => "p_flags",
-        _ => "p_align",
-    }
-}
+/// The words of the commands, with the names that a person gives in capital letters.
+const USAGE: &str =
+    "rx run PROGRAM --record RECORD --report REPORT --frame whole, or rx asm SOURCE OUT";
 
 impl Message<'_> {
     // The word at a place, if there is one.
@@ -52,6 +28,34 @@ impl Message<'_> {
     }
 
     fn bad_words<W: fmt::Write>(&self, f: &mut fmt::Formatter<W>) -> fmt::Result {
+        match self.word(0) {
+            "run" => self.bad_run_words(f),
+            "asm" => self.bad_asm_words(f),
+            "" => write!(f, "no command is named: {USAGE}"),
+            command => write!(f, "there is no command {command:?}: {USAGE}"),
+        }
+    }
+
+    // A place that wants a name, and has none.
+    fn missing_name(&self, places: &[usize]) -> Option<usize> {
+        for place in places {
+            let word = self.word(*place);
+            if word.is_empty() || word.starts_with('-') {
+                return Some(*place);
+            }
+        }
+        None
+    }
+
+    fn no_name<W: fmt::Write>(&self, f: &mut fmt::Formatter<W>, place: usize) -> fmt::Result {
+        let word = self.word(place);
+        write!(
+            f,
+            "{word:?} stands where a name is wanted that doesn't begin with a dash: {USAGE}"
+        )
+    }
+
+    fn bad_run_words<W: fmt::Write>(&self, f: &mut fmt::Formatter<W>) -> fmt::Result {
         let count = self.words.len();
         if count != 8 {
             return write!(
@@ -60,7 +64,6 @@ impl Message<'_> {
             );
         }
         for (place, wanted) in [
-            (0, "run"),
             (2, "--record"),
             (4, "--report"),
             (6, "--frame"),
@@ -68,56 +71,47 @@ impl Message<'_> {
         ] {
             let word = self.word(place);
             if word != wanted {
-                let number = place + 1;
-                return write!(
-                    f,
-                    "word {number} is {word:?}, where {wanted} is wanted: {USAGE}"
-                );
+                return write!(f, "{word:?} stands where {wanted} is wanted: {USAGE}");
             }
         }
-        for place in [1, 3, 5] {
-            let word = self.word(place);
-            if word.is_empty() || word.starts_with('-') {
-                let number = place + 1;
-                return write!(
-                    f,
-                    "word {number} is {word:?}, where a name is wanted that doesn't begin with a dash: {USAGE}"
-                );
-            }
-        }
-        write!(
-            f,
-            "PROGRAM, RECORD and REPORT have to be three different names: {USAGE}"
-        )
-    }
-
-    fn flaw<W: fmt::Write>(&self, f: &mut fmt::Formatter<W>) -> fmt::Result {
-        match self.flaw {
-            Some(ProgramFlaw::Length(length)) => write!(
-                f,
-                "it has {length} bytes, where 84 of headers and 4 to 65536 of code, a multiple of 4, are wanted"
-            ),
-            Some(
-                ProgramFlaw::HeaderByte {
-                    place,
-                    found,
-                    wanted,
-                },
-            ) => {
-                let field = field_of(place);
-                write!(
-                    f,
-                    "byte {place} ({field}) is {found}, where {wanted} is wanted: one segment of code at 0x00010000 in a file for RISC-V"
-                )
-            }
-            Some(ProgramFlaw::Word { place, word }) => write!(
-                f,
-                "the word {word:08x} at byte {place} is none of LUI, ADDI, ADD, LW, SW, BEQ, JAL and ECALL"
-            ),
+        match self.missing_name(&[1, 3, 5]) {
+            Some(place) => self.no_name(f, place),
             None => write!(
                 f,
-                "it isn't the written form of one segment of code at 0x00010000"
+                "PROGRAM, RECORD and REPORT have to be three different names: {USAGE}"
             ),
+        }
+    }
+
+    fn bad_asm_words<W: fmt::Write>(&self, f: &mut fmt::Formatter<W>) -> fmt::Result {
+        let count = self.words.len();
+        if count != 3 {
+            return write!(
+                f,
+                "the number of words behind rx is {count}, where 3 are wanted: {USAGE}"
+            );
+        }
+        match self.missing_name(&[1, 2]) {
+            Some(place) => self.no_name(f, place),
+            None => write!(f, "SOURCE and OUT have to be different names: {USAGE}"),
+        }
+    }
+
+    fn text_refused<W: fmt::Write>(&self, f: &mut fmt::Formatter<W>, line: u32) -> fmt::Result {
+        let source = self.word(1);
+        match &self.explanation {
+            Some(explanation) => write!(f, "the text {source} isn't assembled: {explanation}"),
+            None => write!(f, "the text {source} isn't assembled: line {line} is wrong"),
+        }
+    }
+
+    fn refused<W: fmt::Write>(&self, f: &mut fmt::Formatter<W>, kind: u8) -> fmt::Result {
+        let program = self.word(1);
+        let refusal = ElfRefusal::Refused(kind);
+        write!(f, "the program file {program} isn't run: {refusal}")?;
+        match &self.field {
+            Some(field) => write!(f, "; {field}"),
+            None => Ok(()),
         }
     }
 
@@ -142,21 +136,23 @@ impl fmt::Display for Message<'_> {
         let program = self.word(1);
         match self.answer {
             Answer::BadWords => self.bad_words(f),
+            Answer::FileFault if self.word(0) == "asm" => {
+                let out = self.word(2);
+                write!(
+                    f,
+                    "the text {program} can't be read, or {out} can't be written"
+                )
+            }
             Answer::FileFault => write!(
                 f,
                 "the program file {program} can't be read: give the name of a file that is there and may be read"
             ),
             Answer::TooLarge => write!(
                 f,
-                "the program file {program} has more than 16777216 bytes, which is the limit"
+                "the file {program} has more than 16777216 bytes, which is the limit"
             ),
-            Answer::ProgramNotBuilt => {
-                write!(
-                    f,
-                    "the program file {program} isn't an executable that rx runs so far: "
-                )?;
-                self.flaw(f)
-            }
+            Answer::ElfRefused(kind) => self.refused(f, kind),
+            Answer::AsmRefused { line, .. } => self.text_refused(f, line),
             Answer::InputRefused { offset, .. } => write!(
                 f,
                 "the input has no whole frame at byte {offset}: first a frame that opens connection 0 (01 00 00 00 00), then at most 1000 messages on it (02 00 00, the length in two bytes, 1 to 4096 bytes)"

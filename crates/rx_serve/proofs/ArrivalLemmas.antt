@@ -7,7 +7,7 @@ use Rattle.rx_io.specs.Outside.{Stream, Took, IsDrained}
 use Rattle.run_history.specs.declared.answer.Answer.{Answer}
 use Rattle.run_history.specs.declared.answer.Answer.TheVariants as answer
 use Rattle.run_history.specs.declared.answer.Cause.{Cause}
-use Rattle.run_history.specs.declared.image.Image.{Image}
+use Rattle.elf_image.specs.declared.image.Image.{Image}
 use Rattle.run_history.specs.Machine.{Machine, State, Emits, Wants}
 use Rattle.run_history.specs.Call.{received}
 use Rattle.run_history.specs.Run.{effect, effect_within, quiet_run}

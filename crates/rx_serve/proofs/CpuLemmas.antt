@@ -9,7 +9,7 @@ use Rattle.rv_isa.specs.Words.{little_number}
 use Rattle.run_history.specs.declared.answer.Cause.{Cause}
 use Rattle.run_history.specs.declared.answer.Cause.TheVariants.{BadAccess}
 use Rattle.run_history.specs.declared.regs.Regs.{Regs}
-use Rattle.run_history.specs.Memory.{Area, execute, permitted, bytes_at, put_bytes}
+use Rattle.elf_image.specs.Memory.{Area, execute, permitted, bytes_at, put_bytes}
 use Rattle.run_history.specs.Machine.{Machine, Effect, Goes, Emits, Wants, Fails, register}
 use Rattle.run_history.specs.Call.{call, received, connections_after}
 use Rattle.run_history.specs.Run.{instruction, executed, effect, effect_within, quiet_run}
@@ -17,8 +17,8 @@ use Rattle.run_history.proofs.Shapes.{Keeps}
 use Rattle.run_history.proofs.Runs.{within, within_early, within_effect, asks_permitted, goes_keeps, emits_keeps, quiet_keeps}
 use Rattle.rx_serve.specs.declared.guest_cpu.Event.{Event}
 use Rattle.rx_serve.specs.declared.guest_cpu.Event.TheVariants as event
-use Rattle.rx_serve.specs.Stepping.{with_parts}
-use Rattle.rx_serve.specs.Execution.{or_bad, fetched}
+use Rattle.rv_exec.specs.Stepping.{with_parts}
+use Rattle.rv_exec.specs.Execution.{or_bad, fetched}
 use Rattle.rx_serve.specs.Gate.{received_by}
 use Rattle.rx_serve.specs.Events.{Meets, Advances, RunsTo}
 use Rattle.rx_serve.specs.Advancing.{AdvancesBy}

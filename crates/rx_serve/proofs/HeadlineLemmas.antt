@@ -1,5 +1,5 @@
 -- The headline, from what a session leaves.
-use Rattle.std.proofs.Common.{◌≡◌, ℕ, zero, suc, List, [], ◌++◌, length, flat_map, inl, Option, None, Some, IfSome, Ok, Err, sym, ◌∙◌, ap, subst, append-nil, refl, arith}
+use Rattle.std.proofs.Common.{◌≡◌, ℕ, zero, suc, List, [], length, flat_map, inl, Option, None, Some, IfSome, Ok, Err, sym, ◌∙◌, ap, subst, append-nil, refl, arith}
 use Rattle.rx_io.specs.declared.bytes.Item.{Item}
 use Rattle.rx_io.specs.Outside.{Stream}
 use Rattle.rx_io.specs.Named.{Contents}
@@ -7,14 +7,16 @@ use Rattle.rx_io.specs.Prefix.{Prefix}
 use Rattle.rx_io.proofs.Composing.{took_nothing, took_more}
 use Rattle.run_history.specs.declared.answer.Answer.{Answer}
 use Rattle.run_history.specs.declared.answer.Answer.TheVariants as answer
-use Rattle.run_history.specs.declared.image.Image.{Image}
+use Rattle.elf_image.specs.declared.image.Image.{Image}
 use Rattle.run_history.specs.Machine.{State, start, Effect, Goes, Emits, Ends, Wants, Fails}
 use Rattle.run_history.specs.Run.{Run, run, next, after, effect, output}
-use Rattle.run_history.specs.Image.{written}
 use Rattle.run_history.proofs.Runs.{next_parts}
+use Rattle.run_history.proofs.Within.{within_run}
 use Rattle.rx_serve.specs.declared.run.End.{End}
 use Rattle.rx_serve.specs.Words.{AreRunWords}
-use Rattle.rx_serve.specs.Program.{IsBuilt, code_image, headers}
+use Rattle.elf_image.specs.Refusals.{IsImage}
+use Rattle.elf_image.proofs.Same.{same_image}
+use Rattle.rx_serve.specs.Limits.{default_window, default_budget}
 use Rattle.rx_serve.specs.Loading.{LoadsImage}
 use Rattle.rx_serve.specs.Trunk.{item_frame, frames}
 use Rattle.rx_serve.specs.Session.{EndsAs, HasServed}
@@ -22,20 +24,11 @@ use Rattle.rx_serve.specs.Payload.{payload}
 use Rattle.rx_serve.specs.Ended.{IsEndOf}
 use Rattle.rx_serve.specs.Headline.{NamesImage, IsEnd, LastExits, Headline}
 use Rattle.rx_serve.specs.Patience.{IsPatient}
+use Rattle.rx_serve.specs.Causes.{Serves}
 use Rattle.rx_serve.proofs.PayloadLemmas.{payload_front, frames_payload}
 use Rattle.run_history.specs.declared.choice.Choice.{Choice}
-use Rattle.rx_serve.proofs.NextLemmas.{same_back}
 use Rattle.rx_serve.proofs.SessionLemmas.{begins, start_goes, start_taken}
 use Rattle.std.proofs.lemmas.Option.{option_and_then_some}
-
--- the written form of code is its headers and the code
-written_code : (code : List ℕ) → written (code_image code) ≡ headers code ++ code
-written_code code = ap (λ (behind : List ℕ). headers code ++ behind) (append-nil code)
-
--- so a file is the written form of one code at most
-pub one_code : (file code other : List ℕ) → IsBuilt file code → IsBuilt file other → code ≡ other
-one_code file code other built as_other =
-    same_back (headers code) code (headers other) other refl (sym (written_code code) ∙ sym built.is_written ∙ as_other.is_written ∙ written_code other)
 
 -- the words name one program
 pub one_program : (words : List (List ℕ)) (p q r p' q' r' : List ℕ) → AreRunWords words p q r → AreRunWords words p' q' r' → p ≡ p'
@@ -43,20 +36,24 @@ one_program words p q r p' q' r' a b =
     let same = sym a.spelled ∙ b.spelled in
     cc
 
+-- a file has one image
+pub one_image : (file : List ℕ) (a b : Image) → IsImage file default_window a → IsImage file default_window b → a ≡ b
+one_image file a b first second =
+    same_image a b (first.entry ∙ sym second.entry) (first.in_window ∙ sym second.in_window) (first.segments ∙ sym second.segments)
+
 -- what was loaded is what the words name
 pub loads_named : (told : Option Contents) (words : List (List ℕ)) (image loaded : Image) (program recording report : List ℕ) (before now : ℕ)
     → NamesImage told words image → AreRunWords words program recording report → LoadsImage told program before now (Ok loaded) → loaded ≡ image
-loads_named told words image loaded program recording report before now names spelled (file, code, has, built, is) =
+loads_named told words image loaded program recording report before now names spelled (file, has, small, is) =
     let same_name = one_program words program recording report names.program names.recording names.report spelled names.spelled in
     let here : names.files program ≡ Some file = subst (λ t. IfSome t (λ files. files program ≡ Some file)) names.tells has in
     let there : names.files program ≡ Some names.file = ap names.files same_name ∙ names.has in
     let same_file : file ≡ names.file = cc in
-    let same_code = one_code names.file code names.code (subst (λ f. IsBuilt f code) same_file built) names.built in
-    is ∙ ap code_image same_code ∙ sym names.is
+    one_image names.file loaded image (subst (λ f. IsImage f default_window loaded) same_file is) names.is
 
 -- an answer that comes before a session is none of its ends
 pub no_end : (told : Option Contents) (program : List ℕ) (before now : ℕ) (answer : Answer) → LoadsImage told program before now (Err answer) → IsEnd answer → ⊥
-no_end told program before now answer.ProgramNotBuilt loads end = end
+no_end told program before now (answer.ElfRefused kind) loads end = end
 no_end told program before now answer.TooLarge loads end = end
 no_end told program before now answer.FileFault loads end = end
 no_end told program before now answer.Memory loads end = end
@@ -107,7 +104,7 @@ last_exits image items (suc n) state code ran ended =
 pub untouched : (image : Image) (source : Option Stream) (sink : Option (List ℕ)) (end : End) (answer : Answer) → IsEndOf end answer 0 0 → (IsEnd answer → ⊥)
     → Headline image source source sink sink end
 untouched image source sink end answer is none =
-    let going = begins 1000000 image source sink in
+    let going = begins default_budget image source sink in
     record {
       items = going.items;
       rest = [];
@@ -115,7 +112,7 @@ untouched image source sink end answer is none =
       formed = going.formed;
       state = going.state;
       nothing_recorded = is.recorded;
-      recorded_run = run_of image going.items end.tail end.steps 0 going.state is.tail is.steps_are going.ran (ap (λ m. m.allocations) going.at ∙ going.unused);
+      recorded_run = run_of image going.items end.tail end.steps 0 going.state is.tail is.steps_are (within_run default_budget going.items [] (start image) going.state 0 going.ran) (ap (λ m. m.allocations) going.at ∙ going.unused);
       taken = ap (λ m. m.taken) going.at ∙ start_taken image ∙ sym is.taken_are;
       all_taken = (going.all_taken ∙ start_taken image) ∙ sym is.taken_are;
       written = frames going.state.sends;
@@ -148,7 +145,7 @@ headline budget image old new before after end answer taken steps is served = re
   formed = served.formed;
   state = served.state;
   nothing_recorded = is.recorded;
-  recorded_run = run_of image served.items end.tail end.steps steps served.state is.tail is.steps_are served.ran served.unused;
+  recorded_run = run_of image served.items end.tail end.steps steps served.state is.tail is.steps_are (within_run budget served.items [] (start image) served.state steps served.ran) served.unused;
   taken = served.took ∙ sym is.taken_are;
   all_taken = served.all_taken ∙ sym is.taken_are;
   written = served.given;
@@ -160,20 +157,20 @@ headline budget image old new before after end answer taken steps is served = re
       (ends.1, ends.2);
   exited = λ code at.
       let ends = subst (EndsAs budget old new served.items served.rest served.state served.given taken) (sym is.answered ∙ at) served.ends in
-      last_exits image served.items end.steps served.state code (subst (λ n. run served.items [] (start image) n ≡ Some served.state) (sym is.steps_are) served.ran) ends.0;
+      last_exits image served.items end.steps served.state code (subst (λ n. run served.items [] (start image) n ≡ Some served.state) (sym is.steps_are) (within_run budget served.items [] (start image) served.state steps served.ran)) ends.0;
 }
 
 -- before a session the journal is empty
 pub untouched_patient : (image : Image) (source : Option Stream) (sink : Option (List ℕ)) (end : End) (answer : Answer) → IsEndOf end answer 0 0
     → IsPatient image source source sink sink end
 untouched_patient image source sink end answer is =
-    let going = begins 1000000 image source sink in
+    let going = begins default_budget image source sink in
     record {
       items = going.items;
       rest = [];
       received = took_more source source source (flat_map item_frame going.items) [] going.read (took_nothing source);
       state = going.state;
-      ran = subst (λ n. run going.items [] (start image) n ≡ Some going.state) (sym is.steps_are) going.ran;
+      ran = subst (λ n. run going.items [] (start image) n ≡ Some going.state) (sym is.steps_are) (within_run default_budget going.items [] (start image) going.state 0 going.ran);
       written = frames going.state.sends;
       wrote = going.gave;
       journal = record { entries = going.entries; came = going.came; lawful = going.lawful; passed = inl (sym going.passed, ap frames (sym going.passed)) };
@@ -181,14 +178,36 @@ untouched_patient image source sink end answer is =
 
 -- the journal of a session
 pub patient : (image : Image) (old new : Option Stream) (before after : Option (List ℕ)) (end : End) (answer : Answer) (taken steps : ℕ)
-    → IsEndOf end answer taken steps → HasServed 1000000 image old new before after answer taken steps → IsPatient image old new before after end
+    → IsEndOf end answer taken steps → HasServed default_budget image old new before after answer taken steps → IsPatient image old new before after end
 patient image old new before after end answer taken steps is served = record {
   items = served.items;
   rest = served.rest;
   received = served.read;
   state = served.state;
-  ran = subst (λ n. run served.items [] (start image) n ≡ Some served.state) (sym is.steps_are) served.ran;
+  ran = subst (λ n. run served.items [] (start image) n ≡ Some served.state) (sym is.steps_are) (within_run default_budget served.items [] (start image) served.state steps served.ran);
   written = served.given;
   wrote = served.gave;
   journal = served.journal;
 }
+
+-- the session of the program that the words name
+pub serves : (told : Option Contents) (words : List (List ℕ)) (image : Image) (program recording report : List ℕ) (before_load after_load : ℕ)
+    (old new : Option Stream) (before after : Option (List ℕ)) (end : End) (answer : Answer) (taken steps : ℕ)
+    → AreRunWords words program recording report → LoadsImage told program before_load after_load (Ok image)
+    → IsEndOf end answer taken steps → HasServed default_budget image old new before after answer taken steps
+    → Serves told words old new before after end
+serves told words image program recording report before_load after_load old new before after end answer taken steps spelled (file, has, small, is_image) is served =
+    let with_answer = subst (λ a. HasServed default_budget image old new before after a taken steps) (sym is.answered) served in
+    let with_taken = subst (λ n. HasServed default_budget image old new before after end.answer n steps) (sym is.taken_are) with_answer in
+    record {
+      program = program;
+      recording = recording;
+      report = report;
+      file = file;
+      image = image;
+      spelled = spelled;
+      has = has;
+      small = small;
+      is = is_image;
+      served = subst (λ n. HasServed default_budget image old new before after end.answer end.taken n) (sym is.steps_are) with_taken;
+    }

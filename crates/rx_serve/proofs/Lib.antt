@@ -2,13 +2,13 @@ pub mod ArrivalLemmas
 pub mod CpuLemmas
 pub mod HeadlineLemmas
 pub mod JournalLemmas
-pub mod MemoryLemmas
 pub mod NextLemmas
 pub mod PayloadLemmas
 pub mod ReadingLemmas
 pub mod SessionLemmas
 pub mod StandingLemmas
-pub mod StepLemmas
 pub mod TrunkLemmas
-pub mod WindowLemmas
 pub mod WordLemmas
+pub mod OutcomeLemmas
+pub mod DueLemmas
+pub mod AssemblyLemmas

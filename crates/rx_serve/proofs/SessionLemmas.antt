@@ -13,11 +13,12 @@ use Rattle.run_history.specs.declared.answer.Answer.{Answer}
 use Rattle.run_history.specs.declared.answer.Answer.TheVariants as answer
 use Rattle.run_history.specs.declared.answer.Cause.{Cause}
 use Rattle.run_history.specs.declared.answer.Cause.TheVariants.{Hang}
-use Rattle.run_history.specs.declared.image.Image.{Image}
+use Rattle.elf_image.specs.declared.image.Image.{Image}
 use Rattle.run_history.specs.Machine.{Machine, Send, State, start, start_machine, Emits, Ends, Wants, Fails}
 use Rattle.run_history.specs.Call.{received}
-use Rattle.run_history.specs.Run.{effect, effect_within, quiet_run, run}
-use Rattle.run_history.proofs.Runs.{run_join, run_one, run_more, quiet_runs, quiet_keeps, quiet_since, emits_runs, emits_keeps, emits_may, emits_since, takes_runs, ends_runs, within, item_behind, received_keeps}
+use Rattle.run_history.specs.Run.{effect_within, quiet_run, run_within}
+use Rattle.run_history.proofs.Runs.{quiet_keeps, quiet_since, emits_keeps, emits_may, emits_since, within, item_behind, received_keeps}
+use Rattle.run_history.proofs.Within.{within_run, within_join, within_one, within_run_more, within_quiet, within_emits, within_takes, within_ends}
 use Rattle.run_history.proofs.Shapes.{Keeps}
 use Rattle.run_history.proofs.Connections.{OpenWithin, within_start, within_received, within_keeps, within_sends}
 use Rattle.run_history.proofs.Outputs.{prefix_same}
@@ -37,7 +38,7 @@ pub record Going (budget : ℕ) (image : Image) (old new : Option Stream) (befor
   pub read : Took old new (flat_map item_frame items)
   pub formed : AreItems 0 items
   pub state : State
-  pub ran : run items [] (start image) steps ≡ Some state
+  pub ran : run_within budget items [] (start image) steps ≡ Some state
   pub at : state.machine ≡ machine
   pub goes : state.ended ≡ None
   pub all_taken : length items ≡ machine.taken
@@ -111,7 +112,7 @@ same_steps budget image old new before after machine steps total offset going sa
   read = going.read;
   formed = going.formed;
   state = going.state;
-  ran = subst (λ n. run going.items [] (start image) n ≡ Some going.state) same going.ran;
+  ran = subst (λ n. run_within budget going.items [] (start image) n ≡ Some going.state) same going.ran;
   at = going.at;
   goes = going.goes;
   all_taken = going.all_taken;
@@ -137,8 +138,8 @@ goes_quietly budget image old new before after machine later steps more offset g
       read = going.read;
       formed = going.formed;
       state = record going.state { machine = later };
-      ran = run_join going.items [] (start image) going.state (record going.state { machine = later }) steps more going.ran
-          (quiet_runs budget machine later more quiet going.state going.at going.goes going.items []);
+      ran = within_join budget going.items [] (start image) going.state (record going.state { machine = later }) steps more going.ran
+          (within_quiet budget machine later more quiet going.state going.at going.goes going.items []);
       at = refl;
       goes = going.goes;
       all_taken = going.all_taken ∙ sym keeps.taken;
@@ -183,7 +184,7 @@ not_hang conn bytes new h = cc
 
 -- what holds of a send before it is given
 pub record Sends (budget : ℕ) (image : Image) (items : List Item) (state : State) (machine new : Machine) (conn : ℕ) (bytes : List ℕ) (steps : ℕ) : Type 0 where
-  pub ran : run items [] (start image) (steps + 1) ≡ Some (state_after state conn bytes new)
+  pub ran : run_within budget items [] (start image) (steps + 1) ≡ Some (state_after state conn bytes new)
   pub frames_are : frames (state_after state conn bytes new).sends ≡ frames state.sends ++ frame 2 conn bytes
   pub framed : AllByRecursion HasFrame (state_after state conn bytes new).sends
   pub keeps : Keeps machine new 1
@@ -197,10 +198,10 @@ sends budget image old mid before after machine new conn bytes steps offset goin
     let effect_is = within budget [] [] machine (Emits conn bytes new) met (λ h. not_hang conn bytes new h) in
     let may = emits_may machine new conn bytes effect_is in
     let first : conn ≡ 0 = within_sends (λ c. c ≡ 0) machine new conn bytes going.opened effect_is in
-    let at_state = subst (λ m. effect [] [] m ≡ Emits conn bytes new) (sym going.at) effect_is in
+    let at_state = subst (λ m. effect_within budget [] [] m ≡ Emits conn bytes new) (sym going.at) met in
     record {
-      ran = run_one going.items [] (start image) going.state (state_after going.state conn bytes new) steps going.ran
-          (emits_runs going.state conn bytes new at_state going.goes going.items []);
+      ran = within_one budget going.items [] (start image) going.state (state_after going.state conn bytes new) steps going.ran
+          (within_emits budget going.state conn bytes new at_state going.goes going.items []);
       frames_are = flat_map_push send_frame going.state.sends (send_of going.state conn bytes);
       framed = all_push HasFrame going.state.sends (send_of going.state conn bytes) going.framed (record { conn = first; few = may.few });
       keeps = emits_keeps machine new conn bytes effect_is;
@@ -246,7 +247,7 @@ goes_past_send budget image old mid before after later machine new conn bytes st
       lawful = lawful_piece budget image going.items 0 [] going.entries conn bytes going.state.machine.taken going.lawful now (record {
         state = state_after going.state conn bytes new;
         steps = steps + 1;
-        ran = sent.ran;
+        ran = within_run budget going.items [] (start image) (state_after going.state conn bytes new) (steps + 1) sent.ran;
         taken = sent.keeps.taken ∙ sym (ap (λ m. m.taken) going.at);
         sent = ap (λ l. l ++ send_of going.state conn bytes ∷ []) (sym going.passed);
       });
@@ -270,11 +271,10 @@ pub goes_past_item : (budget : ℕ) (image : Image) (old mid new : Option Stream
     → Going budget image old mid before after machine steps offset → effect_within budget [] [] machine ≡ Wants → IsItemAt machine.taken item → Took mid new (item_frame item)
     → Going budget image old new before after (received item machine) (steps + 1) (offset + (5 + length item.bytes))
 goes_past_item budget image old mid new before after machine item steps offset going met formed took =
-    let wants = within budget [] [] machine Wants met (λ h. wants_not_hang h) in
     let receives = received_keeps item machine in
-    let at_state = subst (λ m. effect [] [] m ≡ Wants) (sym going.at) wants in
+    let at_state = subst (λ m. effect_within budget [] [] m ≡ Wants) (sym going.at) met in
     let later = record going.state { machine = received item going.state.machine } in
-    let longer = run_more going.items (item ∷ []) [] [] (start image) going.state steps going.ran in
+    let longer = within_run_more budget going.items (item ∷ []) [] [] (start image) going.state steps going.ran in
     let here = item_behind going.items item going.state.machine.taken (going.all_taken ∙ ap (λ m. m.taken) (sym going.at)) in
     record {
       items = going.items ++ item ∷ [];
@@ -283,8 +283,8 @@ goes_past_item budget image old mid new before after machine item steps offset g
       read = subst (Took old new) (sym (flat_map_push item_frame going.items item)) (took_more old mid new _ _ going.read took);
       formed = items_push 0 going.items item going.formed (subst (λ n. IsItemAt n item) (let e : machine.taken ≡ 0 + length going.items = omega (arith, going.all_taken) in e) formed);
       state = later;
-      ran = run_one (going.items ++ item ∷ []) [] (start image) going.state later steps longer
-          (takes_runs going.state item (going.items ++ item ∷ []) [] at_state here going.goes);
+      ran = within_one budget (going.items ++ item ∷ []) [] (start image) going.state later steps longer
+          (within_takes budget going.state item (going.items ++ item ∷ []) [] at_state here going.goes);
       at = ap (received item) going.at;
       goes = going.goes;
       all_taken = length-append going.items (item ∷ []) ∙ (let e : length going.items + 1 ≡ (received item machine).taken = omega (arith, going.all_taken, receives.taken) in e);
@@ -301,7 +301,7 @@ goes_past_item budget image old mid new before after machine item steps offset g
             reached = record {
               state = going.state;
               steps = steps;
-              ran = longer;
+              ran = within_run budget (going.items ++ item ∷ []) [] (start image) going.state steps longer;
               taken = events_count budget image old mid before after machine steps offset going;
               sent = sym going.passed;
             };
@@ -392,24 +392,20 @@ ends_refused budget image old mid new before after machine steps offset going me
       refl,
     )
 
-ends_not_hang : (code : ℕ) → Ends code ≡ Fails Hang → ⊥
-ends_not_hang code h = cc
-
 -- the program ended itself
 pub ends_exited : (budget : ℕ) (image : Image) (old new : Option Stream) (before after : Option (List ℕ)) (machine : Machine) (steps offset code : ℕ)
     → Going budget image old new before after machine steps offset → effect_within budget [] [] machine ≡ Ends code
     → HasServed budget image old new before after (answer.Exited code) machine.taken (steps + 1)
 ends_exited budget image old new before after machine steps offset code going met =
-    let effect_is = within budget [] [] machine (Ends code) met (λ h. ends_not_hang code h) in
-    let at_state = subst (λ m. effect [] [] m ≡ Ends code) (sym going.at) effect_is in
+    let at_state = subst (λ m. effect_within budget [] [] m ≡ Ends code) (sym going.at) met in
     record {
       items = going.items;
       rest = [];
       read = took_more old new new (flat_map item_frame going.items) [] going.read (took_nothing new);
       formed = going.formed;
       state = record going.state { ended = Some code };
-      ran = run_one going.items [] (start image) going.state (record going.state { ended = Some code }) steps going.ran
-          (ends_runs going.state code at_state going.goes going.items []);
+      ran = within_one budget going.items [] (start image) going.state (record going.state { ended = Some code }) steps going.ran
+          (within_ends budget going.state code at_state going.goes going.items []);
       took = ap (λ m. m.taken) going.at;
       unused = ap (λ m. m.allocations) going.at ∙ going.unused;
       all_taken = going.all_taken;

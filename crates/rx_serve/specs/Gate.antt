@@ -4,7 +4,7 @@ use Rattle.rx_io.specs.declared.bytes.Item.{Item}
 use Rattle.run_history.specs.declared.answer.Cause.{Cause}
 use Rattle.run_history.specs.declared.answer.Cause.TheVariants.{BadCall}
 use Rattle.run_history.specs.declared.regs.Regs.{Regs}
-use Rattle.run_history.specs.Memory.{Area, read, permitted, bytes_at}
+use Rattle.elf_image.specs.Memory.{Area, read, permitted, bytes_at}
 use Rattle.run_history.specs.Machine.{Machine, register, with_register, Goes, Emits, Fails}
 use Rattle.run_history.specs.Call.{answered, send}
 use Rattle.rx_serve.specs.declared.call_gate.Call.{Call}

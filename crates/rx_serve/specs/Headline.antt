@@ -1,5 +1,5 @@
 -- The headline: the bytes passed to each connection are a prefix of those that the recorded run emits on it.
-use Rattle.std.specs.Prelude.{◌≡◌, ℕ, ◌+◌, List, [], ◌++◌, length, flat_map, Option, Some}
+use Rattle.std.specs.Prelude.{◌≡◌, ℕ, ◌+◌, ◌≤◌, List, [], ◌++◌, length, flat_map, Option, Some}
 use Rattle.std.specs.Io.KnownBytes.{Appends}
 use Rattle.rx_io.specs.declared.bytes.Item.{Item}
 use Rattle.rx_io.specs.Outside.{Stream, Took, IsDrained}
@@ -7,12 +7,13 @@ use Rattle.rx_io.specs.Named.{Contents}
 use Rattle.rx_io.specs.Prefix.{Prefix}
 use Rattle.run_history.specs.declared.answer.Answer.{Answer}
 use Rattle.run_history.specs.declared.answer.Answer.TheVariants as answer
-use Rattle.run_history.specs.declared.image.Image.{Image}
+use Rattle.elf_image.specs.declared.image.Image.{Image}
 use Rattle.run_history.specs.Machine.{State, start, Ends}
 use Rattle.run_history.specs.Run.{Run, run, effect, output}
 use Rattle.rx_serve.specs.declared.run.End.{End}
 use Rattle.rx_serve.specs.Words.{AreRunWords}
-use Rattle.rx_serve.specs.Program.{IsBuilt, code_image}
+use Rattle.elf_image.specs.Refusals.{IsImage}
+use Rattle.rx_serve.specs.Limits.{default_window, program_limit}
 use Rattle.rx_serve.specs.Trunk.{item_frame}
 use Rattle.rx_serve.specs.Session.{AreItems}
 use Rattle.rx_serve.specs.Payload.{payload}
@@ -24,12 +25,11 @@ pub record NamesImage (told : Option Contents) (words : List (List ℕ)) (image 
   pub recording : List ℕ
   pub report : List ℕ
   pub file : List ℕ
-  pub code : List ℕ
   pub tells : told ≡ Some files
   pub spelled : AreRunWords words program recording report
   pub has : files program ≡ Some file
-  pub built : IsBuilt file code
-  pub is : image ≡ code_image code
+  pub small : length file ≤ program_limit
+  pub is : IsImage file default_window image
 
 -- an end of a session, without fault or want of memory; the last three belong to commands that aren't there
 abbrev pub IsEnd : Answer → Type 0

@@ -5,10 +5,11 @@ use Rattle.rx_io.specs.declared.bytes.Item.{Item}
 use Rattle.rx_io.specs.Outside.{Stream, Took}
 use Rattle.run_history.specs.declared.answer.Answer.{Answer}
 use Rattle.run_history.specs.declared.answer.Answer.TheVariants as answer
-use Rattle.run_history.specs.declared.image.Image.{Image}
+use Rattle.elf_image.specs.declared.image.Image.{Image}
 use Rattle.run_history.specs.Machine.{State, start}
 use Rattle.run_history.specs.Run.{run}
 use Rattle.rx_serve.specs.declared.run.End.{End}
+use Rattle.rx_serve.specs.Limits.{default_budget}
 use Rattle.rx_serve.specs.Trunk.{item_frame}
 use Rattle.rx_serve.specs.Journal.{JournalOf}
 
@@ -23,13 +24,14 @@ pub record IsPatient (image : Image) (old new : Option Stream) (before after : O
   pub ran : run items [] (start image) end.steps ≡ Some state
   pub written : List ℕ
   pub wrote : Appends before after written
-  pub journal : JournalOf 1000000 image items state written
+  pub journal : JournalOf default_budget image items state written
 
--- the answers that come before a session
+-- the answers that come before a session, or without one
 abbrev pub IsBeforeSession : Answer → Type 0
 IsBeforeSession answer.BadWords = Unit {0}
 IsBeforeSession answer.TooLarge = Unit {0}
-IsBeforeSession answer.ProgramNotBuilt = Unit {0}
+IsBeforeSession (answer.ElfRefused kind) = Unit {0}
+IsBeforeSession (answer.AsmRefused kind line) = Unit {0}
 IsBeforeSession answer.FileFault = Unit {0}
 IsBeforeSession _ = ⊥
 

@@ -7,9 +7,9 @@ use Rattle.rx_io.specs.Outside.{Stream, Took, IsDrained}
 use Rattle.rx_io.specs.Prefix.{Prefix}
 use Rattle.run_history.specs.declared.answer.Answer.{Answer}
 use Rattle.run_history.specs.declared.answer.Answer.TheVariants as answer
-use Rattle.run_history.specs.declared.image.Image.{Image}
+use Rattle.elf_image.specs.declared.image.Image.{Image}
 use Rattle.run_history.specs.Machine.{Send, State, start, Fails}
-use Rattle.run_history.specs.Run.{effect_within, run}
+use Rattle.run_history.specs.Run.{effect_within, run_within}
 use Rattle.rx_serve.specs.Journal.{Asks, JournalOf}
 use Rattle.rx_serve.specs.Trunk.{item_frame, frames, IsItemAt, HasNoFrame}
 
@@ -48,7 +48,7 @@ pub record HasServed (budget : ℕ) (image : Image) (old new : Option Stream) (b
   pub read : Took old new (flat_map item_frame items ++ rest)
   pub formed : AreItems 0 items
   pub state : State
-  pub ran : run items [] (start image) steps ≡ Some state
+  pub ran : run_within budget items [] (start image) steps ≡ Some state
   pub took : state.machine.taken ≡ taken
   pub unused : state.machine.allocations ≡ 0
   pub all_taken : length items ≡ taken

@@ -1,13 +1,12 @@
 -- The status with which the program ends.
 use Rattle.std.specs.Prelude.{ℕ, if◌then◌else◌, ◌==◌}
 use Rattle.run_history.specs.declared.answer.Answer.{Answer}
-use Rattle.run_history.specs.declared.answer.Answer.TheVariants.{Finished, Exited, BadWords, ProgramNotBuilt, ElfRefused, AsmRefused, RecordRefused, CountsRefused, Short, Mismatch, TooLarge, InputRefused, MessageTooLong, GaveUp, LimitItems, LimitEvents, ReadFault, WriteFault, FileFault, Memory}
+use Rattle.run_history.specs.declared.answer.Answer.TheVariants.{Finished, Exited, BadWords, ElfRefused, AsmRefused, RecordRefused, CountsRefused, Short, Mismatch, TooLarge, InputRefused, MessageTooLong, GaveUp, LimitItems, LimitEvents, ReadFault, WriteFault, FileFault, Memory}
 
 abbrev pub status_of : Answer → ℕ
 status_of Finished = 0
 status_of (Exited code) = if code == 0 then 0 else 1
 status_of BadWords = 2
-status_of ProgramNotBuilt = 3
 status_of (ElfRefused kind) = 3
 status_of (AsmRefused kind line) = 3
 status_of (RecordRefused line) = 3

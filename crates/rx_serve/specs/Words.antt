@@ -19,3 +19,14 @@ pub record AreNames (program recording report : List ℕ) : Type 0 where
 pub record AreRunWords (texts : List (List ℕ)) (program recording report : List ℕ) : Type 0 where
   pub spelled : texts ≡ codes "run" ∷ program ∷ codes "--record" ∷ recording ∷ codes "--report" ∷ report ∷ codes "--frame" ∷ codes "whole" ∷ []
   pub names : AreNames program recording report
+
+-- two names, which aren't alike
+pub record AreAsmNames (source out : List ℕ) : Type 0 where
+  pub source_named : IsName source
+  pub out_named : IsName out
+  pub different : source ≢ out
+
+-- `asm SOURCE OUT`, with two different names
+pub record AreAsmWords (texts : List (List ℕ)) (source out : List ℕ) : Type 0 where
+  pub spelled : texts ≡ codes "asm" ∷ source ∷ out ∷ []
+  pub names : AreAsmNames source out

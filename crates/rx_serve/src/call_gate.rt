@@ -1,11 +1,11 @@
 // The calls of a guest.
 ghost use Rattle.std.specs.Prelude.{◌≡◌, ◌<◌, ◌≤◌, ◌^◌, Bool, false, true, List, length, take, slice_get, slice_set, slice_index, unwrap_or, IfOk, IsTrue};
-ghost use Rattle.run_history.specs.Memory.{permitted, put_bytes};
+ghost use Rattle.elf_image.specs.Memory.{permitted, put_bytes};
 ghost use Rattle.run_history.specs.Machine.{Machine, register, no_connections};
 ghost use Rattle.run_history.specs.Call.{connections_after};
 ghost use Rattle.rx_serve.specs.Gate.{called, replied, received_by, SendDoes, MayBeSent};
 
-use crate::guest_space::GuestSpace;
+use guest_space::GuestSpace;
 use run_history::{Cause, Regs};
 use rx_io::Item;
 use std::alloc::{AllocError, Global};

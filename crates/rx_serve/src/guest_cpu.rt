@@ -3,21 +3,17 @@ ghost use Rattle.std.specs.Prelude.{◌≡◌, ℕ, ◌+◌, ◌-◌, ◌^◌, �
 ghost use Rattle.run_history.specs.Machine.{register, Wants, start_machine};
 ghost use Rattle.run_history.specs.Call.{call, send, answered, received};
 ghost use Rattle.run_history.specs.Run.{effect};
-ghost use Rattle.rx_serve.specs.Window.{FitsWindow};
 
 use crate::call_gate::{Call, ConnSet, Reply, answer, read_call, receive, reply_to_send};
-use crate::guest_space::GuestSpace;
-use crate::rv_exec::{next_instr, step};
-use crate::window::stack_top;
-use run_history::{Cause, Image, Regs};
+use elf_image::Image;
+use guest_space::GuestSpace;
+use run_history::{Cause, Regs};
+use rv_exec::{next_instr, step};
 use rv_isa::Instr;
 use rx_io::{Bytes, Item, Steps};
 use std::alloc::{AllocError, Global};
 use std::marker::Model;
 use std::sync::ledger::Ledger;
-
-#[cfg(test)]
-mod tests;
 
 /// Why a run stopped: it asks for an item, it sent bytes to a connection, it ended itself with a code, or it failed.
 #[derive(Debug, Drop)]
@@ -63,11 +59,10 @@ impl Cpu {
     /// A guest at its start.
     #[tactic(auto, unfolding(run_history::specs::Machine::start_machine))]
     pub fn make(alloc: Global, image: &Image) -> Result<Cpu, AllocError>
-        requires { FitsWindow image.now }
         ensures { IfOk result (λ c. c ≡ start_machine image.now) }
     {
         let mut x = [0; 32];
-        x[2] = stack_top(image);
+        x[2] = image.stack_top();
         Ok(Cpu {
             regs: Regs { pc: image.entry, x },
             space: GuestSpace::make(alloc, image)?,

@@ -1,20 +1,27 @@
 // The top call: the words in, the answer and its status out.
-ghost use Rattle.std.specs.Prelude.{◌≡◌, ◌≤◌, ◌+◌, ◌↔◌, map, string_bytes};
-ghost use Rattle.run_history.specs.declared.image.Image.{Image};
+ghost use Rattle.std.specs.Prelude.{◌≡◌, ◌⊎◌, ℕ, List, ◌≤◌, ◌+◌, ◌↔◌, map, string_bytes};
+ghost use Rattle.elf_image.specs.declared.image.Image.{Image};
 ghost use Rattle.rx_io.specs.Faults.{Rose};
-ghost use Rattle.rx_serve.specs.Causes.{RefusesWords, IsTooLarge, IsNotBuilt, IsOfSession, IsOfRun, Serves};
+ghost use Rattle.rx_serve.specs.Causes.{RefusesWords, IsTooLarge, IsElfRefused, IsAsmAnswer, IsOfSession, IsOfRun, RunsProgram, Serves};
+ghost use Rattle.rx_serve.specs.Assembly.{Assembles};
+ghost use Rattle.rx_serve.specs.Words.{AreAsmWords};
 ghost use Rattle.rx_serve.specs.Headline.{NamesImage, Headline};
 ghost use Rattle.rx_serve.specs.Loading.{LoadsImage};
+ghost use Rattle.rx_serve.specs.Outcome.{IsExact};
 ghost use Rattle.rx_serve.specs.Patience.{IsPatient, IsBeforeSession, IsUntouched};
 ghost use Rattle.rx_serve.specs.Status.{status_of};
 
-use crate::elf_image::{ProgramFault, read_program};
+use crate::assembly::assemble_file;
 use crate::session::serve;
-use crate::words::read_words;
-use run_history::{Answer, Choices, Image};
+use crate::words::{read_asm_words, read_words};
+use elf_image::{ElfRefusal, Image, read_image};
+use run_history::{Answer, Choices};
 use rx_io::{Files, Listener, LoadFault, Sink, Source, Steps};
 use std::alloc::Global;
 use std::sync::ledger::Ledger;
+
+/// The bytes of a program's window.
+pub const WINDOW: u32 = 4 << 20;
 
 /// The greatest number of bytes of a program file.
 const MAX_PROGRAM: u64 = 16 << 20;
@@ -39,8 +46,7 @@ fn status_of_answer(answer: Answer) -> u8
         Answer::Finished | Answer::Exited(0) => 0,
         Answer::Exited(_) => 1,
         Answer::BadWords => 2,
-        Answer::ProgramNotBuilt
-        | Answer::ElfRefused(_)
+        Answer::ElfRefused(_)
         | Answer::AsmRefused { .. }
         | Answer::RecordRefused { .. }
         | Answer::CountsRefused { .. }
@@ -69,10 +75,10 @@ fn load_image<F: Files>(alloc: Global, files: &mut F, name: &str) -> Result<Imag
         Err(LoadFault::TooLarge) => return Err(Answer::TooLarge),
         Err(LoadFault::Memory) => return Err(Answer::Memory),
     };
-    match read_program(alloc, file.as_slice()) {
+    match read_image(alloc, file.as_slice(), WINDOW) {
         Ok(image) => Ok(image),
-        Err(ProgramFault::NotBuilt) => Err(Answer::ProgramNotBuilt),
-        Err(ProgramFault::Memory) => Err(Answer::Memory),
+        Err(ElfRefusal::Refused(kind)) => Err(Answer::ElfRefused(kind)),
+        Err(ElfRefusal::Memory) => Err(Answer::Memory),
     }
 }
 
@@ -96,7 +102,7 @@ impl End {
 
 /// Runs a command over any outside: `words` are those behind the program's own name. `run PROGRAM --record RECORD
 /// --report REPORT --frame whole` loads the program, gives it the frames of `input` as it asks for them, and gives what it
-/// sends to `output` as frames.
+/// sends to `output` as frames. `asm SOURCE OUT` loads a text, assembles it in a window of 1 MiB, and writes its executable.
 pub fn run_rx<F: Files, S: Source, K: Sink, N: Listener, L: Ledger>(
     alloc: Global,
     words: &[String],
@@ -113,20 +119,29 @@ pub fn run_rx<F: Files, S: Source, K: Sink, N: Listener, L: Ledger>(
     ensures patience { (image : Image) → NamesImage (F.told files.old) (map string_bytes words.now) image
         → IsPatient image (S.told input.old) (S.told input.new) (K.told output.old) (K.told output.new) result }
 
-    // Each answer comes only by its own cause, and no two causes hold at once: so each but a fault comes exactly there.
+    // The answer is the one whose cause holds, and no other one's does; or a fault or want of memory came in its place.
+    ensures exact { IsExact (F.told files.old) (map string_bytes words.now) (S.told input.old) result.answer }
+
+    // Each answer by its own cause, also where files or input don't tell their bytes.
     ensures bad_words { (result.answer ≡ Answer.BadWords) ↔ RefusesWords (map string_bytes words.now) }
-    ensures too_large { result.answer ≡ Answer.TooLarge → IsTooLarge (F.told files.old) (map string_bytes words.now) }
-    ensures not_built { result.answer ≡ Answer.ProgramNotBuilt → IsNotBuilt (F.told files.old) (map string_bytes words.now) }
-    ensures session { IsOfSession result.answer → Serves (F.told files.old) (map string_bytes words.now)
+    ensures too_large { result.answer ≡ Answer.TooLarge → IsTooLarge (F.told files.old) (map string_bytes words.now) ⊎ IsAsmAnswer (F.told files.old) (map string_bytes words.now) Answer.TooLarge }
+    ensures elf_refused { (kind : ℕ) → result.answer ≡ Answer.ElfRefused kind → IsElfRefused (F.told files.old) (map string_bytes words.now) kind }
+    ensures asm_refused { (kind line : ℕ) → result.answer ≡ Answer.AsmRefused kind line → IsAsmAnswer (F.told files.old) (map string_bytes words.now) (Answer.AsmRefused kind line) }
+    ensures session { IsOfSession result.answer → RunsProgram (map string_bytes words.now) → Serves (F.told files.old) (map string_bytes words.now)
         (S.told input.old) (S.told input.new) (K.told output.old) (K.told output.new) result }
     ensures file_fault { result.answer ≡ Answer.FileFault → Rose (F.faults files.old) (F.faults files.new) }
     ensures read_fault { result.answer ≡ Answer.ReadFault → Rose (S.faults input.old) (S.faults input.new) }
     ensures write_fault { result.answer ≡ Answer.WriteFault → Rose (K.faults output.old) (K.faults output.new) }
     ensures only { IsOfRun result.answer }
 
+    // `asm` writes the executable of the text's image, and touches nothing else.
+    ensures assembles { (source out : List ℕ) → AreAsmWords (map string_bytes words.now) source out
+        → Assembles (F.told files.old) (F.told files.new) source out result.answer
+        × IsUntouched (S.told input.old) (S.told input.new) (K.told output.old) (K.told output.new) result }
+
     // What is left alone.
     ensures untouched { IsBeforeSession result.answer → IsUntouched (S.told input.old) (S.told input.new) (K.told output.old) (K.told output.new) result }
-    ensures files { F.told files.new ≡ F.told files.old }
+    ensures files { ((source out : List ℕ) → AreAsmWords (map string_bytes words.now) source out → ⊥) → F.told files.new ≡ F.told files.old }
     ensures listener { listener.new ≡ listener.old }
 
     ensures status { result.status ≡ status_of result.answer }
@@ -134,6 +149,10 @@ pub fn run_rx<F: Files, S: Source, K: Sink, N: Listener, L: Ledger>(
 {
     // `run` has one trunk, its input and output: no command of today listens.
     let _ = listener;
+    if let Some(asm) = read_asm_words(words) {
+        let answer = assemble_file(alloc, files, asm.source, asm.out);
+        return End::of(alloc, answer, 0, 0);
+    }
     let Some(run) = read_words(words) else {
         return End::of(alloc, Answer::BadWords, 0, 0);
     };

@@ -2,11 +2,11 @@
 ghost use Rattle.std.specs.Prelude.{◌≡◌, ◌+◌, ◌≤◌};
 ghost use Rattle.rx_io.specs.Faults.{Rose};
 ghost use Rattle.rx_serve.specs.Session.{HasServed};
-ghost use Rattle.rx_serve.specs.Window.{FitsWindow};
 
 use crate::guest_cpu::{Cpu, Event};
 use crate::trunk_wire::{NextFault, give_frame, read_item};
-use run_history::{Answer, Image};
+use elf_image::Image;
+use run_history::Answer;
 use rx_io::{IoFault, Sink, Source, Steps};
 use std::alloc::Global;
 use std::sync::ledger::Ledger;
@@ -29,7 +29,6 @@ pub fn serve<S: Source, K: Sink, L: Ledger>(
     sink: &mut K,
     steps: &mut Steps<L>,
 ) -> (Answer, Counts)
-    requires { FitsWindow image.now }
     ensures served { HasServed BUDGET image.now (S.told source.old) (S.told source.new) (K.told sink.old) (K.told sink.new)
         result.0 result.1.taken result.1.steps }
     ensures counted { steps.new ≡ steps.old + result.1.steps }

@@ -2,7 +2,7 @@
 // the next read. The programs and the counts are worked by hand from the manual.
 ghost use Rattle.std.specs.Prelude.{◌≡◌, ◌<◌, None};
 
-use crate::{End, ProgramFlaw, flaw_of, run_rx};
+use crate::{End, run_rx};
 use run_history::{Answer, Cause};
 use rx_io::{
     IoFault, MemoryFiles, MemorySink, MemorySource, Sink, Source, Steps, TameFiles, TameListener,
@@ -44,13 +44,13 @@ const HI: [u8; 8] = [2, 0, 0, 3, 0, 0x68, 0x69, 0x0a];
 
 const OPEN_AND_HI: [u8; 13] = [1, 0, 0, 0, 0, 2, 0, 0, 3, 0, 0x68, 0x69, 0x0a];
 
-// A command and what stands outside: the program file `p` of these words, the input, how many bytes a call on a stream
-// moves at most, and the numbers of the calls that fail.
+// A command and what stands outside: the program file `p`, the input, how many bytes a call on a stream moves at most,
+// and the numbers of the calls that fail.
 #[derive(Clone, Copy)]
 struct Setting<'a> {
     alloc: Global,
     words: &'a str,
-    program: &'a [u32],
+    program: &'a [u8],
     input: &'a [u8],
     most: usize,
     source_fails: &'a [u64],
@@ -59,10 +59,14 @@ struct Setting<'a> {
 }
 
 impl<'a> Setting<'a> {
-    fn of(alloc: Global, program: &'a [u32], input: &'a [u8]) -> Setting<'a> {
+    fn of(alloc: Global, program: &'a [u8], input: &'a [u8]) -> Setting<'a> {
+        Setting::of_words(alloc, RUN, program, input)
+    }
+
+    fn of_words(alloc: Global, words: &'a str, program: &'a [u8], input: &'a [u8]) -> Setting<'a> {
         Setting {
             alloc,
-            words: RUN,
+            words,
             program,
             input,
             most: 10_000,
@@ -112,9 +116,9 @@ fn words_of(alloc: Global, line: &str) -> Result<Vec<String>, AllocError> {
 }
 
 // The program file `p`.
-fn program_file(alloc: Global, words: &[u32]) -> Result<Vec<(String, Vec<u8>)>, Fail> {
+fn program_file(alloc: Global, program: &[u8]) -> Result<Vec<(String, Vec<u8>)>, Fail> {
     let mut files = Vec::new(alloc);
-    files.push((String::from_str(alloc, "p")?, executable(alloc, words)?))?;
+    files.push((String::from_str(alloc, "p")?, program.to_vec(alloc)?))?;
     Ok(files)
 }
 
@@ -179,8 +183,9 @@ fn expect_end(
 
 #[test]
 fn an_echo_answers_each_message(rt: HostRuntime) -> Result<(), Fail> {
+    let echo = executable(rt.alloc(), &ECHO)?;
     for most in [10_000, 1] {
-        let mut setting = Setting::of(rt.alloc(), &ECHO, &OPEN_AND_HI);
+        let mut setting = Setting::of(rt.alloc(), &echo, &OPEN_AND_HI);
         setting.most = most;
         expect_end(
             &rt,
@@ -197,12 +202,13 @@ fn an_echo_answers_each_message(rt: HostRuntime) -> Result<(), Fail> {
 
 #[test]
 fn a_message_of_4096_bytes_is_echoed(rt: HostRuntime) -> Result<(), Fail> {
+    let echo = executable(rt.alloc(), &ECHO)?;
     let mut input = Vec::new(rt.alloc());
     input.extend_from_slice(&[1, 0, 0, 0, 0, 2, 0, 0, 0, 0x10])?;
     for i in 0..4096u16 {
         input.push((i % 251) as u8)?;
     }
-    let setting = Setting::of(rt.alloc(), &ECHO, input.as_slice());
+    let setting = Setting::of(rt.alloc(), &echo, input.as_slice());
     let reply = input.as_slice().get(5..).ok_or("no frame")?;
     expect_end(
         &rt,
@@ -217,6 +223,7 @@ fn a_message_of_4096_bytes_is_echoed(rt: HostRuntime) -> Result<(), Fail> {
 // The input is refused at the first byte of the frame that is refused.
 #[test]
 fn a_refused_frame_is_named_by_its_offset(rt: HostRuntime) -> Result<(), Fail> {
+    let echo = executable(rt.alloc(), &ECHO)?;
     for (name, front, last, want) in [
         (
             "a message first",
@@ -265,7 +272,7 @@ fn a_refused_frame_is_named_by_its_offset(rt: HostRuntime) -> Result<(), Fail> {
         let (offset, taken, steps) = want;
         let mut input = front.to_vec(rt.alloc())?;
         input.extend_from_slice(last)?;
-        let setting = Setting::of(rt.alloc(), &ECHO, input.as_slice());
+        let setting = Setting::of(rt.alloc(), &echo, input.as_slice());
         let refused = Answer::InputRefused { kind: 7, offset };
         let output = if taken == 2 { HI.as_slice() } else { &[] };
         expect_end(&rt, name, &setting, (refused, 4, taken, steps), output)?;
@@ -277,6 +284,7 @@ fn a_refused_frame_is_named_by_its_offset(rt: HostRuntime) -> Result<(), Fail> {
 // and 13 from each one's to the next.
 #[test]
 fn a_session_takes_a_thousand_messages(rt: HostRuntime) -> Result<(), Fail> {
+    let echo = executable(rt.alloc(), &ECHO)?;
     let mut input = OPEN.to_vec(rt.alloc())?;
     for _ in 0..1000 {
         input.extend_from_slice(&[2, 0, 0, 1, 0, 0x78])?;
@@ -289,7 +297,7 @@ fn a_session_takes_a_thousand_messages(rt: HostRuntime) -> Result<(), Fail> {
         (&input, Answer::Finished, 0),
         (&more, Answer::InputRefused { kind: 7, offset }, 4),
     ] {
-        let setting = Setting::of(rt.alloc(), &ECHO, bytes.as_slice());
+        let setting = Setting::of(rt.alloc(), &echo, bytes.as_slice());
         let want = (answer, status, 1001, 13_013);
         expect_end(&rt, "a thousand", &setting, want, replies)?;
     }
@@ -298,6 +306,7 @@ fn a_session_takes_a_thousand_messages(rt: HostRuntime) -> Result<(), Fail> {
 
 #[test]
 fn words_of_another_form_are_refused(rt: HostRuntime) -> Result<(), Fail> {
+    let echo = executable(rt.alloc(), &ECHO)?;
     for words in [
         "",
         "run p --record r",
@@ -309,36 +318,90 @@ fn words_of_another_form_are_refused(rt: HostRuntime) -> Result<(), Fail> {
         "run p --record r --report t --frame half",
         "run p --report t --record r --frame whole",
         "run p --record r --report t --frame whole x",
+        "asm s",
+        "asm s s",
+        "asm s -o",
+        "asm s o x",
     ] {
-        let mut setting = Setting::of(rt.alloc(), &ECHO, &OPEN_AND_HI);
-        setting.words = words;
+        let setting = Setting::of_words(rt.alloc(), words, &echo, &OPEN_AND_HI);
         expect_end(&rt, words, &setting, (Answer::BadWords, 2, 0, 0), &[])?;
     }
     Ok(())
 }
 
+// Each edit of the echo's file, a cut one among them, and the refusal that it brings. Nothing is read or written.
 #[test]
-fn a_program_file_is_looked_at_first(rt: HostRuntime) -> Result<(), Fail> {
-    let mut multiplies = ECHO;
-    multiplies[16] = 0x02b5_0533; // mul a0, a0, a1
-    for (name, program) in [("mul", multiplies.as_slice()), ("no code", &[])] {
-        let setting = Setting::of(rt.alloc(), program, &OPEN_AND_HI);
-        let want = (Answer::ProgramNotBuilt, 3, 0, 0);
+fn a_broken_program_file_is_refused(rt: HostRuntime) -> Result<(), Fail> {
+    let echo = executable(rt.alloc(), &ECHO)?;
+    for (name, length, place, byte, kind) in [
+        ("51 bytes", 51, 0, 0x7f, 1),
+        ("no ELF file", 152, 0, 0, 2),
+        ("for x86-64", 152, 18, 62, 6),
+        ("compressed", 152, 36, 1, 7),
+        ("past the end", 152, 68, 69, 11),
+        ("a window too large", 152, 74, 0x40, 15),
+    ] {
+        let mut file = echo.as_slice().to_vec(rt.alloc())?;
+        if let Some(field) = file.get_mut(place) {
+            *field = byte;
+        }
+        file.truncate(length);
+        let setting = Setting::of(rt.alloc(), file.as_slice(), &OPEN_AND_HI);
+        let want = (Answer::ElfRefused(kind), 3, 0, 0);
         expect_end(&rt, name, &setting, want, &[])?;
     }
-    let mut missing = Setting::of(rt.alloc(), &ECHO, &OPEN_AND_HI);
-    missing.words = "run q --record r --report t --frame whole";
-    expect_end(
-        &rt,
-        "a missing name",
-        &missing,
-        (Answer::FileFault, 9, 0, 0),
-        &[],
-    )?;
-    let mut failing = Setting::of(rt.alloc(), &ECHO, &OPEN_AND_HI);
-    failing.file_fails = &[1];
-    expect_end(&rt, "a load", &failing, (Answer::FileFault, 9, 0, 0), &[])?;
     Ok(())
+}
+
+#[test]
+fn a_missing_program_file_is_a_fault(rt: HostRuntime) -> Result<(), Fail> {
+    let echo = executable(rt.alloc(), &ECHO)?;
+    let words = "run q --record r --report t --frame whole";
+    let setting = Setting::of_words(rt.alloc(), words, &echo, &OPEN_AND_HI);
+    let want = (Answer::FileFault, 9, 0, 0);
+    expect_end(&rt, "a missing name", &setting, want, &[])
+}
+
+#[test]
+fn a_failed_load_is_a_fault(rt: HostRuntime) -> Result<(), Fail> {
+    let echo = executable(rt.alloc(), &ECHO)?;
+    for call in [1] {
+        let fails = [call];
+        let mut setting = Setting::of(rt.alloc(), &echo, &OPEN_AND_HI);
+        setting.file_fails = &fails;
+        let want = (Answer::FileFault, 9, 0, 0);
+        expect_end(&rt, "a load", &setting, want, &[])?;
+    }
+    Ok(())
+}
+
+// Two segments between program headers that aren't loaded, as a linker writes them: 0xc4 bytes at 0x10000, the last 16
+// of which are `addi a7, x0, 1`, `addi a1, x0, 0`, `addi a0, x0, 0` and `ecall`, and 8 bytes at 0x110c4.
+#[test]
+fn a_linked_program_runs(rt: HostRuntime) -> Result<(), Fail> {
+    let mut file = executable(rt.alloc(), &[])?;
+    for (place, byte) in [(24, 0xb4), (44, 4)] {
+        if let Some(field) = file.get_mut(place) {
+            *field = byte;
+        }
+    }
+    file.truncate(52);
+    for word in [
+        [0x7000_0003, 0, 0, 0, 0, 0, 4, 1],
+        [1, 0, 0x10000, 0x10000, 0xc4, 0xc4, 5, 0x1000],
+        [1, 0xc4, 0x110c4, 0x110c4, 4, 8, 6, 0x1000],
+        [0x6474_e551, 0, 0, 0, 0, 0, 6, 16],
+    ]
+    .as_flattened()
+    {
+        let word: u32 = *word;
+        file.extend_from_slice(&word.to_le_bytes())?;
+    }
+    for word in [0x0010_0893u32, 0x0000_0593, 0x0000_0513, 0x0000_0073, 0] {
+        file.extend_from_slice(&word.to_le_bytes())?;
+    }
+    let setting = Setting::of(rt.alloc(), file.as_slice(), &[]);
+    expect_end(&rt, "linked", &setting, (Answer::Finished, 0, 0, 3), &[])
 }
 
 #[test]
@@ -349,7 +412,7 @@ fn a_program_ends_itself(rt: HostRuntime) -> Result<(), Fail> {
         (0x0010_0513, 1, 1),
         (0xfff0_0513, 0xffff_ffff, 1),
     ] {
-        let program = [first, 0x0050_0893, 0x0000_0073];
+        let program = executable(rt.alloc(), &[first, 0x0050_0893, 0x0000_0073])?;
         let setting = Setting::of(rt.alloc(), &program, &OPEN_AND_HI);
         let want = (Answer::Exited(code), status, 0, 3);
         expect_end(&rt, "exit", &setting, want, &[])?;
@@ -384,17 +447,36 @@ fn a_program_fails(rt: HostRuntime) -> Result<(), Fail> {
         // jal x0, 0
         ("to itself", &[0x0000_006f], 0, Cause::Hang, 1_000_000),
         ("behind a recv", &RECV_AND_LOAD, 1, Cause::BadAccess, 7),
+        ("word 0", &[0], 0, Cause::BadInstruction, 0),
+        ("fence.i", &[0x0000_100f], 0, Cause::BadInstruction, 0),
+        ("ebreak", &[0x0010_0073], 0, Cause::AssertFailed(0), 0),
     ] {
-        let setting = Setting::of(rt.alloc(), program, &OPEN_AND_HI);
+        let file = executable(rt.alloc(), program)?;
+        let setting = Setting::of(rt.alloc(), &file, &OPEN_AND_HI);
         let want = (Answer::GaveUp { point, cause }, 5, point, steps);
         expect_end(&rt, name, &setting, want, &[])?;
     }
     Ok(())
 }
 
+// The echo with `mul a0, a0, a1` in place of its jump: it answers, and runs into the end of its code.
+#[test]
+fn a_program_fails_behind_its_reply(rt: HostRuntime) -> Result<(), Fail> {
+    let mut words = ECHO;
+    words[16] = 0x02b5_0533;
+    let file = executable(rt.alloc(), &words)?;
+    let setting = Setting::of(rt.alloc(), &file, &OPEN_AND_HI);
+    let failed = Answer::GaveUp {
+        point: 2,
+        cause: Cause::BadAccess,
+    };
+    expect_end(&rt, "mul", &setting, (failed, 5, 2, 23), &HI)
+}
+
 // The source of one message is called for two headers, a payload and the end; byte by byte 14 times.
 #[test]
 fn a_failed_read_ends_the_session(rt: HostRuntime) -> Result<(), Fail> {
+    let echo = executable(rt.alloc(), &ECHO)?;
     for (most, first, last, taken, steps, stands) in [
         (10_000, 1, 1, 0, 6, 0),
         (10_000, 2, 3, 1, 13, 0),
@@ -406,7 +488,7 @@ fn a_failed_read_ends_the_session(rt: HostRuntime) -> Result<(), Fail> {
         let output = HI.get(..stands).ok_or("too many")?;
         for call in first..=last {
             let fails = [call];
-            let mut setting = Setting::of(rt.alloc(), &ECHO, &OPEN_AND_HI);
+            let mut setting = Setting::of(rt.alloc(), &echo, &OPEN_AND_HI);
             setting.most = most;
             setting.source_fails = &fails;
             let want = (Answer::ReadFault, 7, taken, steps);
@@ -419,6 +501,7 @@ fn a_failed_read_ends_the_session(rt: HostRuntime) -> Result<(), Fail> {
 // A reply's frame is given in two calls, its header and its payload; byte by byte in 8.
 #[test]
 fn a_failed_write_leaves_the_first_bytes(rt: HostRuntime) -> Result<(), Fail> {
+    let echo = executable(rt.alloc(), &ECHO)?;
     for (most, call, stands) in [
         (10_000, 1, 0),
         (10_000, 2, 5),
@@ -430,7 +513,7 @@ fn a_failed_write_leaves_the_first_bytes(rt: HostRuntime) -> Result<(), Fail> {
     ] {
         let output = HI.get(..stands).ok_or("too many")?;
         let fails = [call];
-        let mut setting = Setting::of(rt.alloc(), &ECHO, &OPEN_AND_HI);
+        let mut setting = Setting::of(rt.alloc(), &echo, &OPEN_AND_HI);
         setting.most = most;
         setting.sink_fails = &fails;
         expect_end(
@@ -447,7 +530,8 @@ fn a_failed_write_leaves_the_first_bytes(rt: HostRuntime) -> Result<(), Fail> {
 // A call that isn't reached doesn't fail: the source is called 4 times, the sink twice.
 #[test]
 fn a_session_ends_with_its_last_call(rt: HostRuntime) -> Result<(), Fail> {
-    let mut setting = Setting::of(rt.alloc(), &ECHO, &OPEN_AND_HI);
+    let echo = executable(rt.alloc(), &ECHO)?;
+    let mut setting = Setting::of(rt.alloc(), &echo, &OPEN_AND_HI);
     setting.source_fails = &[5];
     setting.sink_fails = &[3];
     expect_end(&rt, "no call", &setting, (Answer::Finished, 0, 2, 26), &HI)?;
@@ -515,7 +599,8 @@ fn run_logged<L: Ledger>(alloc: Global, log: &RefCell<Vec<u8>>, blank: Blank) ->
     requires some { 0 < blank.parts }
 {
     let words = words_of(alloc, RUN)?;
-    let mut files = TameFiles::make(alloc, program_file(alloc, &ECHO)?);
+    let echo = executable(alloc, &ECHO)?;
+    let mut files = TameFiles::make(alloc, program_file(alloc, &echo)?);
     let mut input = LoggedSource {
         rest: &[
             1, 0, 0, 0, 0, 2, 0, 0, 1, 0, b'a', 2, 0, 0, 2, 0, b'b', b'c',
@@ -551,37 +636,64 @@ fn a_reply_is_written_before_the_next_read(rt: HostRuntime) -> Result<(), Fail> 
     Ok(())
 }
 
-// The first byte or word that is wrong is named.
+// Runs `asm s o` on a text with a counter of its own: the answer, its status, and the file `o`.
+fn run_assembly<L: Ledger>(
+    alloc: Global,
+    text: &[u8],
+    blank: Blank,
+) -> Result<(Answer, u8, Option<Vec<u8>>), Fail>
+    requires name { blank.name ≡ L.name }
+    requires parts { blank.parts ≡ L.parts }
+    requires some { 0 < blank.parts }
+{
+    let words = words_of(alloc, "asm s o")?;
+    let mut held = Vec::new(alloc);
+    held.push((String::from_str(alloc, "s")?, text.to_vec(alloc)?))?;
+    let mut files = MemoryFiles::make(alloc, held, Vec::new(alloc));
+    let mut input = MemorySource::make(Vec::new(alloc), Vec::new(alloc), 1);
+    let mut output = MemorySink::make(alloc, Vec::new(alloc), 1);
+    let mut listener = TameListener::make(alloc, Vec::new(alloc), 1);
+    let mut steps = Steps::<L>::start(blank);
+    let end = run_rx(
+        alloc,
+        words.as_slice(),
+        &mut files,
+        &mut input,
+        &mut output,
+        &mut listener,
+        &mut steps,
+    );
+    let written = match files.bytes_of("o") {
+        Some(bytes) => Some(bytes.to_vec(alloc)?),
+        None => None,
+    };
+    Ok((end.answer, end.status, written))
+}
+
+fn assembly_of(alloc: Global, text: &[u8]) -> Result<(Answer, u8, Option<Vec<u8>>), Fail> {
+    run_assembly::<Brand>(alloc, text, Blank::new(1))
+}
+
+// The executable of one segment that holds the four words.
 #[test]
-fn a_flaw_is_named_by_its_place(rt: HostRuntime) -> Result<(), Fail> {
+fn a_text_is_assembled_and_written(rt: HostRuntime) -> Result<(), Fail> {
     let alloc = rt.alloc();
-    let mut file = executable(alloc, &ECHO)?;
-    assert_eq!(rt; flaw_of(file.as_slice()), None);
-    assert_eq!(rt; flaw_of(b"\x7fELF"), Some(ProgramFlaw::Length(4)));
-    let multiplies = executable(alloc, &[0x00100893, 0x02b50533])?;
-    let flaw = flaw_of(multiplies.as_slice());
-    assert!(rt;
-        matches!(
-            flaw,
-            Some(ProgramFlaw::Word {
-                place: 88,
-                word: 0x02b50533
-            })
-        )
-    );
-    // For x86-64.
-    assert!(rt; file.len() > 18);
-    file[18] = 62;
-    let flaw = flaw_of(file.as_slice());
-    assert!(rt;
-        matches!(
-            flaw,
-            Some(ProgramFlaw::HeaderByte {
-                place: 18,
-                found: 62,
-                wanted: 243
-            })
-        )
-    );
+    let words = [0x0010_0893, 0x0000_0593, 0x0000_0513, 0x0000_0073];
+    let three = executable(alloc, &words)?;
+    let text = b"addi a7, x0, 1\naddi a1, x0, 0\naddi a0, x0, 0\necall\n";
+    let (answer, status, written) = assembly_of(alloc, text)?;
+    assert_eq!(rt; (answer, status), (Answer::Finished, 0));
+    let written = written.ok_or("no file")?;
+    assert_eq!(rt; written.as_slice(), three.as_slice());
+    Ok(())
+}
+
+#[test]
+fn a_refused_text_is_not_written(rt: HostRuntime) -> Result<(), Fail> {
+    let text = b"addi a7, x0, 1\naddx a1, x0, 0\n";
+    let (answer, status, written) = assembly_of(rt.alloc(), text)?;
+    let refused = Answer::AsmRefused { kind: 1, line: 2 };
+    assert_eq!(rt; (answer, status), (refused, 3));
+    assert!(rt; written.is_none());
     Ok(())
 }

@@ -1,6 +1,6 @@
 // The words of the command line.
 ghost use Rattle.std.specs.Prelude.{◌≡◌, ℕ, List, map, string_bytes, ◌↔◌, IsTrue, IfSome, IfNone};
-ghost use Rattle.rx_serve.specs.Words.{IsName, AreNames, AreRunWords};
+ghost use Rattle.rx_serve.specs.Words.{IsName, AreNames, AreRunWords, AreAsmNames, AreAsmWords};
 
 /// The names that the words of `run` give.
 #[derive(Clone, Copy, Debug)]
@@ -69,4 +69,41 @@ pub fn read_words(words: &[String]) -> Option<RunWords<'_>>
         return None;
     }
     Some(run)
+}
+
+/// The names that the words of `asm` give.
+#[derive(Clone, Copy, Debug)]
+pub struct AsmWords<'a> {
+    pub source: &'a str,
+    pub out: &'a str,
+}
+
+impl AsmWords<'_> {
+    // Whether these are two names, and not alike.
+    fn are_names(&self) -> bool
+        ensures { IsTrue result ↔ AreAsmNames self.now.source.now self.now.out.now }
+    {
+        is_name(self.source) && is_name(self.out) && self.source != self.out
+    }
+}
+
+/// Reads the words behind the program's own name; `None` exactly where they aren't those of `asm`.
+pub fn read_asm_words(words: &[String]) -> Option<AsmWords<'_>>
+    ensures read { IfSome result (λ asm. AreAsmWords (map string_bytes words.now) asm.source.now asm.out.now) }
+    ensures refused { IfNone result ((source out : List ℕ) → AreAsmWords (map string_bytes words.now) source out → ⊥) }
+{
+    let [command, source, out] = words else {
+        return None;
+    };
+    if command.as_str() != "asm" {
+        return None;
+    }
+    let asm = AsmWords {
+        source: source.as_str(),
+        out: out.as_str(),
+    };
+    if !asm.are_names() {
+        return None;
+    }
+    Some(asm)
 }

@@ -1,5 +1,5 @@
 use Rattle.std.proofs.Common.{◌≡◌, length, ap, ◌∙◌, arith}
-use Rattle.rx_serve.proofs.MemoryLemmas.{length-bytes_at}
+use Rattle.guest_space.proofs.MemoryLemmas.{length-bytes_at}
 use Rattle.rx_serve.proofs.guest_cpu.Cpu.send.Goals as goal
 
 pub returns-in_ok-bytes-in-Ok-Sends-clause-sent : goal.returns-in_ok-bytes-in-Ok-Sends-clause-sent

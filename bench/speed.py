@@ -1,0 +1,230 @@
+#!/usr/bin/env python3
+"""How many instructions a second rx does, and a plain interpreter in Rust (interpreter.rs) beside it.
+
+A program does a loop of nine instructions, a load and a store among them, 100,000 times for each of 112 messages. That
+is 100.8 million instructions, fewer than a million between two items. It is run twice: with the words that it loads and
+stores in a data segment, and on the stack. Each run's replies are checked. The times are processor times, the best of
+three runs; the runs of both take turns.
+
+usage: speed.py [--runs N] [--messages N] [RX]
+
+RX is the built rx, crates/rx/out/rx unless it is given. The interpreter is compiled by `rustc -O`; where there is no
+rustc, rx is measured alone. Programs and input are made in a temporary folder.
+"""
+
+import argparse
+import os
+import shutil
+import struct
+import subprocess
+import sys
+import tempfile
+
+HERE = os.path.dirname(os.path.abspath(__file__))
+
+TURNS = 100_000
+SEEDS = [1, 0x12345678, 0x80000000, 0xFFFFFFFF]
+
+TEXT, DATA = 0x10000, 0x11000
+
+# Registers by their names in the RISC-V calling convention.
+ZERO, SP, T0, T1, T2, S0, S1, A0, A1, A2, A7, S2 = 0, 2, 5, 6, 7, 8, 9, 10, 11, 12, 17, 18
+
+ECALL = 0x00000073
+
+
+# Instruction words, by the formats of the RISC-V unprivileged manual.
+def register_form(funct3, rd, rs1, rs2):
+    return rs2 << 20 | rs1 << 15 | funct3 << 12 | rd << 7 | 0x33
+
+
+def immediate_form(opcode, funct3, rd, rs1, imm):
+    return (imm & 0xFFF) << 20 | rs1 << 15 | funct3 << 12 | rd << 7 | opcode
+
+
+def add(rd, rs1, rs2):
+    return register_form(0, rd, rs1, rs2)
+
+
+def xor(rd, rs1, rs2):
+    return register_form(4, rd, rs1, rs2)
+
+
+def addi(rd, rs1, imm):
+    return immediate_form(0x13, 0, rd, rs1, imm)
+
+
+def slli(rd, rs1, by):
+    return immediate_form(0x13, 1, rd, rs1, by)
+
+
+def srli(rd, rs1, by):
+    return immediate_form(0x13, 5, rd, rs1, by)
+
+
+def lw(rd, imm, rs1):
+    return immediate_form(0x03, 2, rd, rs1, imm)
+
+
+def sw(rs2, imm, rs1):
+    return (imm >> 5 & 0x7F) << 25 | rs2 << 20 | rs1 << 15 | 2 << 12 | (imm & 0x1F) << 7 | 0x23
+
+
+def lui(rd, upper):
+    return upper << 12 | rd << 7 | 0x37
+
+
+def bne(rs1, rs2, by):
+    fields = (by >> 12 & 1) << 31 | (by >> 5 & 0x3F) << 25 | (by >> 1 & 0xF) << 8 | (by >> 11 & 1) << 7
+    return fields | rs2 << 20 | rs1 << 15 | 1 << 12 | 0x63
+
+
+def jal(rd, by):
+    fields = (by >> 20 & 1) << 31 | (by >> 1 & 0x3FF) << 21 | (by >> 11 & 1) << 20 | (by >> 12 & 0xFF) << 12
+    return fields | rd << 7 | 0x6F
+
+
+def li(rd, number):
+    upper = (number + 0x800) >> 12
+    return [lui(rd, upper), addi(rd, rd, number - (upper << 12))]
+
+
+# What a turn does. The word at s0 is the message, and the one behind it is the reply.
+LOOP = [
+    lw(T0, 0, S0),
+    add(T1, T1, T0),
+    slli(T2, T1, 7),
+    xor(T1, T1, T2),
+    srli(T2, T1, 9),
+    xor(T1, T1, T2),
+    sw(T1, 4, S0),
+    addi(S1, S1, -1),
+    bne(S1, ZERO, -4 * 8),
+]
+
+
+def reply_to(seed):
+    """What the program replies to a message."""
+    value = 0
+    for _ in range(TURNS):
+        value = (value + seed) & 0xFFFFFFFF
+        value ^= value << 7 & 0xFFFFFFFF
+        value ^= value >> 9
+    return value
+
+
+class Program:
+    """The program, with its two words at an address that the given code puts into s0."""
+
+    def __init__(self, place):
+        receive = [addi(A0, S0, 0), addi(A1, ZERO, 4), addi(A7, ZERO, 1), ECALL]
+        skip = [addi(T0, ZERO, 2), bne(A2, T0, -4 * 5)]  # an item that is no message
+        begin = [addi(S2, A1, 0), addi(T1, ZERO, 0)] + li(S1, TURNS)
+        send = [addi(A0, S2, 0), addi(A1, S0, 4), addi(A2, ZERO, 4), addi(A7, ZERO, 2), ECALL]
+        around = receive + skip + begin + LOOP + send
+        self.code = place + around + [jal(ZERO, -4 * len(around))]
+        self.at_start = len(place) + len(receive + skip)  # to the open
+        self.per_message = len(around) + 1 + (TURNS - 1) * len(LOOP)
+        self.at_end = len(receive) - 1  # the last receive isn't done
+
+    def steps(self, messages):
+        return self.at_start + messages * self.per_message + self.at_end
+
+    def file(self):
+        """The executable: a segment of code and one of data, as a linker would make them."""
+        text = struct.pack("<%dI" % len(self.code), *self.code)
+        ident = b"\x7fELF\1\1\1" + bytes(9)
+        first = 52 + 2 * 32
+        header = ident + struct.pack("<HHIIIIIHHHHHH", 2, 243, 1, TEXT, 52, 0, 0, 52, 32, 2, 0, 0, 0)
+        text_header = struct.pack("<8I", 1, first, TEXT, TEXT, len(text), len(text), 5, 4)
+        data_header = struct.pack("<8I", 1, first + len(text), DATA, DATA, 8, 4096, 6, 4)
+        return header + text_header + data_header + text + bytes(8)
+
+
+PROGRAMS = [
+    ("data segment", Program(li(S0, DATA))),
+    ("stack", Program([addi(S0, SP, -16)])),
+]
+
+
+def frame(kind, payload=b""):
+    return struct.pack("<BHH", kind, 0, len(payload)) + payload
+
+
+def conversation(messages):
+    """The input, and the output that it has to give."""
+    asked = [struct.pack("<I", seed) for seed in SEEDS]
+    replied = [struct.pack("<I", reply_to(seed)) for seed in SEEDS]
+    turns = [k % len(SEEDS) for k in range(messages)]
+    return (
+        frame(1) + b"".join(frame(2, asked[k]) for k in turns),
+        b"".join(frame(2, replied[k]) for k in turns),
+    )
+
+
+def timed(words, frames, output):
+    """The processor time of a run, in seconds, and what it wrote on standard error. Its output is checked."""
+    with tempfile.TemporaryFile() as given, tempfile.TemporaryFile() as got, tempfile.TemporaryFile() as said:
+        given.write(frames)
+        given.seek(0)
+        process = subprocess.Popen(words, stdin=given, stdout=got, stderr=said)
+        _, ended, usage = os.wait4(process.pid, 0)
+        status = os.WEXITSTATUS(ended) if os.WIFEXITED(ended) else -os.WTERMSIG(ended)
+        process.returncode = status
+        got.seek(0)
+        said.seek(0)
+        note = said.read().decode(errors="replace").strip()
+        if status != 0 or got.read() != output:
+            sys.exit("%s: status %d, %s" % (words[0], status, note or "a wrong output"))
+    return usage.ru_utime + usage.ru_stime, note
+
+
+def report(name, what, steps, seconds):
+    listed = " ".join("%.2f" % s for s in seconds)
+    print("%-13s %-12s %7.1f million a second  (%s seconds)" % (name, what, steps / min(seconds) / 1e6, listed))
+
+
+def measure(name, program, runs, messages, rx, interpreter, folder):
+    path = os.path.join(folder, "program")
+    with open(path, "wb") as file:
+        file.write(program.file())
+    rx_words = [rx, "run", path, "--record", folder + "/record", "--report", folder + "/report", "--frame", "whole"]
+    frames, output = conversation(messages)
+    steps = program.steps(messages)
+    of_rx, of_interpreter = [], []
+    for _ in range(runs):
+        of_rx.append(timed(rx_words, frames, output)[0])
+        if interpreter:
+            seconds, note = timed([interpreter, path], frames, output)
+            of_interpreter.append(seconds)
+            if note != str(steps):
+                sys.exit("the interpreter did %s instructions, not %d" % (note, steps))
+    report(name, "rx", steps, of_rx)
+    if interpreter:
+        report(name, "interpreter", steps, of_interpreter)
+        print("%-13s %-12s %7.2f times the interpreter's time" % (name, "rx", min(of_rx) / min(of_interpreter)))
+
+
+def compiled(folder):
+    """The interpreter, built in a folder, or None where there is no rustc."""
+    if not shutil.which("rustc"):
+        return None
+    out = os.path.join(folder, "interpreter")
+    subprocess.run(["rustc", "--edition", "2021", "-O", "-o", out, os.path.join(HERE, "interpreter.rs")], check=True)
+    return out
+
+
+def main():
+    parser = argparse.ArgumentParser(description="Measures how many instructions a second rx does.")
+    parser.add_argument("--runs", type=int, default=3)
+    parser.add_argument("--messages", type=int, default=112)
+    parser.add_argument("rx", nargs="?", default=os.path.join(HERE, "..", "crates", "rx", "out", "rx"))
+    words = parser.parse_args()
+    with tempfile.TemporaryDirectory() as folder:
+        interpreter = compiled(folder)
+        for name, program in PROGRAMS:
+            measure(name, program, words.runs, words.messages, os.path.abspath(words.rx), interpreter, folder)
+
+
+if __name__ == "__main__":
+    main()

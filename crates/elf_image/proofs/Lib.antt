@@ -1,0 +1,14 @@
+pub mod Numbers
+pub mod Headers
+pub mod Written
+pub mod Windows
+pub mod Overlaps
+pub mod Refusing
+pub mod Valid
+pub mod Sizes
+pub mod ReadBack
+pub mod RoundTrip
+pub mod Prefixes
+pub mod Found
+pub mod Reaches
+pub mod Same

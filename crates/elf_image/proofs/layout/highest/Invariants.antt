@@ -1,0 +1,9 @@
+use Rattle.std.proofs.Common.{◌≡◌, ◌<◌, ◌^◌, drop, max}
+use Rattle.elf_image.specs.Layout.{highest}
+use Rattle.elf_image.proofs.layout.highest.Given as goal
+
+abbrev pub invariant-loop-segment : goal.invariant-loop-segment
+invariant-loop-segment l = record {
+  rest : max l.high (highest (drop l.segment-index l.segments)) ≡ highest l.segments;
+  bound : l.high < 2 ^ 33;
+}

@@ -1,0 +1,6 @@
+use Rattle.std.proofs.Common.{◌≡◌, take, map}
+use Rattle.elf_image.specs.Extents.{extent_of}
+use Rattle.elf_image.proofs.overlap.extents.Given as goal
+
+abbrev pub invariant-segments : goal.invariant-segments
+invariant-segments l = l.extents.items ≡ map extent_of (take l.segment-index l.segments)

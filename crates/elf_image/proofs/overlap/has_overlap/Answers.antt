@@ -1,0 +1,12 @@
+use Rattle.std.proofs.Common.{rules, ap, ◌∙◌}
+use Rattle.std.proofs.lemmas.List.Sorted.{IsNonDecreasingBy-from_sort_by_key}
+use Rattle.elf_image.specs.Extents.{meets_from}
+use Rattle.elf_image.proofs.Overlaps.{overlap_from_sorted, start_of}
+use Rattle.elf_image.proofs.overlap.has_overlap.Goals as goal
+
+pub returns : goal.returns
+returns c =
+    c.neighbours_meet.ensures
+    ∙ ap (meets_from 0) c.deref.ensures.value
+    ∙ overlap_from_sorted _ _ _ c.in_ok-extents.ensures c.in_ok-sort_by_key.ensures.permutation
+    (IsNonDecreasingBy-from_sort_by_key start_of _ c.in_ok-sort_by_key.ensures.sorted (λ a r q k. search rules)) c.requires

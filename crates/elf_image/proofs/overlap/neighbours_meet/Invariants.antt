@@ -1,0 +1,6 @@
+use Rattle.std.proofs.Common.{◌≡◌, drop}
+use Rattle.elf_image.specs.Extents.{meets_from}
+use Rattle.elf_image.proofs.overlap.neighbours_meet.Given as goal
+
+abbrev pub invariant-extents : goal.invariant-extents
+invariant-extents l = meets_from l.end (drop l.extent-index l.extents) ≡ meets_from 0 l.extents

@@ -1,0 +1,7 @@
+use Rattle.std.proofs.Common.{◌≡◌, take, map}
+use Rattle.std.specs.List.{filter}
+use Rattle.elf_image.specs.ProgramFile.{is_loaded, place_of}
+use Rattle.elf_image.proofs.program_header.places.Given as goal
+
+abbrev pub invariant-headers : goal.invariant-headers
+invariant-headers l = l.places.items ≡ map place_of (filter is_loaded (take l.header-index l.headers))

@@ -1,0 +1,6 @@
+use Rattle.std.proofs.Common.{◌≡◌}
+use Rattle.elf_image.specs.ProgramFile.{headers_from}
+use Rattle.elf_image.proofs.program_header.read_headers.Given as goal
+
+abbrev pub invariant-headers : goal.invariant-headers
+invariant-headers l = l.headers.items ≡ headers_from l.offset l.i l.bytes

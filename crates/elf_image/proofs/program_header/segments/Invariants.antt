@@ -1,0 +1,7 @@
+use Rattle.std.proofs.Common.{◌≡◌, take, map}
+use Rattle.std.specs.List.{filter}
+use Rattle.elf_image.specs.ProgramFile.{is_loaded, segment_of}
+use Rattle.elf_image.proofs.program_header.segments.Given as goal
+
+abbrev pub invariant-headers : goal.invariant-headers
+invariant-headers l = l.segments.items ≡ map (segment_of l.bytes) (filter is_loaded (take l.header-index l.headers))

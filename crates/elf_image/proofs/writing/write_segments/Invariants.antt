@@ -1,0 +1,6 @@
+use Rattle.std.proofs.Common.{◌≡◌, ◌++◌, take}
+use Rattle.elf_image.specs.Image.{file_bytes}
+use Rattle.elf_image.proofs.writing.write_segments.Given as goal
+
+abbrev pub invariant-segments : goal.invariant-segments
+invariant-segments l = l.file.items ≡ l.fn.file.items ++ file_bytes (take l.segment-index l.segments)

@@ -1,0 +1,7 @@
+pub mod Memory
+pub mod Layout
+pub mod Extents
+pub mod Image
+pub mod ProgramFile
+pub mod Refusals
+pub mod RefusedFields

@@ -1,0 +1,26 @@
+//! Program files: what an executable of RV32IM says of memory, or the first reason for which it is refused.
+#![tactic(auto)]
+
+mod elf_refusal;
+mod fields;
+mod file_bytes;
+mod file_header;
+mod image;
+mod layout;
+mod overlap;
+mod program_header;
+mod reading;
+mod refused_field;
+mod segment;
+mod writing;
+
+pub use elf_refusal::ElfRefusal;
+pub use file_bytes::FileBytes;
+pub use image::{Image, Segments};
+pub use reading::read_image;
+pub use refused_field::{RefusedField, field_of_refusal};
+pub use segment::Segment;
+pub use writing::write_image;
+
+#[cfg(test)]
+mod tests;

@@ -1,0 +1,23 @@
+//! Example guests: programs of RV32IM as assembler's texts, most of them with a fault planted.
+#![tactic(auto)]
+
+mod catalogue;
+mod counter;
+mod dirty;
+mod divide;
+mod echo;
+mod keys;
+mod null;
+mod overflow;
+mod pair;
+mod stale;
+mod tell_free;
+mod tell_over;
+mod three;
+mod twice;
+mod unset;
+
+pub use catalogue::source_of;
+
+#[cfg(test)]
+mod tests;

@@ -1,0 +1,96 @@
+-- Bytes put behind others.
+use Rattle.std.proofs.Common.{◌≡◌, ℕ, ◌+◌, ◌<◌, Bool, true, false, cond, List, [], ◌∷◌, ◌++◌, None, Result, Ok, Err, length, take, drop, get_or, option_map, refl, ap, subst, sym, ◌∙◌, append_assoc}
+use Rattle.std.specs.Prelude.{flat_map, if◌then◌else◌}
+use Rattle.std.specs.List.{filter}
+use Rattle.std.specs.Option.{option_or}
+use Rattle.std.proofs.lemmas.List.{append-nil, take_more, at_drop_more}
+use Rattle.rv_isa.specs.Words.{little_bytes}
+use Rattle.rv_asm.specs.declared.asm_refusal.Trouble.{Trouble}
+use Rattle.rv_asm.specs.declared.asm_refusal.Trouble.TheVariants as trouble
+use Rattle.rv_asm.specs.declared.form.Section.{Section}
+use Rattle.rv_asm.specs.declared.form.Section.TheVariants as section
+use Rattle.rv_asm.specs.declared.placed.Placed.{Placed}
+use Rattle.rv_asm.specs.declared.layout.Layout.{Layout}
+use Rattle.rv_asm.specs.Mnemonics.{is_text, is_data}
+use Rattle.rv_asm.specs.Layout.{address_at}
+use Rattle.rv_asm.specs.Refusals.{fault, label_flaw, labels_fault}
+use Rattle.rv_asm.specs.Troubles.{stopped}
+use Rattle.rv_asm.specs.Assembling.{Cell, Coded, Raw, AreBytes, cells_of, cells_in, is_placed_in}
+use Rattle.rv_asm.specs.Steps.{Puts, cells_for, WritesStatement, WritesPlaced, WritesSections}
+
+pub puts_raw : (old new bytes : List ℕ) → new ≡ old ++ bytes → Puts old new (Raw bytes ∷ [])
+puts_raw old new bytes h = record { bytes = bytes; new_is = h; are = ([], sym (append-nil bytes), refl) }
+
+-- cells behind cells
+pub are_more : (cells others : List Cell) (xs ys : List ℕ) → AreBytes cells xs → AreBytes others ys → AreBytes (cells ++ others) (xs ++ ys)
+are_more [] others xs ys h k = rw h k
+are_more (Coded instr ∷ cells) others xs ys h k = (h.0, h.1, (h.2.0 ++ ys, ap (λ bytes. bytes ++ ys) h.2.1 ∙ append_assoc (little_bytes 4 h.0) h.2.0 ys, are_more cells others h.2.0 ys h.2.2 k))
+are_more (Raw front ∷ cells) others xs ys h k = (h.0 ++ ys, ap (λ bytes. bytes ++ ys) h.1 ∙ append_assoc front h.0 ys, are_more cells others h.0 ys h.2 k)
+
+pub puts_none : (bytes : List ℕ) → Puts bytes bytes []
+puts_none bytes = record { bytes = []; new_is = sym (append-nil bytes); are = refl }
+
+-- what is put behind cells
+pub are_put : (cells others : List Cell) (old new : List ℕ) → AreBytes cells old → Puts old new others → AreBytes (cells ++ others) new
+are_put cells others old new are puts = subst (AreBytes (cells ++ others)) (sym puts.new_is) (are_more cells others old puts.bytes are puts.are)
+
+-- a statement in its section
+pub puts_for : (section : Section) (layout : Layout) (placed : Placed) (old new : List ℕ) → is_placed_in section placed ≡ true → Puts old new (cells_of layout placed) → Puts old new (cells_for section layout placed)
+puts_for section layout placed old new here puts = rw here puts
+
+pub puts_not_for : (section : Section) (layout : Layout) (placed : Placed) (bytes : List ℕ) → is_placed_in section placed ≡ false → Puts bytes bytes (cells_for section layout placed)
+puts_not_for section layout placed bytes elsewhere = rw elsewhere (puts_none bytes)
+
+pub placed_in_text : (layout : Layout) (placed : Placed) (code new variables : List ℕ) (result : Result (Unit {0}) Trouble) → placed.spot.section ≡ section.Text → WritesStatement layout (address_at layout placed.spot) placed.statement code new result → WritesPlaced layout placed code new variables variables result
+placed_in_text layout placed code new variables (Ok done) here writes = record {
+  linked = writes.0;
+  code_puts = puts_for section.Text layout placed code new (ap is_text here) writes.1;
+  variables_put = puts_not_for section.Data layout placed variables (ap is_data here);
+}
+placed_in_text layout placed code new variables (Err (trouble.Flawed flaw)) here writes = writes
+placed_in_text layout placed code new variables (Err trouble.Memory) here writes = tt
+
+pub placed_in_data : (layout : Layout) (placed : Placed) (code variables new : List ℕ) (result : Result (Unit {0}) Trouble) → placed.spot.section ≡ section.Data → WritesStatement layout (address_at layout placed.spot) placed.statement variables new result → WritesPlaced layout placed code code variables new result
+placed_in_data layout placed code variables new (Ok done) here writes = record {
+  linked = writes.0;
+  code_puts = puts_not_for section.Text layout placed code (ap is_text here);
+  variables_put = puts_for section.Data layout placed variables new (ap is_data here) writes.1;
+}
+placed_in_data layout placed code variables new (Err (trouble.Flawed flaw)) here writes = writes
+placed_in_data layout placed code variables new (Err trouble.Memory) here writes = tt
+
+-- one statement more
+cells_kept : (section : Section) (layout : Layout) (placed last : Placed) (before after : List Placed) (b : Bool) → flat_map (cells_of layout) after ≡ flat_map (cells_of layout) before ++ cells_for section layout last → flat_map (cells_of layout) (cond b (placed ∷ after) after) ≡ flat_map (cells_of layout) (cond b (placed ∷ before) before) ++ cells_for section layout last
+cells_kept section layout placed last before after true h = ap (λ cells. cells_of layout placed ++ cells) h ∙ sym (append_assoc (cells_of layout placed) (flat_map (cells_of layout) before) (cells_for section layout last))
+cells_kept section layout placed last before after false h = h
+
+one_cell : (section : Section) (layout : Layout) (placed : Placed) (b : Bool) → flat_map (cells_of layout) (cond b (placed ∷ []) []) ≡ (if b then cells_of layout placed else [])
+one_cell section layout placed true = append-nil (cells_of layout placed)
+one_cell section layout placed false = refl
+
+cells_in-more : (section : Section) (layout : Layout) (statements : List Placed) (last : Placed) → cells_in section layout (statements ++ last ∷ []) ≡ cells_in section layout statements ++ cells_for section layout last
+cells_in-more section layout [] last = one_cell section layout last (is_placed_in section last)
+cells_in-more section layout (placed ∷ statements) last =
+    cells_kept section layout placed last (filter (is_placed_in section) statements) (filter (is_placed_in section) (statements ++ last ∷ [])) (is_placed_in section placed) (cells_in-more section layout statements last)
+
+pub are_in_more : (section : Section) (layout : Layout) (statements : List Placed) (i : ℕ) (placed : Placed) (old new : List ℕ) → i < length statements → placed ≡ get_or statements i placed → AreBytes (cells_in section layout (take i statements)) old → Puts old new (cells_for section layout placed) → AreBytes (cells_in section layout (take (i + 1) statements)) new
+are_in_more section layout statements i placed old new below is are puts =
+    let more : take (i + 1) statements ≡ take i statements ++ placed ∷ [] = take_more statements i placed below ∙ ap (λ placed. take i statements ++ placed ∷ []) (sym is) in
+    subst (λ cells. AreBytes cells new) (sym (ap (cells_in section layout) more ∙ cells_in-more section layout (take i statements) placed))
+    (are_put (cells_in section layout (take i statements)) (cells_for section layout placed) old new are puts)
+
+-- the first statement whose label is wrong
+next_fault : (layout : Layout) (statements : List Placed) (i : ℕ) (placed : Placed) → i < length statements → placed ≡ get_or statements i placed → labels_fault layout (drop i statements) ≡ labels_fault layout (placed ∷ drop (i + 1) statements)
+next_fault layout statements i placed below is = at_drop_more (labels_fault layout) statements i placed below ∙ ap (λ placed. labels_fault layout (placed ∷ drop (i + 1) statements)) (sym is)
+
+pub linked_fault : (layout : Layout) (statements : List Placed) (i : ℕ) (placed : Placed) → i < length statements → placed ≡ get_or statements i placed → label_flaw layout (address_at layout placed.spot) placed.statement ≡ None → labels_fault layout (drop i statements) ≡ labels_fault layout (drop (i + 1) statements)
+linked_fault layout statements i placed below is linked =
+    next_fault layout statements i placed below is
+    ∙ ap (λ answer. option_or (option_map (fault placed.line) answer) (labels_fault layout (drop (i + 1) statements))) linked
+
+pub writing_stops : (layout : Layout) (i : ℕ) (placed : Placed) (code new_code variables new_variables : List ℕ) (trouble : Trouble) → labels_fault layout (drop i layout.statements) ≡ labels_fault layout layout.statements → i < length layout.statements → placed ≡ get_or layout.statements i placed → WritesPlaced layout placed code new_code variables new_variables (Err trouble) → WritesSections layout (Err (stopped placed.line trouble))
+writing_stops layout i placed code new_code variables new_variables (trouble.Flawed flaw) first below is writes =
+    sym first
+    ∙ next_fault layout layout.statements i placed below is
+    ∙ ap (λ answer. option_or (option_map (fault placed.line) answer) (labels_fault layout (drop (i + 1) layout.statements))) writes
+writing_stops layout i placed code new_code variables new_variables trouble.Memory first below is writes = tt

@@ -1,0 +1,15 @@
+use Rattle.std.proofs.Common.{◌≡◌, ◌+◌, ◌≤◌, length}
+use Rattle.rv_asm.specs.Lines.{lines_of}
+use Rattle.rv_asm.specs.Layout.{no_lines, after_lines}
+use Rattle.rv_asm.specs.Refusals.{lines_fault}
+use Rattle.rv_asm.proofs.surveying.survey.Given as goal
+
+abbrev pub invariant-lines : goal.invariant-lines
+invariant-lines l = record {
+  first : lines_fault l.layout (lines_of l.rest) ≡ lines_fault no_lines (lines_of l.text);
+  after : after_lines l.layout (lines_of l.rest) ≡ after_lines no_lines (lines_of l.text);
+  count : l.layout.lines + length l.rest ≤ length l.text;
+}
+
+abbrev pub decreases-lines : goal.decreases-lines
+decreases-lines l = length l.rest

@@ -1,0 +1,11 @@
+//! One instruction of a guest on its registers and its memory.
+#![tactic(auto)]
+
+mod executing;
+mod registers;
+mod stepping;
+
+pub use stepping::{next_instr, step};
+
+#[cfg(test)]
+mod tests;

@@ -1,0 +1,61 @@
+/* The guest calls of rx, for C.
+ *
+ * A call is an ECALL with its number in a7 (x17), its operands in a0 to a2 and its answers in the same registers. All
+ * other registers keep their values. A call may touch memory, so the compiler is told that it does ("memory").
+ */
+#ifndef GUEST_H
+#define GUEST_H
+
+/* The longest message that comes as one item, and the longest reply that one send takes. */
+enum { GUEST_MOST_RECEIVED = 4096, GUEST_MOST_SENT = 65535 };
+
+/* What an item is. */
+enum guest_kind { GUEST_OPEN = 1, GUEST_MESSAGE = 2, GUEST_CLOSE = 3 };
+
+/* An item: the full length of its bytes, its connection, and its kind. An open and a close have no bytes. */
+struct guest_item {
+    unsigned length;
+    unsigned connection;
+    unsigned kind;
+};
+
+/* What a send answers. */
+enum guest_sent { GUEST_SENT = 0, GUEST_NOT_OPEN = 1, GUEST_TOO_LONG = 2 };
+
+/* Call 1. Waits for the next item and puts its first bytes, at most `size`, at `buffer`. All of the buffer has to be
+ * writable. The length in the answer is the item's full length, also where it is more than `size`. Where the input is
+ * at its end, the call doesn't return and the run is finished. */
+static inline struct guest_item guest_recv(void *buffer, unsigned size)
+{
+    register unsigned a0 __asm__("a0") = (unsigned)buffer;
+    register unsigned a1 __asm__("a1") = size;
+    register unsigned a2 __asm__("a2");
+    register unsigned a7 __asm__("a7") = 1;
+
+    __asm__ volatile("ecall" : "+r"(a0), "+r"(a1), "=r"(a2) : "r"(a7) : "memory");
+    return (struct guest_item){.length = a0, .connection = a1, .kind = a2};
+}
+
+/* Call 2. Sends `length` bytes from `bytes` to a connection. A send of no bytes sends nothing. */
+static inline enum guest_sent guest_send(unsigned connection, const void *bytes, unsigned length)
+{
+    register unsigned a0 __asm__("a0") = connection;
+    register unsigned a1 __asm__("a1") = (unsigned)bytes;
+    register unsigned a2 __asm__("a2") = length;
+    register unsigned a7 __asm__("a7") = 2;
+
+    __asm__ volatile("ecall" : "+r"(a0) : "r"(a1), "r"(a2), "r"(a7) : "memory");
+    return (enum guest_sent)a0;
+}
+
+/* Call 5. Ends the program with a code: 0 where all is well. */
+__attribute__((noreturn)) static inline void guest_exit(unsigned code)
+{
+    register unsigned a0 __asm__("a0") = code;
+    register unsigned a7 __asm__("a7") = 5;
+
+    __asm__ volatile("ecall" : : "r"(a0), "r"(a7) : "memory");
+    __builtin_unreachable();
+}
+
+#endif
