@@ -1,20 +1,24 @@
 -- What is answered for a text.
-use Rattle.std.proofs.Common.{◌≡◌, ℕ, ◌-◌, ◌^◌, min, List, Option, Some, None, Err, refl, ap, subst, sym, ◌∙◌, arith}
+use Rattle.std.proofs.Common.{◌≡◌, ℕ, ◌-◌, ◌^◌, min, List, ◌∷◌, Option, Some, None, Err, refl, ap, subst, sym, ◌∙◌, arith}
 use Rattle.std.specs.Option.{option_or}
 use Rattle.elf_image.specs.declared.image.Image.{Image}
 use Rattle.rv_asm.specs.declared.asm_refusal.AsmRefusal.{AsmRefusal}
 use Rattle.rv_asm.specs.declared.asm_refusal.Fault.{Fault}
 use Rattle.rv_asm.specs.declared.asm_refusal.Stop.{Stop}
 use Rattle.rv_asm.specs.declared.asm_refusal.Stop.TheVariants as stop
-use Rattle.rv_asm.specs.declared.form.Section.TheVariants as section
+use Rattle.asm_lines.specs.declared.form.Section.TheVariants as section
 use Rattle.rv_asm.specs.declared.layout.Layout.{Layout}
 use Rattle.rv_asm.specs.declared.sections.Sections.{Sections}
-use Rattle.rv_asm.specs.Lines.{lines_of}
-use Rattle.rv_asm.specs.Layout.{no_lines}
-use Rattle.rv_asm.specs.Refusals.{kind_of, lines_fault, labels_fault, layout_of, refusal_of, Answers}
+use Rattle.asm_lines.specs.Lines.{lines_of}
+use Rattle.rv_asm.specs.Layout.{text_start, data_start}
+use Rattle.asm_lines.specs.Flaws.{kind_of}
+use Rattle.rv_asm.specs.Refusals.{refusal_of}
 use Rattle.rv_asm.specs.Sound.{IsSound}
-use Rattle.rv_asm.specs.Assembling.{AnswersFault, IsAssembled, IsReason}
+use Rattle.rv_asm.specs.Assembling.{AreBytes, segment, data_segments, AnswersFault, IsAssembled, IsReason}
 use Rattle.rv_asm.specs.Steps.{Surveys, AreSections, WritesSections, AreSmall, IsImageOf}
+use Rattle.rv_asm.specs.Troubles.{Answers}
+use Rattle.rv_asm.specs.Passes.{no_lines, layout_of, lines_fault, labels_fault}
+use Rattle.rv_asm.proofs.Agreement.{refusal_is, cells_are, size_is}
 use Rattle.rv_asm.proofs.Good.{good_sound}
 use Rattle.rv_asm.proofs.Texts.{good_text, some_text, section_length}
 
@@ -31,13 +35,12 @@ memory_reason : (text : List ℕ) (window : ℕ) (refusal : AsmRefusal) → Answ
 memory_reason text window refusal answers = subst (IsReason text window) (sym answers) tt
 
 by_lines : (text : List ℕ) (found : Fault) → lines_fault no_lines (lines_of text) ≡ Some found → refusal_of text ≡ Some found
-unfolding refusal_of
-by_lines text found h = ap (λ fault. option_or fault (labels_fault (layout_of text) (layout_of text).statements)) h
+by_lines text found h = refusal_is text ∙ ap (λ fault. option_or fault (labels_fault (layout_of text) (layout_of text).statements)) h
 
 by_labels : (text : List ℕ) (layout : Layout) (answer : Option Fault) → lines_fault no_lines (lines_of text) ≡ None → layout ≡ layout_of text → labels_fault layout layout.statements ≡ answer → refusal_of text ≡ answer
-unfolding refusal_of
 by_labels text layout answer h is found =
-    ap (λ fault. option_or fault (labels_fault (layout_of text) (layout_of text).statements)) h
+    refusal_is text
+    ∙ ap (λ fault. option_or fault (labels_fault (layout_of text) (layout_of text).statements)) h
     ∙ ap (λ (layout : Layout). labels_fault layout layout.statements) (sym is)
     ∙ found
 
@@ -69,11 +72,11 @@ assembled_of text window sections image h are of = record {
   code = sections.code;
   variables = sections.variables;
   accepted = by_labels text (layout_of text) None h refl are.linked;
-  code_is = are.code;
-  variables_are = are.variables;
+  code_is = subst (λ cells. AreBytes cells sections.code) (cells_are section.Text text) are.code;
+  variables_are = subst (λ cells. AreBytes cells sections.variables) (cells_are section.Data text) are.variables;
   entry = of.entry;
   in_window = of.in_window;
-  segments = of.segments;
+  segments = of.segments ∙ ap (λ size. segment text_start 5 sections.code ∷ data_segments (data_start size) sections.variables) (size_is text);
 }
 
 pub assembled : (text : List ℕ) (window : ℕ) (layout : Layout) (sections : Sections) (image : Image) → lines_fault no_lines (lines_of text) ≡ None → layout ≡ layout_of text → AreSections layout sections → IsImageOf layout sections window image → IsAssembled text window image

@@ -17,18 +17,18 @@ use Rattle.rv_isa.specs.declared.instr.Instr.TheVariants as instr
 use Rattle.rv_isa.specs.Ranges.{IsRegister, IsImmediate, IsShift, IsOperand, IsInRange}
 use Rattle.rv_isa.specs.Words.{signed, opcode, funct3}
 use Rattle.rv_isa.specs.Meaning.{to_word}
-use Rattle.rv_asm.specs.declared.asm_refusal.Flaw.{Flaw}
-use Rattle.rv_asm.specs.declared.asm_refusal.Flaw.TheVariants.{Range}
-use Rattle.rv_asm.specs.declared.form.Form.{Form}
-use Rattle.rv_asm.specs.declared.form.Form.TheVariants as form
-use Rattle.rv_asm.specs.declared.form.Section.TheVariants as section
-use Rattle.rv_asm.specs.declared.statement.Statement.{Statement}
-use Rattle.rv_asm.specs.declared.statement.Statement.TheVariants as statement
-use Rattle.rv_asm.specs.Bytes.{look_up, cut, ended}
-use Rattle.rv_asm.specs.Numbers.{number_of}
-use Rattle.rv_asm.specs.Registers.{register_table, register_of}
-use Rattle.rv_asm.specs.Mnemonics.{mnemonic_table, form_of, stands_in, gives_bytes}
-use Rattle.rv_asm.specs.Statements.{◌>>=◌, operand, operands_of, one, two, three, register, label, ranged, number, address, quoted, immediate, offset, any_word, any_byte, upper, op_statement, op_imm_statement, load_statement, jalr_statement, store_statement, branch_statement, branch_zero_statement, jal_statement, la_statement, jump_statement, lui_statement, auipc_statement, li_statement, mv_statement, lone_statement, word_or_address, word_statement, byte_statement, space_statement, ascii_statement, nop, ret, full_fence, statement_of, size_of}
+use Rattle.asm_lines.specs.declared.flaw.Flaw.{Flaw}
+use Rattle.asm_lines.specs.declared.flaw.Flaw.TheVariants.{Range}
+use Rattle.asm_lines.specs.declared.form.Form.{Form}
+use Rattle.asm_lines.specs.declared.form.Form.TheVariants as form
+use Rattle.asm_lines.specs.declared.form.Section.TheVariants as section
+use Rattle.asm_lines.specs.declared.statement.Statement.{Statement}
+use Rattle.asm_lines.specs.declared.statement.Statement.TheVariants as statement
+use Rattle.asm_lines.specs.Bytes.{look_up, cut, ended}
+use Rattle.asm_lines.specs.Numbers.{number_of}
+use Rattle.asm_lines.specs.Registers.{register_table, register_of}
+use Rattle.asm_lines.specs.Mnemonics.{mnemonic_table, form_of, stands_in, gives_bytes}
+use Rattle.asm_lines.specs.Statements.{◌>>=◌, operand, operands_of, one, two, three, register, label, ranged, number, address, quoted, immediate, offset, any_word, any_byte, upper, op_statement, op_imm_statement, load_statement, jalr_statement, store_statement, branch_statement, branch_zero_statement, jal_statement, la_statement, jump_statement, lui_statement, auipc_statement, li_statement, mv_statement, lone_statement, word_or_address, word_statement, byte_statement, space_statement, ascii_statement, nop, ret, full_fence, statement_of, size_of}
 use Rattle.rv_asm.specs.Sound.{IsEncodable}
 
 -- what holds of a value, if there is one

@@ -7,56 +7,32 @@ use Rattle.rv_isa.specs.declared.instr.BranchOp.TheVariants as branch
 use Rattle.rv_isa.specs.declared.instr.LoadOp.TheVariants as load
 use Rattle.rv_isa.specs.Words.{opcode, rd, funct3, rs1, imm_i, imm_u}
 use Rattle.rv_isa.specs.Table.{row, imm_row, imm_op, system_row}
-use Rattle.rv_asm.specs.declared.asm_refusal.Flaw.TheVariants as flaw
-use Rattle.rv_asm.specs.declared.form.Section.TheVariants as section
-use Rattle.rv_asm.specs.Lines.{lines_of, code_of, words_of, line_of_code, line_of}
-use Rattle.rv_asm.specs.Numbers.{decimal, hexadecimal, signed_decimal, number_of}
-use Rattle.rv_asm.specs.Registers.{register_table, register_of}
-use Rattle.rv_asm.specs.Mnemonics.{mnemonic_table, form_of}
-use Rattle.rv_asm.specs.Statements.{one, two, three, immediate, offset, any_word, any_byte, upper, operands_of, register, label, number, address, quoted, op_statement, op_imm_statement, load_statement, jalr_statement, store_statement, branch_statement, branch_zero_statement, jal_statement, la_statement, jump_statement, lui_statement, auipc_statement, li_statement, mv_statement, lone_statement, word_statement, byte_statement, space_statement, ascii_statement}
-use Rattle.rv_asm.specs.Layout.{after_line}
-use Rattle.rv_asm.specs.Refusals.{fault, line_flaw, layout_of, refusal_of}
+use Rattle.asm_lines.specs.declared.flaw.Flaw.TheVariants as flaw
+use Rattle.asm_lines.specs.declared.form.Section.TheVariants as section
+use Rattle.asm_lines.specs.Lines.{code_of, words_of, line_of_code, line_of}
+use Rattle.asm_lines.specs.Numbers.{decimal, hexadecimal, signed_decimal, number_of}
+use Rattle.asm_lines.specs.Registers.{register_table, register_of}
+use Rattle.asm_lines.specs.Mnemonics.{mnemonic_table, form_of}
+use Rattle.asm_lines.specs.Statements.{one, two, three, immediate, offset, any_word, any_byte, upper, operands_of, register, label, number, address, quoted, op_statement, op_imm_statement, load_statement, jalr_statement, store_statement, branch_statement, branch_zero_statement, jal_statement, la_statement, jump_statement, lui_statement, auipc_statement, li_statement, mv_statement, lone_statement, word_statement, byte_statement, space_statement, ascii_statement}
+use Rattle.rv_asm.specs.Layout.{read_lines}
+use Rattle.rv_asm.specs.Refusals.{fault, refusal_of}
 use Rattle.rv_asm.specs.Assembling.{Cell, Coded, Raw, cells_in}
-
--- lines, with and without the last line feed
-pub lines_split : lines_of (codes "a" ++ 10 ∷ 10 ∷ codes "bc") ∷ lines_of (codes "a" ++ 10 ∷ []) ∷ lines_of (10 ∷ []) ∷ lines_of [] ∷ []
-    ≡ (codes "a" ∷ [] ∷ codes "bc" ∷ []) ∷ (codes "a" ∷ []) ∷ ([] ∷ []) ∷ ([] ∷ []) ∷ []
-lines_split = refl
-
-pub codes_of_lines : code_of (codes "  nop # rest") ∷ code_of (codes "# all") ∷ code_of (34 ∷ 35 ∷ 34 ∷ 35 ∷ []) ∷ code_of (34 ∷ 35 ∷ 9 ∷ []) ∷ [] ≡ codes "nop" ∷ [] ∷ (34 ∷ 35 ∷ 34 ∷ []) ∷ (34 ∷ 35 ∷ []) ∷ []
-unfolding code_of
-codes_of_lines = refl
-
-pub numbers : number_of (codes "007") ∷ number_of (codes "-0") ∷ number_of (codes "-12") ∷ number_of (codes "0xfF") ∷ number_of (codes "0x00000001") ∷ number_of (codes "4294967296") ∷ []
-    ≡ Some (pos 7) ∷ Some (pos 0) ∷ Some (negsuc 11) ∷ Some (pos 255) ∷ Some (pos 1) ∷ Some (pos 4294967296) ∷ []
-unfolding number_of signed_decimal decimal hexadecimal
-numbers = refl
-
-pub no_numbers : number_of [] ∷ number_of (codes "-") ∷ number_of (codes "+1") ∷ number_of (codes "-0x1") ∷ number_of (codes "0X1") ∷ number_of (codes "0x") ∷ number_of (codes "0x123456789") ∷ number_of (codes "1a") ∷ number_of (codes "0xg") ∷ []
-    ≡ None ∷ None ∷ None ∷ None ∷ None ∷ None ∷ None ∷ None ∷ None ∷ []
-unfolding number_of signed_decimal decimal hexadecimal
-no_numbers = refl
-
-pub registers : register_of (codes "x31") ∷ register_of (codes "zero") ∷ register_of (codes "fp") ∷ register_of (codes "a7") ∷ register_of (codes "s11") ∷ register_of (codes "t6") ∷ register_of (codes "x32") ∷ register_of (codes "x01") ∷ register_of (codes "A0") ∷ []
-    ≡ Some 31 ∷ Some 0 ∷ Some 8 ∷ Some 17 ∷ Some 27 ∷ Some 31 ∷ None ∷ None ∷ None ∷ []
-unfolding register_of register_table
-registers = refl
 
 -- ---- what some texts put into their sections
 
 abbrev pub cells_of_text : List ℕ → List Cell × List Cell
-cells_of_text text = (cells_in section.Text (layout_of text) (layout_of text).statements, cells_in section.Data (layout_of text) (layout_of text).statements)
+cells_of_text text = (cells_in section.Text (read_lines text), cells_in section.Data (read_lines text))
 
 -- a number in two instructions: 0x12345fff is 0x12346000 - 1
 abbrev pub loads : List ℕ
 loads = codes "li a0, 0x12345fff"
 
 pub loads_accepted : refusal_of loads ≡ None
-unfolding refusal_of line_flaw immediate offset any_word any_byte upper one two three layout_of after_line line_of line_of_code code_of words_of form_of mnemonic_table register_of register_table operands_of register label number number_of signed_decimal decimal hexadecimal address quoted op_statement op_imm_statement load_statement jalr_statement store_statement branch_statement branch_zero_statement jal_statement la_statement jump_statement lui_statement auipc_statement li_statement mv_statement lone_statement word_statement byte_statement space_statement ascii_statement
+unfolding refusal_of immediate offset any_word any_byte upper one two three read_lines line_of line_of_code code_of words_of form_of mnemonic_table register_of register_table operands_of register label number number_of signed_decimal decimal hexadecimal address quoted op_statement op_imm_statement load_statement jalr_statement store_statement branch_statement branch_zero_statement jal_statement la_statement jump_statement lui_statement auipc_statement li_statement mv_statement lone_statement word_statement byte_statement space_statement ascii_statement
 loads_accepted = refl
 
 pub loads_cells : cells_of_text loads ≡ (Coded (instr.Lui 10 (pos 0x12346000)) ∷ Coded (instr.OpImm imm.Addi 10 10 (negsuc 0)) ∷ [], [])
-unfolding immediate offset any_word any_byte upper one two three layout_of after_line line_of line_of_code code_of words_of form_of mnemonic_table register_of register_table operands_of register label number number_of signed_decimal decimal hexadecimal address quoted op_statement op_imm_statement load_statement jalr_statement store_statement branch_statement branch_zero_statement jal_statement la_statement jump_statement lui_statement auipc_statement li_statement mv_statement lone_statement word_statement byte_statement space_statement ascii_statement
+unfolding immediate offset any_word any_byte upper one two three read_lines line_of line_of_code code_of words_of form_of mnemonic_table register_of register_table operands_of register label number number_of signed_decimal decimal hexadecimal address quoted op_statement op_imm_statement load_statement jalr_statement store_statement branch_statement branch_zero_statement jal_statement la_statement jump_statement lui_statement auipc_statement li_statement mv_statement lone_statement word_statement byte_statement space_statement ascii_statement
 loads_cells = refl
 
 pub loads_words : row 0x12346537 ∷ row 0xfff50513 ∷ [] ≡ Some (instr.Lui 10 (pos 0x12346000)) ∷ Some (instr.OpImm imm.Addi 10 10 (negsuc 0)) ∷ []
@@ -68,11 +44,11 @@ abbrev pub guest : List ℕ
 guest = (codes "addi a7, x0, 1" ++ (10 ∷ (codes "addi a1, x0, 0" ++ (10 ∷ (codes "addi a0, x0, 0" ++ (10 ∷ codes "ecall"))))))
 
 pub guest_accepted : refusal_of guest ≡ None
-unfolding refusal_of line_flaw immediate offset any_word any_byte upper one two three layout_of after_line line_of line_of_code code_of words_of form_of mnemonic_table register_of register_table operands_of register label number number_of signed_decimal decimal hexadecimal address quoted op_statement op_imm_statement load_statement jalr_statement store_statement branch_statement branch_zero_statement jal_statement la_statement jump_statement lui_statement auipc_statement li_statement mv_statement lone_statement word_statement byte_statement space_statement ascii_statement
+unfolding refusal_of immediate offset any_word any_byte upper one two three read_lines line_of line_of_code code_of words_of form_of mnemonic_table register_of register_table operands_of register label number number_of signed_decimal decimal hexadecimal address quoted op_statement op_imm_statement load_statement jalr_statement store_statement branch_statement branch_zero_statement jal_statement la_statement jump_statement lui_statement auipc_statement li_statement mv_statement lone_statement word_statement byte_statement space_statement ascii_statement
 guest_accepted = refl
 
 pub guest_cells : cells_of_text guest ≡ (Coded (instr.OpImm imm.Addi 17 0 (pos 1)) ∷ Coded (instr.OpImm imm.Addi 11 0 (pos 0)) ∷ Coded (instr.OpImm imm.Addi 10 0 (pos 0)) ∷ Coded instr.Ecall ∷ [], [])
-unfolding immediate offset any_word any_byte upper one two three layout_of after_line line_of line_of_code code_of words_of form_of mnemonic_table register_of register_table operands_of register label number number_of signed_decimal decimal hexadecimal address quoted op_statement op_imm_statement load_statement jalr_statement store_statement branch_statement branch_zero_statement jal_statement la_statement jump_statement lui_statement auipc_statement li_statement mv_statement lone_statement word_statement byte_statement space_statement ascii_statement
+unfolding immediate offset any_word any_byte upper one two three read_lines line_of line_of_code code_of words_of form_of mnemonic_table register_of register_table operands_of register label number number_of signed_decimal decimal hexadecimal address quoted op_statement op_imm_statement load_statement jalr_statement store_statement branch_statement branch_zero_statement jal_statement la_statement jump_statement lui_statement auipc_statement li_statement mv_statement lone_statement word_statement byte_statement space_statement ascii_statement
 guest_cells = refl
 
 pub guest_words : row 0x00100893 ∷ row 0x00000593 ∷ row 0x00000513 ∷ row 0x00000073 ∷ []
@@ -85,86 +61,86 @@ abbrev pub both : List ℕ
 both = (codes "start: lw t0,-4(sp) # a load" ++ (10 ∷ ((9 ∷ codes "beqz t0, start") ++ (10 ∷ (codes ".data" ++ (10 ∷ ((codes " .ascii " ++ (34 ∷ (codes "a # b" ++ (92 ∷ (codes "n" ++ (34 ∷ [])))))) ++ (10 ∷ (codes "here: .text" ++ (10 ∷ (codes ".word here" ++ (10 ∷ (codes "back: .data" ++ (10 ∷ (codes ".byte -1" ++ (10 ∷ (codes ".space 2" ++ (10 ∷ codes ".word back"))))))))))))))))))
 
 pub both_accepted : refusal_of both ≡ None
-unfolding refusal_of line_flaw immediate offset any_word any_byte upper one two three layout_of after_line line_of line_of_code code_of words_of form_of mnemonic_table register_of register_table operands_of register label number number_of signed_decimal decimal hexadecimal address quoted op_statement op_imm_statement load_statement jalr_statement store_statement branch_statement branch_zero_statement jal_statement la_statement jump_statement lui_statement auipc_statement li_statement mv_statement lone_statement word_statement byte_statement space_statement ascii_statement
+unfolding refusal_of immediate offset any_word any_byte upper one two three read_lines line_of line_of_code code_of words_of form_of mnemonic_table register_of register_table operands_of register label number number_of signed_decimal decimal hexadecimal address quoted op_statement op_imm_statement load_statement jalr_statement store_statement branch_statement branch_zero_statement jal_statement la_statement jump_statement lui_statement auipc_statement li_statement mv_statement lone_statement word_statement byte_statement space_statement ascii_statement
 both_accepted = refl
 
 pub both_cells : cells_of_text both ≡ (Coded (instr.Load load.Lw 5 2 (negsuc 3)) ∷ Coded (instr.Branch branch.Beq 5 0 (negsuc 3)) ∷ Raw (6 ∷ 0x10 ∷ 1 ∷ 0 ∷ []) ∷ [], Raw (codes "a # b" ++ 10 ∷ []) ∷ Raw (255 ∷ []) ∷ Raw (0 ∷ 0 ∷ []) ∷ Raw (12 ∷ 0 ∷ 1 ∷ 0 ∷ []) ∷ [])
-unfolding immediate offset any_word any_byte upper one two three layout_of after_line line_of line_of_code code_of words_of form_of mnemonic_table register_of register_table operands_of register label number number_of signed_decimal decimal hexadecimal address quoted op_statement op_imm_statement load_statement jalr_statement store_statement branch_statement branch_zero_statement jal_statement la_statement jump_statement lui_statement auipc_statement li_statement mv_statement lone_statement word_statement byte_statement space_statement ascii_statement
+unfolding immediate offset any_word any_byte upper one two three read_lines line_of line_of_code code_of words_of form_of mnemonic_table register_of register_table operands_of register label number number_of signed_decimal decimal hexadecimal address quoted op_statement op_imm_statement load_statement jalr_statement store_statement branch_statement branch_zero_statement jal_statement la_statement jump_statement lui_statement auipc_statement li_statement mv_statement lone_statement word_statement byte_statement space_statement ascii_statement
 both_cells = refl
 
 -- ---- what some texts are refused for
 
 -- a label that isn't defined
 pub no_such_label : refusal_of (codes "j nowhere") ≡ Some (fault 1 flaw.Label)
-unfolding refusal_of line_flaw immediate offset any_word any_byte upper one two three layout_of after_line line_of line_of_code code_of words_of form_of mnemonic_table register_of register_table operands_of register label number number_of signed_decimal decimal hexadecimal address quoted op_statement op_imm_statement load_statement jalr_statement store_statement branch_statement branch_zero_statement jal_statement la_statement jump_statement lui_statement auipc_statement li_statement mv_statement lone_statement word_statement byte_statement space_statement ascii_statement
+unfolding refusal_of immediate offset any_word any_byte upper one two three read_lines line_of line_of_code code_of words_of form_of mnemonic_table register_of register_table operands_of register label number number_of signed_decimal decimal hexadecimal address quoted op_statement op_imm_statement load_statement jalr_statement store_statement branch_statement branch_zero_statement jal_statement la_statement jump_statement lui_statement auipc_statement li_statement mv_statement lone_statement word_statement byte_statement space_statement ascii_statement
 no_such_label = refl
 
 -- a label that was defined on an earlier line
 pub two_labels : refusal_of ((codes "a: nop" ++ (10 ∷ codes "a: nop"))) ≡ Some (fault 2 flaw.DoubleLabel)
-unfolding refusal_of line_flaw immediate offset any_word any_byte upper one two three layout_of after_line line_of line_of_code code_of words_of form_of mnemonic_table register_of register_table operands_of register label number number_of signed_decimal decimal hexadecimal address quoted op_statement op_imm_statement load_statement jalr_statement store_statement branch_statement branch_zero_statement jal_statement la_statement jump_statement lui_statement auipc_statement li_statement mv_statement lone_statement word_statement byte_statement space_statement ascii_statement
+unfolding refusal_of immediate offset any_word any_byte upper one two three read_lines line_of line_of_code code_of words_of form_of mnemonic_table register_of register_table operands_of register label number number_of signed_decimal decimal hexadecimal address quoted op_statement op_imm_statement load_statement jalr_statement store_statement branch_statement branch_zero_statement jal_statement la_statement jump_statement lui_statement auipc_statement li_statement mv_statement lone_statement word_statement byte_statement space_statement ascii_statement
 two_labels = refl
 
 -- an immediate past its range
 pub too_great : refusal_of (codes "addi a0, a0, 2048") ≡ Some (fault 1 flaw.Range)
-unfolding refusal_of line_flaw immediate offset any_word any_byte upper one two three layout_of after_line line_of line_of_code code_of words_of form_of mnemonic_table register_of register_table operands_of register label number number_of signed_decimal decimal hexadecimal address quoted op_statement op_imm_statement load_statement jalr_statement store_statement branch_statement branch_zero_statement jal_statement la_statement jump_statement lui_statement auipc_statement li_statement mv_statement lone_statement word_statement byte_statement space_statement ascii_statement
+unfolding refusal_of immediate offset any_word any_byte upper one two three read_lines line_of line_of_code code_of words_of form_of mnemonic_table register_of register_table operands_of register label number number_of signed_decimal decimal hexadecimal address quoted op_statement op_imm_statement load_statement jalr_statement store_statement branch_statement branch_zero_statement jal_statement la_statement jump_statement lui_statement auipc_statement li_statement mv_statement lone_statement word_statement byte_statement space_statement ascii_statement
 too_great = refl
 
 -- an operand is missing; text isn't without bytes
 pub too_few : refusal_of (codes "add a0, a1") ≡ Some (fault 1 flaw.BadOperand)
-unfolding refusal_of line_flaw immediate offset any_word any_byte upper one two three layout_of after_line line_of line_of_code code_of words_of form_of mnemonic_table register_of register_table operands_of register label number number_of signed_decimal decimal hexadecimal address quoted op_statement op_imm_statement load_statement jalr_statement store_statement branch_statement branch_zero_statement jal_statement la_statement jump_statement lui_statement auipc_statement li_statement mv_statement lone_statement word_statement byte_statement space_statement ascii_statement
+unfolding refusal_of immediate offset any_word any_byte upper one two three read_lines line_of line_of_code code_of words_of form_of mnemonic_table register_of register_table operands_of register label number number_of signed_decimal decimal hexadecimal address quoted op_statement op_imm_statement load_statement jalr_statement store_statement branch_statement branch_zero_statement jal_statement la_statement jump_statement lui_statement auipc_statement li_statement mv_statement lone_statement word_statement byte_statement space_statement ascii_statement
 too_few = refl
 
 -- no line
 pub no_text : refusal_of ([]) ≡ Some (fault 1 flaw.UnknownWord)
-unfolding refusal_of line_flaw immediate offset any_word any_byte upper one two three layout_of after_line line_of line_of_code code_of words_of form_of mnemonic_table register_of register_table operands_of register label number number_of signed_decimal decimal hexadecimal address quoted op_statement op_imm_statement load_statement jalr_statement store_statement branch_statement branch_zero_statement jal_statement la_statement jump_statement lui_statement auipc_statement li_statement mv_statement lone_statement word_statement byte_statement space_statement ascii_statement
+unfolding refusal_of immediate offset any_word any_byte upper one two three read_lines line_of line_of_code code_of words_of form_of mnemonic_table register_of register_table operands_of register label number number_of signed_decimal decimal hexadecimal address quoted op_statement op_imm_statement load_statement jalr_statement store_statement branch_statement branch_zero_statement jal_statement la_statement jump_statement lui_statement auipc_statement li_statement mv_statement lone_statement word_statement byte_statement space_statement ascii_statement
 no_text = refl
 
 -- a mnemonic that isn't known
 pub no_such_word : refusal_of ((codes "addi a7, x0, 1" ++ (10 ∷ codes "addx a1, x0, 0"))) ≡ Some (fault 2 flaw.UnknownWord)
-unfolding refusal_of line_flaw immediate offset any_word any_byte upper one two three layout_of after_line line_of line_of_code code_of words_of form_of mnemonic_table register_of register_table operands_of register label number number_of signed_decimal decimal hexadecimal address quoted op_statement op_imm_statement load_statement jalr_statement store_statement branch_statement branch_zero_statement jal_statement la_statement jump_statement lui_statement auipc_statement li_statement mv_statement lone_statement word_statement byte_statement space_statement ascii_statement
+unfolding refusal_of immediate offset any_word any_byte upper one two three read_lines line_of line_of_code code_of words_of form_of mnemonic_table register_of register_table operands_of register label number number_of signed_decimal decimal hexadecimal address quoted op_statement op_imm_statement load_statement jalr_statement store_statement branch_statement branch_zero_statement jal_statement la_statement jump_statement lui_statement auipc_statement li_statement mv_statement lone_statement word_statement byte_statement space_statement ascii_statement
 no_such_word = refl
 
 -- no byte of text: it stands at the last line
 pub no_text_at_the_end : refusal_of ((codes ".data" ++ (10 ∷ (codes ".byte 1" ++ (10 ∷ (codes "# end" ++ (10 ∷ []))))))) ≡ Some (fault 3 flaw.UnknownWord)
-unfolding refusal_of line_flaw immediate offset any_word any_byte upper one two three layout_of after_line line_of line_of_code code_of words_of form_of mnemonic_table register_of register_table operands_of register label number number_of signed_decimal decimal hexadecimal address quoted op_statement op_imm_statement load_statement jalr_statement store_statement branch_statement branch_zero_statement jal_statement la_statement jump_statement lui_statement auipc_statement li_statement mv_statement lone_statement word_statement byte_statement space_statement ascii_statement
+unfolding refusal_of immediate offset any_word any_byte upper one two three read_lines line_of line_of_code code_of words_of form_of mnemonic_table register_of register_table operands_of register label number number_of signed_decimal decimal hexadecimal address quoted op_statement op_imm_statement load_statement jalr_statement store_statement branch_statement branch_zero_statement jal_statement la_statement jump_statement lui_statement auipc_statement li_statement mv_statement lone_statement word_statement byte_statement space_statement ascii_statement
 no_text_at_the_end = refl
 
 -- an instruction in the data section goes before its operands
 pub in_the_wrong_section : refusal_of ((codes "nop" ++ (10 ∷ (codes ".data" ++ (10 ∷ codes "add a0"))))) ≡ Some (fault 3 flaw.UnknownWord)
-unfolding refusal_of line_flaw immediate offset any_word any_byte upper one two three layout_of after_line line_of line_of_code code_of words_of form_of mnemonic_table register_of register_table operands_of register label number number_of signed_decimal decimal hexadecimal address quoted op_statement op_imm_statement load_statement jalr_statement store_statement branch_statement branch_zero_statement jal_statement la_statement jump_statement lui_statement auipc_statement li_statement mv_statement lone_statement word_statement byte_statement space_statement ascii_statement
+unfolding refusal_of immediate offset any_word any_byte upper one two three read_lines line_of line_of_code code_of words_of form_of mnemonic_table register_of register_table operands_of register label number number_of signed_decimal decimal hexadecimal address quoted op_statement op_imm_statement load_statement jalr_statement store_statement branch_statement branch_zero_statement jal_statement la_statement jump_statement lui_statement auipc_statement li_statement mv_statement lone_statement word_statement byte_statement space_statement ascii_statement
 in_the_wrong_section = refl
 
 -- a label that is defined twice goes before a bad operand
 pub label_before_operand : refusal_of ((codes "a: nop" ++ (10 ∷ codes "a: add a0"))) ≡ Some (fault 2 flaw.DoubleLabel)
-unfolding refusal_of line_flaw immediate offset any_word any_byte upper one two three layout_of after_line line_of line_of_code code_of words_of form_of mnemonic_table register_of register_table operands_of register label number number_of signed_decimal decimal hexadecimal address quoted op_statement op_imm_statement load_statement jalr_statement store_statement branch_statement branch_zero_statement jal_statement la_statement jump_statement lui_statement auipc_statement li_statement mv_statement lone_statement word_statement byte_statement space_statement ascii_statement
+unfolding refusal_of immediate offset any_word any_byte upper one two three read_lines line_of line_of_code code_of words_of form_of mnemonic_table register_of register_table operands_of register label number number_of signed_decimal decimal hexadecimal address quoted op_statement op_imm_statement load_statement jalr_statement store_statement branch_statement branch_zero_statement jal_statement la_statement jump_statement lui_statement auipc_statement li_statement mv_statement lone_statement word_statement byte_statement space_statement ascii_statement
 label_before_operand = refl
 
 -- a bad operand goes before a number past its range
 pub operand_before_range : refusal_of (codes "addi a9, a0, 2048") ≡ Some (fault 1 flaw.BadOperand)
-unfolding refusal_of line_flaw immediate offset any_word any_byte upper one two three layout_of after_line line_of line_of_code code_of words_of form_of mnemonic_table register_of register_table operands_of register label number number_of signed_decimal decimal hexadecimal address quoted op_statement op_imm_statement load_statement jalr_statement store_statement branch_statement branch_zero_statement jal_statement la_statement jump_statement lui_statement auipc_statement li_statement mv_statement lone_statement word_statement byte_statement space_statement ascii_statement
+unfolding refusal_of immediate offset any_word any_byte upper one two three read_lines line_of line_of_code code_of words_of form_of mnemonic_table register_of register_table operands_of register label number number_of signed_decimal decimal hexadecimal address quoted op_statement op_imm_statement load_statement jalr_statement store_statement branch_statement branch_zero_statement jal_statement la_statement jump_statement lui_statement auipc_statement li_statement mv_statement lone_statement word_statement byte_statement space_statement ascii_statement
 operand_before_range = refl
 
 -- a later line that is wrong goes before a label that isn't defined
 pub line_before_label : refusal_of ((codes "j nowhere" ++ (10 ∷ codes ".byte 1"))) ≡ Some (fault 2 flaw.UnknownWord)
-unfolding refusal_of line_flaw immediate offset any_word any_byte upper one two three layout_of after_line line_of line_of_code code_of words_of form_of mnemonic_table register_of register_table operands_of register label number number_of signed_decimal decimal hexadecimal address quoted op_statement op_imm_statement load_statement jalr_statement store_statement branch_statement branch_zero_statement jal_statement la_statement jump_statement lui_statement auipc_statement li_statement mv_statement lone_statement word_statement byte_statement space_statement ascii_statement
+unfolding refusal_of immediate offset any_word any_byte upper one two three read_lines line_of line_of_code code_of words_of form_of mnemonic_table register_of register_table operands_of register label number number_of signed_decimal decimal hexadecimal address quoted op_statement op_imm_statement load_statement jalr_statement store_statement branch_statement branch_zero_statement jal_statement la_statement jump_statement lui_statement auipc_statement li_statement mv_statement lone_statement word_statement byte_statement space_statement ascii_statement
 line_before_label = refl
 
 -- a jump to a label at an odd distance
 pub odd_distance : refusal_of ((codes "j far" ++ (10 ∷ (codes ".data" ++ (10 ∷ (codes ".byte 0" ++ (10 ∷ codes "far: .byte 0"))))))) ≡ Some (fault 1 flaw.Range)
-unfolding refusal_of line_flaw immediate offset any_word any_byte upper one two three layout_of after_line line_of line_of_code code_of words_of form_of mnemonic_table register_of register_table operands_of register label number number_of signed_decimal decimal hexadecimal address quoted op_statement op_imm_statement load_statement jalr_statement store_statement branch_statement branch_zero_statement jal_statement la_statement jump_statement lui_statement auipc_statement li_statement mv_statement lone_statement word_statement byte_statement space_statement ascii_statement
+unfolding refusal_of immediate offset any_word any_byte upper one two three read_lines line_of line_of_code code_of words_of form_of mnemonic_table register_of register_table operands_of register label number number_of signed_decimal decimal hexadecimal address quoted op_statement op_imm_statement load_statement jalr_statement store_statement branch_statement branch_zero_statement jal_statement la_statement jump_statement lui_statement auipc_statement li_statement mv_statement lone_statement word_statement byte_statement space_statement ascii_statement
 odd_distance = refl
 
 -- a byte past its range
 pub byte_past : refusal_of ((codes "nop" ++ (10 ∷ (codes ".data" ++ (10 ∷ codes ".byte 256"))))) ≡ Some (fault 3 flaw.Range)
-unfolding refusal_of line_flaw immediate offset any_word any_byte upper one two three layout_of after_line line_of line_of_code code_of words_of form_of mnemonic_table register_of register_table operands_of register label number number_of signed_decimal decimal hexadecimal address quoted op_statement op_imm_statement load_statement jalr_statement store_statement branch_statement branch_zero_statement jal_statement la_statement jump_statement lui_statement auipc_statement li_statement mv_statement lone_statement word_statement byte_statement space_statement ascii_statement
+unfolding refusal_of immediate offset any_word any_byte upper one two three read_lines line_of line_of_code code_of words_of form_of mnemonic_table register_of register_table operands_of register label number number_of signed_decimal decimal hexadecimal address quoted op_statement op_imm_statement load_statement jalr_statement store_statement branch_statement branch_zero_statement jal_statement la_statement jump_statement lui_statement auipc_statement li_statement mv_statement lone_statement word_statement byte_statement space_statement ascii_statement
 byte_past = refl
 
 -- a tab in quotes is no part of a text
 pub tab_in_quotes : refusal_of ((codes "nop" ++ (10 ∷ (codes ".data" ++ (10 ∷ (codes ".ascii " ++ (34 ∷ (codes "a" ++ (9 ∷ (codes "b" ++ (34 ∷ []))))))))))) ≡ Some (fault 3 flaw.BadOperand)
-unfolding refusal_of line_flaw immediate offset any_word any_byte upper one two three layout_of after_line line_of line_of_code code_of words_of form_of mnemonic_table register_of register_table operands_of register label number number_of signed_decimal decimal hexadecimal address quoted op_statement op_imm_statement load_statement jalr_statement store_statement branch_statement branch_zero_statement jal_statement la_statement jump_statement lui_statement auipc_statement li_statement mv_statement lone_statement word_statement byte_statement space_statement ascii_statement
+unfolding refusal_of immediate offset any_word any_byte upper one two three read_lines line_of line_of_code code_of words_of form_of mnemonic_table register_of register_table operands_of register label number number_of signed_decimal decimal hexadecimal address quoted op_statement op_imm_statement load_statement jalr_statement store_statement branch_statement branch_zero_statement jal_statement la_statement jump_statement lui_statement auipc_statement li_statement mv_statement lone_statement word_statement byte_statement space_statement ascii_statement
 tab_in_quotes = refl
 
 -- the sections have 524288 bytes behind the tenth line, and one more behind the last
 pub sections_too_large : refusal_of ((codes "nop" ++ (10 ∷ (codes ".data" ++ (10 ∷ (codes ".space 65536" ++ (10 ∷ (codes ".space 65536" ++ (10 ∷ (codes ".space 65536" ++ (10 ∷ (codes ".space 65536" ++ (10 ∷ (codes ".space 65536" ++ (10 ∷ (codes ".space 65536" ++ (10 ∷ (codes ".space 65536" ++ (10 ∷ (codes ".space 65532" ++ (10 ∷ codes ".space 1"))))))))))))))))))))) ≡ Some (fault 11 flaw.Range)
-unfolding refusal_of line_flaw immediate offset any_word any_byte upper one two three layout_of after_line line_of line_of_code code_of words_of form_of mnemonic_table register_of register_table operands_of register label number number_of signed_decimal decimal hexadecimal address quoted op_statement op_imm_statement load_statement jalr_statement store_statement branch_statement branch_zero_statement jal_statement la_statement jump_statement lui_statement auipc_statement li_statement mv_statement lone_statement word_statement byte_statement space_statement ascii_statement
+unfolding refusal_of immediate offset any_word any_byte upper one two three read_lines line_of line_of_code code_of words_of form_of mnemonic_table register_of register_table operands_of register label number number_of signed_decimal decimal hexadecimal address quoted op_statement op_imm_statement load_statement jalr_statement store_statement branch_statement branch_zero_statement jal_statement la_statement jump_statement lui_statement auipc_statement li_statement mv_statement lone_statement word_statement byte_statement space_statement ascii_statement
 sections_too_large = refl

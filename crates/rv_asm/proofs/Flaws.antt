@@ -1,49 +1,49 @@
 -- What is wrong with a line, and what a line comes to, by its parts.
 use Rattle.std.proofs.Common.{◌≡◌, ℕ, Bool, true, false, ◌&&◌, ◌||◌, List, Option, Some, None, Result, Ok, Err, refl, ap, ◌∙◌}
-use Rattle.rv_asm.specs.declared.asm_refusal.Flaw.{Flaw}
-use Rattle.rv_asm.specs.declared.asm_refusal.Flaw.TheVariants as flaw
-use Rattle.rv_asm.specs.declared.line.Line.{Line}
-use Rattle.rv_asm.specs.declared.line.Words.{Words}
+use Rattle.asm_lines.specs.declared.flaw.Flaw.{Flaw}
+use Rattle.asm_lines.specs.declared.flaw.Flaw.TheVariants as flaw
+use Rattle.asm_lines.specs.declared.line.Line.{Line}
+use Rattle.asm_lines.specs.declared.line.Words.{Words}
 use Rattle.rv_asm.specs.declared.layout.Layout.{Layout}
-use Rattle.rv_asm.specs.declared.statement.Statement.{Statement}
-use Rattle.rv_asm.specs.Lines.{line_of}
-use Rattle.rv_asm.specs.Statements.{statement_of}
-use Rattle.rv_asm.specs.Layout.{counted, with_label, with_read, with_words, with_line, with_statement, after_line}
-use Rattle.rv_asm.specs.Refusals.{is_misplaced, has_no_text, is_repeated, is_too_large, read_flaw, words_flaw, parts_flaw, line_flaw}
+use Rattle.asm_lines.specs.declared.statement.Statement.{Statement}
+use Rattle.asm_lines.specs.Lines.{line_of}
+use Rattle.asm_lines.specs.Statements.{statement_of}
+use Rattle.rv_asm.specs.Refusals.{is_misplaced, has_no_text, is_too_large, read_flaw, words_flaw}
+use Rattle.rv_asm.specs.Passes.{with_words, after_line, is_repeated, size_of_both, with_line, with_read, counted, with_label, with_statement, found_flaw, added_flaw}
 
 abbrev pub is_out_of_place : Layout → Bool → Option Words → Bool
-is_out_of_place layout last words = is_misplaced layout words || last && has_no_text layout words
+is_out_of_place layout last words = is_misplaced layout.section words || last && has_no_text layout.section layout.text_size words
 
-pub unread : (layout : Layout) (last : Bool) (bytes : List ℕ) → line_of bytes ≡ None → line_flaw layout last bytes ≡ Some flaw.UnknownWord
-unfolding line_flaw
-unread layout last bytes h = ap (parts_flaw layout last) h
+pub unread : (layout : Layout) (last : Bool) (bytes : List ℕ) → line_of bytes ≡ None → added_flaw layout last bytes ≡ Some flaw.UnknownWord
+unfolding added_flaw
+unread layout last bytes h = ap (found_flaw layout last) h
 
-read : (layout : Layout) (last : Bool) (bytes : List ℕ) (line : Line) (answer : Option Flaw) → line_of bytes ≡ Some line → parts_flaw layout last (Some line) ≡ answer → line_flaw layout last bytes ≡ answer
-unfolding line_flaw
-read layout last bytes line answer h e = ap (parts_flaw layout last) h ∙ e
+read : (layout : Layout) (last : Bool) (bytes : List ℕ) (line : Line) (answer : Option Flaw) → line_of bytes ≡ Some line → found_flaw layout last (Some line) ≡ answer → added_flaw layout last bytes ≡ answer
+unfolding added_flaw
+read layout last bytes line answer h e = ap (found_flaw layout last) h ∙ e
 
-pub out_of_place : (layout : Layout) (last : Bool) (bytes : List ℕ) (line : Line) → line_of bytes ≡ Some line → is_out_of_place layout last line.words ≡ true → line_flaw layout last bytes ≡ Some flaw.UnknownWord
+pub out_of_place : (layout : Layout) (last : Bool) (bytes : List ℕ) (line : Line) → line_of bytes ≡ Some line → is_out_of_place layout last line.words ≡ true → added_flaw layout last bytes ≡ Some flaw.UnknownWord
 out_of_place layout last bytes line h e = read layout last bytes line _ h (rw e refl)
 
-pub repeated : (layout : Layout) (last : Bool) (bytes : List ℕ) (line : Line) → line_of bytes ≡ Some line → is_out_of_place layout last line.words ≡ false → is_repeated layout line.label ≡ true → line_flaw layout last bytes ≡ Some flaw.DoubleLabel
+pub repeated : (layout : Layout) (last : Bool) (bytes : List ℕ) (line : Line) → line_of bytes ≡ Some line → is_out_of_place layout last line.words ≡ false → is_repeated layout line.label ≡ true → added_flaw layout last bytes ≡ Some flaw.DoubleLabel
 repeated layout last bytes line h e r = read layout last bytes line _ h (rw (e, r) refl)
 
-in_place : (layout : Layout) (last : Bool) (bytes : List ℕ) (line : Line) (answer : Option Flaw) → line_of bytes ≡ Some line → is_out_of_place layout last line.words ≡ false → is_repeated layout line.label ≡ false → words_flaw layout line.words ≡ answer → line_flaw layout last bytes ≡ answer
+in_place : (layout : Layout) (last : Bool) (bytes : List ℕ) (line : Line) (answer : Option Flaw) → line_of bytes ≡ Some line → is_out_of_place layout last line.words ≡ false → is_repeated layout line.label ≡ false → words_flaw (size_of_both layout) line.words ≡ answer → added_flaw layout last bytes ≡ answer
 in_place layout last bytes line answer h e r w = read layout last bytes line answer h (rw (e, r) w)
 
-pub no_words : (layout : Layout) (last : Bool) (bytes : List ℕ) (line : Line) → line_of bytes ≡ Some line → is_out_of_place layout last line.words ≡ false → is_repeated layout line.label ≡ false → line.words ≡ None → line_flaw layout last bytes ≡ None
-no_words layout last bytes line h e r w = in_place layout last bytes line None h e r (ap (words_flaw layout) w)
+pub no_words : (layout : Layout) (last : Bool) (bytes : List ℕ) (line : Line) → line_of bytes ≡ Some line → is_out_of_place layout last line.words ≡ false → is_repeated layout line.label ≡ false → line.words ≡ None → added_flaw layout last bytes ≡ None
+no_words layout last bytes line h e r w = in_place layout last bytes line None h e r (ap (words_flaw (size_of_both layout)) w)
 
-words_read : (layout : Layout) (words : Option Words) (some : Words) (reading : Result Statement Flaw) → words ≡ Some some → statement_of some.form some.operands ≡ reading → words_flaw layout words ≡ read_flaw layout reading
-words_read layout words some reading w s = ap (words_flaw layout) w ∙ ap (read_flaw layout) s
+words_read : (layout : Layout) (words : Option Words) (some : Words) (reading : Result Statement Flaw) → words ≡ Some some → statement_of some.form some.operands ≡ reading → words_flaw (size_of_both layout) words ≡ read_flaw (size_of_both layout) reading
+words_read layout words some reading w s = ap (words_flaw (size_of_both layout)) w ∙ ap (read_flaw (size_of_both layout)) s
 
-pub bad_words : (layout : Layout) (last : Bool) (bytes : List ℕ) (line : Line) (words : Words) (flaw : Flaw) → line_of bytes ≡ Some line → is_out_of_place layout last line.words ≡ false → is_repeated layout line.label ≡ false → line.words ≡ Some words → statement_of words.form words.operands ≡ Err flaw → line_flaw layout last bytes ≡ Some flaw
+pub bad_words : (layout : Layout) (last : Bool) (bytes : List ℕ) (line : Line) (words : Words) (flaw : Flaw) → line_of bytes ≡ Some line → is_out_of_place layout last line.words ≡ false → is_repeated layout line.label ≡ false → line.words ≡ Some words → statement_of words.form words.operands ≡ Err flaw → added_flaw layout last bytes ≡ Some flaw
 bad_words layout last bytes line words flaw h e r w s = in_place layout last bytes line (Some flaw) h e r (words_read layout line.words words (Err flaw) w s)
 
-pub too_large : (layout : Layout) (last : Bool) (bytes : List ℕ) (line : Line) (words : Words) (statement : Statement) → line_of bytes ≡ Some line → is_out_of_place layout last line.words ≡ false → is_repeated layout line.label ≡ false → line.words ≡ Some words → statement_of words.form words.operands ≡ Ok statement → is_too_large layout statement ≡ true → line_flaw layout last bytes ≡ Some flaw.Range
+pub too_large : (layout : Layout) (last : Bool) (bytes : List ℕ) (line : Line) (words : Words) (statement : Statement) → line_of bytes ≡ Some line → is_out_of_place layout last line.words ≡ false → is_repeated layout line.label ≡ false → line.words ≡ Some words → statement_of words.form words.operands ≡ Ok statement → is_too_large (size_of_both layout) statement ≡ true → added_flaw layout last bytes ≡ Some flaw.Range
 too_large layout last bytes line words statement h e r w s large = in_place layout last bytes line (Some flaw.Range) h e r (words_read layout line.words words (Ok statement) w s ∙ rw large refl)
 
-pub good_words : (layout : Layout) (last : Bool) (bytes : List ℕ) (line : Line) (words : Words) (statement : Statement) → line_of bytes ≡ Some line → is_out_of_place layout last line.words ≡ false → is_repeated layout line.label ≡ false → line.words ≡ Some words → statement_of words.form words.operands ≡ Ok statement → is_too_large layout statement ≡ false → line_flaw layout last bytes ≡ None
+pub good_words : (layout : Layout) (last : Bool) (bytes : List ℕ) (line : Line) (words : Words) (statement : Statement) → line_of bytes ≡ Some line → is_out_of_place layout last line.words ≡ false → is_repeated layout line.label ≡ false → line.words ≡ Some words → statement_of words.form words.operands ≡ Ok statement → is_too_large (size_of_both layout) statement ≡ false → added_flaw layout last bytes ≡ None
 good_words layout last bytes line words statement h e r w s small = in_place layout last bytes line None h e r (words_read layout line.words words (Ok statement) w s ∙ rw small refl)
 
 -- what a line comes to

@@ -1,12 +1,12 @@
 -- The form of a line's statement is in the table.
 use Rattle.std.proofs.Common.{◌≡◌, ℕ, Bool, true, false, cond, List, [], ◌∷◌, Option, Some, None, option_map, refl, subst}
 use Rattle.std.specs.List.{list_all}
-use Rattle.rv_asm.specs.declared.form.Form.{Form}
-use Rattle.rv_asm.specs.declared.line.Line.{Line}
-use Rattle.rv_asm.specs.declared.line.Words.{Words}
-use Rattle.rv_asm.specs.Bytes.{is_allowed, is_name, skip_blanks, first_word, behind_word, cut}
-use Rattle.rv_asm.specs.Mnemonics.{form_of}
-use Rattle.rv_asm.specs.Lines.{code_of, words_of_form, words_of, line_from, line_cut, line_of_code, line_of}
+use Rattle.asm_lines.specs.declared.form.Form.{Form}
+use Rattle.asm_lines.specs.declared.line.Line.{Line}
+use Rattle.asm_lines.specs.declared.line.Words.{Words}
+use Rattle.asm_lines.specs.Bytes.{is_allowed, is_name, skip_blanks, first_word, behind_word, cut}
+use Rattle.asm_lines.specs.Mnemonics.{form_of}
+use Rattle.asm_lines.specs.Lines.{code_of, words_of_form, words_of, line_from, line_cut, line_of_code, line_of}
 use Rattle.rv_asm.proofs.Encodable.{IsForm, form_is}
 
 -- the statement of a line, if there are both, has a known form

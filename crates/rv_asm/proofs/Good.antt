@@ -5,25 +5,24 @@ use Rattle.std.specs.List.{All}
 use Rattle.std.proofs.lemmas.Option.{none-some}
 use Rattle.std.proofs.lemmas.Bool.{false≢true, or_parts, and_parts, ltb-false, eqb-false}
 use Rattle.std.proofs.lemmas.List.Elements.{All-nil, All-push}
-use Rattle.rv_asm.specs.declared.asm_refusal.Flaw.{Flaw}
-use Rattle.rv_asm.specs.declared.asm_refusal.Flaw.TheVariants as flaw
-use Rattle.rv_asm.specs.declared.form.Form.{Form}
-use Rattle.rv_asm.specs.declared.form.Section.{Section}
-use Rattle.rv_asm.specs.declared.form.Section.TheVariants as section
-use Rattle.rv_asm.specs.declared.line.Line.{Line}
-use Rattle.rv_asm.specs.declared.line.Words.{Words}
+use Rattle.asm_lines.specs.declared.flaw.Flaw.{Flaw}
+use Rattle.asm_lines.specs.declared.flaw.Flaw.TheVariants as flaw
+use Rattle.asm_lines.specs.declared.form.Form.{Form}
+use Rattle.asm_lines.specs.declared.form.Section.{Section}
+use Rattle.asm_lines.specs.declared.form.Section.TheVariants as section
+use Rattle.asm_lines.specs.declared.line.Line.{Line}
+use Rattle.asm_lines.specs.declared.line.Words.{Words}
 use Rattle.rv_asm.specs.declared.placed.Placed.{Placed}
 use Rattle.rv_asm.specs.declared.layout.Layout.{Layout}
-use Rattle.rv_asm.specs.declared.statement.Statement.{Statement}
-use Rattle.rv_asm.specs.declared.statement.Statement.TheVariants as statement
+use Rattle.asm_lines.specs.declared.statement.Statement.{Statement}
+use Rattle.asm_lines.specs.declared.statement.Statement.TheVariants as statement
 use Rattle.rv_asm.specs.Places.{definition_of}
-use Rattle.rv_asm.specs.Lines.{line_of}
-use Rattle.rv_asm.specs.Mnemonics.{is_text, is_data, stands_in, gives_bytes}
-use Rattle.rv_asm.specs.Statements.{statement_of, size_of}
-use Rattle.rv_asm.specs.Layout.{no_lines, counted, bytes_in, next_spot, with_label, with_bytes, placed_at, with_placed, with_statement, after_line}
-use Rattle.rv_asm.specs.Refusals.{is_misplaced, gives_text, has_no_text, is_repeated, is_too_large, size_flaw, read_flaw, words_flaw, parts_flaw, line_flaw}
-use Rattle.rv_asm.specs.Assembling.{is_placed_in}
+use Rattle.asm_lines.specs.Lines.{line_of}
+use Rattle.asm_lines.specs.Mnemonics.{is_text, is_data, stands_in, gives_bytes}
+use Rattle.asm_lines.specs.Statements.{statement_of, size_of}
+use Rattle.rv_asm.specs.Refusals.{is_misplaced, gives_text, has_no_text, is_too_large, size_flaw, read_flaw, words_flaw}
 use Rattle.rv_asm.specs.Sound.{IsEncodable, IsSmall, IsDefined, IsReady, IsSound}
+use Rattle.rv_asm.specs.Passes.{placed_at, counted, with_label, next_spot, with_bytes, is_repeated, is_placed_in, with_statement, size_of_both, with_placed, found_flaw, added_flaw, size_of_section, after_line, no_lines}
 use Rattle.rv_asm.proofs.Encodable.{AllOk, IsForm, Means, means}
 use Rattle.rv_asm.proofs.Forms.{line_form}
 use Rattle.rv_asm.proofs.Flaws.{is_out_of_place, after_label, after_words}
@@ -57,7 +56,7 @@ good_sound layout good = record { within = good.within; labels = good.labels; st
 good_counted : (layout : Layout) → IsGood layout → IsGood (counted layout)
 good_counted layout good = record { within = good.within; labels = good.labels; statements = good.statements; text_is = good.text_is; data_is = good.data_is; whole = good.whole }
 
-small_bytes : (in_force : Section) (layout : Layout) → layout.text_size + layout.data_size ≤ 524288 → bytes_in in_force layout ≤ 524288
+small_bytes : (in_force : Section) (layout : Layout) → layout.text_size + layout.data_size ≤ 524288 → size_of_section in_force layout ≤ 524288
 small_bytes section.Text layout h = omega arith
 small_bytes section.Data layout h = omega arith
 
@@ -161,11 +160,11 @@ none_if : (b : Bool) (flaw : Flaw) (rest : Option Flaw) → cond b (Some flaw) r
 none_if true flaw rest h = absurd (none-some flaw (sym h))
 none_if false flaw rest h = (refl, h)
 
-small_enough : (layout : Layout) (statement : Statement) → size_flaw layout statement ≡ None → layout.text_size + layout.data_size + size_of statement ≤ 524288
-small_enough layout statement h = ltb-false _ _ (none_if (is_too_large layout statement) flaw.Range None h).0
+small_enough : (layout : Layout) (statement : Statement) → size_flaw (size_of_both layout) statement ≡ None → layout.text_size + layout.data_size + size_of statement ≤ 524288
+small_enough layout statement h = ltb-false _ _ (none_if (is_too_large (size_of_both layout) statement) flaw.Range None h).0
 
 -- a statement that was read and isn't too large
-reads : (layout : Layout) (found : Form) (reading : Result Statement Flaw) → AllOk (Means found) reading → stands_in layout.section found ≡ true → read_flaw layout reading ≡ None → (statement : Statement) × (reading ≡ Ok statement) × Means found statement × Comes layout statement
+reads : (layout : Layout) (found : Form) (reading : Result Statement Flaw) → AllOk (Means found) reading → stands_in layout.section found ≡ true → read_flaw (size_of_both layout) reading ≡ None → (statement : Statement) × (reading ≡ Ok statement) × Means found statement × Comes layout statement
 reads layout found (Err bad) all stands h = absurd (none-some bad (sym h))
 reads layout found (Ok statement) all stands h =
     (statement, refl, all, record { small = small_enough layout statement h; encodable = all.encodable; whole = λ text. all.whole (in_text layout.section found stands text) })
@@ -173,20 +172,20 @@ reads layout found (Ok statement) all stands h =
 -- the parts of a line that isn't wrong
 pub record IsRight (layout : Layout) (last : Bool) (bytes : List ℕ) (line : Line) : Type 0 where
   pub read : line_of bytes ≡ Some line
-  pub placed : is_misplaced layout line.words ≡ false
-  pub texted : (last && has_no_text layout line.words) ≡ false
-  pub worded : words_flaw layout line.words ≡ None
+  pub placed : is_misplaced layout.section line.words ≡ false
+  pub texted : (last && has_no_text layout.section layout.text_size line.words) ≡ false
+  pub worded : words_flaw (size_of_both layout) line.words ≡ None
 
-right_parts : (layout : Layout) (last : Bool) (bytes : List ℕ) (found : Option Line) → line_of bytes ≡ found → parts_flaw layout last found ≡ None → (line : Line) × IsRight layout last bytes line
+right_parts : (layout : Layout) (last : Bool) (bytes : List ℕ) (found : Option Line) → line_of bytes ≡ found → found_flaw layout last found ≡ None → (line : Line) × IsRight layout last bytes line
 right_parts layout last bytes None read h = absurd (none-some flaw.UnknownWord (sym h))
 right_parts layout last bytes (Some line) read h =
     let outer = none_if (is_out_of_place layout last line.words) flaw.UnknownWord _ h in
-    let places = or_parts (is_misplaced layout line.words) (last && has_no_text layout line.words) outer.0 in
-    let inner = none_if (is_repeated layout line.label) flaw.DoubleLabel (words_flaw layout line.words) outer.1 in
+    let places = or_parts (is_misplaced layout.section line.words) (last && has_no_text layout.section layout.text_size line.words) outer.0 in
+    let inner = none_if (is_repeated layout line.label) flaw.DoubleLabel (words_flaw (size_of_both layout) line.words) outer.1 in
     (line, record { read = read; placed = places.0; texted = places.1; worded = inner.1 })
 
-right_line : (layout : Layout) (last : Bool) (bytes : List ℕ) → line_flaw layout last bytes ≡ None → (line : Line) × IsRight layout last bytes line
-unfolding line_flaw
+right_line : (layout : Layout) (last : Bool) (bytes : List ℕ) → added_flaw layout last bytes ≡ None → (line : Line) × IsRight layout last bytes line
+unfolding added_flaw
 right_line layout last bytes h = right_parts layout last bytes (line_of bytes) refl h
 
 -- a line without a statement, or with one that comes
@@ -202,8 +201,8 @@ pub record HasStatement (layout : Layout) (bytes : List ℕ) (line : Line) : Typ
 has_words : (layout : Layout) (last : Bool) (bytes : List ℕ) (line : Line) (words : Words) → IsRight layout last bytes line → line.words ≡ Some words → HasStatement layout bytes line
 has_words layout last bytes line words right worded =
     let form : IsForm words.form = line_form bytes line words right.read worded in
-    let stands : stands_in layout.section words.form ≡ true = not_true _ (sym (ap (is_misplaced layout) worded) ∙ right.placed) in
-    let found = reads layout words.form (statement_of words.form words.operands) (means words.form words.operands form) stands (sym (ap (words_flaw layout) worded) ∙ right.worded) in
+    let stands : stands_in layout.section words.form ≡ true = not_true _ (sym (ap (is_misplaced layout.section) worded) ∙ right.placed) in
+    let found = reads layout words.form (statement_of words.form words.operands) (means words.form words.operands form) stands (sym (ap (words_flaw (size_of_both layout)) worded) ∙ right.worded) in
     record { words = words; worded = worded; statement = found.0; read = found.1; means = found.2; stands = stands; comes = found.3 }
 
 by_found : (layout : Layout) (last : Bool) (bytes : List ℕ) (line : Line) (found : Option Words) → IsRight layout last bytes line → line.words ≡ found → (line.words ≡ None) ⊎ HasStatement layout bytes line
@@ -215,7 +214,7 @@ after_right layout bytes line good read (inl none) = subst IsGood (sym (after_la
 after_right layout bytes line good read (inr has) = subst IsGood (sym (after_words layout bytes line has.words has.statement read has.worded has.read)) (good_behind line.label layout has.statement good has.comes)
 
 -- behind a line that isn't wrong
-pub good_after : (layout : Layout) (last : Bool) (bytes : List ℕ) → IsGood layout → line_flaw layout last bytes ≡ None → IsGood (after_line layout bytes)
+pub good_after : (layout : Layout) (last : Bool) (bytes : List ℕ) → IsGood layout → added_flaw layout last bytes ≡ None → IsGood (after_line layout bytes)
 good_after layout last bytes good h =
     let line = right_line layout last bytes h in
     after_right layout bytes line.0 good line.1.read (by_found layout last bytes line.0 line.0.words line.1 refl)
@@ -279,22 +278,22 @@ had_text : (layout : Layout) → IsGood layout → (layout.text_size == 0) ≡ f
 had_text layout good h = four_at_least layout.text_size good.whole (eqb-false layout.text_size 0 h)
 
 -- text had bytes before, or the line gives it some
-texts : (layout : Layout) (words : Option Words) → has_no_text layout words ≡ false → ((layout.text_size == 0) ≡ false) ⊎ (gives_text layout words ≡ true)
+texts : (layout : Layout) (words : Option Words) → has_no_text layout.section layout.text_size words ≡ false → ((layout.text_size == 0) ≡ false) ⊎ (gives_text layout.section words ≡ true)
 texts layout words h = by (layout.text_size == 0) refl
   where
-    by : (b : Bool) → (layout.text_size == 0) ≡ b → ((layout.text_size == 0) ≡ false) ⊎ (gives_text layout words ≡ true)
+    by : (b : Bool) → (layout.text_size == 0) ≡ b → ((layout.text_size == 0) ≡ false) ⊎ (gives_text layout.section words ≡ true)
     by false e = inl e
     by true e = inr (not_true _ (rw e at h))
 
-gives_parts : (layout : Layout) (words : Words) → gives_text layout (Some words) ≡ true → (is_text layout.section ≡ true) × (gives_bytes words.form ≡ true)
+gives_parts : (layout : Layout) (words : Words) → gives_text layout.section (Some words) ≡ true → (is_text layout.section ≡ true) × (gives_bytes words.form ≡ true)
 gives_parts layout words h = and_parts (is_text layout.section) (gives_bytes words.form) h
 
-text_of_statement : (layout : Layout) (bytes : List ℕ) (line : Line) → IsGood layout → line_of bytes ≡ Some line → ((layout.text_size == 0) ≡ false) ⊎ (gives_text layout line.words ≡ true) → (line.words ≡ None) ⊎ HasStatement layout bytes line → 4 ≤ (after_line layout bytes).text_size
+text_of_statement : (layout : Layout) (bytes : List ℕ) (line : Line) → IsGood layout → line_of bytes ≡ Some line → ((layout.text_size == 0) ≡ false) ⊎ (gives_text layout.section line.words ≡ true) → (line.words ≡ None) ⊎ HasStatement layout bytes line → 4 ≤ (after_line layout bytes).text_size
 text_of_statement layout bytes line good read (inl had) (inl none) =
     let e : (after_line layout bytes).text_size ≡ layout.text_size = ap (λ (layout : Layout). layout.text_size) (after_label layout bytes line read none) ∙ text-with_label line.label layout in
     let some = had_text layout good had in
     omega (arith, e, some)
-text_of_statement layout bytes line good read (inr gives) (inl none) = absurd (false≢true (sym (ap (gives_text layout) none) ∙ gives))
+text_of_statement layout bytes line good read (inr gives) (inl none) = absurd (false≢true (sym (ap (gives_text layout.section) none) ∙ gives))
 text_of_statement layout bytes line good read (inl had) (inr has) =
     let e : (after_line layout bytes).text_size ≡ (with_statement has.statement (with_label line.label (counted layout))).text_size = ap (λ (layout : Layout). layout.text_size) (after_words layout bytes line has.words has.statement read has.worded has.read) in
     let more = text-with_statement has.statement (with_label line.label (counted layout)) in
@@ -303,12 +302,12 @@ text_of_statement layout bytes line good read (inl had) (inr has) =
     omega (arith, e, more, same, some)
 text_of_statement layout bytes line good read (inr gives) (inr has) =
     let e : (after_line layout bytes).text_size ≡ (with_statement has.statement (with_label line.label (counted layout))).text_size = ap (λ (layout : Layout). layout.text_size) (after_words layout bytes line has.words has.statement read has.worded has.read) in
-    let parts = gives_parts layout has.words (sym (ap (gives_text layout) has.worded) ∙ gives) in
+    let parts = gives_parts layout has.words (sym (ap (gives_text layout.section) has.worded) ∙ gives) in
     let size : 4 ≤ size_of has.statement = has.means.some (in_text layout.section has.words.form has.stands parts.0) parts.1 in
     let filled = filled_statement has.statement (with_label line.label (counted layout)) (ap is_text (section-with_label line.label layout) ∙ parts.0) size in
     omega (arith, e, filled)
 
-pub text_at_end : (layout : Layout) (bytes : List ℕ) → IsGood layout → line_flaw layout true bytes ≡ None → 4 ≤ (after_line layout bytes).text_size
+pub text_at_end : (layout : Layout) (bytes : List ℕ) → IsGood layout → added_flaw layout true bytes ≡ None → 4 ≤ (after_line layout bytes).text_size
 text_at_end layout bytes good h =
     let line = right_line layout true bytes h in
     text_of_statement layout bytes line.0 good line.1.read (texts layout line.0.words line.1.texted) (by_found layout true bytes line.0 line.0.words line.1 refl)

@@ -1,8 +1,5 @@
 mod Examples
-pub mod Cutting
-pub mod Clipping
 pub mod Labelling
-pub mod Parting
 pub mod Flaws
 pub mod Surveys
 pub mod Putting
@@ -11,4 +8,7 @@ pub mod Forms
 pub mod Good
 pub mod Texts
 pub mod Images
+pub mod Standing
+pub mod Agreement
 pub mod Assembly
+pub mod OneImage

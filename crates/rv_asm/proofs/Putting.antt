@@ -7,16 +7,16 @@ use Rattle.std.proofs.lemmas.List.{append-nil, take_more, at_drop_more}
 use Rattle.rv_isa.specs.Words.{little_bytes}
 use Rattle.rv_asm.specs.declared.asm_refusal.Trouble.{Trouble}
 use Rattle.rv_asm.specs.declared.asm_refusal.Trouble.TheVariants as trouble
-use Rattle.rv_asm.specs.declared.form.Section.{Section}
-use Rattle.rv_asm.specs.declared.form.Section.TheVariants as section
+use Rattle.asm_lines.specs.declared.form.Section.{Section}
+use Rattle.asm_lines.specs.declared.form.Section.TheVariants as section
 use Rattle.rv_asm.specs.declared.placed.Placed.{Placed}
 use Rattle.rv_asm.specs.declared.layout.Layout.{Layout}
-use Rattle.rv_asm.specs.Mnemonics.{is_text, is_data}
-use Rattle.rv_asm.specs.Layout.{address_at}
-use Rattle.rv_asm.specs.Refusals.{fault, label_flaw, labels_fault}
+use Rattle.asm_lines.specs.Mnemonics.{is_text, is_data}
+use Rattle.rv_asm.specs.Refusals.{fault, label_flaw}
 use Rattle.rv_asm.specs.Troubles.{stopped}
-use Rattle.rv_asm.specs.Assembling.{Cell, Coded, Raw, AreBytes, cells_of, cells_in, is_placed_in}
+use Rattle.rv_asm.specs.Assembling.{Cell, Coded, Raw, AreBytes}
 use Rattle.rv_asm.specs.Steps.{Puts, cells_for, WritesStatement, WritesPlaced, WritesSections}
+use Rattle.rv_asm.specs.Passes.{spot_address, is_placed_in, placed_cells, section_cells, label_address, labels_fault}
 
 pub puts_raw : (old new bytes : List ℕ) → new ≡ old ++ bytes → Puts old new (Raw bytes ∷ [])
 puts_raw old new bytes h = record { bytes = bytes; new_is = h; are = ([], sym (append-nil bytes), refl) }
@@ -35,13 +35,13 @@ pub are_put : (cells others : List Cell) (old new : List ℕ) → AreBytes cells
 are_put cells others old new are puts = subst (AreBytes (cells ++ others)) (sym puts.new_is) (are_more cells others old puts.bytes are puts.are)
 
 -- a statement in its section
-pub puts_for : (section : Section) (layout : Layout) (placed : Placed) (old new : List ℕ) → is_placed_in section placed ≡ true → Puts old new (cells_of layout placed) → Puts old new (cells_for section layout placed)
+pub puts_for : (section : Section) (layout : Layout) (placed : Placed) (old new : List ℕ) → is_placed_in section placed ≡ true → Puts old new (placed_cells layout placed) → Puts old new (cells_for section layout placed)
 puts_for section layout placed old new here puts = rw here puts
 
 pub puts_not_for : (section : Section) (layout : Layout) (placed : Placed) (bytes : List ℕ) → is_placed_in section placed ≡ false → Puts bytes bytes (cells_for section layout placed)
 puts_not_for section layout placed bytes elsewhere = rw elsewhere (puts_none bytes)
 
-pub placed_in_text : (layout : Layout) (placed : Placed) (code new variables : List ℕ) (result : Result (Unit {0}) Trouble) → placed.spot.section ≡ section.Text → WritesStatement layout (address_at layout placed.spot) placed.statement code new result → WritesPlaced layout placed code new variables variables result
+pub placed_in_text : (layout : Layout) (placed : Placed) (code new variables : List ℕ) (result : Result (Unit {0}) Trouble) → placed.spot.section ≡ section.Text → WritesStatement layout (spot_address layout placed.spot) placed.statement code new result → WritesPlaced layout placed code new variables variables result
 placed_in_text layout placed code new variables (Ok done) here writes = record {
   linked = writes.0;
   code_puts = puts_for section.Text layout placed code new (ap is_text here) writes.1;
@@ -50,7 +50,7 @@ placed_in_text layout placed code new variables (Ok done) here writes = record {
 placed_in_text layout placed code new variables (Err (trouble.Flawed flaw)) here writes = writes
 placed_in_text layout placed code new variables (Err trouble.Memory) here writes = tt
 
-pub placed_in_data : (layout : Layout) (placed : Placed) (code variables new : List ℕ) (result : Result (Unit {0}) Trouble) → placed.spot.section ≡ section.Data → WritesStatement layout (address_at layout placed.spot) placed.statement variables new result → WritesPlaced layout placed code code variables new result
+pub placed_in_data : (layout : Layout) (placed : Placed) (code variables new : List ℕ) (result : Result (Unit {0}) Trouble) → placed.spot.section ≡ section.Data → WritesStatement layout (spot_address layout placed.spot) placed.statement variables new result → WritesPlaced layout placed code code variables new result
 placed_in_data layout placed code variables new (Ok done) here writes = record {
   linked = writes.0;
   code_puts = puts_not_for section.Text layout placed code (ap is_text here);
@@ -60,30 +60,30 @@ placed_in_data layout placed code variables new (Err (trouble.Flawed flaw)) here
 placed_in_data layout placed code variables new (Err trouble.Memory) here writes = tt
 
 -- one statement more
-cells_kept : (section : Section) (layout : Layout) (placed last : Placed) (before after : List Placed) (b : Bool) → flat_map (cells_of layout) after ≡ flat_map (cells_of layout) before ++ cells_for section layout last → flat_map (cells_of layout) (cond b (placed ∷ after) after) ≡ flat_map (cells_of layout) (cond b (placed ∷ before) before) ++ cells_for section layout last
-cells_kept section layout placed last before after true h = ap (λ cells. cells_of layout placed ++ cells) h ∙ sym (append_assoc (cells_of layout placed) (flat_map (cells_of layout) before) (cells_for section layout last))
+cells_kept : (section : Section) (layout : Layout) (placed last : Placed) (before after : List Placed) (b : Bool) → flat_map (placed_cells layout) after ≡ flat_map (placed_cells layout) before ++ cells_for section layout last → flat_map (placed_cells layout) (cond b (placed ∷ after) after) ≡ flat_map (placed_cells layout) (cond b (placed ∷ before) before) ++ cells_for section layout last
+cells_kept section layout placed last before after true h = ap (λ cells. placed_cells layout placed ++ cells) h ∙ sym (append_assoc (placed_cells layout placed) (flat_map (placed_cells layout) before) (cells_for section layout last))
 cells_kept section layout placed last before after false h = h
 
-one_cell : (section : Section) (layout : Layout) (placed : Placed) (b : Bool) → flat_map (cells_of layout) (cond b (placed ∷ []) []) ≡ (if b then cells_of layout placed else [])
-one_cell section layout placed true = append-nil (cells_of layout placed)
+one_cell : (section : Section) (layout : Layout) (placed : Placed) (b : Bool) → flat_map (placed_cells layout) (cond b (placed ∷ []) []) ≡ (if b then placed_cells layout placed else [])
+one_cell section layout placed true = append-nil (placed_cells layout placed)
 one_cell section layout placed false = refl
 
-cells_in-more : (section : Section) (layout : Layout) (statements : List Placed) (last : Placed) → cells_in section layout (statements ++ last ∷ []) ≡ cells_in section layout statements ++ cells_for section layout last
+cells_in-more : (section : Section) (layout : Layout) (statements : List Placed) (last : Placed) → section_cells section layout (statements ++ last ∷ []) ≡ section_cells section layout statements ++ cells_for section layout last
 cells_in-more section layout [] last = one_cell section layout last (is_placed_in section last)
 cells_in-more section layout (placed ∷ statements) last =
     cells_kept section layout placed last (filter (is_placed_in section) statements) (filter (is_placed_in section) (statements ++ last ∷ [])) (is_placed_in section placed) (cells_in-more section layout statements last)
 
-pub are_in_more : (section : Section) (layout : Layout) (statements : List Placed) (i : ℕ) (placed : Placed) (old new : List ℕ) → i < length statements → placed ≡ get_or statements i placed → AreBytes (cells_in section layout (take i statements)) old → Puts old new (cells_for section layout placed) → AreBytes (cells_in section layout (take (i + 1) statements)) new
+pub are_in_more : (section : Section) (layout : Layout) (statements : List Placed) (i : ℕ) (placed : Placed) (old new : List ℕ) → i < length statements → placed ≡ get_or statements i placed → AreBytes (section_cells section layout (take i statements)) old → Puts old new (cells_for section layout placed) → AreBytes (section_cells section layout (take (i + 1) statements)) new
 are_in_more section layout statements i placed old new below is are puts =
     let more : take (i + 1) statements ≡ take i statements ++ placed ∷ [] = take_more statements i placed below ∙ ap (λ placed. take i statements ++ placed ∷ []) (sym is) in
-    subst (λ cells. AreBytes cells new) (sym (ap (cells_in section layout) more ∙ cells_in-more section layout (take i statements) placed))
-    (are_put (cells_in section layout (take i statements)) (cells_for section layout placed) old new are puts)
+    subst (λ cells. AreBytes cells new) (sym (ap (section_cells section layout) more ∙ cells_in-more section layout (take i statements) placed))
+    (are_put (section_cells section layout (take i statements)) (cells_for section layout placed) old new are puts)
 
 -- the first statement whose label is wrong
 next_fault : (layout : Layout) (statements : List Placed) (i : ℕ) (placed : Placed) → i < length statements → placed ≡ get_or statements i placed → labels_fault layout (drop i statements) ≡ labels_fault layout (placed ∷ drop (i + 1) statements)
 next_fault layout statements i placed below is = at_drop_more (labels_fault layout) statements i placed below ∙ ap (λ placed. labels_fault layout (placed ∷ drop (i + 1) statements)) (sym is)
 
-pub linked_fault : (layout : Layout) (statements : List Placed) (i : ℕ) (placed : Placed) → i < length statements → placed ≡ get_or statements i placed → label_flaw layout (address_at layout placed.spot) placed.statement ≡ None → labels_fault layout (drop i statements) ≡ labels_fault layout (drop (i + 1) statements)
+pub linked_fault : (layout : Layout) (statements : List Placed) (i : ℕ) (placed : Placed) → i < length statements → placed ≡ get_or statements i placed → label_flaw (label_address layout) (spot_address layout placed.spot) placed.statement ≡ None → labels_fault layout (drop i statements) ≡ labels_fault layout (drop (i + 1) statements)
 linked_fault layout statements i placed below is linked =
     next_fault layout statements i placed below is
     ∙ ap (λ answer. option_or (option_map (fault placed.line) answer) (labels_fault layout (drop (i + 1) statements))) linked

@@ -3,24 +3,24 @@ use Rattle.std.proofs.Common.{◌≡◌, ℕ, ◌+◌, Bool, true, false, List, 
 use Rattle.std.proofs.Math.Dec.{eqb-suc-zero}
 use Rattle.std.proofs.lemmas.Bool.{false≢true}
 use Rattle.std.specs.Option.{option_or}
-use Rattle.rv_asm.specs.declared.asm_refusal.Flaw.{Flaw}
+use Rattle.asm_lines.specs.declared.flaw.Flaw.{Flaw}
 use Rattle.rv_asm.specs.declared.asm_refusal.Trouble.{Trouble}
 use Rattle.rv_asm.specs.declared.asm_refusal.Trouble.TheVariants as trouble
-use Rattle.rv_asm.specs.declared.form.Section.{Section}
-use Rattle.rv_asm.specs.declared.form.Section.TheVariants as section
+use Rattle.asm_lines.specs.declared.form.Section.{Section}
+use Rattle.asm_lines.specs.declared.form.Section.TheVariants as section
 use Rattle.rv_asm.specs.declared.layout.Layout.{Layout}
-use Rattle.rv_asm.specs.declared.line.Line.{Line}
-use Rattle.rv_asm.specs.declared.line.Words.{Words}
-use Rattle.rv_asm.specs.declared.statement.Statement.{Statement}
-use Rattle.rv_asm.specs.declared.statement.Statement.TheVariants as statement
-use Rattle.rv_asm.specs.Bytes.{cut}
-use Rattle.rv_asm.specs.Lines.{lines_from, lines_of, line_of}
-use Rattle.rv_asm.specs.Statements.{statement_of, size_of}
-use Rattle.rv_asm.specs.Layout.{no_lines, counted, with_label, with_bytes, placed_at, with_placed, with_statement, with_read, with_words, with_line, after_line, after_lines}
-use Rattle.rv_asm.specs.Refusals.{fault, line_flaw, is_end, lines_fault, layout_of}
+use Rattle.asm_lines.specs.declared.line.Line.{Line}
+use Rattle.asm_lines.specs.declared.line.Words.{Words}
+use Rattle.asm_lines.specs.declared.statement.Statement.{Statement}
+use Rattle.asm_lines.specs.declared.statement.Statement.TheVariants as statement
+use Rattle.asm_lines.specs.Bytes.{cut}
+use Rattle.asm_lines.specs.Lines.{lines_from, lines_of, line_of}
+use Rattle.asm_lines.specs.Statements.{statement_of, size_of}
+use Rattle.rv_asm.specs.Refusals.{fault}
 use Rattle.rv_asm.specs.Troubles.{stopped}
 use Rattle.rv_asm.specs.Steps.{AddsLine, Surveys}
-use Rattle.rv_asm.proofs.Cutting.{lines_by, lines_from-cut}
+use Rattle.rv_asm.specs.Passes.{is_end, placed_at, with_read, counted, with_label, with_bytes, layout_of, with_statement, with_words, with_placed, after_lines, lines_fault, added_flaw, after_line, no_lines, with_line}
+use Rattle.asm_lines.proofs.Cutting.{lines_by, lines_from-cut}
 
 more_lines : (byte : ℕ) (bytes : List ℕ) (parts : Option (List ℕ × List ℕ)) → is_end (lines_by (byte ∷ bytes) parts) ≡ false
 more_lines byte bytes None = refl
@@ -32,18 +32,18 @@ is_end-lines_from [] = refl
 is_end-lines_from (byte ∷ bytes) = ap is_end (lines_from-cut (byte ∷ bytes)) ∙ more_lines byte bytes (cut 10 (byte ∷ bytes)) ∙ sym (eqb-suc-zero (length bytes))
 
 -- a line that is wrong
-pub wrong_line : (layout : Layout) (rest line behind : List ℕ) (last : Bool) (flaw : Flaw) → lines_of rest ≡ line ∷ lines_from behind → last ≡ (length behind == 0) → line_flaw layout last line ≡ Some flaw → lines_fault layout (lines_of rest) ≡ Some (fault (layout.lines + 1) flaw)
+pub wrong_line : (layout : Layout) (rest line behind : List ℕ) (last : Bool) (flaw : Flaw) → lines_of rest ≡ line ∷ lines_from behind → last ≡ (length behind == 0) → added_flaw layout last line ≡ Some flaw → lines_fault layout (lines_of rest) ≡ Some (fault (layout.lines + 1) flaw)
 wrong_line layout rest line behind last flaw lines end wrong =
     ap (lines_fault layout) lines
     ∙ ap (λ answer. option_or (option_map (fault (layout.lines + 1)) answer) (lines_fault (after_line layout line) (lines_from behind)))
-    (ap (λ last. line_flaw layout last line) (is_end-lines_from behind ∙ sym end) ∙ wrong)
+    (ap (λ last. added_flaw layout last line) (is_end-lines_from behind ∙ sym end) ∙ wrong)
 
 -- a line that isn't
-pub good_line : (layout : Layout) (rest line behind : List ℕ) (last : Bool) → lines_of rest ≡ line ∷ lines_from behind → last ≡ (length behind == 0) → line_flaw layout last line ≡ None → lines_fault layout (lines_of rest) ≡ lines_fault (after_line layout line) (lines_from behind)
+pub good_line : (layout : Layout) (rest line behind : List ℕ) (last : Bool) → lines_of rest ≡ line ∷ lines_from behind → last ≡ (length behind == 0) → added_flaw layout last line ≡ None → lines_fault layout (lines_of rest) ≡ lines_fault (after_line layout line) (lines_from behind)
 good_line layout rest line behind last lines end good =
     ap (lines_fault layout) lines
     ∙ ap (λ answer. option_or (option_map (fault (layout.lines + 1)) answer) (lines_fault (after_line layout line) (lines_from behind)))
-    (ap (λ last. line_flaw layout last line) (is_end-lines_from behind ∙ sym end) ∙ good)
+    (ap (λ last. added_flaw layout last line) (is_end-lines_from behind ∙ sym end) ∙ good)
 
 pub after_good_line : (layout : Layout) (rest line behind : List ℕ) → lines_of rest ≡ line ∷ lines_from behind → after_lines layout (lines_of rest) ≡ after_lines (after_line layout line) (lines_from behind)
 after_good_line layout rest line behind lines = ap (after_lines layout) lines
@@ -105,7 +105,7 @@ pub survey_stops : (text rest line behind : List ℕ) (layout new : Layout) (las
 survey_stops text rest line behind layout new last (trouble.Flawed flaw) first lines end wrong = sym first ∙ wrong_line layout rest line behind last flaw lines end wrong
 survey_stops text rest line behind layout new last trouble.Memory first lines end wrong = tt
 
-pub survey_ends : (text rest line behind : List ℕ) (layout new : Layout) (last : Bool) → lines_fault layout (lines_of rest) ≡ lines_fault no_lines (lines_of text) → after_lines layout (lines_of rest) ≡ after_lines no_lines (lines_of text) → lines_of rest ≡ line ∷ lines_from behind → last ≡ (length behind == 0) → last ≡ true → line_flaw layout last line ≡ None → new ≡ after_line layout line → (lines_fault no_lines (lines_of text) ≡ None) × (new ≡ layout_of text)
+pub survey_ends : (text rest line behind : List ℕ) (layout new : Layout) (last : Bool) → lines_fault layout (lines_of rest) ≡ lines_fault no_lines (lines_of text) → after_lines layout (lines_of rest) ≡ after_lines no_lines (lines_of text) → lines_of rest ≡ line ∷ lines_from behind → last ≡ (length behind == 0) → last ≡ true → added_flaw layout last line ≡ None → new ≡ after_line layout line → (lines_fault no_lines (lines_of text) ≡ None) × (new ≡ layout_of text)
 unfolding layout_of
 survey_ends text rest line behind layout new last first after lines end true_ good is =
     let none : lines_from behind ≡ [] = no_lines_left behind (sym end ∙ true_) in (
@@ -113,7 +113,7 @@ survey_ends text rest line behind layout new last first after lines end true_ go
       is ∙ sym (sym after ∙ after_good_line layout rest line behind lines ∙ ap (after_lines (after_line layout line)) none),
     )
 
-pub survey_goes_on : (text rest line behind : List ℕ) (layout new : Layout) (last : Bool) → lines_fault layout (lines_of rest) ≡ lines_fault no_lines (lines_of text) → after_lines layout (lines_of rest) ≡ after_lines no_lines (lines_of text) → lines_of rest ≡ line ∷ lines_from behind → last ≡ (length behind == 0) → last ≡ false → line_flaw layout last line ≡ None → new ≡ after_line layout line → (lines_fault new (lines_of behind) ≡ lines_fault no_lines (lines_of text)) × (after_lines new (lines_of behind) ≡ after_lines no_lines (lines_of text)) × (new.lines ≡ layout.lines + 1)
+pub survey_goes_on : (text rest line behind : List ℕ) (layout new : Layout) (last : Bool) → lines_fault layout (lines_of rest) ≡ lines_fault no_lines (lines_of text) → after_lines layout (lines_of rest) ≡ after_lines no_lines (lines_of text) → lines_of rest ≡ line ∷ lines_from behind → last ≡ (length behind == 0) → last ≡ false → added_flaw layout last line ≡ None → new ≡ after_line layout line → (lines_fault new (lines_of behind) ≡ lines_fault no_lines (lines_of text)) × (after_lines new (lines_of behind) ≡ after_lines no_lines (lines_of text)) × (new.lines ≡ layout.lines + 1)
 survey_goes_on text rest line behind layout new last first after lines end false_ good is =
     let left : lines_from behind ≡ lines_of behind = lines_left behind (sym end ∙ false_) in (
       ap₂ lines_fault is (sym left) ∙ sym (good_line layout rest line behind last lines end good) ∙ first,

@@ -6,20 +6,20 @@ use Rattle.std.specs.Option.{option_or}
 use Rattle.std.proofs.lemmas.Option.{none-some}
 use Rattle.std.proofs.lemmas.List.{length-replicate}
 use Rattle.rv_isa.specs.Words.{little_bytes}
-use Rattle.rv_asm.specs.declared.asm_refusal.Flaw.{Flaw}
+use Rattle.asm_lines.specs.declared.flaw.Flaw.{Flaw}
 use Rattle.rv_asm.specs.declared.asm_refusal.Fault.{Fault}
-use Rattle.rv_asm.specs.declared.form.Section.{Section}
+use Rattle.asm_lines.specs.declared.form.Section.{Section}
 use Rattle.rv_asm.specs.declared.placed.Placed.{Placed}
 use Rattle.rv_asm.specs.declared.layout.Layout.{Layout}
-use Rattle.rv_asm.specs.declared.statement.Statement.{Statement}
-use Rattle.rv_asm.specs.declared.statement.Statement.TheVariants as statement
-use Rattle.rv_asm.specs.Bytes.{cut}
-use Rattle.rv_asm.specs.Lines.{lines_from, lines_of}
-use Rattle.rv_asm.specs.Statements.{size_of}
-use Rattle.rv_asm.specs.Layout.{no_lines, after_line, after_lines, address_at}
-use Rattle.rv_asm.specs.Refusals.{fault, line_flaw, is_end, lines_fault, layout_of}
-use Rattle.rv_asm.specs.Assembling.{Cell, Coded, Raw, AreBytes, cells_at, cells_of, cells_in, is_placed_in}
-use Rattle.rv_asm.proofs.Cutting.{lines_by, lines_from-cut}
+use Rattle.asm_lines.specs.declared.statement.Statement.{Statement}
+use Rattle.asm_lines.specs.declared.statement.Statement.TheVariants as statement
+use Rattle.asm_lines.specs.Bytes.{cut}
+use Rattle.asm_lines.specs.Lines.{lines_from, lines_of}
+use Rattle.asm_lines.specs.Statements.{size_of}
+use Rattle.rv_asm.specs.Refusals.{fault}
+use Rattle.rv_asm.specs.Assembling.{Cell, Coded, Raw, AreBytes, cells_at}
+use Rattle.rv_asm.specs.Passes.{is_end, spot_address, is_placed_in, layout_of, placed_cells, section_cells, after_lines, label_address, lines_fault, added_flaw, after_line, no_lines}
+use Rattle.asm_lines.proofs.Cutting.{lines_by, lines_from-cut}
 use Rattle.rv_asm.proofs.Good.{sizes, IsGood, good_start, good_after, text_at_end}
 
 no_flaw : (line : ℕ) (found : Option Flaw) (rest : Option Fault) → option_or (option_map (fault line) found) rest ≡ None → (found ≡ None) × (rest ≡ None)
@@ -29,13 +29,13 @@ no_flaw line (Some flaw) rest h = absurd (none-some (fault line flaw) (sym h))
 good_lines : (layout : Layout) (lines : List (List ℕ)) → IsGood layout → lines_fault layout lines ≡ None → IsGood (after_lines layout lines)
 good_lines layout [] good h = good
 good_lines layout (line ∷ lines) good h =
-    let parts = no_flaw (layout.lines + 1) (line_flaw layout (is_end lines) line) (lines_fault (after_line layout line) lines) h in
+    let parts = no_flaw (layout.lines + 1) (added_flaw layout (is_end lines) line) (lines_fault (after_line layout line) lines) h in
     good_lines (after_line layout line) lines (good_after layout (is_end lines) line good parts.0) parts.1
 
 text_lines : (layout : Layout) (line : List ℕ) (lines : List (List ℕ)) → IsGood layout → lines_fault layout (line ∷ lines) ≡ None → 4 ≤ (after_lines layout (line ∷ lines)).text_size
-text_lines layout line [] good h = text_at_end layout line good (no_flaw (layout.lines + 1) (line_flaw layout true line) None h).0
+text_lines layout line [] good h = text_at_end layout line good (no_flaw (layout.lines + 1) (added_flaw layout true line) None h).0
 text_lines layout line (next ∷ lines) good h =
-    let parts = no_flaw (layout.lines + 1) (line_flaw layout false line) (lines_fault (after_line layout line) (next ∷ lines)) h in
+    let parts = no_flaw (layout.lines + 1) (added_flaw layout false line) (lines_fault (after_line layout line) (next ∷ lines)) h in
     text_lines (after_line layout line) next lines (good_after layout false line good parts.0) parts.1
 
 -- a text has a line
@@ -86,7 +86,7 @@ are_length (Raw front ∷ cells) bytes h =
     let parts = length-append front h.0 in
     omega (arith, rest, whole, parts)
 
-size_at : (layout : Layout) (at : ℕ) (statement : Statement) → cells_size (cells_at layout at statement) ≡ size_of statement
+size_at : (layout : Layout) (at : ℕ) (statement : Statement) → cells_size (cells_at (label_address layout) at statement) ≡ size_of statement
 size_at layout at (statement.Into in_force) = refl
 size_at layout at (statement.Instruction instr) = refl
 size_at layout at (statement.Branch op rs1 rs2 name) = refl
@@ -99,17 +99,17 @@ size_at layout at (statement.Byte value) = refl
 size_at layout at (statement.Space count) = let e : length (replicate count 0) ≡ count = length-replicate {A = ℕ} count 0 in omega (arith, e)
 size_at layout at (statement.Ascii text) = omega arith
 
-size_kept : (in_force : Section) (layout : Layout) (placed : Placed) (rest : List Placed) (b : Bool) (others : ℕ) → cells_size (flat_map (cells_of layout) rest) ≡ others → cells_size (flat_map (cells_of layout) (cond b (placed ∷ rest) rest)) ≡ cond b (size_of placed.statement) 0 + others
+size_kept : (in_force : Section) (layout : Layout) (placed : Placed) (rest : List Placed) (b : Bool) (others : ℕ) → cells_size (flat_map (placed_cells layout) rest) ≡ others → cells_size (flat_map (placed_cells layout) (cond b (placed ∷ rest) rest)) ≡ cond b (size_of placed.statement) 0 + others
 size_kept in_force layout placed rest true others h =
-    let e = cells_size-append (cells_of layout placed) (flat_map (cells_of layout) rest) in
-    let s = size_at layout (address_at layout placed.spot) placed.statement in
+    let e = cells_size-append (placed_cells layout placed) (flat_map (placed_cells layout) rest) in
+    let s = size_at layout (spot_address layout placed.spot) placed.statement in
     omega (arith, e, s, h)
 size_kept in_force layout placed rest false others h = omega (arith, h)
 
-size_cells : (in_force : Section) (layout : Layout) (statements : List Placed) → cells_size (cells_in in_force layout statements) ≡ sizes in_force statements
+size_cells : (in_force : Section) (layout : Layout) (statements : List Placed) → cells_size (section_cells in_force layout statements) ≡ sizes in_force statements
 size_cells in_force layout [] = refl
 size_cells in_force layout (placed ∷ statements) =
     size_kept in_force layout placed (filter (is_placed_in in_force) statements) (is_placed_in in_force placed) (sizes in_force statements) (size_cells in_force layout statements)
 
-pub section_length : (in_force : Section) (layout : Layout) (statements : List Placed) (bytes : List ℕ) → AreBytes (cells_in in_force layout statements) bytes → length bytes ≡ sizes in_force statements
-section_length in_force layout statements bytes are = are_length (cells_in in_force layout statements) bytes are ∙ size_cells in_force layout statements
+pub section_length : (in_force : Section) (layout : Layout) (statements : List Placed) (bytes : List ℕ) → AreBytes (section_cells in_force layout statements) bytes → length bytes ≡ sizes in_force statements
+section_length in_force layout statements bytes are = are_length (section_cells in_force layout statements) bytes are ∙ size_cells in_force layout statements

@@ -1,5 +1,5 @@
 -- The image of a text: the bytes of its sections at their addresses.
-use Rattle.std.specs.Prelude.{◌≡◌, ℕ, ◌-◌, ◌%◌, ◌^◌, ◌<◌, min, Bool, List, [], ◌∷◌, ◌++◌, length, replicate, flat_map, Option, Some, None, unwrap_or, ℤ, pos, ◌-ℤ◌}
+use Rattle.std.specs.Prelude.{◌≡◌, ℕ, ◌-◌, ◌%◌, ◌^◌, ◌<◌, min, List, [], ◌∷◌, ◌++◌, length, replicate, flat_map, Option, Some, None, unwrap_or, ℤ, pos, ◌-ℤ◌}
 use Rattle.std.specs.List.{filter}
 use Rattle.rv_isa.specs.declared.instr.ImmOp.TheVariants as imm
 use Rattle.rv_isa.specs.declared.instr.Instr.{Instr}
@@ -12,16 +12,15 @@ use Rattle.elf_image.specs.declared.image.Image.{Image}
 use Rattle.rv_asm.specs.declared.asm_refusal.AsmRefusal.{AsmRefusal}
 use Rattle.rv_asm.specs.declared.asm_refusal.AsmRefusal.TheVariants.{Refused, Memory}
 use Rattle.rv_asm.specs.declared.asm_refusal.Fault.{Fault}
-use Rattle.rv_asm.specs.declared.form.Section.{Section}
-use Rattle.rv_asm.specs.declared.form.Section.TheVariants as section
-use Rattle.rv_asm.specs.declared.placed.Placed.{Placed}
-use Rattle.rv_asm.specs.declared.layout.Layout.{Layout}
-use Rattle.rv_asm.specs.declared.statement.Statement.{Statement}
-use Rattle.rv_asm.specs.declared.statement.Statement.TheVariants as statement
-use Rattle.rv_asm.specs.Mnemonics.{is_text, is_data}
-use Rattle.rv_asm.specs.Statements.{characters}
-use Rattle.rv_asm.specs.Layout.{text_start, data_start, address_at, address_of}
-use Rattle.rv_asm.specs.Refusals.{kind_of, distance, layout_of, refusal_of}
+use Rattle.asm_lines.specs.declared.form.Section.{Section}
+use Rattle.asm_lines.specs.declared.form.Section.TheVariants as section
+use Rattle.asm_lines.specs.declared.line.Line.{Line}
+use Rattle.asm_lines.specs.declared.statement.Statement.{Statement}
+use Rattle.asm_lines.specs.declared.statement.Statement.TheVariants as statement
+use Rattle.asm_lines.specs.Statements.{characters}
+use Rattle.rv_asm.specs.Layout.{Place, places, read_lines, statement_on, stands_at, bytes_in, text_start, data_start, address_at, address_of}
+use Rattle.asm_lines.specs.Flaws.{kind_of}
+use Rattle.rv_asm.specs.Refusals.{distance, refusal_of}
 
 -- what a statement puts into its section: an instruction, or bytes as they are
 pub data Cell : Type 0 where
@@ -39,32 +38,33 @@ abbrev pub loading : ℕ → ℕ → List Cell
 loading rd value = Coded (instr.Lui rd (high_part value)) ∷ Coded (instr.OpImm imm.Addi rd rd (low_part value)) ∷ []
 
 -- the address of a label that is defined
-abbrev pub known_address : Layout → List ℕ → ℕ
-known_address layout name = unwrap_or (address_of layout name) 0
+abbrev pub known_address : (List ℕ → Option ℕ) → List ℕ → ℕ
+known_address labels name = unwrap_or (labels name) 0
 
-abbrev pub cells_at : Layout → ℕ → Statement → List Cell
-cells_at layout at (statement.Into section) = []
-cells_at layout at (statement.Instruction instr) = Coded instr ∷ []
-cells_at layout at (statement.Branch op rs1 rs2 name) = Coded (instr.Branch op rs1 rs2 (distance at (known_address layout name))) ∷ []
-cells_at layout at (statement.Jump rd name) = Coded (instr.Jal rd (distance at (known_address layout name))) ∷ []
-cells_at layout at (statement.LoadNumber rd value) = loading rd value
-cells_at layout at (statement.LoadAddress rd name) = loading rd (known_address layout name)
-cells_at layout at (statement.Word value) = Raw (little_bytes 4 value) ∷ []
-cells_at layout at (statement.Address name) = Raw (little_bytes 4 (known_address layout name)) ∷ []
-cells_at layout at (statement.Byte value) = Raw (value ∷ []) ∷ []
-cells_at layout at (statement.Space count) = Raw (replicate count 0) ∷ []
-cells_at layout at (statement.Ascii text) = Raw (characters text) ∷ []
+-- a statement at this address, where labels have these addresses
+abbrev pub cells_at : (List ℕ → Option ℕ) → ℕ → Statement → List Cell
+cells_at labels at (statement.Into section) = []
+cells_at labels at (statement.Instruction instr) = Coded instr ∷ []
+cells_at labels at (statement.Branch op rs1 rs2 name) = Coded (instr.Branch op rs1 rs2 (distance at (known_address labels name))) ∷ []
+cells_at labels at (statement.Jump rd name) = Coded (instr.Jal rd (distance at (known_address labels name))) ∷ []
+cells_at labels at (statement.LoadNumber rd value) = loading rd value
+cells_at labels at (statement.LoadAddress rd name) = loading rd (known_address labels name)
+cells_at labels at (statement.Word value) = Raw (little_bytes 4 value) ∷ []
+cells_at labels at (statement.Address name) = Raw (little_bytes 4 (known_address labels name)) ∷ []
+cells_at labels at (statement.Byte value) = Raw (value ∷ []) ∷ []
+cells_at labels at (statement.Space count) = Raw (replicate count 0) ∷ []
+cells_at labels at (statement.Ascii text) = Raw (characters text) ∷ []
 
-abbrev pub cells_of : Layout → Placed → List Cell
-cells_of layout placed = cells_at layout (address_at layout placed.spot) placed.statement
+abbrev pub cells_of : (List ℕ → Option ℕ) → ℕ → Option Statement → List Cell
+cells_of labels at None = []
+cells_of labels at (Some statement) = cells_at labels at statement
 
-abbrev pub is_placed_in : Section → Placed → Bool
-is_placed_in section.Text placed = is_text placed.spot.section
-is_placed_in section.Data placed = is_data placed.spot.section
+abbrev pub cells_on : List (Option Line) → Place → List Cell
+cells_on lines place = cells_of (address_of lines) (address_at lines place) (statement_on place.line)
 
--- what the statements of a section put into it
-abbrev pub cells_in : Section → Layout → List Placed → List Cell
-cells_in section layout placed = flat_map (cells_of layout) (filter (is_placed_in section) placed)
+-- what the lines of a text put into a section
+abbrev pub cells_in : Section → List (Option Line) → List Cell
+cells_in section lines = flat_map (cells_on lines) (filter (stands_at section) (places lines))
 
 -- the word of an instruction: the one whose row in the instruction table it is
 pub record IsWord (instr : Instr) (word : ℕ) : Type 0 where
@@ -91,11 +91,11 @@ pub record IsAssembled (text : List ℕ) (window : ℕ) (image : Image) : Type 0
   pub code : List ℕ
   pub variables : List ℕ
   pub accepted : refusal_of text ≡ None
-  pub code_is : AreBytes (cells_in section.Text (layout_of text) (layout_of text).statements) code
-  pub variables_are : AreBytes (cells_in section.Data (layout_of text) (layout_of text).statements) variables
+  pub code_is : AreBytes (cells_in section.Text (read_lines text)) code
+  pub variables_are : AreBytes (cells_in section.Data (read_lines text)) variables
   pub entry : image.entry ≡ text_start
   pub in_window : image.window ≡ window
-  pub segments : image.segments ≡ segment text_start 5 code ∷ data_segments (data_start (layout_of text).text_size) variables
+  pub segments : image.segments ≡ segment text_start 5 code ∷ data_segments (data_start (bytes_in section.Text (read_lines text))) variables
 
 -- a refusal as it is answered: a line past 2 ^ 32 - 1 is answered as that
 abbrev pub AnswersFault : Option Fault → ℕ → ℕ → Type 0
@@ -106,3 +106,7 @@ AnswersFault (Some fault) kind line = (kind ≡ kind_of fault.flaw) × (line ≡
 abbrev pub IsReason : List ℕ → ℕ → AsmRefusal → Type 0
 IsReason text window (Refused kind line) = AnswersFault (refusal_of text) kind line
 IsReason text window Memory = Unit {0}
+
+-- a text has one image at most in a window
+abbrev pub OneImage : Type 0
+OneImage = (text : List ℕ) (window : ℕ) (image other : Image) → IsAssembled text window image → IsAssembled text window other → image ≡ other

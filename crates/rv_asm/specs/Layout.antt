@@ -1,78 +1,101 @@
--- Where statements and labels stand. Text begins at 0x10000, and data at the first page at or above the end of text.
-use Rattle.std.specs.Prelude.{ℕ, ◌+◌, ◌*◌, ◌/◌, List, [], ◌∷◌, ◌++◌, Option, Some, None, option_map, Result, Ok, Err}
-use Rattle.rv_asm.specs.declared.asm_refusal.Flaw.{Flaw}
-use Rattle.rv_asm.specs.declared.form.Section.{Section}
-use Rattle.rv_asm.specs.declared.form.Section.TheVariants as section
-use Rattle.rv_asm.specs.declared.line.Line.{Line}
-use Rattle.rv_asm.specs.declared.line.Words.{Words}
-use Rattle.rv_asm.specs.declared.placed.Spot.{Spot}
-use Rattle.rv_asm.specs.declared.placed.Placed.{Placed}
-use Rattle.rv_asm.specs.declared.layout.Layout.{Layout}
-use Rattle.rv_asm.specs.declared.statement.Statement.{Statement}
-use Rattle.rv_asm.specs.declared.statement.Statement.TheVariants as statement
-use Rattle.rv_asm.specs.Places.{definition_of, spot_of}
-use Rattle.rv_asm.specs.Lines.{line_of}
-use Rattle.rv_asm.specs.Statements.{statement_of, size_of}
+-- Where the lines of a text stand, and the addresses of its labels. Text begins at 0x10000, and data at the first page at
+-- or above the end of text.
+use Rattle.std.specs.Prelude.{ℕ, ◌+◌, ◌*◌, ◌/◌, Bool, false, List, [], ◌∷◌, ◌++◌, length, map, Option, Some, None, option_map, bytes_eq, if◌then◌else◌}
+use Rattle.std.specs.List.{find, sum_by}
+use Rattle.std.specs.Result.{result_ok}
+use Rattle.asm_lines.specs.declared.form.Section.{Section}
+use Rattle.asm_lines.specs.declared.form.Section.TheVariants as section
+use Rattle.asm_lines.specs.declared.line.Line.{Line}
+use Rattle.asm_lines.specs.declared.line.Words.{Words}
+use Rattle.asm_lines.specs.declared.statement.Statement.{Statement}
+use Rattle.asm_lines.specs.declared.statement.Statement.TheVariants as statement
+use Rattle.asm_lines.specs.Lines.{lines_of, line_of}
+use Rattle.asm_lines.specs.Mnemonics.{is_text, is_data}
+use Rattle.asm_lines.specs.Statements.{statement_of, size_of}
 
--- before the first line: the text section is in force
-abbrev pub no_lines : Layout
-no_lines = record { lines = 0; section = section.Text; text_size = 0; data_size = 0; labels = []; statements = [] }
+-- what stands on each line of a text; none where a line isn't of the form of a line
+unfoldable pub read_lines : List ℕ → List (Option Line)
+read_lines text = map line_of (lines_of text)
 
--- the bytes that a section has
-abbrev pub bytes_in : Section → Layout → ℕ
-bytes_in section.Text layout = layout.text_size
-bytes_in section.Data layout = layout.data_size
+-- a line, and the lines before it
+pub record Place : Type 0 where
+  pub before : List (Option Line)
+  pub line : Option Line
 
--- the place of what comes next
-abbrev pub next_spot : Layout → Spot
-next_spot layout = record { section = layout.section; offset = bytes_in layout.section layout }
+abbrev pub place : List (Option Line) → Option Line → Place
+place before line = record { before = before; line = line }
 
--- a label stands at the place of what comes behind it
-abbrev pub with_label : Option (List ℕ) → Layout → Layout
-with_label None layout = layout
-with_label (Some name) layout = record layout { labels = layout.labels ++ definition_of name (next_spot layout) ∷ [] }
+-- each of some lines, which stand behind others
+abbrev pub places_behind : List (Option Line) → List (Option Line) → List Place
+places_behind before [] = []
+places_behind before (line ∷ lines) = place before line ∷ places_behind (before ++ line ∷ []) lines
 
--- so many bytes more in a section
-abbrev pub with_bytes : Section → ℕ → Layout → Layout
-with_bytes section.Text size layout = record layout { text_size = layout.text_size + size }
-with_bytes section.Data size layout = record layout { data_size = layout.data_size + size }
+-- the lines of a text, each at its place
+abbrev pub places : List (Option Line) → List Place
+places lines = places_behind [] lines
 
--- a statement at its place
-abbrev pub placed_at : Layout → Statement → Placed
-placed_at layout statement = record { line = layout.lines; spot = next_spot layout; statement = statement }
+-- the number of a line, counted from 1
+abbrev pub line_number : Place → ℕ
+line_number place = length place.before + 1
 
-abbrev pub with_placed : Statement → Layout → Layout
-with_placed statement layout =
-    with_bytes layout.section (size_of statement) (record layout { statements = layout.statements ++ placed_at layout statement ∷ [] })
+-- the label that stands on a line
+abbrev pub label_on : Option Line → Option (List ℕ)
+label_on None = None
+label_on (Some line) = line.label
+
+abbrev pub is_name_of : List ℕ → Option (List ℕ) → Bool
+is_name_of name None = false
+is_name_of name (Some label) = bytes_eq name label
+
+abbrev pub has_label : List ℕ → Option Line → Bool
+has_label name line = is_name_of name (label_on line)
+
+-- the statement that stands on a line, if its operands are those that it asks for
+abbrev pub statement_in : Option Words → Option Statement
+statement_in None = None
+statement_in (Some words) = result_ok (statement_of words.form words.operands)
+
+abbrev pub statement_on : Option Line → Option Statement
+statement_on None = None
+statement_on (Some line) = statement_in line.words
+
+-- ---- sections
 
 -- `.text` and `.data` name the section that is in force behind them
-abbrev pub with_statement : Statement → Layout → Layout
-with_statement (statement.Into section) layout = record layout { section = section }
-with_statement other layout = with_placed other layout
+abbrev pub named_by : Section → Statement → Section
+named_by in_force (statement.Into section) = section
+named_by in_force _ = in_force
 
-abbrev pub with_read : Result Statement Flaw → Layout → Layout
-with_read (Ok statement) layout = with_statement statement layout
-with_read (Err flaw) layout = layout
+abbrev pub in_force_behind : Section → Option Statement → Section
+in_force_behind in_force None = in_force
+in_force_behind in_force (Some statement) = named_by in_force statement
 
-abbrev pub with_words : Option Words → Layout → Layout
-with_words None layout = layout
-with_words (Some words) layout = with_read (statement_of words.form words.operands) layout
+-- the section in force behind some lines: the last that they name, and where they name none, the one before them
+abbrev pub last_named : Section → List (Option Line) → Section
+last_named in_force [] = in_force
+last_named in_force (line ∷ lines) = last_named (in_force_behind in_force (statement_on line)) lines
 
--- one line more
-abbrev pub with_line : Option Line → Layout → Layout
-with_line None layout = layout
-with_line (Some line) layout = with_words line.words (with_label line.label layout)
+-- the section of a line: the last that the lines before it name, and text where they name none
+abbrev pub section_at : Place → Section
+section_at place = last_named section.Text place.before
 
-abbrev pub counted : Layout → Layout
-counted layout = record layout { lines = layout.lines + 1 }
+abbrev pub is_in : Section → Section → Bool
+is_in section.Text in_force = is_text in_force
+is_in section.Data in_force = is_data in_force
 
-unfoldable pub after_line : Layout → List ℕ → Layout
-after_line layout bytes = with_line (line_of bytes) (counted layout)
+abbrev pub stands_at : Section → Place → Bool
+stands_at section place = is_in section (section_at place)
 
--- behind some lines more
-abbrev pub after_lines : Layout → List (List ℕ) → Layout
-after_lines layout [] = layout
-after_lines layout (line ∷ lines) = after_lines (after_line layout line) lines
+-- how many bytes a line has, how many of them in a section, and how many some lines have there
+abbrev pub size_on : Option Statement → ℕ
+size_on None = 0
+size_on (Some statement) = size_of statement
+
+abbrev pub size_at : Section → Place → ℕ
+size_at section place = if stands_at section place then size_on (statement_on place.line) else 0
+
+abbrev pub bytes_in : Section → List (Option Line) → ℕ
+bytes_in section lines = sum_by (size_at section) (places lines)
 
 -- ---- addresses
 
@@ -82,14 +105,15 @@ text_start = 0x10000
 abbrev pub data_start : ℕ → ℕ
 data_start text_size = (text_start + text_size + 4095) / 4096 * 4096
 
--- the address of a place, where text has so many bytes
+-- the address behind so many bytes of a section, where text has this size
 abbrev pub address_in : ℕ → Section → ℕ → ℕ
 address_in text_size section.Text offset = text_start + offset
 address_in text_size section.Data offset = data_start text_size + offset
 
-abbrev pub address_at : Layout → Spot → ℕ
-address_at layout spot = address_in layout.text_size spot.section spot.offset
+-- the address of a line of a text: behind the bytes that the lines before it have in its section
+abbrev pub address_at : List (Option Line) → Place → ℕ
+address_at lines place = address_in (bytes_in section.Text lines) (section_at place) (bytes_in (section_at place) place.before)
 
--- the address of a label, if it is defined
-abbrev pub address_of : Layout → List ℕ → Option ℕ
-address_of layout name = option_map (address_at layout) (spot_of layout.labels name)
+-- the address of a label, if it is defined: that of the line on which it stands
+abbrev pub address_of : List (Option Line) → List ℕ → Option ℕ
+address_of lines name = option_map (address_at lines) (find (λ place. has_label name place.line) (places lines))

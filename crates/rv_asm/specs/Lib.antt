@@ -1,14 +1,8 @@
-pub mod Bytes
 pub mod Places
-pub mod Lines
-pub mod Numbers
-pub mod Registers
-pub mod Mnemonics
-pub mod Statements
 pub mod Layout
 pub mod Refusals
 pub mod Assembling
+pub mod Passes
 pub mod Sound
 pub mod Troubles
 pub mod Steps
-pub mod Tables

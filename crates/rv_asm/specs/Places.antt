@@ -1,4 +1,4 @@
--- The labels that are defined.
+-- The labels that the passes of the code hold. Nothing here is promised to callers of the crate.
 use Rattle.std.specs.Prelude.{ℕ, List, [], ◌∷◌, Option, Some, None, bytes_eq, if◌then◌else◌}
 use Rattle.rv_asm.specs.declared.placed.Spot.{Spot}
 

@@ -1,94 +1,85 @@
 -- What a text is refused for: a kind and a line. The first line that is wrong whatever the labels' places are is
 -- answered, with the first of the kinds 1, 5, 2 and 3 that holds there. Where there is none, it is the first line that
 -- uses a label which isn't defined (4) or can't be reached (3).
-use Rattle.std.specs.Prelude.{◌≡◌, ℕ, min, ◌+◌, ◌-◌, ◌%◌, ◌^◌, Bool, true, false, not, ◌&&◌, ◌||◌, List, [], ◌∷◌, Option, Some, None, option_map, is_some, Result, Ok, Err, ℤ, pos, neg_ℤ, ◌-ℤ◌, unsigned_abs, int_lt, nat_lt, if◌then◌else◌, ◌==◌}
+use Rattle.std.specs.Prelude.{ℕ, ◌+◌, ◌%◌, Bool, false, not, ◌&&◌, ◌||◌, List, [], ◌∷◌, length, Option, Some, None, option_map, Result, Ok, Err, ℤ, pos, neg_ℤ, ◌-ℤ◌, unsigned_abs, int_lt, nat_lt, if◌then◌else◌, ◌==◌}
+use Rattle.std.specs.List.{list_any}
 use Rattle.std.specs.Option.{option_or}
-use Rattle.rv_asm.specs.declared.asm_refusal.Flaw.{Flaw}
+use Rattle.asm_lines.specs.declared.flaw.Flaw.{Flaw}
 use Rattle.rv_asm.specs.declared.asm_refusal.Fault.{Fault}
-use Rattle.rv_asm.specs.declared.asm_refusal.Stop.{Stop}
-use Rattle.rv_asm.specs.declared.asm_refusal.Stop.TheVariants as stop
-use Rattle.rv_asm.specs.declared.asm_refusal.AsmRefusal.{AsmRefusal}
-use Rattle.rv_asm.specs.declared.asm_refusal.AsmRefusal.TheVariants.{Refused, Memory}
-use Rattle.rv_asm.specs.declared.asm_refusal.Flaw.TheVariants as flaw
-use Rattle.rv_asm.specs.declared.line.Line.{Line}
-use Rattle.rv_asm.specs.declared.line.Words.{Words}
-use Rattle.rv_asm.specs.declared.placed.Placed.{Placed}
-use Rattle.rv_asm.specs.declared.layout.Layout.{Layout}
-use Rattle.rv_asm.specs.declared.statement.Statement.{Statement}
-use Rattle.rv_asm.specs.declared.statement.Statement.TheVariants as statement
-use Rattle.rv_asm.specs.Places.{spot_of}
-use Rattle.rv_asm.specs.Mnemonics.{is_text, stands_in, gives_bytes}
-use Rattle.rv_asm.specs.Lines.{lines_of, line_of}
-use Rattle.rv_asm.specs.Statements.{statement_of, size_of}
-use Rattle.rv_asm.specs.Layout.{no_lines, after_line, after_lines, address_at, address_of}
-
--- the numbers of the kinds
-abbrev pub kind_of : Flaw → ℕ
-kind_of flaw.UnknownWord = 1
-kind_of flaw.BadOperand = 2
-kind_of flaw.Range = 3
-kind_of flaw.Label = 4
-kind_of flaw.DoubleLabel = 5
+use Rattle.asm_lines.specs.declared.flaw.Flaw.TheVariants as flaw
+use Rattle.asm_lines.specs.declared.form.Section.{Section}
+use Rattle.asm_lines.specs.declared.form.Section.TheVariants as section
+use Rattle.asm_lines.specs.declared.line.Line.{Line}
+use Rattle.asm_lines.specs.declared.line.Words.{Words}
+use Rattle.asm_lines.specs.declared.statement.Statement.{Statement}
+use Rattle.asm_lines.specs.declared.statement.Statement.TheVariants as statement
+use Rattle.asm_lines.specs.Mnemonics.{is_text, stands_in, gives_bytes}
+use Rattle.asm_lines.specs.Statements.{statement_of, size_of}
+use Rattle.rv_asm.specs.Layout.{Place, places, read_lines, line_number, label_on, has_label, statement_on, section_at, bytes_in, address_at, address_of}
 
 -- what is wrong, and on which line, counted from 1
 abbrev pub fault : ℕ → Flaw → Fault
 fault line flaw = record { flaw = flaw; line = line }
 
+-- the first line with a flaw
+abbrev pub first_fault : (Place → Option Flaw) → List Place → Option Fault
+first_fault flaw [] = None
+first_fault flaw (place ∷ rest) = option_or (option_map (fault (line_number place)) (flaw place)) (first_fault flaw rest)
+
+-- ---- a line, whatever the labels' places are
+
 -- a statement stands in the wrong section
-abbrev pub is_misplaced : Layout → Option Words → Bool
-is_misplaced layout None = false
-is_misplaced layout (Some words) = not (stands_in layout.section words.form)
+abbrev pub is_misplaced : Section → Option Words → Bool
+is_misplaced in_force None = false
+is_misplaced in_force (Some words) = not (stands_in in_force words.form)
 
 -- a statement gives text a byte, whatever its operands are
-abbrev pub gives_text : Layout → Option Words → Bool
-gives_text layout None = false
-gives_text layout (Some words) = is_text layout.section && gives_bytes words.form
+abbrev pub gives_text : Section → Option Words → Bool
+gives_text in_force None = false
+gives_text in_force (Some words) = is_text in_force && gives_bytes words.form
 
--- the text section has no bytes behind this line
-abbrev pub has_no_text : Layout → Option Words → Bool
-has_no_text layout words = (layout.text_size == 0) && not (gives_text layout words)
+-- text has no bytes before a statement, nor by it
+abbrev pub has_no_text : Section → ℕ → Option Words → Bool
+has_no_text in_force text_size words = (text_size == 0) && not (gives_text in_force words)
 
--- the label is defined on an earlier line
-abbrev pub is_repeated : Layout → Option (List ℕ) → Bool
-is_repeated layout None = false
-is_repeated layout (Some name) = is_some (spot_of layout.labels name)
+-- text and data have more than 524288 bytes together, of which so many stand before a statement
+abbrev pub is_too_large : ℕ → Statement → Bool
+is_too_large size statement = nat_lt 524288 (size + size_of statement)
 
--- text and data have more than 524288 bytes together
-abbrev pub is_too_large : Layout → Statement → Bool
-is_too_large layout statement = nat_lt 524288 (layout.text_size + layout.data_size + size_of statement)
+abbrev pub size_flaw : ℕ → Statement → Option Flaw
+size_flaw size statement = if is_too_large size statement then Some flaw.Range else None
 
-abbrev pub size_flaw : Layout → Statement → Option Flaw
-size_flaw layout statement = if is_too_large layout statement then Some flaw.Range else None
+abbrev pub read_flaw : ℕ → Result Statement Flaw → Option Flaw
+read_flaw size (Ok statement) = size_flaw size statement
+read_flaw size (Err flaw) = Some flaw
 
-abbrev pub read_flaw : Layout → Result Statement Flaw → Option Flaw
-read_flaw layout (Ok statement) = size_flaw layout statement
-read_flaw layout (Err flaw) = Some flaw
+abbrev pub words_flaw : ℕ → Option Words → Option Flaw
+words_flaw size None = None
+words_flaw size (Some words) = read_flaw size (statement_of words.form words.operands)
 
-abbrev pub words_flaw : Layout → Option Words → Option Flaw
-words_flaw layout None = None
-words_flaw layout (Some words) = read_flaw layout (statement_of words.form words.operands)
+-- what is wrong with a line in this section, behind so many bytes of text and so many of both sections; `repeated`: its
+-- label is defined on an earlier line; `last`: no line stands behind it, so that it answers for a text without bytes too
+abbrev pub parts_flaw : Section → ℕ → ℕ → Bool → Bool → Option Line → Option Flaw
+parts_flaw in_force text_size size repeated last None = Some flaw.UnknownWord
+parts_flaw in_force text_size size repeated last (Some line) =
+    if is_misplaced in_force line.words || last && has_no_text in_force text_size line.words then Some flaw.UnknownWord else
+    if repeated then Some flaw.DoubleLabel else
+    words_flaw size line.words
 
--- what is wrong with a line behind others, whatever the labels' places are; the last line also answers for a text section
--- without bytes
-abbrev pub parts_flaw : Layout → Bool → Option Line → Option Flaw
-parts_flaw layout last None = Some flaw.UnknownWord
-parts_flaw layout last (Some line) =
-    if is_misplaced layout line.words || last && has_no_text layout line.words then Some flaw.UnknownWord else
-    if is_repeated layout line.label then Some flaw.DoubleLabel else
-    words_flaw layout line.words
+-- a label is defined on one of some lines
+abbrev pub is_defined_on : List (Option Line) → Option (List ℕ) → Bool
+is_defined_on lines None = false
+is_defined_on lines (Some name) = list_any (has_label name) lines
 
-unfoldable pub line_flaw : Layout → Bool → List ℕ → Option Flaw
-line_flaw layout last bytes = parts_flaw layout last (line_of bytes)
+-- how many bytes some lines have
+abbrev pub size_behind : List (Option Line) → ℕ
+size_behind lines = bytes_in section.Text lines + bytes_in section.Data lines
 
-abbrev pub is_end : List (List ℕ) → Bool
-is_end [] = true
-is_end (line ∷ lines) = false
-
--- the first of some lines, behind others, that is wrong so
-abbrev pub lines_fault : Layout → List (List ℕ) → Option Fault
-lines_fault layout [] = None
-lines_fault layout (line ∷ lines) =
-    option_or (option_map (fault (layout.lines + 1)) (line_flaw layout (is_end lines) line)) (lines_fault (after_line layout line) lines)
+-- what is wrong with a line of a text of so many lines
+abbrev pub line_flaw : ℕ → Place → Option Flaw
+line_flaw count place =
+    parts_flaw (section_at place) (bytes_in section.Text place.before) (size_behind place.before)
+    (is_defined_on place.before (label_on place.line)) (line_number place == count) place.line
 
 -- ---- labels
 
@@ -109,28 +100,25 @@ abbrev pub address_flaw : Option ℕ → Option Flaw
 address_flaw None = Some flaw.Label
 address_flaw (Some address) = None
 
-abbrev pub label_flaw : Layout → ℕ → Statement → Option Flaw
-label_flaw layout at (statement.Branch op rs1 rs2 name) = target_flaw 4096 at (address_of layout name)
-label_flaw layout at (statement.Jump rd name) = target_flaw 1048576 at (address_of layout name)
-label_flaw layout at (statement.LoadAddress rd name) = address_flaw (address_of layout name)
-label_flaw layout at (statement.Address name) = address_flaw (address_of layout name)
-label_flaw layout at _ = None
+-- what is wrong with the label of a statement at this address, where labels have these addresses
+abbrev pub label_flaw : (List ℕ → Option ℕ) → ℕ → Statement → Option Flaw
+label_flaw labels at (statement.Branch op rs1 rs2 name) = target_flaw 4096 at (labels name)
+label_flaw labels at (statement.Jump rd name) = target_flaw 1048576 at (labels name)
+label_flaw labels at (statement.LoadAddress rd name) = address_flaw (labels name)
+label_flaw labels at (statement.Address name) = address_flaw (labels name)
+label_flaw labels at _ = None
 
--- the first statement whose label is wrong
-abbrev pub labels_fault : Layout → List Placed → Option Fault
-labels_fault layout [] = None
-labels_fault layout (placed ∷ rest) =
-    option_or (option_map (fault placed.line) (label_flaw layout (address_at layout placed.spot) placed.statement)) (labels_fault layout rest)
+abbrev pub link_flaw : (List ℕ → Option ℕ) → ℕ → Option Statement → Option Flaw
+link_flaw labels at None = None
+link_flaw labels at (Some statement) = label_flaw labels at statement
+
+abbrev pub place_flaw : List (Option Line) → Place → Option Flaw
+place_flaw lines place = link_flaw (address_of lines) (address_at lines place) (statement_on place.line)
 
 -- ---- the refusal of a text
 
-unfoldable pub layout_of : List ℕ → Layout
-layout_of text = after_lines no_lines (lines_of text)
+abbrev pub lines_refusal : List (Option Line) → Option Fault
+lines_refusal lines = option_or (first_fault (line_flaw (length lines)) (places lines)) (first_fault (place_flaw lines) (places lines))
 
 unfoldable pub refusal_of : List ℕ → Option Fault
-refusal_of text = option_or (lines_fault no_lines (lines_of text)) (labels_fault (layout_of text) (layout_of text).statements)
-
--- a line is answered up to 2 ^ 32 - 1
-abbrev pub Answers : Stop → AsmRefusal → Type 0
-Answers (stop.Refused fault) refusal = refusal ≡ Refused (kind_of fault.flaw) (min fault.line (2 ^ 32 - 1))
-Answers stop.Memory refusal = refusal ≡ Memory
+refusal_of text = lines_refusal (read_lines text)

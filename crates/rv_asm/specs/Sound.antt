@@ -5,8 +5,8 @@ use Rattle.rv_isa.specs.Ranges.{IsInRange, IsRegister}
 use Rattle.rv_asm.specs.declared.layout.Layout.{Layout}
 use Rattle.rv_asm.specs.declared.placed.Spot.{Spot}
 use Rattle.rv_asm.specs.declared.placed.Placed.{Placed}
-use Rattle.rv_asm.specs.declared.statement.Statement.{Statement}
-use Rattle.rv_asm.specs.declared.statement.Statement.TheVariants as statement
+use Rattle.asm_lines.specs.declared.statement.Statement.{Statement}
+use Rattle.asm_lines.specs.declared.statement.Statement.TheVariants as statement
 use Rattle.rv_asm.specs.Places.{Definition}
 
 -- the operands of a statement are those that its words can hold

@@ -1,19 +1,16 @@
 // Where statements and labels stand.
 ghost use Rattle.std.specs.Prelude.{◌≡◌, ◌<◌, ◌≤◌, ◌+◌, ◌^◌, ◌||◌, ◌&&◌, false, OnOk};
-ghost use Rattle.rv_asm.specs.Layout.{no_lines, next_spot, with_label, with_statement, data_start, address_at};
-ghost use Rattle.rv_asm.specs.Refusals.{is_misplaced, has_no_text, is_repeated, is_too_large};
+ghost use Rattle.rv_asm.specs.Layout.{data_start};
+ghost use Rattle.rv_asm.specs.Refusals.{is_misplaced, has_no_text, is_too_large};
 ghost use Rattle.rv_asm.specs.Steps.{AddsLine};
+ghost use Rattle.rv_asm.specs.Passes.{is_repeated, no_lines, size_of_both, with_label, next_spot, with_statement, spot_address};
 
-use crate::asm_refusal::{Flaw, Trouble};
-use crate::form::Section;
+use crate::asm_refusal::Trouble;
 use crate::labels::Labels;
-use crate::line::{Line, Words};
-use crate::lines::line_of;
-use crate::mnemonics::{gives_bytes, stands_in};
-use crate::part::Part;
 use crate::placed::{Placed, Spot, Statements};
-use crate::statement::Statement;
-use crate::statements::statement_of;
+use asm_lines::{
+    Flaw, Line, Part, Section, Statement, Words, gives_bytes, line_of, stands_in, statement_of,
+};
 use std::alloc::{AllocError, Global};
 
 /// Where the text section begins.
@@ -73,7 +70,7 @@ impl<'a> Layout<'a> {
 
     // Whether a statement stands in the wrong section.
     fn is_misplaced(&self, words: &Option<Words<'a>>) -> bool
-        ensures { result ≡ is_misplaced self.now words.now }
+        ensures { result ≡ is_misplaced self.now.section words.now }
     {
         match words {
             None => false,
@@ -83,7 +80,7 @@ impl<'a> Layout<'a> {
 
     // Whether the text section has no bytes behind a line with this statement.
     fn has_no_text(&self, words: &Option<Words<'a>>) -> bool
-        ensures { result ≡ has_no_text self.now words.now }
+        ensures { result ≡ has_no_text self.now.section self.now.text_size words.now }
     {
         let gives_text = match words {
             None => false,
@@ -94,7 +91,7 @@ impl<'a> Layout<'a> {
 
     // Whether a line can't stand here, the last line where the text section has no bytes among them.
     fn is_out_of_place(&self, last: bool, words: &Option<Words<'a>>) -> bool
-        ensures { result ≡ (is_misplaced self.now words.now || last && has_no_text self.now words.now) }
+        ensures { result ≡ (is_misplaced self.now.section words.now || last && has_no_text self.now.section self.now.text_size words.now) }
     {
         self.is_misplaced(words) || (last && self.has_no_text(words))
     }
@@ -111,7 +108,7 @@ impl<'a> Layout<'a> {
 
     // Whether a statement makes the sections too large.
     fn is_too_large(&self, statement: &Statement<'a>) -> bool
-        ensures { result ≡ is_too_large self.now statement.now }
+        ensures { result ≡ is_too_large (size_of_both self.now) statement.now }
     {
         let size = statement.size();
         MOST_BYTES < size || MOST_BYTES < self.text_size as usize + self.data_size as usize + size
@@ -131,7 +128,7 @@ impl<'a> Layout<'a> {
 
     // Puts a statement at the place of what comes next.
     fn add_statement(&mut self, statement: Statement<'a>) -> Result<(), AllocError>
-        requires { is_too_large self.old statement ≡ false }
+        requires { is_too_large (size_of_both self.old) statement ≡ false }
         ensures { OnOk result (self.new ≡ with_statement statement.entry self.old) }
     {
         if let Statement::Into(section) = statement {
@@ -189,7 +186,7 @@ impl<'a> Layout<'a> {
     pub fn address_at(&self, spot: Spot) -> u32
         requires size { self.now.text_size ≤ 524288 }
         requires offset { spot.offset ≤ 524288 }
-        ensures { result ≡ address_at self.now spot }
+        ensures { result ≡ spot_address self.now spot }
     {
         match spot.section {
             Section::Text => TEXT_START + spot.offset,

@@ -3,29 +3,18 @@
 
 mod asm_refusal;
 mod assembling;
-mod bytes;
-mod explaining;
-mod form;
 mod labels;
+mod laws;
 mod layout;
-mod line;
-mod lines;
-mod mnemonics;
-mod numbers;
-mod operands;
-mod part;
 mod placed;
-mod registers;
 mod sections;
-mod statement;
-mod statements;
 mod surveying;
-mod tables;
 mod writing;
 
+pub use asm_lines::explain;
 pub use asm_refusal::AsmRefusal;
 pub use assembling::assemble;
-pub use explaining::explain;
+pub use laws::one_image;
 
 #[cfg(test)]
 mod tests;

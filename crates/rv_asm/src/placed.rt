@@ -2,8 +2,7 @@
 ghost use Rattle.std.specs.Prelude.{◌≡◌, List, [], ◌∷◌, ◌++◌, OnOk};
 ghost use Rattle.rv_asm.specs.declared.placed.Placed.{Placed};
 
-use crate::form::Section;
-use crate::statement::Statement;
+use asm_lines::{Section, Statement};
 use std::alloc::{AllocError, Global};
 use std::marker::Model;
 

@@ -3,7 +3,7 @@ ghost use Rattle.rv_asm.specs.Steps.{Surveys};
 
 use crate::asm_refusal::Stop;
 use crate::layout::Layout;
-use crate::lines::split_line;
+use asm_lines::split_line;
 use std::alloc::Global;
 
 /// The layout of a text, or the first line that is wrong whatever the labels' places are.

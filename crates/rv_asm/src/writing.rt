@@ -1,23 +1,20 @@
 // The bytes of statements. Each label has its address now.
-ghost use Rattle.std.specs.Prelude.{◌≡◌, ℕ, ◌≤◌, ◌^◌, ◌≤ℤ◌, ◌<ℤ◌, [], ◌∷◌, true, pos, neg_ℤ, OnOk, replicate};
+ghost use Rattle.std.specs.Prelude.{◌≡◌, ℕ, ◌≤◌, ◌^◌, ◌≤ℤ◌, ◌<ℤ◌, List, [], ◌∷◌, Option, true, pos, neg_ℤ, OnOk, replicate};
 ghost use Rattle.rv_isa.specs.Words.{little_bytes};
 ghost use Rattle.rv_isa.specs.Ranges.{IsInRange, IsRegister};
-ghost use Rattle.rv_asm.specs.Statements.{characters};
-ghost use Rattle.rv_asm.specs.declared.layout.Layout.{Layout};
-ghost use Rattle.rv_asm.specs.declared.statement.Statement.TheVariants.{Branch, Jump, LoadAddress, Address};
-ghost use Rattle.rv_asm.specs.Layout.{address_of};
+ghost use Rattle.asm_lines.specs.Statements.{characters};
 ghost use Rattle.rv_asm.specs.Refusals.{reaches};
 ghost use Rattle.rv_asm.specs.Sound.{IsSound, IsReady, IsEncodable, IsPlain};
 ghost use Rattle.rv_asm.specs.Steps.{Puts, Reaches, WritesStatement, WritesPlaced, WritesSections};
 ghost use Rattle.rv_asm.specs.Assembling.{Coded, Raw, loading, low_part, high_part, cells_at};
+ghost use Rattle.rv_asm.specs.Passes.{label_address};
+ghost use Rattle.asm_lines.specs.declared.statement.Statement.TheVariants.{Branch, Jump, LoadAddress, Address};
 
-use crate::asm_refusal::{Flaw, Stop, Trouble};
-use crate::form::Section;
+use crate::asm_refusal::{Stop, Trouble};
 use crate::layout::Layout;
-use crate::part::Part;
 use crate::placed::Placed;
 use crate::sections::Sections;
-use crate::statement::Statement;
+use asm_lines::{Flaw, Part, Section, Statement};
 use elf_image::FileBytes;
 use rv_isa::{BranchOp, ImmOp, Instr, encode};
 use std::alloc::{AllocError, Global};
@@ -104,7 +101,7 @@ fn push_characters(out: &mut Vec<u8>, text: &[u8]) -> Result<(), AllocError>
 // The address of a label, if it is defined.
 fn address_of(layout: &Layout<'_>, name: &[u8]) -> Option<u32>
     requires { IsSound layout.now }
-    ensures { result ≡ address_of layout.now name.now }
+    ensures { result ≡ label_address layout.now name.now }
 {
     match layout.labels.get(name) {
         Some(spot) => Some(layout.address_at(spot)),
@@ -229,7 +226,7 @@ fn push_byte(out: &mut Vec<u8>, byte: u8) -> Result<(), AllocError>
 fn write_plain(out: &mut Vec<u8>, statement: &Statement<'_>) -> Result<(), AllocError>
     requires encodable { IsEncodable statement.now }
     requires plain { IsPlain statement.now }
-    ensures { (layout : Layout) (at : ℕ) → OnOk result (Puts out.old.items out.new.items (cells_at layout at statement.now)) }
+    ensures { (labels : List ℕ → Option ℕ) (at : ℕ) → OnOk result (Puts out.old.items out.new.items (cells_at labels at statement.now)) }
 {
     match statement {
         Statement::Instruction(instr) => push_instr(out, instr),

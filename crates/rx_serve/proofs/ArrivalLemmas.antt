@@ -105,6 +105,13 @@ stands_after_send image old mid before after later new conn bytes started counte
     subst (λ n. Standing image old mid before later new started n done offset) (let e : arrived.reached + 1 ≡ counted = omega (arith, arrived.counts, arrived.met.1) in e)
     (stands_past_send image old mid before after later arrived.here new conn bytes started arrived.reached done offset arrived.standing arrived.met.0 gave)
 
+-- the bytes that were given are those of the event
+pub gave_frame : (old new : Option (List ℕ)) (conn : ℕ) (bytes others : List ℕ) → bytes ≡ others → Appends old new (frame 2 conn bytes) → Appends old new (frame 2 conn others)
+gave_frame old new conn bytes others same gave = subst (λ bytes. Appends old new (frame 2 conn bytes)) same gave
+
+pub gave_part : (old new : Option (List ℕ)) (conn : ℕ) (bytes others : List ℕ) (fault : IoFault) → bytes ≡ others → GivesAll old new (frame 2 conn bytes) (Err fault) → GivesAll old new (frame 2 conn others) (Err fault)
+gave_part old new conn bytes others fault same gave = subst (λ bytes. GivesAll old new (frame 2 conn bytes) (Err fault)) same gave
+
 -- a send was given in part
 pub closes_cut : (image : Image) (old mid : Option Stream) (before after later : Option (List ℕ)) (new : Machine) (conn : ℕ) (bytes : List ℕ) (started counted done offset taken since : ℕ) (fault : IoFault) (answer : Answer)
     → Arrived image old mid before after (event.Emits conn bytes) new started counted done offset → taken ≡ new.taken → since ≡ new.since

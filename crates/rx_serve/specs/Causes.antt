@@ -37,7 +37,7 @@ pub record IsElfRefused (told : Option Contents) (words : List (List ℕ)) (kind
   pub small : length file ≤ program_limit
   pub refused : refusal file default_window ≡ Some kind
 
--- the text that is to be assembled has more bytes than its limit, or is refused with this kind and line
+-- the words are those of `asm`, and this answer has its cause in the text, or in the file that should have one
 pub record IsAsmAnswer (told : Option Contents) (words : List (List ℕ)) (end : Answer) : Type 0 where
   pub source : List ℕ
   pub out : List ℕ

@@ -1,7 +1,6 @@
 use Rattle.std.proofs.Common.{◌≡◌, ◌+◌, ◌≤◌, length}
-use Rattle.rv_asm.specs.Lines.{lines_of}
-use Rattle.rv_asm.specs.Layout.{no_lines, after_lines}
-use Rattle.rv_asm.specs.Refusals.{lines_fault}
+use Rattle.asm_lines.specs.Lines.{lines_of}
+use Rattle.rv_asm.specs.Passes.{no_lines, after_lines, lines_fault}
 use Rattle.rv_asm.proofs.surveying.survey.Given as goal
 
 abbrev pub invariant-lines : goal.invariant-lines

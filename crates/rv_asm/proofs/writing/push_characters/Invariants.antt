@@ -1,5 +1,5 @@
 use Rattle.std.proofs.Common.{◌≡◌, ◌++◌, length}
-use Rattle.rv_asm.specs.Statements.{characters}
+use Rattle.asm_lines.specs.Statements.{characters}
 use Rattle.rv_asm.proofs.writing.push_characters.Given as goal
 
 abbrev pub invariant-bytes : goal.invariant-bytes

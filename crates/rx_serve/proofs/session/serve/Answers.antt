@@ -1,11 +1,8 @@
-use Rattle.std.proofs.Common.{length, ap, subst, refl, arith}
-use Rattle.std.specs.Io.KnownBytes.{Appends}
-use Rattle.std.proofs.Common.{Err}
-use Rattle.rx_serve.specs.Trunk.{frame, GivesAll}
+use Rattle.std.proofs.Common.{length, ap, refl, arith}
 use Rattle.run_history.specs.declared.answer.Answer.TheVariants.{WriteFault, Memory}
 use Rattle.rx_serve.proofs.SessionLemmas.{ends_before_start}
 use Rattle.rx_serve.proofs.StandingLemmas.{stands_at_start, runs_within, item_bounds}
-use Rattle.rx_serve.proofs.ArrivalLemmas.{arrives, closes_failed, closes_exited, closes_without_memory, send_few, stands_after_send, closes_cut, asks_here, may_take, closes_finished, closes_read_fault, closes_read_memory, closes_refused, stands_after_item, less_after_send, less_after_item}
+use Rattle.rx_serve.proofs.ArrivalLemmas.{arrives, closes_failed, closes_exited, closes_without_memory, send_few, stands_after_send, gave_frame, gave_part, closes_cut, asks_here, may_take, closes_finished, closes_read_fault, closes_read_memory, closes_refused, stands_after_item, less_after_send, less_after_item}
 use Rattle.rx_serve.proofs.session.serve.Goals as goal
 
 pub returns-in-Err-clause-served : goal.returns-in-Err-clause-served
@@ -72,7 +69,7 @@ pub events-preserved-in-Ok-give_frame : goal.events-preserved-in-Ok-give_frame
 events-preserved-in-Ok-give_frame g c =
     let event = rw c.in-Ok-Emits.field-0-is at c.in-Ok-Emits.ensures.event in
     let arrived = arrives _ _ _ _ _ c.events.cpu c.run_to_event-event.new.self _ c.args.steps.now c.events.steps c.run_to_event-event.new.steps c.events.done c.events.offset c.events.invariant.standing c.run_to_event-event.ensures.later event in
-    let gave = subst (λ bytes. Appends (g.K.Sink.told c.events.sink) (g.K.Sink.told c.give_frame.new.sink) (frame 2 c.in-Ok-Emits.conn bytes)) c.as_slice.ensures c.in-Ok-give_frame.ensures.bytes in
+    let gave = gave_frame _ _ _ _ _ c.as_slice.ensures c.in-Ok-give_frame.ensures.bytes in
     record {
       standing = stands_after_send _ _ _ _ _ _ _ _ _ _ _ _ _ arrived gave;
       source_later = c.events.invariant.source_later;
@@ -83,28 +80,28 @@ pub returns-in-Err-Failed-clause-served : goal.returns-in-Err-Failed-clause-serv
 returns-in-Err-Failed-clause-served g c =
     let event = rw c.in-Ok-Emits.field-0-is at c.in-Ok-Emits.ensures.event in
     let arrived = arrives _ _ _ _ _ c.events.cpu c.run_to_event-event.new.self _ c.args.steps.now c.events.steps c.run_to_event-event.new.steps c.events.done c.events.offset c.events.invariant.standing c.run_to_event-event.ensures.later event in
-    let gave = subst (λ bytes. GivesAll (g.K.Sink.told c.events.sink) (g.K.Sink.told c.give_frame.new.sink) (frame 2 c.in-Ok-Emits.conn bytes) (Err c.in-Err-Failed.field-0)) c.as_slice.ensures c.in-Err-Failed.ensures.bytes in
+    let gave = gave_part _ _ _ _ _ c.in-Err-Failed.field-0 c.as_slice.ensures c.in-Err-Failed.ensures.bytes in
     (closes_cut _ _ _ _ _ _ _ _ _ _ _ _ _ c.taken-taken.result c.since.result c.in-Err-Failed.field-0 WriteFault arrived c.taken-taken.ensures c.since.ensures gave (λ state items given. refl)).served
 
 pub returns-in-Err-Failed-clause-counted : goal.returns-in-Err-Failed-clause-counted
 returns-in-Err-Failed-clause-counted g c =
     let event = rw c.in-Ok-Emits.field-0-is at c.in-Ok-Emits.ensures.event in
     let arrived = arrives _ _ _ _ _ c.events.cpu c.run_to_event-event.new.self _ c.args.steps.now c.events.steps c.run_to_event-event.new.steps c.events.done c.events.offset c.events.invariant.standing c.run_to_event-event.ensures.later event in
-    let gave = subst (λ bytes. GivesAll (g.K.Sink.told c.events.sink) (g.K.Sink.told c.give_frame.new.sink) (frame 2 c.in-Ok-Emits.conn bytes) (Err c.in-Err-Failed.field-0)) c.as_slice.ensures c.in-Err-Failed.ensures.bytes in
+    let gave = gave_part _ _ _ _ _ c.in-Err-Failed.field-0 c.as_slice.ensures c.in-Err-Failed.ensures.bytes in
     (closes_cut _ _ _ _ _ _ _ _ _ _ _ _ _ c.taken-taken.result c.since.result c.in-Err-Failed.field-0 WriteFault arrived c.taken-taken.ensures c.since.ensures gave (λ state items given. refl)).counts
 
 pub returns-in-Err-Memory-clause-served : goal.returns-in-Err-Memory-clause-served
 returns-in-Err-Memory-clause-served g c =
     let event = rw c.in-Ok-Emits.field-0-is at c.in-Ok-Emits.ensures.event in
     let arrived = arrives _ _ _ _ _ c.events.cpu c.run_to_event-event.new.self _ c.args.steps.now c.events.steps c.run_to_event-event.new.steps c.events.done c.events.offset c.events.invariant.standing c.run_to_event-event.ensures.later event in
-    let gave = subst (λ bytes. GivesAll (g.K.Sink.told c.events.sink) (g.K.Sink.told c.give_frame.new.sink) (frame 2 c.in-Ok-Emits.conn bytes) (Err c.in-Err-Memory.field-0)) c.as_slice.ensures c.in-Err-Memory.ensures.bytes in
+    let gave = gave_part _ _ _ _ _ c.in-Err-Memory.field-0 c.as_slice.ensures c.in-Err-Memory.ensures.bytes in
     (closes_cut _ _ _ _ _ _ _ _ _ _ _ _ _ c.taken-taken.result c.since.result c.in-Err-Memory.field-0 Memory arrived c.taken-taken.ensures c.since.ensures gave (λ state items given. tt)).served
 
 pub returns-in-Err-Memory-clause-counted : goal.returns-in-Err-Memory-clause-counted
 returns-in-Err-Memory-clause-counted g c =
     let event = rw c.in-Ok-Emits.field-0-is at c.in-Ok-Emits.ensures.event in
     let arrived = arrives _ _ _ _ _ c.events.cpu c.run_to_event-event.new.self _ c.args.steps.now c.events.steps c.run_to_event-event.new.steps c.events.done c.events.offset c.events.invariant.standing c.run_to_event-event.ensures.later event in
-    let gave = subst (λ bytes. GivesAll (g.K.Sink.told c.events.sink) (g.K.Sink.told c.give_frame.new.sink) (frame 2 c.in-Ok-Emits.conn bytes) (Err c.in-Err-Memory.field-0)) c.as_slice.ensures c.in-Err-Memory.ensures.bytes in
+    let gave = gave_part _ _ _ _ _ c.in-Err-Memory.field-0 c.as_slice.ensures c.in-Err-Memory.ensures.bytes in
     (closes_cut _ _ _ _ _ _ _ _ _ _ _ _ _ c.taken-taken.result c.since.result c.in-Err-Memory.field-0 Memory arrived c.taken-taken.ensures c.since.ensures gave (λ state items given. tt)).counts
 
 pub take_item-requires-clause-asks : goal.take_item-requires-clause-asks

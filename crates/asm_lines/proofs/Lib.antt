@@ -1,0 +1,4 @@
+mod Examples
+pub mod Cutting
+pub mod Clipping
+pub mod Parting

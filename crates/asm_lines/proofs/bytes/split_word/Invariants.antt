@@ -1,0 +1,9 @@
+use Rattle.std.proofs.Common.{◌≡◌, ◌++◌, take, drop}
+use Rattle.asm_lines.specs.Bytes.{first_word, behind_word}
+use Rattle.asm_lines.proofs.bytes.split_word.Given as goal
+
+abbrev pub invariant-loop-i : goal.invariant-loop-i
+invariant-loop-i l = record {
+  word : take l.i l.bytes ++ first_word (drop l.i l.bytes) ≡ first_word l.bytes;
+  rest : behind_word (drop l.i l.bytes) ≡ behind_word l.bytes;
+}

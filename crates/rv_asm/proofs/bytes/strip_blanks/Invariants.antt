@@ -1,9 +1,0 @@
-use Rattle.std.proofs.Common.{◌≡◌, length}
-use Rattle.rv_asm.specs.Bytes.{strip_blanks}
-use Rattle.rv_asm.proofs.bytes.strip_blanks.Given as goal
-
-abbrev pub invariant-blanks : goal.invariant-blanks
-invariant-blanks l = strip_blanks l.rest ≡ strip_blanks l.bytes
-
-abbrev pub decreases-blanks : goal.decreases-blanks
-decreases-blanks l = length l.rest

@@ -1,6 +1,0 @@
-use Rattle.std.proofs.Common.{◌≡◌, ◌++◌, take, drop, false}
-use Rattle.rv_asm.specs.Lines.{uncommented}
-use Rattle.rv_asm.proofs.lines.uncommented.Given as goal
-
-abbrev pub invariant-loop-i : goal.invariant-loop-i
-invariant-loop-i l = take l.i l.line ++ uncommented l.quoted (drop l.i l.line) ≡ uncommented false l.line
