@@ -6,7 +6,11 @@ is 100.8 million instructions, fewer than a million between two items. It is run
 stores in a data segment, and on the stack. Each run's replies are checked. The times are processor times, the best of
 three runs; the runs of both take turns.
 
-usage: speed.py [--runs N] [--messages N] [RX]
+With --count it tells instead how many instructions of the host each of the two does for one of the guest, as valgrind's
+callgrind counts them: that doesn't move with what else the machine does. It is the difference between a run of six
+messages and one of two.
+
+usage: speed.py [--runs N] [--messages N] [--count] [RX]
 
 RX is the built rx, crates/rx/out/rx unless it is given. The interpreter is compiled by `rustc -O`; where there is no
 rustc, rx is measured alone. Programs and input are made in a temporary folder.
@@ -14,6 +18,7 @@ rustc, rx is measured alone. Programs and input are made in a temporary folder.
 
 import argparse
 import os
+import re
 import shutil
 import struct
 import subprocess
@@ -205,6 +210,29 @@ def measure(name, program, runs, messages, rx, interpreter, folder):
         print("%-13s %-12s %7.2f times the interpreter's time" % (name, "rx", min(of_rx) / min(of_interpreter)))
 
 
+def host_instructions(words, frames):
+    """How many instructions of the host a run does, as callgrind counts them."""
+    with tempfile.TemporaryFile() as given:
+        given.write(frames)
+        given.seek(0)
+        counted = ["valgrind", "--tool=callgrind", "--callgrind-out-file=/dev/null"] + words
+        done = subprocess.run(counted, stdin=given, stdout=subprocess.DEVNULL, stderr=subprocess.PIPE, text=True, check=True)
+    return int(re.search(r"Collected : (\d+)", done.stderr).group(1))
+
+
+def count(name, program, rx, interpreter, folder):
+    path = os.path.join(folder, "program")
+    with open(path, "wb") as file:
+        file.write(program.file())
+    rx_words = [rx, "run", path, "--record", folder + "/record", "--report", folder + "/report", "--frame", "whole"]
+    few, many = 2, 6
+    steps = program.steps(many) - program.steps(few)
+    for what, words in (("rx", rx_words), ("interpreter", [interpreter, path])):
+        if words[0]:
+            host = host_instructions(words, conversation(many)[0]) - host_instructions(words, conversation(few)[0])
+            print("%-13s %-12s %7.1f host instructions for one of the guest" % (name, what, host / steps))
+
+
 def compiled(folder):
     """The interpreter, built in a folder, or None where there is no rustc."""
     if not shutil.which("rustc"):
@@ -218,12 +246,16 @@ def main():
     parser = argparse.ArgumentParser(description="Measures how many instructions a second rx does.")
     parser.add_argument("--runs", type=int, default=3)
     parser.add_argument("--messages", type=int, default=112)
+    parser.add_argument("--count", action="store_true")
     parser.add_argument("rx", nargs="?", default=os.path.join(HERE, "..", "crates", "rx", "out", "rx"))
     words = parser.parse_args()
     with tempfile.TemporaryDirectory() as folder:
         interpreter = compiled(folder)
         for name, program in PROGRAMS:
-            measure(name, program, words.runs, words.messages, os.path.abspath(words.rx), interpreter, folder)
+            if words.count:
+                count(name, program, os.path.abspath(words.rx), interpreter, folder)
+            else:
+                measure(name, program, words.runs, words.messages, os.path.abspath(words.rx), interpreter, folder)
 
 
 if __name__ == "__main__":
