@@ -4,7 +4,7 @@
 The second machine is `Guest` below. It is written from the RISC-V unprivileged manual (RV32I and "M") and from the README's
 tables of areas, calls, causes and answers, and shares nothing with rx. Programs are pseudo-random: arithmetic, loads, stores,
 jumps and calls, with addresses at the edges of segments, heap and stack, and now and then a word that is no instruction, a
-call that isn't there, or a loop without an end. They send their registers' digest, so a wrong value shows in a reply. The
+call that isn't there, or a loop without an end. They send their registers, so a wrong value shows in a reply. The
 input is the opening and some messages; at times it breaks off or goes on with a wrong frame. Standard output, the status, and
 the failing point, cause, offset or code on standard error are compared.
 
@@ -323,7 +323,7 @@ class Writer:
         self.words += [i_type(1, 0, 0, 17), ECALL]
 
     def reply(self, safe):
-        """Sends a digest of all registers, which stand on the stack."""
+        """Sends the registers that it works with, by way of the stack."""
         for i, register in enumerate(WORKING):
             self.words.append(s_type(4 * i - 1024, register, 2, 2))
         length = 4 * len(WORKING) if safe else self.rng.choice([0, 1, 65535, 65536, MASK])
