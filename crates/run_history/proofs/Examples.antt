@@ -16,13 +16,14 @@ use Rattle.rv_isa.specs.Meaning.{displaced, indirect_target, word_sum, is_less_s
 use Rattle.elf_image.specs.declared.image.Image.{Image}
 use Rattle.elf_image.specs.declared.segment.Segment.{Segment}
 use Rattle.elf_image.specs.Layout.{heap_floor, IsPlaced, overlap, no_load, bad_entry, too_large, layout_refusal}
+use Rattle.rx_io.specs.Sends.{sent_to}
 use Rattle.run_history.specs.declared.answer.Cause.TheVariants.{BadAccess, BadJump, AssertFailed, BadCall, Hang}
 use Rattle.elf_image.specs.Memory.{Area, execute, read, write, byte_at, permitted, bytes_at, put_bytes}
 use Rattle.elf_image.specs.Image.{base, heap_start, heap_end, stack_top, zeros, memory_of, written}
 use Rattle.run_history.specs.Machine.{Machine, State, register, with_register, start_machine, Goes, Emits, Ends, Fails}
 use Rattle.run_history.specs.Instruction.{auipc, jal, jalr, branch, load, store, op_imm, op, fence, ebreak}
 use Rattle.run_history.specs.Call.{received, answered, send, call}
-use Rattle.run_history.specs.Run.{instruction, effect, effect_within, next, run, sent_to}
+use Rattle.run_history.specs.Run.{instruction, effect, effect_within, next, run}
 
 -- A program that sends back each message. Its words, as an assembler gives them:
 abbrev pub echo : List ℕ

@@ -4,9 +4,10 @@ use Rattle.std.proofs.lemmas.Grind.{flat_map-append}
 use Rattle.std.proofs.lemmas.Option.{option_and_then_some, none-some, same_Some}
 use Rattle.rx_io.specs.declared.bytes.Item.{Item}
 use Rattle.rx_io.specs.Prefix.{Prefix}
+use Rattle.rx_io.specs.Sends.{Send, sent_to}
 use Rattle.run_history.specs.declared.choice.Choice.{Choice}
-use Rattle.run_history.specs.Machine.{Send, State, Effect, Goes, Emits, Ends, Wants, Fails}
-use Rattle.run_history.specs.Run.{effect, after, next, run, sent_to, output}
+use Rattle.run_history.specs.Machine.{State, Effect, Goes, Emits, Ends, Wants, Fails}
+use Rattle.run_history.specs.Run.{effect, after, next, run, output}
 use Rattle.run_history.proofs.Runs.{next_parts, run_from}
 
 -- a list is its own front

@@ -2,6 +2,7 @@
 use Rattle.std.specs.Prelude.{ℕ, ◌+◌, ◌%◌, ◌^◌, Bool, false, List, [], Option, None, replicate, slice_index, slice_set, if◌then◌else◌, ◌==◌}
 use Rattle.run_history.specs.declared.answer.Cause.{Cause}
 use Rattle.elf_image.specs.declared.image.Image.{Image}
+use Rattle.rx_io.specs.Sends.{Send}
 use Rattle.elf_image.specs.Memory.{Area}
 use Rattle.elf_image.specs.Image.{memory_of, stack_top}
 
@@ -21,12 +22,6 @@ pub record Machine : Type 0 where
   pub connections : List Bool
   -- the instructions since the last item was taken, or since the start
   pub since : ℕ
-
--- a send: to which connection, the bytes, and the items that were taken when it was made
-pub record Send : Type 0 where
-  pub conn : ℕ
-  pub bytes : List ℕ
-  pub taken : ℕ
 
 -- the machine, what it has sent so far, and the code with which it ended itself, if it did
 pub record State : Type 0 where

@@ -1,16 +1,17 @@
 -- Whole runs: the iteration of one instruction. Items are taken by their number, so a longer list of them keeps
 -- every run that there is.
-use Rattle.std.specs.Prelude.{◌≡◌, ℕ, zero, suc, List, [], ◌∷◌, ◌++◌, length, Option, Some, None, is_some, option_and_then, flat_map, nat_le, if◌then◌else◌, ◌==◌}
+use Rattle.std.specs.Prelude.{◌≡◌, ℕ, zero, suc, List, [], ◌∷◌, ◌++◌, length, Option, Some, None, is_some, option_and_then, nat_le, if◌then◌else◌}
 use Rattle.rx_io.specs.declared.bytes.Item.{Item}
 use Rattle.rv_isa.specs.declared.instr.Instr.{Instr}
 use Rattle.rv_isa.specs.declared.instr.Instr.TheVariants.{Lui, Auipc, Jal, Jalr, Branch, Load, Store, OpImm, Op, Fence, Ecall, Ebreak}
 use Rattle.rv_isa.specs.Table.{row}
 use Rattle.rv_isa.specs.Words.{little_number}
+use Rattle.rx_io.specs.Sends.{Send, sent_to}
 use Rattle.run_history.specs.declared.answer.Cause.TheVariants.{BadAccess, BadInstruction, Hang}
 use Rattle.run_history.specs.declared.choice.Choice.{Choice}
 use Rattle.elf_image.specs.declared.image.Image.{Image}
 use Rattle.elf_image.specs.Memory.{execute, permitted, bytes_at}
-use Rattle.run_history.specs.Machine.{Machine, Send, State, register, start, Effect, Goes, Emits, Ends, Wants, Fails}
+use Rattle.run_history.specs.Machine.{Machine, State, register, start, Effect, Goes, Emits, Ends, Wants, Fails}
 use Rattle.run_history.specs.Instruction.{lui, auipc, jal, jalr, branch, load, store, op_imm, op, fence, ebreak}
 use Rattle.run_history.specs.Call.{call}
 
@@ -88,10 +89,6 @@ quiet_run budget m (suc steps) = option_and_then (λ mid. stays_quiet (effect_wi
 pub record Run (image : Image) (items : List Item) (choices : List Choice) (steps : ℕ) (state : State) : Type 0 where
   pub ran : run items choices (start image) steps ≡ Some state
   pub used : state.machine.allocations ≡ length choices
-
--- the bytes that sends give to a connection
-abbrev pub sent_to : ℕ → List Send → List ℕ
-sent_to conn sends = flat_map (λ (send : Send). if send.conn == conn then send.bytes else []) sends
 
 -- the output of a state on a connection
 abbrev pub output : State → ℕ → List ℕ

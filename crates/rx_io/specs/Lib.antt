@@ -12,3 +12,4 @@ pub mod Connections
 pub mod Reading
 pub mod Laws
 pub mod Prefix
+pub mod Sends

@@ -5,7 +5,8 @@ use Rattle.rx_io.specs.declared.journal.Entry.{Entry}
 use Rattle.rx_io.specs.declared.journal.Entry.TheVariants as entry
 use Rattle.rx_io.specs.declared.journal.LinkEvent.{LinkEvent}
 use Rattle.elf_image.specs.declared.image.Image.{Image}
-use Rattle.run_history.specs.Machine.{Send, start}
+use Rattle.rx_io.specs.Sends.{Send}
+use Rattle.run_history.specs.Machine.{start}
 use Rattle.run_history.proofs.Runs.{run_more}
 use Rattle.rx_serve.specs.Journal.{events_in, pieces_in, Reached, OwesNothing, LawfulFrom}
 

@@ -1,9 +1,8 @@
 -- What a stream of frames carries is what the sends gave, and less of the stream carries less.
+use Rattle.rx_io.specs.Sends.{Send, sent_to}
 use Rattle.std.proofs.Common.{◌≡◌, ℕ, ◌+◌, ◌*◌, ◌/◌, ◌%◌, ◌<◌, Bool, true, false, cond, eqb, List, [], ◌∷◌, ◌++◌, length, ◌∙◌, ap, subst, refl, arith}
 use Rattle.std.specs.List.{AllByRecursion}
 use Rattle.rx_io.specs.Prefix.{Prefix}
-use Rattle.run_history.specs.Machine.{Send}
-use Rattle.run_history.specs.Run.{sent_to}
 use Rattle.rx_serve.specs.Trunk.{frame, frames}
 use Rattle.rx_serve.specs.Session.{HasFrame}
 use Rattle.rx_serve.specs.Payload.{Place, Kind, ConnLow, ConnHigh, LengthLow, LengthHigh, Payload, within_payload, payload_from, payload}

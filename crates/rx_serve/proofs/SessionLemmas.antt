@@ -9,12 +9,13 @@ use Rattle.rx_io.specs.declared.bytes.Item.{Item}
 use Rattle.rx_io.specs.Outside.{Stream, Took, IsDrained}
 use Rattle.rx_io.specs.Prefix.{Prefix}
 use Rattle.rx_io.proofs.Composing.{took_nothing, took_more, gave_nothing, gave_more}
+use Rattle.rx_io.specs.Sends.{Send}
 use Rattle.run_history.specs.declared.answer.Answer.{Answer}
 use Rattle.run_history.specs.declared.answer.Answer.TheVariants as answer
 use Rattle.run_history.specs.declared.answer.Cause.{Cause}
 use Rattle.run_history.specs.declared.answer.Cause.TheVariants.{Hang}
 use Rattle.elf_image.specs.declared.image.Image.{Image}
-use Rattle.run_history.specs.Machine.{Machine, Send, State, start, start_machine, Emits, Ends, Wants, Fails}
+use Rattle.run_history.specs.Machine.{Machine, State, start, start_machine, Emits, Ends, Wants, Fails}
 use Rattle.run_history.specs.Call.{received}
 use Rattle.run_history.specs.Run.{effect_within, quiet_run, run_within}
 use Rattle.run_history.proofs.Runs.{quiet_keeps, quiet_since, emits_keeps, emits_may, emits_since, within, item_behind, received_keeps}

@@ -1,12 +1,12 @@
 -- The trunk: frames of many connections on one stream. A frame is its kind (one byte), its connection and its
 -- payload's length (two bytes each, little-endian), and the payload.
+use Rattle.rx_io.specs.Sends.{Send}
 use Rattle.std.specs.Prelude.{◌≡◌, ◌≢◌, ◌⊎◌, ℕ, ◌<◌, ◌≤◌, List, [], ◌∷◌, ◌++◌, length, take, flat_map, Option, Some, None, Result, Ok, Err, IfSome, Vec}
 use Rattle.std.specs.Io.KnownBytes.{Appends}
 use Rattle.rx_io.specs.declared.bytes.Item.{Item}
 use Rattle.rx_io.specs.Outside.{Stream, Took, IsDrained}
 use Rattle.rx_io.specs.Prefix.{Prefix}
 use Rattle.rv_isa.specs.Words.{little_bytes}
-use Rattle.run_history.specs.Machine.{Send}
 use Rattle.std.specs.declared.alloc.Global.{Global}
 use Rattle.rx_io.specs.declared.fault.IoFault.{IoFault}
 use Rattle.rx_io.specs.declared.fault.IoFault.TheVariants as io
