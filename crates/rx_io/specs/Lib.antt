@@ -13,3 +13,4 @@ pub mod Reading
 pub mod Laws
 pub mod Prefix
 pub mod Sends
+pub mod Links

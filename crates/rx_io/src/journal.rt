@@ -12,6 +12,19 @@ pub enum LinkEvent {
     Ends,
 }
 
+/// Why a call on a link gave nothing, or not all.
+#[derive(Clone, Copy, Debug, PartialEq, Eq)]
+pub enum LinkFault {
+    /// The link's grammar has no event at this offset, by this kind of refusal.
+    Refused { kind: u8, offset: u64 },
+    /// Taking an event failed: the link's count of failed takes rose.
+    ReadFault,
+    /// Giving a piece failed: the link's count of failed gives rose.
+    WriteFault,
+    /// Memory ran out.
+    Memory,
+}
+
 /// How much of a piece was given: all of it, or so many of its first bytes before its connection was gone.
 #[derive(Clone, Copy, Debug, PartialEq, Eq)]
 pub enum Given {

@@ -1,5 +1,5 @@
 // Objects outside that are lent.
-use crate::{Files, IoFault, Listener, LoadFault, Sink, Source};
+use crate::{Files, Given, IoFault, Link, LinkEvent, LinkFault, Listener, LoadFault, Sink, Source};
 use std::alloc::Global;
 
 impl<T: Source> Source for &mut T {
@@ -71,5 +71,35 @@ impl<T: Listener> Listener for &mut T {
 
     fn close(&mut self) {
         Listener::close(&mut **self)
+    }
+}
+
+impl<T: Link> Link for &mut T {
+    ghost told = { λ s. T.told s.now };
+
+    ghost phases = { λ s. T.phases s.now };
+
+    ghost coming = { λ s. T.coming s.now };
+
+    ghost handed = { λ s. T.handed s.now };
+
+    ghost gives_to = { λ s. T.gives_to s.now };
+
+    ghost takes = { λ s. T.takes s.now };
+
+    ghost gives = { λ s. T.gives s.now };
+
+    ghost counts = { λ s. T.counts s.now };
+
+    ghost gives_open = { λ s. T.gives_open s.now };
+
+    ghost below = { λ s. T.below s.now };
+
+    fn next(&mut self) -> Result<LinkEvent, LinkFault> {
+        Link::next(&mut **self)
+    }
+
+    fn give(&mut self, conn: u16, bytes: &[u8]) -> Result<Given, LinkFault> {
+        Link::give(&mut **self, conn, bytes)
     }
 }
