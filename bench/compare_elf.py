@@ -1,7 +1,7 @@
 #!/usr/bin/env python3
 """Whether `rx run` accepts and refuses program files as a second reader does.
 
-The second reader is `refusal` below: the table of refusals of the README, in order, written from the ELF
+The second reader is `refusal` below: the table of refusals of docs/USING.md, in order, written from the ELF
 specification's headers (System V ABI, "ELF Header", "Program Header") and the RISC-V ELF psABI's e_flags. It shares
 nothing with rx. The files are executables of one to five segments, made here, which lie apart, touch, or overlap by a byte,
 reach to the window's end or the address space's, and in which some fields and single bytes are then changed, to values at

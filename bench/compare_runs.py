@@ -1,8 +1,8 @@
 #!/usr/bin/env python3
 """Whether whole runs of `rx run` end and reply as a second machine says.
 
-The second machine is `Guest` below. It is written from the RISC-V unprivileged manual (RV32I and "M") and from the README's
-tables of areas, calls, causes and answers, and shares nothing with rx. Programs are pseudo-random: arithmetic, loads, stores,
+The second machine is `Guest` below. It is written from the RISC-V unprivileged manual (RV32I and "M") and from the tables of
+areas, calls, causes and answers of docs/USING.md, and shares nothing with rx. Programs are pseudo-random: arithmetic, loads, stores,
 jumps and calls, with addresses at the edges of segments, heap and stack, and now and then a word that is no instruction, a
 call that isn't there, or a loop without an end. They send their registers, so a wrong value shows in a reply. The
 input is the opening and some messages; at times it breaks off or goes on with a wrong frame. Standard output, the status, and
