@@ -47,6 +47,3 @@ pub use tame_files::TameFiles;
 pub use tame_listener::TameListener;
 pub use tame_sink::TameSink;
 pub use tame_source::TameSource;
-
-#[cfg(test)]
-mod tests;

@@ -1,17 +1,16 @@
 // One happy path per form, and what no clause says: that calls succeed, what std does, and interrupted calls.
-ghost use Rattle.std.specs.Prelude.{◌≡◌, ℕ, ◌+◌, ◌<◌};
-
-use super::*;
-use std::alloc::Global;
-use std::io::{ErrorKind, Read};
-use std::marker::Brand;
+use rx_io::{
+    Files, IoFault, ListenEntry, Listener, LoadFault, MemoryFiles, MemorySink, MemorySource, Sink,
+    Source, StdFiles, StdSink, StdSource, TameFiles, TameListener, TameSink, TameSource,
+};
+use std::alloc::{Allocator, Global};
+use std::io::{BufRead, ErrorKind, Input, Lines, Read};
 use std::process::Abort;
-use std::sync::ledger::{Blank, Ledger};
 use std::test::Fail;
 use std::{fs, io};
 
 // A reader that is interrupted so often before it gives a 7.
-#[derive(Drop)]
+#[derive(Clone, Copy)]
 struct Interrupted(u32);
 
 impl Read for Interrupted {
@@ -28,58 +27,55 @@ impl Read for Interrupted {
     }
 }
 
-// Takes the two first bytes, and counts a step for each call.
-fn take_two<S: Source + Drop, L: Ledger>(
-    rt: &impl Abort,
-    mut source: S,
-    steps: &mut Steps<L>,
-) -> [u8; 2]
-    ensures { steps.new ≡ steps.old + 2 }
-{
-    let mut first = [0u8; 1];
-    let mut second = [0u8; 1];
-    steps.tick();
-    assert_eq!(rt; source.take(&mut first), Ok(1));
-    steps.tick();
-    assert_eq!(rt; source.take(&mut second), Ok(1));
-    [first[0], second[0]]
+impl BufRead for Interrupted {
+    fn fill_buf(&mut self) -> io::Result<&[u8]> {
+        Ok(&[])
+    }
+
+    fn consume(&mut self, _amount: usize) {}
 }
 
-// What needs a counter is generic over its ledger, and is handed the blank of which the counter is made.
-fn counted<L: Ledger>(rt: &impl Abort, blank: Blank, source: &mut TameSource) -> [u8; 2]
-    requires name { blank.name ≡ L.name }
-    requires parts { blank.parts ≡ L.parts }
-    requires some { 0 < blank.parts }
-{
-    let mut steps = Steps::<L>::start(blank);
-    take_two(rt, source, &mut steps)
-}
+// A standard input whose readers are all like that.
+impl Input for Interrupted {
+    type Reader = Interrupted;
 
-#[test]
-fn a_counter_is_started(rt: HostRuntime) -> Result<(), Fail> {
-    let alloc = rt.alloc();
-    let mut source = TameSource::make([7, 8, 9].to_vec(alloc)?, 2);
-    let two = counted::<Brand>(&rt, Blank::new(1), &mut source);
-    assert_eq!(rt; two, [7, 8]);
-    Ok(())
+    fn read_line<A: Allocator + Clone>(&self, _buf: &mut String<A>) -> io::Result<usize> {
+        Ok(0)
+    }
+
+    fn lines<A: Allocator>(&self, alloc: A) -> Lines<Interrupted, A> {
+        self.reader().lines(alloc)
+    }
+
+    fn reader(&self) -> Interrupted {
+        *self
+    }
 }
 
 #[test]
-fn a_source_fails_where_it_is_to(rt: HostRuntime) -> Result<(), Fail> {
+fn standard_streams_answer(rt: HostRuntime) {
+    let mut buf = [0u8; 2];
+    assert!(rt; StdSource::make(&rt).take(&mut buf).is_ok());
+    assert_eq!(rt; StdSink::make(&rt).give(b"\n"), Ok(1));
+    for (times, want) in [(3, Ok(1)), (u32::MAX, Err(IoFault::Failed))] {
+        let input = Interrupted(times);
+        assert_eq!(rt; StdSource::make(&input).take(&mut buf), want);
+    }
+}
+
+#[test]
+fn memory_takes_and_gives(rt: HostRuntime) -> Result<(), Fail> {
     let alloc = rt.alloc();
+    let mut tame = TameSource::make([7, 8, 9].to_vec(alloc)?, 2);
     let mut source = MemorySource::make([1, 2, 3].to_vec(alloc)?, [2].to_vec(alloc)?, 2);
     let mut buf = [0u8; 4];
+    assert_eq!(rt; (&mut tame).take(&mut buf), Ok(2));
+    assert_eq!(rt; buf, [7, 8, 0, 0]);
     assert_eq!(rt; source.take(&mut buf), Ok(2));
     assert_eq!(rt; source.take(&mut buf), Err(IoFault::Failed));
     assert_eq!(rt; source.take(&mut buf), Ok(1));
     assert_eq!(rt; buf, [3, 2, 0, 0]);
     assert_eq!(rt; source.take(&mut buf), Ok(0));
-    Ok(())
-}
-
-#[test]
-fn sinks_keep_what_they_took(rt: HostRuntime) -> Result<(), Fail> {
-    let alloc = rt.alloc();
     let mut tame = TameSink::make(alloc, 2);
     let mut sink = MemorySink::make(alloc, [2].to_vec(alloc)?, 3);
     assert_eq!(rt; (&mut tame).give(b"abc"), Ok(2));
@@ -113,7 +109,7 @@ fn use_files<F: Files + Drop>(
 }
 
 #[test]
-fn memory_files_hold_their_files(rt: HostRuntime) -> Result<(), Fail> {
+fn memory_holds_files(rt: HostRuntime) -> Result<(), Fail> {
     let alloc = rt.alloc();
     let mut files = MemoryFiles::make(alloc, Vec::new(alloc), [11].to_vec(alloc)?);
     use_files(&rt, alloc, &mut files, "rx_io_missing")?;
@@ -124,12 +120,7 @@ fn memory_files_hold_their_files(rt: HostRuntime) -> Result<(), Fail> {
         b"fg".as_slice()
     );
     assert!(rt; files.bytes_of("rx_io_missing").is_none());
-    Ok(())
-}
-
-#[test]
-fn a_missing_name_is_loaded_as_an_empty_file(rt: HostRuntime) -> Result<(), Fail> {
-    let alloc = rt.alloc();
+    // A missing name is loaded as an empty file.
     let mut held = Vec::new(alloc);
     held.push((String::from_str(alloc, "a")?, b"xy".to_vec(alloc)?))?;
     let mut files = TameFiles::make(alloc, held);
@@ -144,16 +135,12 @@ fn a_missing_name_is_loaded_as_an_empty_file(rt: HostRuntime) -> Result<(), Fail
 }
 
 #[test]
-fn files_of_the_system_are_made_and_loaded(rt: HostRuntime) -> Result<(), Fail> {
-    use_files(&rt, rt.alloc(), StdFiles::make(&rt), "rx_io_no_folder/a")?;
+fn the_system_holds_files(rt: HostRuntime) -> Result<(), Fail> {
+    let alloc = rt.alloc();
+    use_files(&rt, alloc, StdFiles::make(&rt), "rx_io_no_folder/a")?;
     fs::remove_file(&rt, "rx_io_a")?;
     fs::remove_file(&rt, "rx_io_b")?;
-    Ok(())
-}
-
-#[test]
-fn a_long_file_is_loaded_whole(rt: HostRuntime) -> Result<(), Fail> {
-    let alloc = rt.alloc();
+    // A file of several pieces is loaded whole.
     let mut files = StdFiles::make(&rt);
     let bytes = vec![in alloc; 5u8; 10_000]?;
     assert_eq!(rt; files.add("rx_io_long", bytes.as_slice()), Ok(()));
@@ -163,23 +150,6 @@ fn a_long_file_is_loaded_whole(rt: HostRuntime) -> Result<(), Fail> {
     assert_eq!(rt; whole.ok().ok_or("not loaded")?.len(), 10_000);
     assert!(rt; matches!(short, Err(LoadFault::TooLarge)));
     Ok(())
-}
-
-#[test]
-fn the_standard_streams_answer(rt: HostRuntime) {
-    let mut buf = [0u8; 1];
-    assert!(rt; StdSource::make(&rt).take(&mut buf).is_ok());
-    assert_eq!(rt; StdSink::make(&rt).give(b"\n"), Ok(1));
-}
-
-#[test]
-fn an_interrupted_read_is_tried_again(rt: HostRuntime) {
-    let mut buf = [0u8; 2];
-    assert_eq!(rt; attempts::read_some(&mut Interrupted(3), &mut buf), Some(1));
-    assert_eq!(rt;
-        attempts::read_some(&mut Interrupted(u32::MAX), &mut buf),
-        None
-    );
 }
 
 // A call's number in the order of the enum, and its sizes.

@@ -1,0 +1,5 @@
+//! The tests of the outside: what no clause of it says.
+#![tactic(auto)]
+
+#[cfg(test)]
+mod rx_io_tests;
