@@ -25,6 +25,3 @@ pub use mnemonics::{gives_bytes, stands_in};
 pub use part::Part;
 pub use statement::Statement;
 pub use statements::statement_of;
-
-#[cfg(test)]
-mod tests;

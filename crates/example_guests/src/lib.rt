@@ -18,6 +18,3 @@ mod twice;
 mod unset;
 
 pub use catalogue::source_of;
-
-#[cfg(test)]
-mod tests;

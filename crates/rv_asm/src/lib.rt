@@ -15,6 +15,3 @@ pub use asm_lines::explain;
 pub use asm_refusal::AsmRefusal;
 pub use assembling::assemble;
 pub use laws::one_image;
-
-#[cfg(test)]
-mod tests;
