@@ -249,7 +249,8 @@ impl GuestSpace {
         }
     }
 
-    /// So many bytes from an address on.
+    /// So many bytes from an address on. It requires that they may be read, which `allows` tests, and refuses nothing: the
+    /// only error is want of memory.
     pub fn read_bytes(&self, alloc: Global, at: u32, len: u32) -> Result<Vec<u8>, AllocError>
         requires { permitted 4 self.now at len ≡ true }
         ensures { IfOk result (λ bytes. bytes.items ≡ bytes_at 4 self.now at len) }
@@ -265,7 +266,7 @@ impl GuestSpace {
         Ok(bytes)
     }
 
-    /// Puts bytes from an address on.
+    /// Puts bytes from an address on. It requires that all of them may be written, which `allows` tests, and refuses nothing.
     pub fn write_bytes(&mut self, at: u32, bytes: &[u8])
         requires { permitted 2 self.old at (length bytes.now) ≡ true }
         ensures { self.new ≡ put_bytes self.old at bytes.now }
