@@ -21,6 +21,3 @@ pub use reading::read_image;
 pub use refused_field::{RefusedField, field_of_refusal};
 pub use segment::Segment;
 pub use writing::write_image;
-
-#[cfg(test)]
-mod tests;

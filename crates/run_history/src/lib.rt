@@ -10,6 +10,3 @@ mod regs;
 pub use answer::{Answer, Cause};
 pub use choice::{Choice, Choices};
 pub use regs::Regs;
-
-#[cfg(test)]
-mod tests;

@@ -7,10 +7,6 @@ mod encoding;
 mod instr;
 mod laws;
 mod meaning;
-#[cfg(test)]
-mod meaning_tests;
-#[cfg(test)]
-mod tests;
 
 pub use decoding::decode;
 pub use encoding::encode;

@@ -1,8 +1,9 @@
-use super::*;
+use run_history::{Choice, Choices, laws};
 use std::test::Fail;
 
+// Choices keep their order; the laws do nothing, and return.
 #[test]
-fn choices_keep_their_order(rt: HostRuntime) -> Result<(), Fail> {
+fn choices_and_laws(rt: HostRuntime) -> Result<(), Fail> {
     let first = Choice {
         at: 0x11000,
         zeroed: false,
@@ -13,13 +14,8 @@ fn choices_keep_their_order(rt: HostRuntime) -> Result<(), Fail> {
     };
     let choices = Choices::from_vec([first, second].to_vec(rt.alloc())?);
     assert_eq!(rt; choices.as_slice(), [first, second].as_slice());
-    Ok(())
-}
-
-// The laws do nothing, and return.
-#[test]
-fn laws_return() {
     laws::runs_compose();
     laws::runs_stay();
     laws::outputs_grow();
+    Ok(())
 }

@@ -1,4 +1,4 @@
-use super::*;
+use elf_image::{ElfRefusal, field_of_refusal, read_image, write_image};
 use std::alloc::{AllocError, Global};
 use std::test::Fail;
 
@@ -53,59 +53,6 @@ fn edited(alloc: Global, edits: &[(usize, u8)]) -> Result<Vec<u8>, AllocError> {
     Ok(file)
 }
 
-#[test]
-fn three_is_accepted(rt: HostRuntime) -> Result<(), Fail> {
-    let image = read_image(rt.alloc(), &THREE, WINDOW)?;
-    assert_eq!(rt; image.entry, 0x10000);
-    assert_eq!(rt; image.base(), 0x10000);
-    assert_eq!(rt; image.heap_start(), 0x11000);
-    assert_eq!(rt; image.heap_end(), 0x3ff000);
-    assert_eq!(rt; image.stack_top(), 0x410000);
-    Ok(())
-}
-
-#[test]
-fn what_is_written_is_the_file(rt: HostRuntime) -> Result<(), Fail> {
-    let three = write_image(rt.alloc(), &read_image(rt.alloc(), &THREE, WINDOW)?)?;
-    assert_eq!(rt; three.as_slice(), THREE.as_slice());
-    let two = write_image(rt.alloc(), &read_image(rt.alloc(), &TWO, WINDOW)?)?;
-    assert_eq!(rt; two.as_slice(), TWO.as_slice());
-    Ok(())
-}
-
-// Each edit of the executable alone, and the refusal that it brings.
-#[test]
-fn broken_files_are_refused(rt: HostRuntime) -> Result<(), Fail> {
-    let edits = [
-        (0, 0, 2),
-        (4, 2, 3),
-        (5, 2, 4),
-        (16, 3, 5),
-        (18, 0, 6),
-        (36, 1, 7),
-        (42, 31, 8),
-        (52, 3, 9),
-        (52, 7, 10),
-        (72, 15, 11),
-        (44, 0, 13),
-        (24, 2, 14),
-        (74, 0x40, 15),
-    ];
-    for (at, byte, number) in edits {
-        let file = edited(rt.alloc(), &[(at, byte)])?;
-        assert_eq!(rt; refusal_of(rt.alloc(), &file), Some(number));
-    }
-    assert_eq!(rt; refusal_of(rt.alloc(), &THREE[..51]), Some(1));
-    let class_and_machine = edited(rt.alloc(), &[(4, 2), (18, 0)])?;
-    assert_eq!(rt; refusal_of(rt.alloc(), &class_and_machine), Some(3));
-    let offset = edited(
-        rt.alloc(),
-        &[(56, 0xff), (57, 0xff), (58, 0xff), (59, 0xff)],
-    )?;
-    assert_eq!(rt; refusal_of(rt.alloc(), &offset), Some(11));
-    Ok(())
-}
-
 // Two equal program headers, and the text behind them.
 fn doubled(alloc: Global) -> Result<Vec<u8>, AllocError> {
     let mut file = edited(alloc, &[(44, 2), (56, 116)])?;
@@ -121,9 +68,17 @@ fn doubled(alloc: Global) -> Result<Vec<u8>, AllocError> {
 }
 
 #[test]
-fn a_segment_twice_overlaps(rt: HostRuntime) -> Result<(), Fail> {
-    let file = doubled(rt.alloc())?;
-    assert_eq!(rt; refusal_of(rt.alloc(), &file), Some(12));
+fn what_is_written_is_the_file(rt: HostRuntime) -> Result<(), Fail> {
+    let image = read_image(rt.alloc(), &THREE, WINDOW)?;
+    assert_eq!(rt; image.entry, 0x10000);
+    assert_eq!(rt; image.base(), 0x10000);
+    assert_eq!(rt; image.heap_start(), 0x11000);
+    assert_eq!(rt; image.heap_end(), 0x3ff000);
+    assert_eq!(rt; image.stack_top(), 0x410000);
+    let three = write_image(rt.alloc(), &image)?;
+    assert_eq!(rt; three.as_slice(), THREE.as_slice());
+    let two = write_image(rt.alloc(), &read_image(rt.alloc(), &TWO, WINDOW)?)?;
+    assert_eq!(rt; two.as_slice(), TWO.as_slice());
     Ok(())
 }
 
@@ -154,29 +109,6 @@ fn a_linked_file_is_accepted(rt: HostRuntime) -> Result<(), Fail> {
     let segments = image.segments.as_slice();
     assert_eq!(rt; segments.len(), 2);
     assert_eq!(rt; segments[1].filled.as_slice(), [1, 2, 3, 4].as_slice());
-    Ok(())
-}
-
-// 65535 segments of a byte each, the last one first; then the last of them once more where another is.
-#[test]
-fn many_segments_take_little_time(rt: HostRuntime) -> Result<(), Fail> {
-    let count = 65535;
-    let mut file = edited(
-        rt.alloc(),
-        &[(24, 0), (25, 0), (26, 0), (44, 255), (45, 255)],
-    )?;
-    file.truncate(52);
-    for i in 0..count {
-        for field in [1, 0, count - i, 0, 0, 1, 5, 1] {
-            let field: u32 = field;
-            file.extend_from_slice(&field.to_le_bytes())?;
-        }
-    }
-    assert_eq!(rt; refusal_of(rt.alloc(), &file), Some(14));
-    if let Some(place) = file.get_mut(60) {
-        *place = 0xfe;
-    }
-    assert_eq!(rt; refusal_of(rt.alloc(), &file), Some(12));
     Ok(())
 }
 
@@ -240,33 +172,84 @@ fn a_compiled_file_is_accepted(rt: HostRuntime) -> Result<(), Fail> {
     Ok(())
 }
 
+// Each edit of the executable alone, and the refusal that it brings.
 #[test]
-fn a_refusal_names_itself(rt: HostRuntime) -> Result<(), Fail> {
-    let text = format!(in rt.alloc(); "{}", ElfRefusal::Refused(7))?;
+fn broken_files_are_refused(rt: HostRuntime) -> Result<(), Fail> {
+    let edits = [
+        (0, 0, 2),
+        (4, 2, 3),
+        (5, 2, 4),
+        (16, 3, 5),
+        (18, 0, 6),
+        (36, 1, 7),
+        (42, 31, 8),
+        (52, 3, 9),
+        (52, 7, 10),
+        (72, 15, 11),
+        (44, 0, 13),
+        (24, 2, 14),
+        (74, 0x40, 15),
+    ];
+    for (at, byte, number) in edits {
+        let file = edited(rt.alloc(), &[(at, byte)])?;
+        assert_eq!(rt; refusal_of(rt.alloc(), &file), Some(number), "at {at}");
+    }
+    assert_eq!(rt; refusal_of(rt.alloc(), &THREE[..51]), Some(1));
+    let class_and_machine = edited(rt.alloc(), &[(4, 2), (18, 0)])?;
+    assert_eq!(rt; refusal_of(rt.alloc(), &class_and_machine), Some(3));
+    let offset = edited(
+        rt.alloc(),
+        &[(56, 0xff), (57, 0xff), (58, 0xff), (59, 0xff)],
+    )?;
+    assert_eq!(rt; refusal_of(rt.alloc(), &offset), Some(11));
+    assert_eq!(rt; refusal_of(rt.alloc(), &doubled(rt.alloc())?), Some(12));
+    Ok(())
+}
+
+// 65535 segments of a byte each, the last one first; then the last of them once more where another is.
+#[test]
+fn many_segments_take_little_time(rt: HostRuntime) -> Result<(), Fail> {
+    let count = 65535;
+    let mut file = edited(
+        rt.alloc(),
+        &[(24, 0), (25, 0), (26, 0), (44, 255), (45, 255)],
+    )?;
+    file.truncate(52);
+    for i in 0..count {
+        for field in [1, 0, count - i, 0, 0, 1, 5, 1] {
+            let field: u32 = field;
+            file.extend_from_slice(&field.to_le_bytes())?;
+        }
+    }
+    assert_eq!(rt; refusal_of(rt.alloc(), &file), Some(14));
+    if let Some(place) = file.get_mut(60) {
+        *place = 0xfe;
+    }
+    assert_eq!(rt; refusal_of(rt.alloc(), &file), Some(12));
+    Ok(())
+}
+
+// What a person reads of a refusal, and of the field that a file is refused for.
+#[test]
+fn refusals_have_texts(rt: HostRuntime) -> Result<(), Fail> {
+    let alloc = rt.alloc();
+    let text = format!(in alloc; "{}", ElfRefusal::Refused(7))?;
     assert_eq!(rt;
         text.as_str(),
         "program file refused (7): Flags: e_flags has RVC, a float ABI or RVE"
     );
-    Ok(())
-}
-
-// What a person reads of the field that a file is refused for.
-fn text_of_field(alloc: Global, file: &[u8], number: u8) -> Result<String, AllocError> {
-    match field_of_refusal(alloc, file, number, WINDOW)? {
-        Some(field) => format!(in alloc; "{field}"),
-        None => format!(in alloc; "nothing"),
+    for (file, number, want) in [
+        (edited(alloc, &[(18, 62)])?, 6, "e_machine at byte 18 is 62"),
+        (doubled(alloc)?, 12, "p_vaddr at byte 92 is 65536"),
+        (
+            edited(alloc, &[(74, 0x40)])?,
+            15,
+            "p_memsz at byte 72 is 4194320",
+        ),
+    ] {
+        let field = field_of_refusal(alloc, &file, number, WINDOW)?.ok_or("no field")?;
+        let text = format!(in alloc; "{field}")?;
+        assert_eq!(rt; text.as_str(), want);
     }
-}
-
-#[test]
-fn a_refused_field_is_told(rt: HostRuntime) -> Result<(), Fail> {
-    let machine = edited(rt.alloc(), &[(18, 62)])?;
-    let text = text_of_field(rt.alloc(), &machine, 6)?;
-    assert_eq!(rt; text.as_str(), "e_machine at byte 18 is 62");
-    let text = text_of_field(rt.alloc(), &doubled(rt.alloc())?, 12)?;
-    assert_eq!(rt; text.as_str(), "p_vaddr at byte 92 is 65536");
-    let large = edited(rt.alloc(), &[(74, 0x40)])?;
-    let text = text_of_field(rt.alloc(), &large, 15)?;
-    assert_eq!(rt; text.as_str(), "p_memsz at byte 72 is 4194320");
     Ok(())
 }
