@@ -7,6 +7,3 @@ mod space;
 
 pub use bad_access::BadAccess;
 pub use space::GuestSpace;
-
-#[cfg(test)]
-mod tests;

@@ -6,6 +6,3 @@ mod registers;
 mod stepping;
 
 pub use stepping::{next_instr, step};
-
-#[cfg(test)]
-mod tests;

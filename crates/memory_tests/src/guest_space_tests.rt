@@ -1,8 +1,6 @@
 // Memory of a small program, with its text and its data side by side: what may be touched, and what stands there.
-use super::*;
 use elf_image::read_image;
-use std::alloc::Global;
-use std::process::Abort;
+use guest_space::GuestSpace;
 use std::test::Fail;
 
 // An executable with eight bytes that may be read and executed at 0x10000, and behind them eight that may be read and
@@ -74,22 +72,26 @@ static RANGES: [(u32, u32, bool, bool); 8] = [
     (0xffff_ffff, 0, true, true),
 ];
 
-fn try_reads(rt: &impl Abort, space: &GuestSpace) {
+#[test]
+fn memory_is_as_the_file_says(rt: HostRuntime) -> Result<(), Fail> {
+    let image = read_image(rt.alloc(), &FILE, 4 << 20)?;
+    let mut space = GuestSpace::make(rt.alloc(), &image)?;
     for (at, want) in FETCHES {
         assert_eq!(rt; space.fetch(at).ok(), want, "{at:x}");
     }
     for (at, size, want) in LOADS {
         assert_eq!(rt; space.load(at, size.min(4)).ok(), want, "{size} at {at:x}");
     }
-}
-
-fn try_ranges(rt: &impl Abort, space: &GuestSpace) {
     for (at, len, write, want) in RANGES {
         assert_eq!(rt; space.allows(at, len, write), want, "{len} at {at:x}");
     }
-}
-
-fn try_stores(rt: &impl Abort, space: &mut GuestSpace) {
+    // Bytes are written to the data and the heap, and read back from there and from the text.
+    let bytes = [1, 2, 3, 4, 5];
+    assert!(rt; space.allows(0x1000a, 5, true));
+    space.write_bytes(0x1000a, &bytes);
+    assert!(rt; space.allows(0x10007, 8, false));
+    let read = space.read_bytes(rt.alloc(), 0x10007, 8)?;
+    assert_eq!(rt; read.as_slice(), [0, 0xa1, 0xb2, 1, 2, 3, 4, 5].as_slice());
     for (at, size, want) in STORES {
         assert_eq!(rt;
             space.store(at, size.min(4), 0x9988_7766).is_ok(),
@@ -100,32 +102,5 @@ fn try_stores(rt: &impl Abort, space: &mut GuestSpace) {
     assert_eq!(rt; space.load(0x10006, 4), Ok(0x7766_0000));
     assert_eq!(rt; space.load(0x1000c, 4), Ok(0x6605_0403));
     assert_eq!(rt; space.load(0x3f_effc, 4), Ok(0x9988_7766));
-}
-
-// Bytes are written to the data and the heap, and read back from there and from the text.
-fn try_bytes(rt: &impl Abort, alloc: Global, space: &mut GuestSpace) -> Result<(), Fail> {
-    let bytes = [1, 2, 3, 4, 5];
-    if space.allows(0x1000a, 5, true) {
-        space.write_bytes(0x1000a, &bytes);
-    }
-    if space.allows(0x10007, 8, false) {
-        let read = space.read_bytes(alloc, 0x10007, 8)?;
-        assert_eq!(rt; read.as_slice(), [0, 0xa1, 0xb2, 1, 2, 3, 4, 5].as_slice());
-    }
-    if space.allows(0x1000a, 5, false) {
-        let read = space.read_bytes(alloc, 0x1000a, 5)?;
-        assert_eq!(rt; read.as_slice(), bytes.as_slice());
-    }
-    Ok(())
-}
-
-#[test]
-fn memory_is_as_the_file_says(rt: HostRuntime) -> Result<(), Fail> {
-    let image = read_image(rt.alloc(), &FILE, 4 << 20)?;
-    let mut space = GuestSpace::make(rt.alloc(), &image)?;
-    try_reads(&rt, &space);
-    try_ranges(&rt, &space);
-    try_bytes(&rt, rt.alloc(), &mut space)?;
-    try_stores(&rt, &mut space);
     Ok(())
 }
