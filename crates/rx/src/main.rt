@@ -5,8 +5,6 @@
 ghost use Rattle.std.specs.Prelude.{◌≡◌, ◌<◌};
 
 mod message;
-#[cfg(test)]
-mod tests;
 
 use elf_image::{RefusedField, field_of_refusal};
 use message::Message;

@@ -12,6 +12,3 @@ mod words;
 
 pub use laws::{one_due, one_outcome, one_reading};
 pub use run::{End, WINDOW, run_rx};
-
-#[cfg(test)]
-mod tests;

@@ -2,11 +2,9 @@
 // the next read. The programs and the counts are worked by hand from the manual.
 ghost use Rattle.std.specs.Prelude.{◌≡◌, ◌<◌, None};
 
-use crate::{End, run_rx};
 use run_history::{Answer, Cause};
-use rx_io::{
-    IoFault, MemoryFiles, MemorySink, MemorySource, Sink, Source, Steps, TameFiles, TameListener,
-};
+use rx_io::{IoFault, MemoryFiles, MemorySink, MemorySource, Sink, Source, Steps, TameListener};
+use rx_serve::{End, run_rx};
 use std::alloc::{AllocError, Global};
 use std::cell::RefCell;
 use std::marker::Brand;
@@ -15,7 +13,7 @@ use std::sync::ledger::{Blank, Ledger};
 use std::test::Fail;
 
 // The words of a command that runs the program `p`.
-const RUN: &str = "run p --record r --report t --frame whole";
+pub const RUN: &str = "run p --record r --report t --frame whole";
 
 // Receives into the stack's last 4096 bytes, and sends each message back.
 const ECHO: [u32; 17] = [
@@ -44,59 +42,56 @@ const HI: [u8; 8] = [2, 0, 0, 3, 0, 0x68, 0x69, 0x0a];
 
 const OPEN_AND_HI: [u8; 13] = [1, 0, 0, 0, 0, 2, 0, 0, 3, 0, 0x68, 0x69, 0x0a];
 
-// A command and what stands outside: the program file `p`, the input, how many bytes a call on a stream moves at most,
-// and the numbers of the calls that fail.
-#[derive(Clone, Copy)]
-struct Setting<'a> {
-    alloc: Global,
-    words: &'a str,
-    program: &'a [u8],
-    input: &'a [u8],
-    most: usize,
-    source_fails: &'a [u64],
-    sink_fails: &'a [u64],
-    file_fails: &'a [u64],
+// A command and what stands outside: the file `p`, the input, how many bytes a call on a stream moves at most, and the
+// numbers of the calls that fail on the files, the source and the sink; 0 is none.
+#[derive(Drop)]
+pub struct Setting<'a> {
+    pub alloc: Global,
+    pub words: &'a str,
+    pub program: &'a [u8],
+    pub input: &'a [u8],
+    pub most: usize,
+    pub fails: (u64, u64, u64),
 }
 
 impl<'a> Setting<'a> {
-    fn of(alloc: Global, program: &'a [u8], input: &'a [u8]) -> Setting<'a> {
-        Setting::of_words(alloc, RUN, program, input)
-    }
-
-    fn of_words(alloc: Global, words: &'a str, program: &'a [u8], input: &'a [u8]) -> Setting<'a> {
+    // The program is run, and no call fails.
+    pub fn of(alloc: Global, program: &'a [u8], input: &'a [u8]) -> Setting<'a> {
         Setting {
             alloc,
-            words,
+            words: RUN,
             program,
             input,
             most: 10_000,
-            source_fails: &[],
-            sink_fails: &[],
-            file_fails: &[],
+            fails: (0, 0, 0),
         }
     }
 }
 
-// How a command ended, and all that stands in the sink.
+// How a command ended, all that stands in the sink, and the file `o`.
 #[derive(Drop)]
-struct Outcome {
-    end: End,
-    output: Vec<u8>,
+pub struct Outcome {
+    pub end: End,
+    pub output: Vec<u8>,
+    pub written: Option<Vec<u8>>,
 }
 
-// An executable of these words in one segment (System V ABI, "ELF Header" and "Program Header"; RISC-V ELF psABI).
+// The headers of an executable of one segment, up to its sizes (System V ABI, "ELF Header" and "Program Header"; RISC-V
+// ELF psABI).
+#[rattlefmt::skip]
+static HEADERS: [u8; 68] = [
+    0x7f, b'E', b'L', b'F', 1, 1, 1, 0, 0, 0, 0, 0, 0, 0, 0, 0, // e_ident
+    2, 0, 0xf3, 0, 1, 0, 0, 0, // e_type, e_machine, e_version
+    0, 0, 1, 0, 0x34, 0, 0, 0, 0, 0, 0, 0, 0, 0, 0, 0, // e_entry, e_phoff, e_shoff, e_flags
+    0x34, 0, 0x20, 0, 1, 0, 0, 0, 0, 0, 0, 0, // e_ehsize, e_phentsize, e_phnum, and no sections
+    1, 0, 0, 0, 0x54, 0, 0, 0, 0, 0, 1, 0, 0, 0, 1, 0, // PT_LOAD, p_offset, p_vaddr, p_paddr
+];
+
+// An executable of these words in one segment.
 fn executable(alloc: Global, words: &[u32]) -> Result<Vec<u8>, Fail> {
     let count = u32::try_from(words.len()).ok().ok_or("too long")?;
     let size = count.checked_mul(4).ok_or("too long")?.to_le_bytes();
-    let mut file = Vec::new(alloc);
-    file.extend_from_slice(&[0x7f, b'E', b'L', b'F', 1, 1, 1, 0, 0, 0, 0, 0, 0, 0, 0, 0])?;
-    file.extend_from_slice(&[2, 0, 0xf3, 0, 1, 0, 0, 0])?; // e_type, e_machine, e_version
-    file.extend_from_slice(&[0, 0, 1, 0, 0x34, 0, 0, 0])?; // e_entry, e_phoff
-    file.extend_from_slice(&[0, 0, 0, 0, 0, 0, 0, 0])?; // e_shoff, e_flags
-    file.extend_from_slice(&[0x34, 0, 0x20, 0, 1, 0])?; // e_ehsize, e_phentsize, e_phnum
-    file.extend_from_slice(&[0, 0, 0, 0, 0, 0])?; // e_shentsize, e_shnum, e_shstrndx
-    file.extend_from_slice(&[1, 0, 0, 0, 0x54, 0, 0, 0])?; // p_type, p_offset
-    file.extend_from_slice(&[0, 0, 1, 0, 0, 0, 1, 0])?; // p_vaddr, p_paddr
+    let mut file = HEADERS.to_vec(alloc)?;
     file.extend_from_slice(&size)?; // p_filesz
     file.extend_from_slice(&size)?; // p_memsz
     file.extend_from_slice(&[5, 0, 0, 0, 1, 0, 0, 0])?; // p_flags, p_align
@@ -106,57 +101,70 @@ fn executable(alloc: Global, words: &[u32]) -> Result<Vec<u8>, Fail> {
     Ok(file)
 }
 
-// The words of a line.
-fn words_of(alloc: Global, line: &str) -> Result<Vec<String>, AllocError> {
+// Runs a command over these files and streams with a counter of its own. It is generic over its ledger, and is handed the
+// blank of which the counter is made.
+fn run_over<L: Ledger, S: Source, K: Sink>(
+    alloc: Global,
+    line: &str,
+    files: &mut MemoryFiles,
+    source: &mut S,
+    sink: &mut K,
+    blank: Blank,
+) -> Result<End, Fail>
+    requires name { blank.name ≡ L.name }
+    requires parts { blank.parts ≡ L.parts }
+    requires some { 0 < blank.parts }
+{
     let mut words = Vec::new(alloc);
     for word in line.split(' ') {
         words.push(String::from_str(alloc, word)?)?;
     }
-    Ok(words)
+    let mut listener = TameListener::make(alloc, Vec::new(alloc), 1);
+    let mut steps = Steps::<L>::start(blank);
+    Ok(run_rx(
+        alloc,
+        words.as_slice(),
+        files,
+        source,
+        sink,
+        &mut listener,
+        &mut steps,
+    ))
 }
 
-// The program file `p`.
-fn program_file(alloc: Global, program: &[u8]) -> Result<Vec<(String, Vec<u8>)>, Fail> {
-    let mut files = Vec::new(alloc);
-    files.push((String::from_str(alloc, "p")?, program.to_vec(alloc)?))?;
-    Ok(files)
+// Files in memory with the file `p`, of which the call of a number fails.
+fn files_of(alloc: Global, program: &[u8], fails: u64) -> Result<MemoryFiles, AllocError> {
+    let mut held = Vec::new(alloc);
+    held.push((String::from_str(alloc, "p")?, program.to_vec(alloc)?))?;
+    Ok(MemoryFiles::make(alloc, held, [fails].to_vec(alloc)?))
 }
 
-// Runs a command with a counter of its own.
 fn run_counted<L: Ledger>(setting: &Setting<'_>, blank: Blank) -> Result<Outcome, Fail>
     requires name { blank.name ≡ L.name }
     requires parts { blank.parts ≡ L.parts }
     requires some { 0 < blank.parts }
 {
     let alloc = setting.alloc;
-    let words = words_of(alloc, setting.words)?;
-    let held = program_file(alloc, setting.program)?;
     let most = setting.most.max(1);
-    let mut files = MemoryFiles::make(alloc, held, setting.file_fails.to_vec(alloc)?);
-    let mut input = MemorySource::make(
-        setting.input.to_vec(alloc)?,
-        setting.source_fails.to_vec(alloc)?,
-        most,
-    );
-    let mut output = MemorySink::make(alloc, setting.sink_fails.to_vec(alloc)?, most);
-    let mut listener = TameListener::make(alloc, Vec::new(alloc), 1);
-    let mut steps = Steps::<L>::start(blank);
-    let end = run_rx(
-        alloc,
-        words.as_slice(),
-        &mut files,
-        &mut input,
-        &mut output,
-        &mut listener,
-        &mut steps,
-    );
+    let (file_fails, source_fails, sink_fails) = setting.fails;
+    let mut files = files_of(alloc, setting.program, file_fails)?;
+    let input = setting.input.to_vec(alloc)?;
+    let mut source = MemorySource::make(input, [source_fails].to_vec(alloc)?, most);
+    let mut sink = MemorySink::make(alloc, [sink_fails].to_vec(alloc)?, most);
+    let words = setting.words;
+    let end = run_over::<L, _, _>(alloc, words, &mut files, &mut source, &mut sink, blank)?;
+    let written = match files.bytes_of("o") {
+        Some(bytes) => Some(bytes.to_vec(alloc)?),
+        None => None,
+    };
     Ok(Outcome {
         end,
-        output: output.bytes().to_vec(alloc)?,
+        output: sink.bytes().to_vec(alloc)?,
+        written,
     })
 }
 
-fn outcome_of(setting: &Setting<'_>) -> Result<Outcome, Fail> {
+pub fn outcome_of(setting: &Setting<'_>) -> Result<Outcome, Fail> {
     run_counted::<Brand>(setting, Blank::new(1))
 }
 
@@ -183,40 +191,55 @@ fn expect_end(
 
 #[test]
 fn an_echo_answers_each_message(rt: HostRuntime) -> Result<(), Fail> {
-    let echo = executable(rt.alloc(), &ECHO)?;
+    let alloc = rt.alloc();
+    let echo = executable(alloc, &ECHO)?;
+    let done = Answer::Finished;
     for most in [10_000, 1] {
-        let mut setting = Setting::of(rt.alloc(), &echo, &OPEN_AND_HI);
+        let mut setting = Setting::of(alloc, &echo, &OPEN_AND_HI);
         setting.most = most;
-        expect_end(
-            &rt,
-            "a message",
-            &setting,
-            (Answer::Finished, 0, 2, 26),
-            &HI,
-        )?;
+        expect_end(&rt, "a message", &setting, (done, 0, 2, 26), &HI)?;
         setting.input = &[];
-        expect_end(&rt, "no input", &setting, (Answer::Finished, 0, 0, 6), &[])?;
+        expect_end(&rt, "no input", &setting, (done, 0, 0, 6), &[])?;
     }
     Ok(())
 }
 
 #[test]
 fn a_message_of_4096_bytes_is_echoed(rt: HostRuntime) -> Result<(), Fail> {
-    let echo = executable(rt.alloc(), &ECHO)?;
-    let mut input = Vec::new(rt.alloc());
-    input.extend_from_slice(&[1, 0, 0, 0, 0, 2, 0, 0, 0, 0x10])?;
+    let alloc = rt.alloc();
+    let echo = executable(alloc, &ECHO)?;
+    let mut input = [1, 0, 0, 0, 0, 2, 0, 0, 0, 0x10].to_vec(alloc)?;
     for i in 0..4096u16 {
         input.push((i % 251) as u8)?;
     }
-    let setting = Setting::of(rt.alloc(), &echo, input.as_slice());
+    let setting = Setting::of(alloc, &echo, &input);
     let reply = input.as_slice().get(5..).ok_or("no frame")?;
-    expect_end(
-        &rt,
-        "4096 bytes",
-        &setting,
-        (Answer::Finished, 0, 2, 26),
-        reply,
-    )?;
+    let want = (Answer::Finished, 0, 2, 26);
+    expect_end(&rt, "4096 bytes", &setting, want, reply)
+}
+
+// Behind the opening there are 1000 messages of one byte at most. There are 13 instructions up to the first one's recv,
+// and 13 from each one's to the next.
+#[test]
+fn a_session_takes_a_thousand_messages(rt: HostRuntime) -> Result<(), Fail> {
+    let alloc = rt.alloc();
+    let echo = executable(alloc, &ECHO)?;
+    let mut input = OPEN.to_vec(alloc)?;
+    for _ in 0..1000 {
+        input.extend_from_slice(&[2, 0, 0, 1, 0, 0x78])?;
+    }
+    let mut more = input.as_slice().to_vec(alloc)?;
+    more.extend_from_slice(&[2, 0, 0, 1, 0, 0x78])?;
+    let replies = input.as_slice().get(5..).ok_or("no frames")?;
+    let (kind, offset) = (7, 6005);
+    for (bytes, answer, status) in [
+        (&input, Answer::Finished, 0),
+        (&more, Answer::InputRefused { kind, offset }, 4),
+    ] {
+        let setting = Setting::of(alloc, &echo, bytes.as_slice());
+        let want = (answer, status, 1001, 13_013);
+        expect_end(&rt, "a thousand", &setting, want, replies)?;
+    }
     Ok(())
 }
 
@@ -280,33 +303,11 @@ fn a_refused_frame_is_named_by_its_offset(rt: HostRuntime) -> Result<(), Fail> {
     Ok(())
 }
 
-// Behind the opening there are 1000 messages of one byte at most. There are 13 instructions up to the first one's recv,
-// and 13 from each one's to the next.
+// Nothing is read or written: the words are of another form, or the program file is missing or can't be loaded.
 #[test]
-fn a_session_takes_a_thousand_messages(rt: HostRuntime) -> Result<(), Fail> {
+fn no_session_begins(rt: HostRuntime) -> Result<(), Fail> {
     let echo = executable(rt.alloc(), &ECHO)?;
-    let mut input = OPEN.to_vec(rt.alloc())?;
-    for _ in 0..1000 {
-        input.extend_from_slice(&[2, 0, 0, 1, 0, 0x78])?;
-    }
-    let mut more = input.as_slice().to_vec(rt.alloc())?;
-    more.extend_from_slice(&[2, 0, 0, 1, 0, 0x78])?;
-    let replies = input.as_slice().get(5..).ok_or("no frames")?;
-    let offset = 6005;
-    for (bytes, answer, status) in [
-        (&input, Answer::Finished, 0),
-        (&more, Answer::InputRefused { kind: 7, offset }, 4),
-    ] {
-        let setting = Setting::of(rt.alloc(), &echo, bytes.as_slice());
-        let want = (answer, status, 1001, 13_013);
-        expect_end(&rt, "a thousand", &setting, want, replies)?;
-    }
-    Ok(())
-}
-
-#[test]
-fn words_of_another_form_are_refused(rt: HostRuntime) -> Result<(), Fail> {
-    let echo = executable(rt.alloc(), &ECHO)?;
+    let mut setting = Setting::of(rt.alloc(), &echo, &OPEN_AND_HI);
     for words in [
         "",
         "run p --record r",
@@ -323,9 +324,20 @@ fn words_of_another_form_are_refused(rt: HostRuntime) -> Result<(), Fail> {
         "asm s -o",
         "asm s o x",
     ] {
-        let setting = Setting::of_words(rt.alloc(), words, &echo, &OPEN_AND_HI);
+        setting.words = words;
         expect_end(&rt, words, &setting, (Answer::BadWords, 2, 0, 0), &[])?;
     }
+    setting.words = "run q --record r --report t --frame whole";
+    expect_end(
+        &rt,
+        "a missing name",
+        &setting,
+        (Answer::FileFault, 9, 0, 0),
+        &[],
+    )?;
+    setting.words = RUN;
+    setting.fails = (1, 0, 0);
+    expect_end(&rt, "a load", &setting, (Answer::FileFault, 9, 0, 0), &[])?;
     Ok(())
 }
 
@@ -346,62 +358,11 @@ fn a_broken_program_file_is_refused(rt: HostRuntime) -> Result<(), Fail> {
             *field = byte;
         }
         file.truncate(length);
-        let setting = Setting::of(rt.alloc(), file.as_slice(), &OPEN_AND_HI);
+        let setting = Setting::of(rt.alloc(), &file, &OPEN_AND_HI);
         let want = (Answer::ElfRefused(kind), 3, 0, 0);
         expect_end(&rt, name, &setting, want, &[])?;
     }
     Ok(())
-}
-
-#[test]
-fn a_missing_program_file_is_a_fault(rt: HostRuntime) -> Result<(), Fail> {
-    let echo = executable(rt.alloc(), &ECHO)?;
-    let words = "run q --record r --report t --frame whole";
-    let setting = Setting::of_words(rt.alloc(), words, &echo, &OPEN_AND_HI);
-    let want = (Answer::FileFault, 9, 0, 0);
-    expect_end(&rt, "a missing name", &setting, want, &[])
-}
-
-#[test]
-fn a_failed_load_is_a_fault(rt: HostRuntime) -> Result<(), Fail> {
-    let echo = executable(rt.alloc(), &ECHO)?;
-    for call in [1] {
-        let fails = [call];
-        let mut setting = Setting::of(rt.alloc(), &echo, &OPEN_AND_HI);
-        setting.file_fails = &fails;
-        let want = (Answer::FileFault, 9, 0, 0);
-        expect_end(&rt, "a load", &setting, want, &[])?;
-    }
-    Ok(())
-}
-
-// Two segments between program headers that aren't loaded, as a linker writes them: 0xc4 bytes at 0x10000, the last 16
-// of which are `addi a7, x0, 1`, `addi a1, x0, 0`, `addi a0, x0, 0` and `ecall`, and 8 bytes at 0x110c4.
-#[test]
-fn a_linked_program_runs(rt: HostRuntime) -> Result<(), Fail> {
-    let mut file = executable(rt.alloc(), &[])?;
-    for (place, byte) in [(24, 0xb4), (44, 4)] {
-        if let Some(field) = file.get_mut(place) {
-            *field = byte;
-        }
-    }
-    file.truncate(52);
-    for word in [
-        [0x7000_0003, 0, 0, 0, 0, 0, 4, 1],
-        [1, 0, 0x10000, 0x10000, 0xc4, 0xc4, 5, 0x1000],
-        [1, 0xc4, 0x110c4, 0x110c4, 4, 8, 6, 0x1000],
-        [0x6474_e551, 0, 0, 0, 0, 0, 6, 16],
-    ]
-    .as_flattened()
-    {
-        let word: u32 = *word;
-        file.extend_from_slice(&word.to_le_bytes())?;
-    }
-    for word in [0x0010_0893u32, 0x0000_0593, 0x0000_0513, 0x0000_0073, 0] {
-        file.extend_from_slice(&word.to_le_bytes())?;
-    }
-    let setting = Setting::of(rt.alloc(), file.as_slice(), &[]);
-    expect_end(&rt, "linked", &setting, (Answer::Finished, 0, 0, 3), &[])
 }
 
 #[test]
@@ -466,10 +427,8 @@ fn a_program_fails_behind_its_reply(rt: HostRuntime) -> Result<(), Fail> {
     words[16] = 0x02b5_0533;
     let file = executable(rt.alloc(), &words)?;
     let setting = Setting::of(rt.alloc(), &file, &OPEN_AND_HI);
-    let failed = Answer::GaveUp {
-        point: 2,
-        cause: Cause::BadAccess,
-    };
+    let (point, cause) = (2, Cause::BadAccess);
+    let failed = Answer::GaveUp { point, cause };
     expect_end(&rt, "mul", &setting, (failed, 5, 2, 23), &HI)
 }
 
@@ -477,6 +436,7 @@ fn a_program_fails_behind_its_reply(rt: HostRuntime) -> Result<(), Fail> {
 #[test]
 fn a_failed_read_ends_the_session(rt: HostRuntime) -> Result<(), Fail> {
     let echo = executable(rt.alloc(), &ECHO)?;
+    let mut setting = Setting::of(rt.alloc(), &echo, &OPEN_AND_HI);
     for (most, first, last, taken, steps, stands) in [
         (10_000, 1, 1, 0, 6, 0),
         (10_000, 2, 3, 1, 13, 0),
@@ -487,10 +447,8 @@ fn a_failed_read_ends_the_session(rt: HostRuntime) -> Result<(), Fail> {
     ] {
         let output = HI.get(..stands).ok_or("too many")?;
         for call in first..=last {
-            let fails = [call];
-            let mut setting = Setting::of(rt.alloc(), &echo, &OPEN_AND_HI);
             setting.most = most;
-            setting.source_fails = &fails;
+            setting.fails = (0, call, 0);
             let want = (Answer::ReadFault, 7, taken, steps);
             expect_end(&rt, "a read", &setting, want, output)?;
         }
@@ -502,6 +460,7 @@ fn a_failed_read_ends_the_session(rt: HostRuntime) -> Result<(), Fail> {
 #[test]
 fn a_failed_write_leaves_the_first_bytes(rt: HostRuntime) -> Result<(), Fail> {
     let echo = executable(rt.alloc(), &ECHO)?;
+    let mut setting = Setting::of(rt.alloc(), &echo, &OPEN_AND_HI);
     for (most, call, stands) in [
         (10_000, 1, 0),
         (10_000, 2, 5),
@@ -512,30 +471,15 @@ fn a_failed_write_leaves_the_first_bytes(rt: HostRuntime) -> Result<(), Fail> {
         (1, 8, 7),
     ] {
         let output = HI.get(..stands).ok_or("too many")?;
-        let fails = [call];
-        let mut setting = Setting::of(rt.alloc(), &echo, &OPEN_AND_HI);
         setting.most = most;
-        setting.sink_fails = &fails;
-        expect_end(
-            &rt,
-            "a write",
-            &setting,
-            (Answer::WriteFault, 8, 2, 22),
-            output,
-        )?;
+        setting.fails = (0, 0, call);
+        let want = (Answer::WriteFault, 8, 2, 22);
+        expect_end(&rt, "a write", &setting, want, output)?;
     }
-    Ok(())
-}
-
-// A call that isn't reached doesn't fail: the source is called 4 times, the sink twice.
-#[test]
-fn a_session_ends_with_its_last_call(rt: HostRuntime) -> Result<(), Fail> {
-    let echo = executable(rt.alloc(), &ECHO)?;
-    let mut setting = Setting::of(rt.alloc(), &echo, &OPEN_AND_HI);
-    setting.source_fails = &[5];
-    setting.sink_fails = &[3];
-    expect_end(&rt, "no call", &setting, (Answer::Finished, 0, 2, 26), &HI)?;
-    Ok(())
+    // A call that isn't reached doesn't fail: the source is called 4 times, the sink twice.
+    setting.most = 10_000;
+    setting.fails = (0, 5, 3);
+    expect_end(&rt, "no call", &setting, (Answer::Finished, 0, 2, 26), &HI)
 }
 
 // A source and a sink that never fail and write their calls into one log: `R` for a read, and the bytes of a write.
@@ -598,27 +542,16 @@ fn run_logged<L: Ledger>(alloc: Global, log: &RefCell<Vec<u8>>, blank: Blank) ->
     requires parts { blank.parts ≡ L.parts }
     requires some { 0 < blank.parts }
 {
-    let words = words_of(alloc, RUN)?;
     let echo = executable(alloc, &ECHO)?;
-    let mut files = TameFiles::make(alloc, program_file(alloc, &echo)?);
-    let mut input = LoggedSource {
+    let mut files = files_of(alloc, &echo, 0)?;
+    let mut source = LoggedSource {
         rest: &[
             1, 0, 0, 0, 0, 2, 0, 0, 1, 0, b'a', 2, 0, 0, 2, 0, b'b', b'c',
         ],
         log,
     };
-    let mut output = LoggedSink { log };
-    let mut listener = TameListener::make(alloc, Vec::new(alloc), 1);
-    let mut steps = Steps::<L>::start(blank);
-    Ok(run_rx(
-        alloc,
-        words.as_slice(),
-        &mut files,
-        &mut input,
-        &mut output,
-        &mut listener,
-        &mut steps,
-    ))
+    let mut sink = LoggedSink { log };
+    run_over::<L, _, _>(alloc, RUN, &mut files, &mut source, &mut sink, blank)
 }
 
 #[test]
@@ -636,64 +569,25 @@ fn a_reply_is_written_before_the_next_read(rt: HostRuntime) -> Result<(), Fail> 
     Ok(())
 }
 
-// Runs `asm s o` on a text with a counter of its own: the answer, its status, and the file `o`.
-fn run_assembly<L: Ledger>(
-    alloc: Global,
-    text: &[u8],
-    blank: Blank,
-) -> Result<(Answer, u8, Option<Vec<u8>>), Fail>
-    requires name { blank.name ≡ L.name }
-    requires parts { blank.parts ≡ L.parts }
-    requires some { 0 < blank.parts }
-{
-    let words = words_of(alloc, "asm s o")?;
-    let mut held = Vec::new(alloc);
-    held.push((String::from_str(alloc, "s")?, text.to_vec(alloc)?))?;
-    let mut files = MemoryFiles::make(alloc, held, Vec::new(alloc));
-    let mut input = MemorySource::make(Vec::new(alloc), Vec::new(alloc), 1);
-    let mut output = MemorySink::make(alloc, Vec::new(alloc), 1);
-    let mut listener = TameListener::make(alloc, Vec::new(alloc), 1);
-    let mut steps = Steps::<L>::start(blank);
-    let end = run_rx(
-        alloc,
-        words.as_slice(),
-        &mut files,
-        &mut input,
-        &mut output,
-        &mut listener,
-        &mut steps,
-    );
-    let written = match files.bytes_of("o") {
-        Some(bytes) => Some(bytes.to_vec(alloc)?),
-        None => None,
-    };
-    Ok((end.answer, end.status, written))
-}
-
-fn assembly_of(alloc: Global, text: &[u8]) -> Result<(Answer, u8, Option<Vec<u8>>), Fail> {
-    run_assembly::<Brand>(alloc, text, Blank::new(1))
-}
-
-// The executable of one segment that holds the four words.
+// The text of the executable of one segment that holds the four words, and a text that is refused.
 #[test]
 fn a_text_is_assembled_and_written(rt: HostRuntime) -> Result<(), Fail> {
     let alloc = rt.alloc();
-    let words = [0x0010_0893, 0x0000_0593, 0x0000_0513, 0x0000_0073];
-    let three = executable(alloc, &words)?;
+    let three = executable(alloc, &[0x0010_0893, 0x0000_0593, 0x0000_0513, 0x0000_0073])?;
     let text = b"addi a7, x0, 1\naddi a1, x0, 0\naddi a0, x0, 0\necall\n";
-    let (answer, status, written) = assembly_of(alloc, text)?;
-    assert_eq!(rt; (answer, status), (Answer::Finished, 0));
-    let written = written.ok_or("no file")?;
+    let mut setting = Setting::of(alloc, text, &[]);
+    setting.words = "asm p o";
+    let outcome = outcome_of(&setting)?;
+    assert_eq!(rt;
+        (outcome.end.answer, outcome.end.status),
+        (Answer::Finished, 0)
+    );
+    let written = outcome.written.ok_or("no file")?;
     assert_eq!(rt; written.as_slice(), three.as_slice());
-    Ok(())
-}
-
-#[test]
-fn a_refused_text_is_not_written(rt: HostRuntime) -> Result<(), Fail> {
-    let text = b"addi a7, x0, 1\naddx a1, x0, 0\n";
-    let (answer, status, written) = assembly_of(rt.alloc(), text)?;
+    setting.program = b"addi a7, x0, 1\naddx a1, x0, 0\n";
+    let outcome = outcome_of(&setting)?;
     let refused = Answer::AsmRefused { kind: 1, line: 2 };
-    assert_eq!(rt; (answer, status), (refused, 3));
-    assert!(rt; written.is_none());
+    assert_eq!(rt; (outcome.end.answer, outcome.end.status), (refused, 3));
+    assert!(rt; outcome.written.is_none());
     Ok(())
 }

@@ -1,0 +1,7 @@
+//! The tests of the program: what no clause of its commands says.
+#![tactic(auto)]
+
+#[cfg(test)]
+mod rx_serve_tests;
+#[cfg(test)]
+mod rx_tests;
