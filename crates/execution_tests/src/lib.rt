@@ -1,4 +1,4 @@
-//! The tests of memory and execution: what no clause of them says.
+//! Tests of a guest's memory and of single instructions: what no clause of them says.
 #![tactic(auto)]
 
 #[cfg(test)]
