@@ -1,0 +1,87 @@
+-- A heap: the addresses of its ends, and the blocks that stand in it.
+use Rattle.std.specs.Prelude.{◌≡◌, ℕ, ◌+◌, ◌%◌, ◌<◌, ◌≤◌, Bool, true, not, ◌&&◌, List, [], ◌∷◌, length, map, filter, Option, None, Some, find, nat_lt, ◌==◌, if◌then◌else◌}
+use Rattle.std.specs.List.{list_any, list_all}
+use Rattle.block_book.specs.declared.block.Block.{Block}
+use Rattle.block_book.specs.declared.standing.Standing.{Standing}
+use Rattle.block_book.specs.declared.standing.Standing.TheVariants.{Nothing, Live, Delayed}
+use Rattle.block_book.specs.Block.{extent_start, extent_end, reserved_size, lies_in, IsAligned}
+
+-- the heap's bytes are from `start` up to `end`, which isn't one of them; the blocks are in order of address
+pub record Heap : Type 0 where
+  pub start : ℕ
+  pub end : ℕ
+  pub blocks : List Block
+
+-- at most so many blocks stand
+abbrev pub most_blocks : ℕ
+most_blocks = 4096
+
+-- from one address up to another the blocks' extents stand in rising order, and no byte is in two
+abbrev pub StandWithin : ℕ → List Block → ℕ → Type 0
+StandWithin from [] to = from ≤ to
+StandWithin from (block ∷ blocks) to = IsAligned block × (from ≤ extent_start block) × StandWithin (extent_end block) blocks to
+
+-- what is so of every heap
+pub record IsHeap (heap : Heap) : Type 0 where
+  pub start_multiple : heap.start % 16 ≡ 0
+  pub end_multiple : heap.end % 16 ≡ 0
+  pub above_null : 0 < heap.start
+  pub ordered : heap.start ≤ heap.end
+  pub standing : StandWithin heap.start heap.blocks heap.end
+  pub few : length heap.blocks ≤ most_blocks
+
+abbrev pub heap_of : ℕ → ℕ → List Block → Heap
+heap_of start end blocks = record { start = start; end = end; blocks = blocks }
+
+-- a heap in which no block stands
+abbrev pub empty_heap : ℕ → ℕ → Heap
+empty_heap start end = heap_of start end []
+
+-- a block among others, in its place by address
+abbrev pub insert_block : Block → List Block → List Block
+insert_block new [] = new ∷ []
+insert_block new (block ∷ blocks) = if nat_lt new.at block.at then new ∷ (block ∷ blocks) else block ∷ insert_block new blocks
+
+-- the heap with a block more
+abbrev pub with_block : Heap → Block → Heap
+with_block heap new = record heap { blocks = insert_block new heap.blocks }
+
+-- the heap without the block at an address
+abbrev pub without_block : Heap → ℕ → Heap
+without_block heap at = record heap { blocks = filter (λ block. not (block.at == at)) heap.blocks }
+
+-- a block, delayed where it is the one at an address: freed, and kept from use
+abbrev pub delayed_at : ℕ → Block → Block
+delayed_at at block = if block.at == at then record block { delayed = true } else block
+
+-- the heap with the block at an address delayed
+abbrev pub with_delayed : Heap → ℕ → Heap
+with_delayed heap at = record heap { blocks = map (delayed_at at) heap.blocks }
+
+-- the heap without its delayed blocks
+abbrev pub recycled : Heap → Heap
+recycled heap = record heap { blocks = filter (λ block. not block.delayed) heap.blocks }
+
+-- what stands at an address
+abbrev pub standing_of : Option Block → Standing
+standing_of None = Nothing
+standing_of (Some block) = if block.delayed then Delayed block.size else Live block.size
+
+abbrev pub standing_at : Heap → ℕ → Standing
+standing_at heap at = standing_of (find (λ block. block.at == at) heap.blocks)
+
+-- a live block stands at an address
+abbrev pub is_live_at : Heap → ℕ → Bool
+is_live_at heap at = list_any (λ block. (block.at == at) && not block.delayed) heap.blocks
+
+-- so many bytes from an address on lie in the extent of one block
+abbrev pub is_held : Heap → ℕ → ℕ → Bool
+is_held heap at len = list_any (λ block. lies_in at len (extent_start block) (extent_end block)) heap.blocks
+
+-- so many bytes from an address on are among those that one live block reserves
+abbrev pub is_reserved : Heap → ℕ → ℕ → Bool
+is_reserved heap at len = list_any (λ block. not block.delayed && lies_in at len block.at (block.at + reserved_size block.size)) heap.blocks
+
+-- each block is live and without padding
+abbrev pub is_bare : Heap → Bool
+is_bare heap = list_all (λ block. (block.side == 0) && not block.delayed) heap.blocks
