@@ -1,3 +1,6 @@
 pub mod Sizes
 pub mod Rising
 pub mod Fitting
+pub mod Searches
+pub mod Sound
+pub mod Finding

@@ -1,6 +1,9 @@
 // One block of a heap.
-ghost use Rattle.std.specs.Prelude.{◌≡◌, ◌+◌, ◌-◌, ◌^◌, ◌≤◌};
-ghost use Rattle.block_book.specs.Block.{reserved_size, extent_start, extent_end};
+ghost use Rattle.std.specs.Prelude.{◌≡◌, ◌+◌, ◌-◌, ◌^◌, ◌≤◌, ◌||◌, ◌&&◌, not, Some};
+ghost use Rattle.block_book.specs.Block.{reserved_size, touched, extent_start, extent_end, is_apart, lies_in};
+ghost use Rattle.block_book.specs.Heap.{standing_of};
+
+use crate::standing::Standing;
 
 /// A block that stands in a heap.
 #[derive(Clone, Copy, Debug, PartialEq, Eq)]
@@ -40,5 +43,45 @@ impl Block {
         ensures { result ≡ extent_end self.now }
     {
         u64::from(self.at) + reserved_size(self.size) + u64::from(self.side)
+    }
+
+    /// What stands at the block's address.
+    #[inline]
+    pub fn standing(&self) -> Standing
+        ensures { result ≡ standing_of (Some self.now) }
+    {
+        if self.delayed {
+            Standing::Delayed(self.size)
+        } else {
+            Standing::Live(self.size)
+        }
+    }
+
+    /// Whether so many bytes from an address on lie in the block's extent.
+    #[inline]
+    pub fn holds(&self, at: u32, len: u32) -> bool
+        ensures { result ≡ lies_in at len (extent_start self.now) (extent_end self.now) }
+    {
+        self.extent_start() <= at && u64::from(at) + u64::from(len) <= self.extent_end()
+    }
+
+    /// Whether the block is live, and so many bytes from an address on are among those that it reserves.
+    #[inline]
+    pub fn reserves(&self, at: u32, len: u32) -> bool
+        ensures { result ≡ (not self.now.delayed && lies_in at len self.now.at (self.now.at + reserved_size self.now.size)) }
+    {
+        !self.delayed
+            && self.at <= at
+            && u64::from(at) + u64::from(len) <= u64::from(self.at) + reserved_size(self.size)
+    }
+
+    /// Whether the block is delayed, or shares no byte with a block of a size at an address. A block of size 0 has one byte here.
+    #[inline]
+    pub fn leaves(&self, at: u32, size: u32) -> bool
+        ensures { result ≡ (self.now.delayed || is_apart at (touched size) self.now.at (self.now.at + touched self.now.size)) }
+    {
+        self.delayed
+            || u64::from(at) + u64::from(size.max(1)) <= u64::from(self.at)
+            || u64::from(self.at) + u64::from(self.size.max(1)) <= u64::from(at)
     }
 }

@@ -1,8 +1,13 @@
 // The blocks that stand in one heap.
-ghost use Rattle.std.specs.Prelude.{◌≡◌, ◌+◌, ◌%◌, ◌<◌, ◌≤◌, ◌^◌, IfOk};
-ghost use Rattle.block_book.specs.Heap.{IsHeap, empty_heap};
+ghost use Rattle.std.specs.Prelude.{◌≡◌, ◌+◌, ◌*◌, ◌%◌, ◌<◌, ◌≤◌, ◌^◌, ◌&&◌, true, false, ◌==◌, nat_lt, length, slice_get, IfOk, MatchBool, MatchOption};
+ghost use Rattle.block_book.specs.Block.{reserved_size, touched, lies_in, live_block};
+ghost use Rattle.block_book.specs.Heap.{IsHeap, empty_heap, most_blocks, with_block, without_block, with_delayed, recycled, standing_at, is_live_at, is_held, is_reserved, is_bare};
+ghost use Rattle.block_book.specs.Placement.{fit, placement};
+ghost use Rattle.block_book.specs.Answer.{live_blocks, is_clear};
+ghost use Rattle.block_book.specs.Search.{passed, FindsLive, HasRoom};
 
-use crate::block::Block;
+use crate::block::{Block, reserved_size};
+use crate::standing::Standing;
 use std::alloc::{AllocError, Global};
 use std::marker::Model;
 
@@ -66,5 +71,207 @@ impl Book {
         ensures { result ≡ self.now.end }
     {
         self.end
+    }
+
+    /// Adds a live block of a size at the lowest address of all where it fits with so many bytes of padding on each side, and its extent
+    /// begins at `from` or above; its address. None, and nothing changed, where it fits nowhere or 4096 blocks stand.
+    pub fn place(&mut self, size: u32, side: u32, from: u32) -> Option<u32>
+        requires multiple { side % 16 ≡ 0 }
+        requires small { side ≤ 256 }
+        ensures answer { result ≡ placement self.old size side from }
+        ensures placed { MatchOption result (self.new ≡ self.old) (λ at. self.new ≡ with_block self.old (live_block at size side)) }
+    {
+        if self.blocks.len() >= MOST_BLOCKS {
+            return None;
+        }
+        let count = reserved_size(size) + 2 * u64::from(side);
+        let at = self.lowest_fit(count, from)? + side;
+        self.add(Block {
+            at,
+            size,
+            side,
+            delayed: false,
+        });
+        Some(at)
+    }
+
+    /// Adds a live block of a size, without padding, at an address. false, and nothing changed, where 4096 blocks stand or its bytes aren't clear
+    /// of the live blocks.
+    pub fn put(&mut self, at: u32, size: u32) -> bool
+        requires { is_bare self.old ≡ true }
+        ensures answer { result ≡ (nat_lt (length self.old.blocks) most_blocks && is_clear self.old.start self.old.end (live_blocks self.old.blocks) at size) }
+        ensures added { MatchBool result (self.new ≡ with_block self.old (live_block at size 0)) (self.new ≡ self.old) }
+    {
+        if self.blocks.len() >= MOST_BLOCKS {
+            return false;
+        }
+        if !self.clear_of_live(at, size) {
+            return false;
+        }
+        self.add(Block {
+            at,
+            size,
+            side: 0,
+            delayed: false,
+        });
+        true
+    }
+
+    /// Takes the live block at an address away. false, and nothing changed, where none stands there.
+    pub fn release(&mut self, at: u32) -> bool
+        ensures found { result ≡ is_live_at self.old at }
+        ensures gone { MatchBool result (self.new ≡ without_block self.old at) (self.new ≡ self.old) }
+    {
+        let Some(place) = self.live_place(at) else {
+            return false;
+        };
+        let _block = self.blocks.remove(place);
+        true
+    }
+
+    /// Delays the live block at an address: it is freed, and keeps its place and its extent. false, and nothing changed, where none stands there.
+    pub fn delay(&mut self, at: u32) -> bool
+        ensures found { result ≡ is_live_at self.old at }
+        ensures delayed { MatchBool result (self.new ≡ with_delayed self.old at) (self.new ≡ self.old) }
+    {
+        let Some(place) = self.live_place(at) else {
+            return false;
+        };
+        self.blocks[place].delayed = true;
+        true
+    }
+
+    /// Takes all delayed blocks away.
+    pub fn recycle(&mut self)
+        ensures { self.new ≡ recycled self.old }
+    {
+        self.blocks.retain(|block| !block.delayed);
+    }
+
+    /// What stands at an address.
+    pub fn find(&self, at: u32) -> Standing
+        ensures { result ≡ standing_at self.now at }
+    {
+        match self.reached(at) {
+            Some(block) if block.at == at => block.standing(),
+            _ => Standing::Nothing,
+        }
+    }
+
+    /// Whether so many bytes from an address on lie in the extent of one block, live or delayed.
+    pub fn holds(&self, at: u32, len: u32) -> bool
+        requires { 1 ≤ len }
+        ensures value { result ≡ is_held self.now at len }
+        ensures past { 2 ^ 32 < at + len → result ≡ false }
+    {
+        match self.reached(at) {
+            Some(block) => block.holds(at, len),
+            None => false,
+        }
+    }
+
+    /// Whether so many bytes from an address on are among those that one live block reserves, which has no padding here.
+    pub fn reserves(&self, at: u32, len: u32) -> bool
+        requires { 1 ≤ len }
+        ensures value { result ≡ is_reserved self.now at len }
+        ensures past { 2 ^ 32 < at + len → result ≡ false }
+    {
+        match self.reached(at) {
+            Some(block) => block.reserves(at, len),
+            None => false,
+        }
+    }
+
+    /// Whether an address is a multiple of 16, and the bytes of a block of a size there lie in the heap and meet those of no live block. A
+    /// block of size 0 has one byte here.
+    pub fn clear_of_live(&self, at: u32, size: u32) -> bool
+        ensures { result ≡ is_clear self.now.start self.now.end (live_blocks self.now.blocks) at size }
+    {
+        if !self.spans(at, size) {
+            return false;
+        }
+        self.blocks.iter().all(|block| block.leaves(at, size))
+    }
+
+    /// Makes this book what another one of the same heap is.
+    pub fn copy_from(&mut self, other: &Book)
+        requires start { self.old.start ≡ other.now.start }
+        requires end { self.old.end ≡ other.now.end }
+        ensures { self.new ≡ other.now }
+    {
+        self.blocks.clear();
+        // There is room for all blocks, so this takes no memory.
+        let _ = self.blocks.extend_from_slice(&other.blocks);
+    }
+
+    // The lowest address at which so many bytes fit.
+    fn lowest_fit(&self, count: u64, from: u32) -> Option<u32>
+        requires some { 0 < count }
+        requires small { count ≤ 2 ^ 33 }
+        ensures answer { result ≡ fit self.now count from }
+        ensures within { MatchOption result (length self.now.blocks ≤ most_blocks) (λ at. at + count ≤ self.now.end) }
+    {
+        let mut low = (u64::from(self.start.max(from)) + 15) / 16 * 16;
+        for block in &self.blocks {
+            if low + count <= u64::from(block.extent_start()) {
+                return Some(low as u32);
+            }
+            low = low.max(block.extent_end());
+        }
+        if low + count <= u64::from(self.end) {
+            Some(low as u32)
+        } else {
+            None
+        }
+    }
+
+    // Whether an address is a multiple of 16, and the bytes of a block of a size there lie in the heap.
+    #[inline]
+    fn spans(&self, at: u32, size: u32) -> bool
+        ensures { result ≡ ((at % 16 == 0) && lies_in at (touched size) self.now.start self.now.end) }
+    {
+        at % 16 == 0
+            && self.start <= at
+            && u64::from(at) + u64::from(size.max(1)) <= u64::from(self.end)
+    }
+
+    // How many blocks, from the first on, have extents that end at an address or below.
+    #[inline]
+    fn passed(&self, at: u32) -> usize
+        ensures bound { result ≤ length self.now.blocks }
+        ensures value { result ≡ passed self.now.blocks at }
+    {
+        self.blocks.partition_point(|block| block.extent_end() <= u64::from(at))
+    }
+
+    // The first block whose extent ends above an address: the only one that can have it in its extent.
+    #[inline]
+    fn reached(&self, at: u32) -> Option<Block>
+        ensures value { result ≡ slice_get self.now.blocks (passed self.now.blocks at) }
+        ensures heap { IsHeap self.now }
+        ensures within { self.now.end < 2 ^ 32 }
+    {
+        self.blocks.get(self.passed(at)).copied()
+    }
+
+    // The place of the live block at an address.
+    fn live_place(&self, at: u32) -> Option<usize>
+        ensures { FindsLive self.now at result }
+    {
+        let place = self.passed(at);
+        match self.blocks.get(place) {
+            Some(block) if block.at == at && !block.delayed => Some(place),
+            _ => None,
+        }
+    }
+
+    // Adds a block in its place by address.
+    fn add(&mut self, block: Block)
+        requires { HasRoom self.old block }
+        ensures { self.new ≡ with_block self.old block }
+    {
+        let place = self.passed(block.at);
+        // There is room for all blocks, so this takes no memory.
+        let _ = self.blocks.insert(place, block);
     }
 }

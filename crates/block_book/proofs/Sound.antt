@@ -1,0 +1,61 @@
+-- Every change of a heap's blocks leaves a heap.
+use Rattle.std.proofs.Common.{◌≡◌, ℕ, zero, suc, ◌+◌, ◌-◌, ◌%◌, ◌<◌, ◌≤◌, Bool, true, not, cond, List, [], ◌∷◌, length, map, filter, get_or, set, slice_get, Option, Some, None, arith, sym, ◌∙◌, subst, ap, refl, eqb}
+use Rattle.std.specs.List.{list_all, list_any, insert, remove}
+use Rattle.std.proofs.lemmas.Option.{same_Some}
+use Rattle.std.proofs.lemmas.List.Sums.{length-filter, count_by-le-length}
+use Rattle.block_book.specs.declared.block.Block.{Block}
+use Rattle.block_book.specs.Block.{extent_start, extent_end, IsAligned}
+use Rattle.block_book.specs.Heap.{Heap, IsHeap, StandWithin, insert_block, with_block, without_block, with_delayed, delayed_at, recycled, is_live_at, heap_of, empty_heap, most_blocks}
+use Rattle.block_book.specs.Search.{passed, HasRoom, FindsLive}
+use Rattle.block_book.proofs.Rising.{stand-filter, stand-delayed, stand-insert, length-insert_block}
+use Rattle.block_book.proofs.Searches.{insert-passed, remove-found, set-found}
+
+-- some of the blocks
+pub sound-filter : (test : Block → Bool) (heap : Heap) → IsHeap heap → IsHeap (record heap { blocks = filter test heap.blocks })
+sound-filter test heap sound = record {
+  start_multiple = sound.start_multiple;
+  end_multiple = sound.end_multiple;
+  above_null = sound.above_null;
+  ordered = sound.ordered;
+  standing = stand-filter test heap.start heap.blocks heap.end sound.standing;
+  few = let few = sound.few in omega (arith, length-filter test heap.blocks, count_by-le-length test heap.blocks);
+}
+
+pub sound-delayed : (heap : Heap) (at : ℕ) → IsHeap heap → IsHeap (with_delayed heap at)
+sound-delayed heap at sound = record {
+  start_multiple = sound.start_multiple;
+  end_multiple = sound.end_multiple;
+  above_null = sound.above_null;
+  ordered = sound.ordered;
+  standing = stand-delayed at heap.start heap.blocks heap.end sound.standing;
+  few = let few = sound.few in omega (arith, length-delayed at heap.blocks);
+}
+  where
+    length-delayed : (at : ℕ) (blocks : List Block) → length (map (delayed_at at) blocks) ≡ length blocks
+    length-delayed at [] = refl
+    length-delayed at (block ∷ blocks) = ap suc (length-delayed at blocks)
+
+pub sound-with : (heap : Heap) (block : Block) → IsHeap heap → HasRoom heap block → IsHeap (with_block heap block)
+sound-with heap block sound room = record {
+  start_multiple = sound.start_multiple;
+  end_multiple = sound.end_multiple;
+  above_null = sound.above_null;
+  ordered = sound.ordered;
+  standing = stand-insert block heap.start heap.blocks heap.end sound.standing room.aligned room.starts room.ends room.apart;
+  few = let few = room.few in omega (arith, length-insert_block block heap.blocks);
+}
+
+-- what the code does to the list of blocks
+pub inserted : (heap : Heap) (block : Block) (place : ℕ) → IsHeap heap → HasRoom heap block → place ≡ passed heap.blocks block.at → insert heap.blocks place block ≡ insert_block block heap.blocks
+inserted heap block place sound room is = ap (λ n. insert heap.blocks n block) is ∙ insert-passed block heap.start heap.blocks heap.end sound.standing room.aligned room.apart
+
+pub removed : (heap : Heap) (at place : ℕ) → IsHeap heap → FindsLive heap at (Some place) → remove heap.blocks place ≡ filter (λ block. not (eqb block.at at)) heap.blocks
+removed heap at place sound found =
+    ap (remove heap.blocks) found.2 ∙ remove-found at heap.start heap.blocks heap.end found.3.0 sound.standing found.3.1 found.3.2
+
+pub put_off : (heap : Heap) (at place : ℕ) (block : Block) → IsHeap heap → FindsLive heap at (Some place) → slice_get heap.blocks place ≡ Some block → set heap.blocks place (record block { delayed = true }) ≡ map (delayed_at at) heap.blocks
+put_off heap at place block sound found is =
+    let here : slice_get heap.blocks (passed heap.blocks at) ≡ Some block = subst (λ n. slice_get heap.blocks n ≡ Some block) found.2 is in
+    let same : found.3.0 ≡ block = same_Some found.3.0 block (sym found.3.1 ∙ here) in
+    let begins : block.at ≡ at = ap (λ (b : Block). b.at) (sym same) ∙ found.3.2 in
+    ap (λ n. set heap.blocks n (record block { delayed = true })) found.2 ∙ set-found at heap.start heap.blocks heap.end block sound.standing here begins
