@@ -3,13 +3,14 @@ use Rattle.std.proofs.Common.{◌≡◌, ℕ, zero, suc, ◌+◌, ◌-◌, ◌*�
 use Rattle.std.specs.Option.{MatchOption, option_map}
 use Rattle.std.specs.List.{find, list_all, range_with_len}
 use Rattle.std.proofs.lemmas.List.{get_or_default}
+use Rattle.std.proofs.lemmas.Option.{MatchOption-at_some}
 use Rattle.std.proofs.lemmas.Bool.{cases_Bool, cases_lt, cases_order, leb-true, le-leb, eqb-true, eq-eqb, and_parts, and_from, or_left, or_right, or_cases, false≢true, false_from_ne_true, both_ways, lt-ltb, le-ltb}
 use Rattle.block_book.specs.declared.block.Block.{Block}
 use Rattle.block_book.specs.Block.{reserved_size, extent_start, extent_end, is_apart, lies_in, IsAligned}
 use Rattle.block_book.specs.Heap.{Heap, StandWithin, IsHeap, most_blocks}
 use Rattle.block_book.specs.Placement.{fits, fit, placement}
 use Rattle.block_book.proofs.Sizes.{reserved-multiple}
-use Rattle.block_book.proofs.Rising.{stand-starts, extent-rises}
+use Rattle.block_book.proofs.Rising.{stand-starts, stand-ends, stand-aligned, extent-rises}
 
 -- what `fits` says, part by part
 pub record FitsAt (heap : Heap) (count from at : ℕ) : Type 0 where
@@ -80,6 +81,11 @@ fit-least heap count from =
       ])
     (λ k h. (h.2, (λ at below. h.3 at (omega arith) below)))
     (find-first (fits heap count from) (heap.end + 1) 0)
+
+-- a fit fits
+pub fit-fits : (heap : Heap) (count from at : ℕ) → fit heap count from ≡ Some at → FitsAt heap count from at
+fit-fits heap count from at is =
+    fits-parts heap count from at (MatchOption-at_some ((at : ℕ) → fits heap count from at ≡ false) (λ least. (fits heap count from least ≡ true) × ((at : ℕ) → at < least → fits heap count from at ≡ false)) at is (fit-least heap count from)).0
 
 pub fit-some : (heap : Heap) (count from at : ℕ) → FitsAt heap count from at → ((lower : ℕ) → lower < at → fits heap count from lower ≡ false) → fit heap count from ≡ Some at
 fit-some heap count from at h least = only (fit heap count from) (fit-least heap count from)
@@ -226,3 +232,28 @@ walk-fails heap count from i low w full =
 -- an aligned block's extent ends at a multiple of 16
 pub extent-even : (block : Block) → IsAligned block → extent_end block % 16 ≡ 0
 extent-even block h = omega (arith, h.at_multiple, h.side_multiple, reserved-multiple block.size)
+
+-- one turn of the walk, by the list of blocks that the loop goes over
+pub turn-stops : (heap : Heap) (items : List Block) (count from i low begins : ℕ) (d : Block) → IsHeap heap → items ≡ heap.blocks → Walks heap count from i low → i < length items → begins ≡ extent_start (get_or items i d) → low + count ≤ begins → (fit heap count from ≡ Some low) × (low + count ≤ heap.end)
+turn-stops heap items count from i low begins d sound same w below is room =
+    let block = get_or heap.blocks i d in
+    let within : i < length heap.blocks = subst (λ xs. i < length xs) same below in
+    let here : begins ≡ extent_start (get_or heap.blocks i d) = subst (λ xs. begins ≡ extent_start (get_or xs i d)) same is in
+    let ends = stand-ends heap.start heap.blocks heap.end sound.standing i d within in
+    let rises = extent-rises (get_or heap.blocks i d) in (
+      walk-stops heap count from i low block sound w within (get_or_default heap.blocks i d block within) (omega arith) (omega arith),
+      omega arith,
+    )
+
+pub turn-goes : (heap : Heap) (items : List Block) (count from i low begins end next : ℕ) (d : Block) → IsHeap heap → items ≡ heap.blocks → Walks heap count from i low → i < length items → begins ≡ extent_start (get_or items i d) → begins < low + count → end ≡ extent_end (get_or items i d) → next ≡ max low end → Walks heap count from (i + 1) next × (next ≤ max low heap.end)
+turn-goes heap items count from i low begins end next d sound same w below is narrow ends steps =
+    let block = get_or heap.blocks i d in
+    let within : i < length heap.blocks = subst (λ xs. i < length xs) same below in
+    let here : begins ≡ extent_start (get_or heap.blocks i d) = subst (λ xs. begins ≡ extent_start (get_or xs i d)) same is in
+    let there : end ≡ extent_end (get_or heap.blocks i d) = subst (λ xs. end ≡ extent_end (get_or xs i d)) same ends in
+    let last = stand-ends heap.start heap.blocks heap.end sound.standing i d within in
+    let even = extent-even block (stand-aligned heap.start heap.blocks heap.end sound.standing i d within) in (
+      subst (Walks heap count from (i + 1)) (sym (steps ∙ ap (max low) there))
+        (walk-goes heap count from i low block sound w within (get_or_default heap.blocks i d block within) (omega arith) even),
+      omega arith,
+    )

@@ -4,3 +4,4 @@ pub mod Fitting
 pub mod Searches
 pub mod Sound
 pub mod Finding
+pub mod Rooms

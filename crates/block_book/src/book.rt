@@ -1,6 +1,7 @@
 // The blocks that stand in one heap.
-ghost use Rattle.std.specs.Prelude.{◌≡◌, ◌+◌, ◌*◌, ◌%◌, ◌<◌, ◌≤◌, ◌^◌, ◌&&◌, true, false, ◌==◌, nat_lt, length, slice_get, IfOk, MatchBool, MatchOption};
-ghost use Rattle.block_book.specs.Block.{reserved_size, touched, lies_in, live_block};
+ghost use Rattle.std.specs.Prelude.{◌≡◌, ◌+◌, ◌*◌, ◌%◌, ◌<◌, ◌≤◌, ◌^◌, ◌&&◌, ◌||◌, true, false, ◌==◌, nat_lt, length, slice_get, IfOk, IfSome, MatchBool, MatchOption};
+ghost use Rattle.std.specs.List.{list_all};
+ghost use Rattle.block_book.specs.Block.{reserved_size, touched, is_apart, lies_in, live_block};
 ghost use Rattle.block_book.specs.Heap.{IsHeap, empty_heap, most_blocks, with_block, without_block, with_delayed, recycled, standing_at, is_live_at, is_held, is_reserved, is_bare};
 ghost use Rattle.block_book.specs.Placement.{fit, placement};
 ghost use Rattle.block_book.specs.Answer.{live_blocks, is_clear};
@@ -23,7 +24,7 @@ pub struct Book {
 }
 
 impl Model for Book {
-    ghost use Rattle.std.specs.Prelude.{◌≤◌};
+    ghost use Rattle.std.specs.Prelude.{◌<◌, ◌≤◌, ◌^◌};
     ghost use Rattle.std.specs.Vec.{vec_capacity};
     ghost use Rattle.block_book.specs.Heap.{Heap, IsHeap, most_blocks, heap_of};
 
@@ -31,7 +32,7 @@ impl Model for Book {
 
     ghost view = { λ b. heap_of b.start b.end b.blocks.items };
 
-    ghost invariant = { λ b. IsHeap (heap_of b.start b.end b.blocks.items) × (most_blocks ≤ vec_capacity b.blocks) };
+    ghost invariant = { λ b. IsHeap (heap_of b.start b.end b.blocks.items) × (most_blocks ≤ vec_capacity b.blocks) × (b.end < 2 ^ 32) };
 }
 
 impl Book {
@@ -187,10 +188,7 @@ impl Book {
     pub fn clear_of_live(&self, at: u32, size: u32) -> bool
         ensures { result ≡ is_clear self.now.start self.now.end (live_blocks self.now.blocks) at size }
     {
-        if !self.spans(at, size) {
-            return false;
-        }
-        self.blocks.iter().all(|block| block.leaves(at, size))
+        self.spans(at, size) && all_leave(&self.blocks, at, size)
     }
 
     /// Makes this book what another one of the same heap is.
@@ -209,7 +207,7 @@ impl Book {
         requires some { 0 < count }
         requires small { count ≤ 2 ^ 33 }
         ensures answer { result ≡ fit self.now count from }
-        ensures within { MatchOption result (length self.now.blocks ≤ most_blocks) (λ at. at + count ≤ self.now.end) }
+        ensures within { IfSome result (λ at. at + count ≤ self.now.end) }
     {
         let mut low = (u64::from(self.start.max(from)) + 15) / 16 * 16;
         for block in &self.blocks {
@@ -240,8 +238,18 @@ impl Book {
     fn passed(&self, at: u32) -> usize
         ensures bound { result ≤ length self.now.blocks }
         ensures value { result ≡ passed self.now.blocks at }
+        ensures heap { IsHeap self.now }
+        ensures within { self.now.end < 2 ^ 32 }
     {
         self.blocks.partition_point(|block| block.extent_end() <= u64::from(at))
+    }
+
+    // The block at a place among the blocks.
+    #[inline]
+    fn block_at(&self, place: usize) -> Option<Block>
+        ensures { result ≡ slice_get self.now.blocks place }
+    {
+        self.blocks.get(place).copied()
     }
 
     // The first block whose extent ends above an address: the only one that can have it in its extent.
@@ -251,7 +259,7 @@ impl Book {
         ensures heap { IsHeap self.now }
         ensures within { self.now.end < 2 ^ 32 }
     {
-        self.blocks.get(self.passed(at)).copied()
+        self.block_at(self.passed(at))
     }
 
     // The place of the live block at an address.
@@ -259,7 +267,7 @@ impl Book {
         ensures { FindsLive self.now at result }
     {
         let place = self.passed(at);
-        match self.blocks.get(place) {
+        match self.block_at(place) {
             Some(block) if block.at == at && !block.delayed => Some(place),
             _ => None,
         }
@@ -274,4 +282,11 @@ impl Book {
         // There is room for all blocks, so this takes no memory.
         let _ = self.blocks.insert(place, block);
     }
+}
+
+// Whether each block is delayed, or shares no byte with a block of a size at an address.
+fn all_leave(blocks: &[Block], at: u32, size: u32) -> bool
+    ensures { result ≡ list_all (λ block. block.delayed || is_apart at (touched size) block.at (block.at + touched block.size)) blocks.now }
+{
+    blocks.iter().all(|block| block.leaves(at, size))
 }

@@ -1,0 +1,101 @@
+-- A block that is to be added has room among the others.
+use Rattle.std.proofs.Common.{◌≡◌, ℕ, zero, suc, ◌+◌, ◌-◌, ◌*◌, ◌%◌, ◌<◌, ◌≤◌, Bool, true, false, not, cond, ◌||◌, ◌&&◌, List, [], ◌∷◌, length, map, filter, Option, Some, None, arith, sym, ◌∙◌, subst, ap, refl, inl, inr, ◌⊎◌, eqb, nat_lt, nat_le, max, if◌then◌else◌}
+use Rattle.std.specs.Option.{option_map}
+use Rattle.std.specs.List.{list_all}
+use Rattle.std.proofs.lemmas.Bool.{leb-true, le-leb, eqb-true, lt-ltb, le-ltb, and_parts, and_from, or_cases, or_left, or_right}
+use Rattle.block_book.specs.declared.block.Block.{Block}
+use Rattle.block_book.specs.Block.{reserved_size, touched, extent_start, extent_end, is_apart, lies_in, live_block, IsAligned}
+use Rattle.block_book.specs.Heap.{Heap, IsHeap, StandWithin, is_bare, most_blocks}
+use Rattle.block_book.specs.Placement.{fit, placement}
+use Rattle.block_book.specs.Answer.{live_blocks, is_clear}
+use Rattle.block_book.specs.Search.{HasRoom}
+use Rattle.block_book.proofs.Sizes.{reserved-within, reserved-multiple, reserved-least}
+use Rattle.block_book.proofs.Fitting.{FitsAt}
+
+-- a test of all live blocks is one of all blocks
+pub live-all : (test : ℕ × ℕ → Bool) (blocks : List Block) → list_all (λ block. block.delayed || test (block.at, block.size)) blocks ≡ list_all test (live_blocks blocks)
+live-all test [] = refl
+live-all test (block ∷ blocks) =
+    elim (block.delayed) as (λ d. ((d || test (block.at, block.size)) && list_all (λ block. block.delayed || test (block.at, block.size)) blocks) ≡ list_all test (map (λ (b : Block). (b.at, b.size)) (cond (not d) (block ∷ filter (λ b. not b.delayed) blocks) (filter (λ b. not b.delayed) blocks)))) [
+      | true ↦ live-all test blocks
+      | false ↦ ap (λ b. test (block.at, block.size) && b) (live-all test blocks)
+    ]
+
+abbrev pub leaves : ℕ → ℕ → Block → Bool
+leaves at size block = block.delayed || is_apart at (touched size) block.at (block.at + touched block.size)
+
+pub clear-is : (start end : ℕ) (blocks : List Block) (at size : ℕ) → is_clear start end (live_blocks blocks) at size ≡ (((eqb (at % 16) 0) && lies_in at (touched size) start end) && list_all (leaves at size) blocks)
+unfolding is_clear
+clear-is start end blocks at size =
+    ap (λ b. ((eqb (at % 16) 0) && lies_in at (touched size) start end) && b) (sym (live-all (λ block. is_apart at (touched size) block.0 (block.0 + touched block.1)) blocks))
+
+-- where no block is padded or delayed, bytes that no live block may touch are apart from all extents
+bare-apart : (at size from : ℕ) (blocks : List Block) (to : ℕ) → at % 16 ≡ 0 → StandWithin from blocks to → list_all (λ block. (eqb block.side 0) && not block.delayed) blocks ≡ true → list_all (leaves at size) blocks ≡ true → list_all (λ other. is_apart at (reserved_size size) (extent_start other) (extent_end other)) blocks ≡ true
+bare-apart at size from [] to even h bare clear = refl
+bare-apart at size from (block ∷ blocks) to even h bare clear =
+    let b = and_parts ((eqb block.side 0) && not block.delayed) (list_all (λ block. (eqb block.side 0) && not block.delayed) blocks) bare in
+    let c = and_parts (leaves at size block) (list_all (leaves at size) blocks) clear in
+    let d = and_parts (eqb block.side 0) (not block.delayed) b.0 in
+    let flat = eqb-true block.side 0 d.0 in
+    let even' = h.0.at_multiple in
+    and_from (is_apart at (reserved_size size) (extent_start block) (extent_end block)) (list_all (λ other. is_apart at (reserved_size size) (extent_start other) (extent_end other)) blocks)
+    (elim (or_cases (nat_le (at + touched size) block.at) (nat_le (block.at + touched block.size) at) (live-leaves block.delayed (is_apart at (touched size) block.at (block.at + touched block.size)) d.1 c.0)) [
+        | inl below ↦
+            let le = reserved-within at size block.at even even' (leb-true (at + touched size) block.at below) in
+            or_left (nat_le (at + reserved_size size) (extent_start block)) (nat_le (extent_end block) at) (le-leb (at + reserved_size size) (extent_start block) (omega arith))
+        | inr above ↦
+            let le = reserved-within block.at block.size at even' even (leb-true (block.at + touched block.size) at above) in
+            or_right (nat_le (at + reserved_size size) (extent_start block)) (nat_le (extent_end block) at) (le-leb (extent_end block) at (omega arith))
+      ])
+    (bare-apart at size (extent_end block) blocks to even h.2 b.1 c.1)
+  where
+    live-leaves : (d : Bool) (t : Bool) → not d ≡ true → (d || t) ≡ true → t ≡ true
+    live-leaves true t p q = absurd (cc p)
+    live-leaves false t p q = q
+
+-- the same range written otherwise
+same-apart : (blocks : List Block) (at count at' count' : ℕ) → at ≡ at' → count ≡ count' → list_all (λ other. is_apart at count (extent_start other) (extent_end other)) blocks ≡ true → list_all (λ other. is_apart at' count' (extent_start other) (extent_end other)) blocks ≡ true
+same-apart blocks at count at' count' a c h =
+    subst (λ n. list_all (λ other. is_apart at' n (extent_start other) (extent_end other)) blocks ≡ true) c
+    (subst (λ n. list_all (λ other. is_apart n count (extent_start other) (extent_end other)) blocks ≡ true) a h)
+
+pub put-room : (heap : Heap) (at size : ℕ) → IsHeap heap → is_bare heap ≡ true → length heap.blocks < most_blocks → is_clear heap.start heap.end (live_blocks heap.blocks) at size ≡ true → HasRoom heap (live_block at size 0)
+put-room heap at size sound bare few clear =
+    let p = and_parts ((eqb (at % 16) 0) && lies_in at (touched size) heap.start heap.end) (list_all (leaves at size) heap.blocks) (sym (clear-is heap.start heap.end heap.blocks at size) ∙ clear) in
+    let q = and_parts (eqb (at % 16) 0) (lies_in at (touched size) heap.start heap.end) p.0 in
+    let r = and_parts (nat_le heap.start at) (nat_le (at + touched size) heap.end) q.1 in
+    let even = eqb-true (at % 16) 0 q.0 in
+    let starts = leb-true heap.start at r.0 in
+    let ends = reserved-within at size heap.end even sound.end_multiple (leb-true (at + touched size) heap.end r.1) in
+    let apart = bare-apart at size heap.start heap.blocks heap.end even sound.standing bare p.1 in
+    record {
+      few = few;
+      aligned = record { at_multiple = even; side_multiple = refl; side_small = omega arith; side_within = omega arith };
+      starts = omega arith;
+      ends = omega arith;
+      apart = same-apart heap.blocks at (reserved_size size) (at - 0) (at + reserved_size size + 0 - (at - 0)) (omega arith) (omega arith) apart;
+    }
+
+pub place-room : (heap : Heap) (size side from extent : ℕ) → length heap.blocks < most_blocks → side % 16 ≡ 0 → side ≤ 256 → FitsAt heap (reserved_size size + 2 * side) from extent → HasRoom heap (live_block (extent + side) size side)
+place-room heap size side from extent few even small h =
+    let multiple = h.multiple in
+    let starts = h.starts in
+    let ends = h.ends in
+    record {
+      few = few;
+      aligned = record { at_multiple = omega arith; side_multiple = even; side_small = small; side_within = omega arith };
+      starts = omega arith;
+      ends = omega arith;
+      apart = same-apart heap.blocks extent (reserved_size size + 2 * side) (extent + side - side) (extent + side + reserved_size size + side - (extent + side - side)) (omega arith) (omega arith) h.apart;
+    }
+
+-- what `placement` answers
+pub placement-full : (heap : Heap) (size side from : ℕ) → most_blocks ≤ length heap.blocks → placement heap size side from ≡ None
+unfolding placement
+placement-full heap size side from full =
+    ap (λ b. if b then option_map (λ extent. extent + side) (fit heap (reserved_size size + 2 * side) from) else None) (le-ltb (length heap.blocks) most_blocks full)
+
+pub placement-fit : (heap : Heap) (size side from : ℕ) → length heap.blocks < most_blocks → placement heap size side from ≡ option_map (λ extent. extent + side) (fit heap (reserved_size size + 2 * side) from)
+unfolding placement
+placement-fit heap size side from few =
+    ap (λ b. if b then option_map (λ extent. extent + side) (fit heap (reserved_size size + 2 * side) from) else None) (lt-ltb (length heap.blocks) most_blocks few)

@@ -1,0 +1,12 @@
+use Rattle.std.proofs.Common.{◌≡◌, sym, ◌∙◌, arith}
+use Rattle.block_book.proofs.Finding.{stands-at, stands-elsewhere, stands-nowhere}
+use Rattle.block_book.proofs.book.Book.find.Goals as goal
+
+pub returns-in-Some : goal.returns-in-Some
+returns-in-Some c = c.standing.ensures ∙ sym (stands-at c.args.self.now c.args.at c.in-Some.block (sym c.reached.ensures.value ∙ c.in-Some.is) (omega arith))
+
+pub returns-in_default : goal.returns-in_default
+returns-in_default c = sym (stands-elsewhere c.args.self.now c.args.at c.in-Some.block c.reached.ensures.heap (sym c.reached.ensures.value ∙ c.in-Some.is) (λ same. omega arith))
+
+pub returns-in_default-2 : goal.returns-in_default-2
+returns-in_default-2 c = sym (stands-nowhere c.args.self.now c.args.at c.reached.ensures.heap (sym c.reached.ensures.value ∙ c.in_default.is))

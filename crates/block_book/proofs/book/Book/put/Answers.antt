@@ -1,0 +1,11 @@
+use Rattle.std.proofs.Common.{◌≡◌, ◌<◌, true, length, sym, ◌∙◌, ap, subst, arith}
+use Rattle.block_book.specs.Heap.{Heap, IsHeap, most_blocks}
+use Rattle.block_book.proofs.Rooms.{put-room}
+use Rattle.block_book.proofs.book.Book.put.Goals as goal
+
+pub add-requires : goal.add-requires
+add-requires c =
+    let heap = c.args.self.now in
+    let sound : IsHeap heap = subst IsHeap c.self.view_is c.self.invariant.0 in
+    let few : length heap.blocks < most_blocks = subst (λ (h : Heap). length h.blocks < most_blocks) c.self.view_is (omega arith) in
+    put-room heap c.args.at c.args.size sound c.requires few (sym c.clear_of_live.ensures ∙ c.if-not-clear_of_live.false)

@@ -1,0 +1,22 @@
+use Rattle.std.proofs.Common.{◌≡◌, sym, ◌∙◌, ap, subst, not, filter, rules, of_calls, arith}
+use Rattle.std.proofs.lemmas.List.Elements.{filter_from_retain}
+use Rattle.block_book.specs.declared.block.Block.{Block}
+use Rattle.block_book.specs.Heap.{Heap, IsHeap, heap_of, recycled}
+use Rattle.block_book.proofs.Sound.{sound-filter}
+use Rattle.block_book.proofs.book.Book.recycle.Goals as goal
+
+pub invariant_of-self : goal.invariant_of-self
+invariant_of-self c =
+    let inside = c.self.inside in
+    let heap = heap_of inside.start inside.end inside.blocks.items in
+    let items = filter_from_retain _ (λ (block : Block). not block.delayed) (λ p x b q h. search (rules, of_calls)) _ _ _ c.retain.ensures.filtered in (
+      subst (λ blocks. IsHeap (heap_of inside.start inside.end blocks)) (sym items) (sound-filter (λ (block : Block). not block.delayed) heap c.self.invariant.0),
+      omega (arith, c.self.invariant.1, c.retain.ensures.capacity),
+      c.self.invariant.2,
+    )
+
+pub returns : goal.returns
+returns c =
+    let inside = c.self.inside in
+    let items = filter_from_retain _ (λ (block : Block). not block.delayed) (λ p x b q h. search (rules, of_calls)) _ _ _ c.retain.ensures.filtered in
+    ap (heap_of inside.start inside.end) items ∙ ap recycled c.self.view_is

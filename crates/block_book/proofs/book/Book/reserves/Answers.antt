@@ -1,0 +1,12 @@
+use Rattle.std.proofs.Common.{sym, ◌∙◌}
+use Rattle.block_book.proofs.Finding.{reserved-some, reserved-none, reserved-past}
+use Rattle.block_book.proofs.book.Book.reserves.Goals as goal
+
+pub returns-in-Some-clause-value : goal.returns-in-Some-clause-value
+returns-in-Some-clause-value c = c.reserves.ensures ∙ sym (reserved-some c.args.self.now c.args.at c.args.len c.in-Some.block c.reached.ensures.heap c.requires (sym c.reached.ensures.value ∙ c.in-Some.is))
+
+pub returns-in-Some-clause-past : goal.returns-in-Some-clause-past
+returns-in-Some-clause-past c = λ past. c.reserves.ensures ∙ reserved-past c.args.self.now c.args.at c.args.len c.in-Some.block c.reached.ensures.heap c.reached.ensures.within (sym c.reached.ensures.value ∙ c.in-Some.is) past
+
+pub returns-in-None-clause-value : goal.returns-in-None-clause-value
+returns-in-None-clause-value c = sym (reserved-none c.args.self.now c.args.at c.args.len c.reached.ensures.heap c.requires (sym c.reached.ensures.value ∙ c.in-None.is))
