@@ -1,16 +1,15 @@
 -- What a search says of the whole heap.
-use Rattle.std.proofs.Common.{◌≡◌, ℕ, zero, suc, ◌+◌, ◌-◌, ◌^◌, ◌<◌, ◌≤◌, Bool, true, false, not, ◌&&◌, List, [], ◌∷◌, length, get_or, slice_get, Option, Some, None, arith, sym, ◌∙◌, subst, ap, refl, eqb, nat_le, leb}
-use Rattle.std.specs.List.{list_any, find, AllWithin, prefix_len}
-use Rattle.std.proofs.lemmas.Bool.{leb-true, lt-leb, eq-eqb, ne_eqb, eqb-true, and_parts, and_from, and_left, and_right, not-true, not_from_false, not_from_true, false_from_ne_true}
+use Rattle.std.proofs.Common.{◌≡◌, ℕ, zero, suc, ◌+◌, ◌^◌, ◌<◌, ◌≤◌, true, false, not, ◌&&◌, List, [], ◌∷◌, length, slice_get, Some, None, arith, sym, ◌∙◌, subst, ap, eqb, nat_le, leb}
+use Rattle.std.specs.List.{AllWithin}
+use Rattle.std.proofs.lemmas.Bool.{leb-true, lt-leb, eq-eqb, ne_eqb, and_parts, and_from, and_left, and_right, not_from_false, not_from_true}
 use Rattle.std.proofs.lemmas.Option.{slice_get_within}
 use Rattle.std.proofs.lemmas.List.Sums.{prefix_len_is}
 use Rattle.block_book.specs.declared.block.Block.{Block}
 use Rattle.block_book.specs.declared.standing.Standing.TheVariants.{Nothing}
 use Rattle.block_book.specs.Block.{reserved_size, extent_start, extent_end, lies_in}
-use Rattle.block_book.specs.Heap.{Heap, IsHeap, StandWithin, standing_at, standing_of, is_live_at, is_held, is_reserved, most_blocks}
+use Rattle.block_book.specs.Heap.{Heap, IsHeap, StandWithin, standing_at, standing_of, is_live_at, is_held, is_reserved}
 use Rattle.block_book.specs.Search.{passed, FindsLive}
-use Rattle.block_book.proofs.Sizes.{reserved-least}
-use Rattle.block_book.proofs.Rising.{stand-ends, stand-ordered}
+use Rattle.block_book.proofs.Rising.{stand-ordered}
 use Rattle.block_book.proofs.Searches.{IsAbout, at-is-about, any-some, any-none, find-some, find-no_block}
 
 -- what a binary search answers is the number of blocks passed

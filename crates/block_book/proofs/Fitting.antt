@@ -1,14 +1,14 @@
 -- The least address that fits, and how a walk over the blocks finds it.
-use Rattle.std.proofs.Common.{◌≡◌, ℕ, zero, suc, ◌+◌, ◌-◌, ◌*◌, ◌/◌, ◌%◌, ◌<◌, ◌≤◌, Bool, true, false, cond, ◌&&◌, List, [], ◌∷◌, length, get_or, Option, Some, None, arith, sym, ◌∙◌, subst, ap, refl, inl, inr, ◌⊎◌, nat_lt, nat_le, eqb, max}
-use Rattle.std.specs.Option.{MatchOption, option_map}
+use Rattle.std.proofs.Common.{◌≡◌, ℕ, zero, suc, ◌+◌, ◌*◌, ◌/◌, ◌%◌, ◌<◌, ◌≤◌, Bool, true, false, cond, ◌&&◌, List, [], ◌∷◌, length, get_or, Option, Some, None, arith, sym, ◌∙◌, subst, ap, refl, inl, inr, ◌⊎◌, nat_le, eqb, max}
+use Rattle.std.specs.Option.{MatchOption}
 use Rattle.std.specs.List.{find, list_all, range_with_len}
 use Rattle.std.proofs.lemmas.List.{get_or_default}
 use Rattle.std.proofs.lemmas.Option.{MatchOption-at_some}
-use Rattle.std.proofs.lemmas.Bool.{cases_Bool, cases_lt, cases_order, leb-true, le-leb, eqb-true, eq-eqb, and_parts, and_from, or_left, or_right, or_cases, false≢true, false_from_ne_true, both_ways, lt-ltb, le-ltb}
+use Rattle.std.proofs.lemmas.Bool.{cases_Bool, cases_lt, cases_order, leb-true, le-leb, eqb-true, eq-eqb, and_parts, and_from, or_left, or_right, or_cases, false_from_ne_true, both_ways}
 use Rattle.block_book.specs.declared.block.Block.{Block}
-use Rattle.block_book.specs.Block.{reserved_size, extent_start, extent_end, is_apart, lies_in, IsAligned}
-use Rattle.block_book.specs.Heap.{Heap, StandWithin, IsHeap, most_blocks}
-use Rattle.block_book.specs.Placement.{fits, fit, placement}
+use Rattle.block_book.specs.Block.{extent_start, extent_end, is_apart, lies_in, IsAligned}
+use Rattle.block_book.specs.Heap.{Heap, StandWithin, IsHeap}
+use Rattle.block_book.specs.Placement.{fits, fit}
 use Rattle.block_book.proofs.Sizes.{reserved-multiple}
 use Rattle.block_book.proofs.Rising.{stand-starts, stand-ends, stand-aligned, extent-rises}
 
@@ -48,7 +48,6 @@ weaker : {A : Type 0} {P P' : Type 0} {Q Q' : A → Type 0} (o : Option A) → (
 weaker None f g h = f h
 weaker (Some x) f g h = g x h
 
-
 find-first : (test : ℕ → Bool) (n from : ℕ) → MatchOption (find test (range_with_len from n)) ((j : ℕ) → from ≤ j → j < from + n → test j ≡ false) (λ k. (from ≤ k) × (k < from + n) × (test k ≡ true) × ((j : ℕ) → from ≤ j → j < k → test j ≡ false))
 find-first test zero from = λ j le lt. absurd (omega arith)
 find-first test (suc n) from =
@@ -59,9 +58,9 @@ find-first test (suc n) from =
       | inr refuted ↦
           subst (λ b. MatchOption (cond b (Some from) (find test (range_with_len (from + 1) n))) ((j : ℕ) → from ≤ j → j < from + suc n → test j ≡ false) (λ k. (from ≤ k) × (k < from + suc n) × (test k ≡ true) × ((j : ℕ) → from ≤ j → j < k → test j ≡ false))) (sym refuted)
           (weaker (find test (range_with_len (from + 1) n))
-            (λ h j le lt. from-next test from j refuted (λ le'. h j le' (omega arith)) le)
-            (λ k h. ((omega arith), (omega arith), h.2, (λ j le lt. from-next test from j refuted (λ le'. h.3 j le' lt) le)))
-            (find-first test n (from + 1)))
+          (λ h j le lt. from-next test from j refuted (λ le'. h j le' (omega arith)) le)
+          (λ k h. ((omega arith), (omega arith), h.2, (λ j le lt. from-next test from j refuted (λ le'. h.3 j le' lt) le)))
+          (find-first test n (from + 1)))
     ]
   where
     from-next : (test : ℕ → Bool) (from j : ℕ) → test from ≡ false → (from + 1 ≤ j → test j ≡ false) → from ≤ j → test j ≡ false
@@ -76,9 +75,9 @@ unfolding fit
 fit-least heap count from =
     weaker (find (fits heap count from) (range_with_len 0 (heap.end + 1)))
     (λ h at. elim (cases_lt heap.end at) [
-        | inl past ↦ unfit heap count from at (λ p. let ends = p.ends in absurd (omega arith))
-        | inr within ↦ h at (omega arith) (omega arith)
-      ])
+      | inl past ↦ unfit heap count from at (λ p. let ends = p.ends in absurd (omega arith))
+      | inr within ↦ h at (omega arith) (omega arith)
+    ])
     (λ k h. (h.2, (λ at below. h.3 at (omega arith) below)))
     (find-first (fits heap count from) (heap.end + 1) 0)
 
@@ -92,6 +91,7 @@ fit-some heap count from at h least = only (fit heap count from) (fit-least heap
   where
     passes : fits heap count from at ≡ true
     passes = fits-from heap count from at h
+
     only : (o : Option ℕ) → MatchOption o ((at : ℕ) → fits heap count from at ≡ false) (λ least. (fits heap count from least ≡ true) × ((at : ℕ) → at < least → fits heap count from at ≡ false)) → o ≡ Some at
     only None none = absurd (both_ways (fits heap count from at) (none at) passes)
     only (Some k) some =
@@ -117,9 +117,9 @@ apart-from at count [] h = refl
 apart-from at count (block ∷ blocks) h =
     and_from (is_apart at count (extent_start block) (extent_end block)) (list_all (λ block. is_apart at count (extent_start block) (extent_end block)) blocks)
     (elim (h 0 block (omega arith)) [
-        | inl below ↦ or_left (nat_le (at + count) (extent_start block)) (nat_le (extent_end block) at) (le-leb (at + count) (extent_start block) below)
-        | inr above ↦ or_right (nat_le (at + count) (extent_start block)) (nat_le (extent_end block) at) (le-leb (extent_end block) at above)
-      ])
+      | inl below ↦ or_left (nat_le (at + count) (extent_start block)) (nat_le (extent_end block) at) (le-leb (at + count) (extent_start block) below)
+      | inr above ↦ or_right (nat_le (at + count) (extent_start block)) (nat_le (extent_end block) at) (le-leb (extent_end block) at above)
+    ])
     (apart-from at count blocks (λ k d below. h (suc k) d (omega arith)))
 
 -- and the other way round, at one block
@@ -181,10 +181,10 @@ walk-goes heap count from i low block sound w within is narrow even = record {
         | inl earlier ↦ w.lower at earlier
         | inr later ↦
             unfit heap count from at (λ p.
-              elim (subst (λ b. (at + count ≤ extent_start b) ⊎ (extent_end b ≤ at)) (sym is) (apart-at at count heap.blocks i block within p.apart)) [
-                | inl l ↦ absurd (omega arith)
-                | inr r ↦ absurd (omega arith)
-              ])
+            elim (subst (λ b. (at + count ≤ extent_start b) ⊎ (extent_end b ≤ at)) (sym is) (apart-at at count heap.blocks i block within p.apart)) [
+              | inl l ↦ absurd (omega arith)
+              | inr r ↦ absurd (omega arith)
+            ])
       ];
 }
 
@@ -193,19 +193,19 @@ pub walk-stops : (heap : Heap) (count from i low : ℕ) (block : Block) → IsHe
 walk-stops heap count from i low block sound w within is room ends =
     fit-some heap count from low
     (record {
-        multiple = w.multiple;
-        reaches = w.reaches;
-        starts = w.starts;
-        ends = omega arith;
-        apart = apart-from low count heap.blocks (λ k d below.
-            elim (cases_lt k i) [
-              | inl earlier ↦ inr (w.behind k d earlier)
-              | inr later ↦
-                  let begins = stand-between heap.start heap.blocks heap.end sound.standing i k block later below in
-                  let here : low + count ≤ extent_start (get_or heap.blocks i block) = subst (λ b. low + count ≤ extent_start b) is room in
-                  inl (subst (λ b. low + count ≤ extent_start b) (get_or_default heap.blocks k block d below) (omega arith))
-            ]);
-      })
+      multiple = w.multiple;
+      reaches = w.reaches;
+      starts = w.starts;
+      ends = omega arith;
+      apart = apart-from low count heap.blocks (λ k d below.
+          elim (cases_lt k i) [
+            | inl earlier ↦ inr (w.behind k d earlier)
+            | inr later ↦
+                let begins = stand-between heap.start heap.blocks heap.end sound.standing i k block later below in
+                let here : low + count ≤ extent_start (get_or heap.blocks i block) = subst (λ b. low + count ≤ extent_start b) is room in
+                inl (subst (λ b. low + count ≤ extent_start b) (get_or_default heap.blocks k block d below) (omega arith))
+          ]);
+    })
     w.lower
 
 -- there is room behind all blocks, or nowhere
@@ -213,21 +213,21 @@ pub walk-ends : (heap : Heap) (count from i low : ℕ) → Walks heap count from
 walk-ends heap count from i low w all room =
     fit-some heap count from low
     (record {
-        multiple = w.multiple;
-        reaches = w.reaches;
-        starts = w.starts;
-        ends = room;
-        apart = apart-from low count heap.blocks (λ k d below. inr (w.behind k d (omega arith)));
-      })
+      multiple = w.multiple;
+      reaches = w.reaches;
+      starts = w.starts;
+      ends = room;
+      apart = apart-from low count heap.blocks (λ k d below. inr (w.behind k d (omega arith)));
+    })
     w.lower
 
 pub walk-fails : (heap : Heap) (count from i low : ℕ) → Walks heap count from i low → heap.end < low + count → fit heap count from ≡ None
 walk-fails heap count from i low w full =
     fit-none heap count from (λ at.
-      elim (cases_lt at low) [
-        | inl below ↦ w.lower at below
-        | inr above ↦ unfit heap count from at (λ p. let ends = p.ends in absurd (omega arith))
-      ])
+    elim (cases_lt at low) [
+      | inl below ↦ w.lower at below
+      | inr above ↦ unfit heap count from at (λ p. let ends = p.ends in absurd (omega arith))
+    ])
 
 -- an aligned block's extent ends at a multiple of 16
 pub extent-even : (block : Block) → IsAligned block → extent_end block % 16 ≡ 0
@@ -254,6 +254,6 @@ turn-goes heap items count from i low begins end next d sound same w below is na
     let last = stand-ends heap.start heap.blocks heap.end sound.standing i d within in
     let even = extent-even block (stand-aligned heap.start heap.blocks heap.end sound.standing i d within) in (
       subst (Walks heap count from (i + 1)) (sym (steps ∙ ap (max low) there))
-        (walk-goes heap count from i low block sound w within (get_or_default heap.blocks i d block within) (omega arith) even),
+          (walk-goes heap count from i low block sound w within (get_or_default heap.blocks i d block within) (omega arith) even),
       omega arith,
     )

@@ -5,3 +5,4 @@ pub mod Searches
 pub mod Sound
 pub mod Finding
 pub mod Rooms
+pub mod Live

@@ -1,12 +1,12 @@
 -- Blocks that stand in rising order.
-use Rattle.std.proofs.Common.{◌≡◌, ℕ, zero, suc, ◌+◌, ◌-◌, ◌*◌, ◌%◌, ◌<◌, ◌≤◌, Bool, true, false, not, cond, List, [], ◌∷◌, length, get_or, map, filter, arith, sym, subst, ap, refl, nat_lt, nat_le, inl, inr, if◌then◌else◌, eqb}
+use Rattle.std.proofs.Common.{◌≡◌, ℕ, zero, suc, ◌+◌, ◌-◌, ◌<◌, ◌≤◌, Bool, true, false, cond, List, [], ◌∷◌, length, get_or, map, filter, arith, sym, subst, ap, refl, nat_lt, nat_le, inl, inr, if◌then◌else◌, eqb}
 use Rattle.std.specs.List.{list_all}
 use Rattle.std.specs.List.Sorted.{IsNonDecreasingBy}
-use Rattle.std.proofs.lemmas.Bool.{cases_Bool, leb-true, ltb-true, ltb-false, or_cases, and_parts, false≢true}
+use Rattle.std.proofs.lemmas.Bool.{cases_Bool, leb-true, ltb-true, ltb-false, or_cases, and_parts}
 use Rattle.block_book.specs.declared.block.Block.{Block}
-use Rattle.block_book.specs.Block.{reserved_size, extent_start, extent_end, is_apart, live_block, IsAligned}
+use Rattle.block_book.specs.Block.{extent_start, extent_end, is_apart, IsAligned}
 use Rattle.block_book.specs.Heap.{StandWithin, insert_block, delayed_at}
-use Rattle.block_book.proofs.Sizes.{reserved-multiple, reserved-least}
+use Rattle.block_book.proofs.Sizes.{reserved-least}
 
 -- an extent has at least 16 bytes
 pub extent-rises : (block : Block) → extent_start block + 16 ≤ extent_end block
@@ -101,10 +101,13 @@ stand-insert new from (block ∷ blocks) to h aligned starts ends apart =
           (aligned, starts, (h.0, apart-sides (extent_start new) (extent_end new - extent_start new) (extent_start block) (extent_end block) (extent_end new ≤ extent_start block) here (λ l. omega arith) (λ r. absurd (omega arith)), h.2))
       | inr higher ↦
           let more : block.at ≤ new.at = ltb-false new.at block.at higher in
-          subst (λ b. StandWithin from (if b then new ∷ (block ∷ blocks) else block ∷ insert_block new blocks) to) (sym higher)
-          (h.0, h.1, stand-insert new (extent_end block) blocks to h.2 aligned
-            (apart-sides (extent_start new) (extent_end new - extent_start new) (extent_start block) (extent_end block) (extent_end block ≤ extent_start new) here (λ l. absurd (omega arith)) (λ r. r))
-            ends later)
+          subst (λ b. StandWithin from (if b then new ∷ (block ∷ blocks) else block ∷ insert_block new blocks) to) (sym higher) (
+            h.0,
+            h.1,
+            stand-insert new (extent_end block) blocks to h.2 aligned
+                (apart-sides (extent_start new) (extent_end new - extent_start new) (extent_start block) (extent_end block) (extent_end block ≤ extent_start new) here (λ l. absurd (omega arith)) (λ r. r))
+                ends later,
+          )
     ]
 
 pub length-insert_block : (new : Block) (blocks : List Block) → length (insert_block new blocks) ≡ suc (length blocks)

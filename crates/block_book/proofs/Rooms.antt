@@ -1,15 +1,15 @@
 -- A block that is to be added has room among the others.
-use Rattle.std.proofs.Common.{◌≡◌, ℕ, zero, suc, ◌+◌, ◌-◌, ◌*◌, ◌%◌, ◌<◌, ◌≤◌, Bool, true, false, not, cond, ◌||◌, ◌&&◌, List, [], ◌∷◌, length, map, filter, Option, Some, None, arith, sym, ◌∙◌, subst, ap, refl, inl, inr, ◌⊎◌, eqb, nat_lt, nat_le, max, if◌then◌else◌}
+use Rattle.std.proofs.Common.{◌≡◌, ℕ, ◌+◌, ◌-◌, ◌*◌, ◌%◌, ◌<◌, ◌≤◌, Bool, true, false, not, cond, ◌||◌, ◌&&◌, List, [], ◌∷◌, length, map, filter, None, arith, sym, ◌∙◌, subst, ap, refl, inl, inr, eqb, nat_lt, nat_le, if◌then◌else◌}
 use Rattle.std.specs.Option.{option_map}
 use Rattle.std.specs.List.{list_all}
 use Rattle.std.proofs.lemmas.Bool.{leb-true, le-leb, eqb-true, lt-ltb, le-ltb, and_parts, and_from, or_cases, or_left, or_right}
 use Rattle.block_book.specs.declared.block.Block.{Block}
-use Rattle.block_book.specs.Block.{reserved_size, touched, extent_start, extent_end, is_apart, lies_in, live_block, IsAligned}
-use Rattle.block_book.specs.Heap.{Heap, IsHeap, StandWithin, is_bare, most_blocks}
+use Rattle.block_book.specs.Block.{reserved_size, touched, extent_start, extent_end, is_apart, lies_in, live_block}
+use Rattle.block_book.specs.Heap.{Heap, IsHeap, StandWithin, insert_block, is_bare, most_blocks}
 use Rattle.block_book.specs.Placement.{fit, placement}
 use Rattle.block_book.specs.Answer.{live_blocks, is_clear}
 use Rattle.block_book.specs.Search.{HasRoom}
-use Rattle.block_book.proofs.Sizes.{reserved-within, reserved-multiple, reserved-least}
+use Rattle.block_book.proofs.Sizes.{reserved-within}
 use Rattle.block_book.proofs.Fitting.{FitsAt}
 
 -- a test of all live blocks is one of all blocks
@@ -40,13 +40,13 @@ bare-apart at size from (block ∷ blocks) to even h bare clear =
     let even' = h.0.at_multiple in
     and_from (is_apart at (reserved_size size) (extent_start block) (extent_end block)) (list_all (λ other. is_apart at (reserved_size size) (extent_start other) (extent_end other)) blocks)
     (elim (or_cases (nat_le (at + touched size) block.at) (nat_le (block.at + touched block.size) at) (live-leaves block.delayed (is_apart at (touched size) block.at (block.at + touched block.size)) d.1 c.0)) [
-        | inl below ↦
-            let le = reserved-within at size block.at even even' (leb-true (at + touched size) block.at below) in
-            or_left (nat_le (at + reserved_size size) (extent_start block)) (nat_le (extent_end block) at) (le-leb (at + reserved_size size) (extent_start block) (omega arith))
-        | inr above ↦
-            let le = reserved-within block.at block.size at even' even (leb-true (block.at + touched block.size) at above) in
-            or_right (nat_le (at + reserved_size size) (extent_start block)) (nat_le (extent_end block) at) (le-leb (extent_end block) at (omega arith))
-      ])
+      | inl below ↦
+          let le = reserved-within at size block.at even even' (leb-true (at + touched size) block.at below) in
+          or_left (nat_le (at + reserved_size size) (extent_start block)) (nat_le (extent_end block) at) (le-leb (at + reserved_size size) (extent_start block) (omega arith))
+      | inr above ↦
+          let le = reserved-within block.at block.size at even' even (leb-true (block.at + touched block.size) at above) in
+          or_right (nat_le (at + reserved_size size) (extent_start block)) (nat_le (extent_end block) at) (le-leb (extent_end block) at (omega arith))
+    ])
     (bare-apart at size (extent_end block) blocks to even h.2 b.1 c.1)
   where
     live-leaves : (d : Bool) (t : Bool) → not d ≡ true → (d || t) ≡ true → t ≡ true
@@ -99,3 +99,23 @@ pub placement-fit : (heap : Heap) (size side from : ℕ) → length heap.blocks 
 unfolding placement
 placement-fit heap size side from few =
     ap (λ b. if b then option_map (λ extent. extent + side) (fit heap (reserved_size size + 2 * side) from) else None) (lt-ltb (length heap.blocks) most_blocks few)
+
+-- no block is padded or delayed
+pub bare-insert : (at size : ℕ) (blocks : List Block) → list_all (λ block. (eqb block.side 0) && not block.delayed) blocks ≡ true → list_all (λ block. (eqb block.side 0) && not block.delayed) (insert_block (live_block at size 0) blocks) ≡ true
+bare-insert at size [] h = refl
+bare-insert at size (block ∷ blocks) h =
+    let p = and_parts ((eqb block.side 0) && not block.delayed) (list_all (λ block. (eqb block.side 0) && not block.delayed) blocks) h in
+    elim (nat_lt at block.at) as (λ b. list_all (λ block. (eqb block.side 0) && not block.delayed) (if b then live_block at size 0 ∷ (block ∷ blocks) else block ∷ insert_block (live_block at size 0) blocks) ≡ true) [
+      | true ↦ h
+      | false ↦ and_from ((eqb block.side 0) && not block.delayed) (list_all (λ block. (eqb block.side 0) && not block.delayed) (insert_block (live_block at size 0) blocks)) p.0 (bare-insert at size blocks p.1)
+    ]
+
+pub bare-filter : (test : Block → Bool) (blocks : List Block) → list_all (λ block. (eqb block.side 0) && not block.delayed) blocks ≡ true → list_all (λ block. (eqb block.side 0) && not block.delayed) (filter test blocks) ≡ true
+bare-filter test [] h = refl
+bare-filter test (block ∷ blocks) h =
+    let p = and_parts ((eqb block.side 0) && not block.delayed) (list_all (λ block. (eqb block.side 0) && not block.delayed) blocks) h in
+    let rest = bare-filter test blocks p.1 in
+    elim (test block) as (λ b. list_all (λ block. (eqb block.side 0) && not block.delayed) (cond b (block ∷ filter test blocks) (filter test blocks)) ≡ true) [
+      | true ↦ and_from ((eqb block.side 0) && not block.delayed) (list_all (λ block. (eqb block.side 0) && not block.delayed) (filter test blocks)) p.0 rest
+      | false ↦ rest
+    ]

@@ -1,13 +1,13 @@
 -- A search among blocks in order stops at the one block that can be meant.
-use Rattle.std.proofs.Common.{◌≡◌, ℕ, zero, suc, ◌+◌, ◌-◌, ◌*◌, ◌%◌, ◌<◌, ◌≤◌, Bool, true, false, not, cond, ◌||◌, ◌&&◌, List, [], ◌∷◌, ◌++◌, length, get_or, set, map, filter, slice_get, Option, Some, None, arith, sym, ◌∙◌, subst, ap, refl, inl, inr, nat_lt, nat_le, eqb, if◌then◌else◌}
-use Rattle.std.specs.List.{find, list_any, list_all, prefix_len, insert, remove}
-use Rattle.std.proofs.lemmas.Bool.{cases_Bool, leb-true, leb-false, ltb-true, le-ltb, lt-ltb, eqb-true, eq-eqb, ne_eqb, and_parts, or_cases, or_parts, false_from_ne_true}
+use Rattle.std.proofs.Common.{◌≡◌, ℕ, suc, ◌+◌, ◌-◌, ◌<◌, ◌≤◌, Bool, true, false, not, cond, ◌||◌, List, [], ◌∷◌, set, map, filter, slice_get, Some, None, arith, sym, ◌∙◌, subst, ap, refl, inl, inr, nat_lt, nat_le, eqb, if◌then◌else◌}
+use Rattle.std.specs.List.{find, list_any, list_all, insert, remove}
+use Rattle.std.proofs.lemmas.Bool.{cases_Bool, leb-true, leb-false, le-ltb, lt-ltb, eqb-true, eq-eqb, ne_eqb, and_parts, or_cases, or_parts, false_from_ne_true}
 use Rattle.block_book.specs.declared.block.Block.{Block}
-use Rattle.block_book.specs.Block.{reserved_size, extent_start, extent_end, is_apart, IsAligned}
+use Rattle.block_book.specs.Block.{extent_start, extent_end, is_apart, IsAligned}
 use Rattle.block_book.specs.Heap.{StandWithin, insert_block, delayed_at}
 use Rattle.block_book.specs.Search.{passed}
 use Rattle.block_book.proofs.Sizes.{reserved-least}
-use Rattle.block_book.proofs.Rising.{extent-rises, stand-lower}
+use Rattle.block_book.proofs.Rising.{extent-rises}
 
 -- a test that only the block with an address in its extent can pass
 abbrev pub IsAbout : ℕ → (Block → Bool) → Type 0
@@ -183,10 +183,10 @@ insert-passed new from (block ∷ blocks) to h aligned apart =
           let ends = leb-false (extent_end block) new.at stops in
           let none = passed-none new.at block blocks stops in
           let lower : nat_lt new.at block.at ≡ true =
-              elim (or_cases (nat_le (extent_start new + (extent_end new - extent_start new)) (extent_start block)) (nat_le (extent_end block) (extent_start new)) p.0) as (λ _. nat_lt new.at block.at ≡ true) [
-                | inl l ↦ let le = leb-true (extent_start new + (extent_end new - extent_start new)) (extent_start block) l in lt-ltb new.at block.at (omega arith)
-                | inr r ↦ let le = leb-true (extent_end block) (extent_start new) r in absurd (omega arith)
-              ] in
+          elim (or_cases (nat_le (extent_start new + (extent_end new - extent_start new)) (extent_start block)) (nat_le (extent_end block) (extent_start new)) p.0) as (λ _. nat_lt new.at block.at ≡ true) [
+            | inl l ↦ let le = leb-true (extent_start new + (extent_end new - extent_start new)) (extent_start block) l in lt-ltb new.at block.at (omega arith)
+            | inr r ↦ let le = leb-true (extent_end block) (extent_start new) r in absurd (omega arith)
+          ] in
           ap (λ n. insert (block ∷ blocks) n new) none
           ∙ sym (ap (λ b. if b then new ∷ (block ∷ blocks) else block ∷ insert_block new blocks) lower)
     ]

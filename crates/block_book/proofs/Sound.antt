@@ -1,11 +1,10 @@
 -- Every change of a heap's blocks leaves a heap.
-use Rattle.std.proofs.Common.{◌≡◌, ℕ, zero, suc, ◌+◌, ◌-◌, ◌%◌, ◌<◌, ◌≤◌, Bool, true, not, cond, List, [], ◌∷◌, length, map, filter, get_or, set, slice_get, Option, Some, None, arith, sym, ◌∙◌, subst, ap, refl, eqb}
-use Rattle.std.specs.List.{list_all, list_any, insert, remove}
+use Rattle.std.proofs.Common.{◌≡◌, ℕ, suc, Bool, true, not, List, [], ◌∷◌, length, map, filter, set, slice_get, Some, arith, sym, ◌∙◌, subst, ap, refl, eqb}
+use Rattle.std.specs.List.{insert, remove}
 use Rattle.std.proofs.lemmas.Option.{same_Some}
 use Rattle.std.proofs.lemmas.List.Sums.{length-filter, count_by-le-length}
 use Rattle.block_book.specs.declared.block.Block.{Block}
-use Rattle.block_book.specs.Block.{extent_start, extent_end, IsAligned}
-use Rattle.block_book.specs.Heap.{Heap, IsHeap, StandWithin, insert_block, with_block, without_block, with_delayed, delayed_at, recycled, is_live_at, heap_of, empty_heap, most_blocks}
+use Rattle.block_book.specs.Heap.{Heap, IsHeap, insert_block, with_block, with_delayed, delayed_at}
 use Rattle.block_book.specs.Search.{passed, HasRoom, FindsLive}
 use Rattle.block_book.proofs.Rising.{stand-filter, stand-delayed, stand-insert, length-insert_block}
 use Rattle.block_book.proofs.Searches.{insert-passed, remove-found, set-found}

@@ -241,7 +241,8 @@ impl Book {
         ensures heap { IsHeap self.now }
         ensures within { self.now.end < 2 ^ 32 }
     {
-        self.blocks.partition_point(|block| block.extent_end() <= u64::from(at))
+        self.blocks
+            .partition_point(|block| block.extent_end() <= u64::from(at))
     }
 
     // The block at a place among the blocks.

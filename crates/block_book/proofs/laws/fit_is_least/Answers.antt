@@ -1,5 +1,3 @@
-use Rattle.block_book.proofs.Sound.{sound-filter}
-use Rattle.block_book.proofs.Finding.{passed-is}
 use Rattle.block_book.proofs.Fitting.{fit-least}
 use Rattle.block_book.proofs.laws.fit_is_least.Goals as goal
 

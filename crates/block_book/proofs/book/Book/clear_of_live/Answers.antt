@@ -1,4 +1,4 @@
-use Rattle.std.proofs.Common.{◌≡◌, sym, ◌∙◌, ap, subst, ◌&&◌, true}
+use Rattle.std.proofs.Common.{sym, ◌∙◌, ap, ◌&&◌}
 use Rattle.std.specs.List.{list_all}
 use Rattle.block_book.specs.Heap.{Heap}
 use Rattle.block_book.proofs.Rooms.{clear-is, leaves}

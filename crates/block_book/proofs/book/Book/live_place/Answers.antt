@@ -1,4 +1,4 @@
-use Rattle.std.proofs.Common.{◌≡◌, slice_get, Some, None, sym, ◌∙◌, ap, subst, arith}
+use Rattle.std.proofs.Common.{◌≡◌, slice_get, Some, None, sym, ◌∙◌, ap}
 use Rattle.std.proofs.lemmas.Bool.{not-true, not-false}
 use Rattle.block_book.specs.Search.{passed}
 use Rattle.block_book.proofs.Finding.{finds-live, finds-delayed, finds-other, finds-nothing}

@@ -1,4 +1,4 @@
-use Rattle.std.proofs.Common.{◌≡◌, ◌<◌, true, length, sym, ◌∙◌, ap, subst, arith}
+use Rattle.std.proofs.Common.{◌<◌, length, sym, ◌∙◌, subst, arith}
 use Rattle.block_book.specs.Heap.{Heap, IsHeap, most_blocks}
 use Rattle.block_book.proofs.Rooms.{put-room}
 use Rattle.block_book.proofs.book.Book.put.Goals as goal

@@ -1,7 +1,7 @@
-use Rattle.std.proofs.Common.{◌≡◌, sym, ◌∙◌, ap, subst, not, filter, rules, of_calls, arith}
+use Rattle.std.proofs.Common.{sym, ◌∙◌, ap, subst, not, rules, of_calls, arith}
 use Rattle.std.proofs.lemmas.List.Elements.{filter_from_retain}
 use Rattle.block_book.specs.declared.block.Block.{Block}
-use Rattle.block_book.specs.Heap.{Heap, IsHeap, heap_of, recycled}
+use Rattle.block_book.specs.Heap.{IsHeap, heap_of, recycled}
 use Rattle.block_book.proofs.Sound.{sound-filter}
 use Rattle.block_book.proofs.book.Book.recycle.Goals as goal
 

@@ -1,6 +1,6 @@
-use Rattle.std.proofs.Common.{◌≡◌, Some, sym, ◌∙◌, ap, subst, filter, not, eqb, arith}
+use Rattle.std.proofs.Common.{Some, sym, ◌∙◌, ap, subst, not, eqb, arith}
 use Rattle.block_book.specs.declared.block.Block.{Block}
-use Rattle.block_book.specs.Heap.{Heap, IsHeap, heap_of, without_block}
+use Rattle.block_book.specs.Heap.{IsHeap, heap_of, without_block}
 use Rattle.block_book.specs.Search.{FindsLive}
 use Rattle.block_book.proofs.Sound.{sound-filter, removed}
 use Rattle.block_book.proofs.book.Book.release.Goals as goal
