@@ -124,16 +124,16 @@ live-insert_block at size side from (block ∷ blocks) to h =
     ]
 
 -- a block at the front, by what is known of it
-live-front_delayed : (block : Block) (blocks : List Block) → block.delayed ≡ true → live_blocks (block ∷ blocks) ≡ live_blocks blocks
+pub live-front_delayed : (block : Block) (blocks : List Block) → block.delayed ≡ true → live_blocks (block ∷ blocks) ≡ live_blocks blocks
 live-front_delayed block blocks d = ap (λ b. map (λ (b : Block). (b.at, b.size)) (cond (not b) (block ∷ filter (λ b. not b.delayed) blocks) (filter (λ b. not b.delayed) blocks))) d
 
-live-front : (block : Block) (blocks : List Block) → block.delayed ≡ false → live_blocks (block ∷ blocks) ≡ (block.at, block.size) ∷ live_blocks blocks
+pub live-front : (block : Block) (blocks : List Block) → block.delayed ≡ false → live_blocks (block ∷ blocks) ≡ (block.at, block.size) ∷ live_blocks blocks
 live-front block blocks d = ap (λ b. map (λ (b : Block). (b.at, b.size)) (cond (not b) (block ∷ filter (λ b. not b.delayed) blocks) (filter (λ b. not b.delayed) blocks))) d
 
 gone-front : (at size : ℕ) (begins : ℕ) (live : List (ℕ × ℕ)) → eqb begins at ≡ true → without_live at ((begins, size) ∷ live) ≡ without_live at live
 gone-front at size begins live e = ap (λ b. cond (not b) ((begins, size) ∷ without_live at live) (without_live at live)) e
 
-kept-front : (at size : ℕ) (begins : ℕ) (live : List (ℕ × ℕ)) → eqb begins at ≡ false → without_live at ((begins, size) ∷ live) ≡ (begins, size) ∷ without_live at live
+pub kept-front : (at size : ℕ) (begins : ℕ) (live : List (ℕ × ℕ)) → eqb begins at ≡ false → without_live at ((begins, size) ∷ live) ≡ (begins, size) ∷ without_live at live
 kept-front at size begins live e = ap (λ b. cond (not b) ((begins, size) ∷ without_live at live) (without_live at live)) e
 
 -- what a block at the front becomes, and its live blocks

@@ -20,7 +20,7 @@ at-is-about at block h =
     ((omega arith), (omega arith))
 
 -- no block that stands above an address passes
-any-above : (at : ℕ) (test : Block → Bool) → IsAbout at test → (from : ℕ) (blocks : List Block) (to : ℕ) → StandWithin from blocks to → at < from → list_any test blocks ≡ false
+pub any-above : (at : ℕ) (test : Block → Bool) → IsAbout at test → (from : ℕ) (blocks : List Block) (to : ℕ) → StandWithin from blocks to → at < from → list_any test blocks ≡ false
 any-above at test about from [] to h above = refl
 any-above at test about from (block ∷ blocks) to h above =
     let rises = extent-rises block in

@@ -1,0 +1,2 @@
+pub mod Mallocs
+pub mod Frees

@@ -1,0 +1,3 @@
+pub mod Treatment
+pub mod Serving
+pub mod Laws
