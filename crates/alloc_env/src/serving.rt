@@ -1,7 +1,7 @@
 // The answers of malloc and free in an environment.
 ghost use Rattle.std.specs.Prelude.{◌≡◌, ◌<◌, ◌^◌, true, OnOk, MatchOption};
 ghost use Rattle.block_book.specs.Block.{live_block};
-ghost use Rattle.block_book.specs.Heap.{with_block, is_live_at};
+ghost use Rattle.block_book.specs.Heap.{SameEnds, with_block, is_live_at};
 ghost use Rattle.block_book.specs.Answer.{live_blocks, is_allowed, without_live};
 ghost use Rattle.alloc_env.specs.Treatment.{treatment_of};
 ghost use Rattle.alloc_env.specs.Serving.{middle, spot, served_malloc, freed, Frees, live_with};
@@ -19,6 +19,7 @@ pub fn serve_malloc(env: Env, book: &mut Book, size: u32) -> Choice
     // ISO C allows each answer, and the block is live then.
     ensures allowed { is_allowed book.old.start book.old.end (live_blocks book.old.blocks) size result ≡ true }
     ensures live { live_blocks book.new.blocks ≡ live_with result size (live_blocks book.old.blocks) }
+    ensures ends { SameEnds book.old book.new }
 {
     book.is_sound();
     let zeroed = env.treatment().zeroes;
@@ -40,6 +41,7 @@ pub fn serve_malloc(env: Env, book: &mut Book, size: u32) -> Choice
 pub fn serve_free(env: Env, book: &mut Book, at: u32) -> Result<(), BadFree>
     ensures freed { Frees env at book.old book.new result }
     ensures live { OnOk result (live_blocks book.new.blocks ≡ without_live at (live_blocks book.old.blocks)) }
+    ensures ends { SameEnds book.old book.new }
 {
     book.is_sound();
     if at == 0 {
@@ -73,6 +75,7 @@ fn middle(book: &Book) -> u32
 fn place_by(env: Env, book: &mut Book, size: u32) -> Option<u32>
     ensures answer { result ≡ spot env book.old size }
     ensures placed { MatchOption result (book.new ≡ book.old) (λ at. book.new ≡ with_block book.old (live_block at size (treatment_of env).side)) }
+    ensures ends { SameEnds book.old book.new }
 {
     let treatment = env.treatment();
     if !treatment.isolates {
@@ -88,7 +91,8 @@ fn place_by(env: Env, book: &mut Book, size: u32) -> Option<u32>
 // Frees or delays a live block.
 fn free_live(env: Env, book: &mut Book, at: u32)
     requires { is_live_at book.old at ≡ true }
-    ensures { book.new ≡ freed env book.old at }
+    ensures freed { book.new ≡ freed env book.old at }
+    ensures ends { SameEnds book.old book.new }
 {
     let _freed = if env.treatment().delays {
         book.delay(at)

@@ -33,6 +33,10 @@ pub record IsHeap (heap : Heap) : Type 0 where
 abbrev pub heap_of : ℕ → ℕ → List Block → Heap
 heap_of start end blocks = record { start = start; end = end; blocks = blocks }
 
+-- the heap's ends stay
+abbrev pub SameEnds : Heap → Heap → Type 0
+SameEnds old new = (new.start ≡ old.start) × (new.end ≡ old.end)
+
 -- a heap in which no block stands
 abbrev pub empty_heap : ℕ → ℕ → Heap
 empty_heap start end = heap_of start end []

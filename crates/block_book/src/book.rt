@@ -2,7 +2,7 @@
 ghost use Rattle.std.specs.Prelude.{◌≡◌, ◌+◌, ◌*◌, ◌%◌, ◌<◌, ◌≤◌, ◌^◌, ◌&&◌, ◌||◌, true, false, ◌==◌, nat_lt, length, slice_get, IfOk, IfSome, MatchBool, MatchOption};
 ghost use Rattle.std.specs.List.{list_all};
 ghost use Rattle.block_book.specs.Block.{reserved_size, touched, is_apart, lies_in, live_block};
-ghost use Rattle.block_book.specs.Heap.{IsHeap, empty_heap, most_blocks, with_block, without_block, with_delayed, recycled, standing_at, is_live_at, is_held, is_reserved, is_bare};
+ghost use Rattle.block_book.specs.Heap.{IsHeap, empty_heap, most_blocks, with_block, without_block, with_delayed, recycled, standing_at, is_live_at, is_held, is_reserved, is_bare, SameEnds};
 ghost use Rattle.block_book.specs.Placement.{fit, placement};
 ghost use Rattle.block_book.specs.Answer.{live_blocks, is_clear};
 ghost use Rattle.block_book.specs.Search.{passed, FindsLive, HasRoom};
@@ -81,6 +81,7 @@ impl Book {
         requires small { side ≤ 256 }
         ensures answer { result ≡ placement self.old size side from }
         ensures placed { MatchOption result (self.new ≡ self.old) (λ at. self.new ≡ with_block self.old (live_block at size side)) }
+        ensures ends { SameEnds self.old self.new }
     {
         if self.blocks.len() >= MOST_BLOCKS {
             return None;
@@ -102,6 +103,8 @@ impl Book {
         requires { is_bare self.old ≡ true }
         ensures answer { result ≡ (nat_lt (length self.old.blocks) most_blocks && is_clear self.old.start self.old.end (live_blocks self.old.blocks) at size) }
         ensures added { MatchBool result (self.new ≡ with_block self.old (live_block at size 0)) (self.new ≡ self.old) }
+        ensures bare { is_bare self.new ≡ true }
+        ensures ends { SameEnds self.old self.new }
     {
         if self.blocks.len() >= MOST_BLOCKS {
             return false;
@@ -122,6 +125,8 @@ impl Book {
     pub fn release(&mut self, at: u32) -> bool
         ensures found { result ≡ is_live_at self.old at }
         ensures gone { MatchBool result (self.new ≡ without_block self.old at) (self.new ≡ self.old) }
+        ensures bare { is_bare self.old ≡ true → is_bare self.new ≡ true }
+        ensures ends { SameEnds self.old self.new }
     {
         let Some(place) = self.live_place(at) else {
             return false;
@@ -134,6 +139,7 @@ impl Book {
     pub fn delay(&mut self, at: u32) -> bool
         ensures found { result ≡ is_live_at self.old at }
         ensures delayed { MatchBool result (self.new ≡ with_delayed self.old at) (self.new ≡ self.old) }
+        ensures ends { SameEnds self.old self.new }
     {
         let Some(place) = self.live_place(at) else {
             return false;
@@ -144,7 +150,8 @@ impl Book {
 
     /// Takes all delayed blocks away.
     pub fn recycle(&mut self)
-        ensures { self.new ≡ recycled self.old }
+        ensures recycled { self.new ≡ recycled self.old }
+        ensures ends { SameEnds self.old self.new }
     {
         self.blocks.retain(|block| !block.delayed);
     }
@@ -193,8 +200,7 @@ impl Book {
 
     /// Makes this book what another one of the same heap is.
     pub fn copy_from(&mut self, other: &Book)
-        requires start { self.old.start ≡ other.now.start }
-        requires end { self.old.end ≡ other.now.end }
+        requires { SameEnds self.old other.now }
         ensures { self.new ≡ other.now }
     {
         self.blocks.clear();

@@ -20,11 +20,11 @@ pub returns-in-Nothing-clause-freed : goal.returns-in-Nothing-clause-freed
 returns-in-Nothing-clause-freed c = (free-standing c.args.env c.args.book.now c.args.at _ c.if-at-eq0.false (sym c.find.ensures ∙ c.in-Nothing.is), refl)
 
 pub returns-in-Live-clause-freed : goal.returns-in-Live-clause-freed
-returns-in-Live-clause-freed c = free-standing c.args.env c.args.book.now c.args.at _ c.if-at-eq0.false (sym c.find.ensures ∙ c.in-Live.is) ∙ ap Some (sym c.free_live.ensures)
+returns-in-Live-clause-freed c = free-standing c.args.env c.args.book.now c.args.at _ c.if-at-eq0.false (sym c.find.ensures ∙ c.in-Live.is) ∙ ap Some (sym c.free_live.ensures.freed)
 
 pub returns-in-Live-clause-live : goal.returns-in-Live-clause-live
 returns-in-Live-clause-live c =
-    ap (λ (h : Heap). live_blocks h.blocks) c.free_live.ensures ∙ (freed-follows c.args.env c.args.book.now c.args.at c.is_sound.ensures.heap).live
+    ap (λ (h : Heap). live_blocks h.blocks) c.free_live.ensures.freed ∙ (freed-follows c.args.env c.args.book.now c.args.at c.is_sound.ensures.heap).live
 
 pub returns-then-treatment-clause-freed : goal.returns-then-treatment-clause-freed
 returns-then-treatment-clause-freed c =

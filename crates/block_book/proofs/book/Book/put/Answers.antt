@@ -1,6 +1,6 @@
-use Rattle.std.proofs.Common.{◌<◌, length, sym, ◌∙◌, subst, arith}
-use Rattle.block_book.specs.Heap.{Heap, IsHeap, most_blocks}
-use Rattle.block_book.proofs.Rooms.{put-room}
+use Rattle.std.proofs.Common.{◌≡◌, true, ◌<◌, length, sym, ◌∙◌, subst, arith}
+use Rattle.block_book.specs.Heap.{is_bare, Heap, IsHeap, most_blocks}
+use Rattle.block_book.proofs.Rooms.{put-room, bare-insert}
 use Rattle.block_book.proofs.book.Book.put.Goals as goal
 
 pub add-requires : goal.add-requires
@@ -9,3 +9,7 @@ add-requires c =
     let sound : IsHeap heap = subst IsHeap c.self.view_is c.self.invariant.0 in
     let few : length heap.blocks < most_blocks = subst (λ (h : Heap). length h.blocks < most_blocks) c.self.view_is (omega arith) in
     put-room heap c.args.at c.args.size sound c.requires few (sym c.clear_of_live.ensures ∙ c.if-not-clear_of_live.false)
+
+pub returns-clause-bare : goal.returns-clause-bare
+returns-clause-bare c =
+    subst (λ (h : Heap). is_bare h ≡ true) (sym c.add.ensures) (bare-insert c.args.at c.args.size c.args.self.now.blocks c.requires)

@@ -15,8 +15,8 @@ invariant_of-self c =
       c.self.invariant.2,
     )
 
-pub returns : goal.returns
-returns c =
+pub returns-clause-recycled : goal.returns-clause-recycled
+returns-clause-recycled c =
     let inside = c.self.inside in
     let items = filter_from_retain _ (λ (block : Block). not block.delayed) (λ p x b q h. search (rules, of_calls)) _ _ _ c.retain.ensures.filtered in
     ap (heap_of inside.start inside.end) items ∙ ap recycled c.self.view_is

@@ -1,8 +1,9 @@
-use Rattle.std.proofs.Common.{Some, sym, ◌∙◌, ap, subst, not, eqb, arith}
+use Rattle.std.proofs.Common.{◌≡◌, true, Some, sym, ◌∙◌, ap, subst, not, eqb, arith}
 use Rattle.block_book.specs.declared.block.Block.{Block}
-use Rattle.block_book.specs.Heap.{IsHeap, heap_of, without_block}
+use Rattle.block_book.specs.Heap.{Heap, is_bare, IsHeap, heap_of, without_block}
 use Rattle.block_book.specs.Search.{FindsLive}
 use Rattle.block_book.proofs.Sound.{sound-filter, removed}
+use Rattle.block_book.proofs.Rooms.{bare-filter}
 use Rattle.block_book.proofs.book.Book.release.Goals as goal
 
 pub invariant_of-self : goal.invariant_of-self
@@ -23,3 +24,12 @@ returns-clause-gone c =
     let found : FindsLive heap c.args.at (Some c.in-Some.place) = subst (λ h. FindsLive h c.args.at (Some c.in-Some.place)) (sym c.self.view_is) c.in-Some.ensures in
     let items = c.remove-block.ensures.items ∙ removed heap c.args.at c.in-Some.place c.self.invariant.0 found in
     ap (heap_of inside.start inside.end) items ∙ ap (λ h. without_block h c.args.at) c.self.view_is
+
+pub returns-clause-bare : goal.returns-clause-bare
+returns-clause-bare c = λ bare.
+    let inside = c.self.inside in
+    let heap = heap_of inside.start inside.end inside.blocks.items in
+    let found : FindsLive heap c.args.at (Some c.in-Some.place) = subst (λ h. FindsLive h c.args.at (Some c.in-Some.place)) (sym c.self.view_is) c.in-Some.ensures in
+    let items = c.remove-block.ensures.items ∙ removed heap c.args.at c.in-Some.place c.self.invariant.0 found in
+    let before : is_bare heap ≡ true = subst (λ h. is_bare h ≡ true) (sym c.self.view_is) bare in
+    subst (λ blocks. is_bare (heap_of inside.start inside.end blocks) ≡ true) (sym items) (bare-filter (λ (block : Block). not (eqb block.at c.args.at)) heap.blocks before)
