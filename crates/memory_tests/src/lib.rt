@@ -1,0 +1,7 @@
+//! Tests of memory's blocks and pages.
+#![tactic(auto)]
+
+#[cfg(test)]
+mod alloc_env_tests;
+#[cfg(test)]
+mod block_book_tests;
