@@ -21,7 +21,7 @@ pub fn serve_malloc(env: Env, book: &mut Book, size: u32) -> Choice
     ensures live { live_blocks book.new.blocks ≡ live_with result size (live_blocks book.old.blocks) }
     ensures ends { SameEnds book.old book.new }
 {
-    book.is_sound();
+    book.sound();
     let zeroed = env.treatment().zeroes;
     if let Some(at) = place_by(env, book, size) {
         return Choice { at, zeroed };
@@ -43,7 +43,7 @@ pub fn serve_free(env: Env, book: &mut Book, at: u32) -> Result<(), BadFree>
     ensures live { OnOk result (live_blocks book.new.blocks ≡ without_live at (live_blocks book.old.blocks)) }
     ensures ends { SameEnds book.old book.new }
 {
-    book.is_sound();
+    book.sound();
     if at == 0 {
         return Ok(());
     }
@@ -67,7 +67,7 @@ pub fn serve_free(env: Env, book: &mut Book, at: u32) -> Result<(), BadFree>
 fn middle(book: &Book) -> u32
     ensures { result ≡ middle book.now }
 {
-    book.is_sound();
+    book.sound();
     book.start() + (book.end() - book.start()) / 2
 }
 

@@ -1,7 +1,7 @@
 -- What a search says of the whole heap.
 use Rattle.std.proofs.Common.{◌≡◌, ℕ, zero, suc, ◌+◌, ◌^◌, ◌<◌, ◌≤◌, true, false, not, ◌&&◌, List, [], ◌∷◌, length, slice_get, Some, None, arith, sym, ◌∙◌, subst, ap, eqb, nat_le, leb}
 use Rattle.std.specs.List.{AllWithin}
-use Rattle.std.proofs.lemmas.Bool.{leb-true, lt-leb, eq-eqb, ne_eqb, and_parts, and_from, and_left, and_right, not_from_false, not_from_true}
+use Rattle.std.proofs.lemmas.Bool.{eqb-true, leb-true, lt-leb, eq-eqb, ne_eqb, and_parts, and_from, and_left, and_right, not_from_false, not_from_true}
 use Rattle.std.proofs.lemmas.Option.{slice_get_within}
 use Rattle.std.proofs.lemmas.List.Sums.{prefix_len_is}
 use Rattle.block_book.specs.declared.block.Block.{Block}
@@ -91,19 +91,16 @@ live-some : (heap : Heap) (at : ℕ) (found : Block) → IsHeap heap → slice_g
 live-some heap at found sound is =
     any-some at (λ block. eqb block.at at && not block.delayed) (live-is-about at) heap.start heap.blocks heap.end found sound.standing is
 
-pub finds-live : (heap : Heap) (at place : ℕ) (found : Block) → IsHeap heap → place ≡ passed heap.blocks at → slice_get heap.blocks (passed heap.blocks at) ≡ Some found → found.at ≡ at → found.delayed ≡ false → FindsLive heap at (Some place)
-finds-live heap at place found sound where' is begins live = (
-  live-some heap at found sound is ∙ and_from (eqb found.at at) (not found.delayed) (eq-eqb found.at at begins) (not_from_false found.delayed live),
+pub finds-live : (heap : Heap) (at place : ℕ) (found : Block) → IsHeap heap → place ≡ passed heap.blocks at → slice_get heap.blocks (passed heap.blocks at) ≡ Some found → (eqb found.at at && not found.delayed) ≡ true → FindsLive heap at (Some place)
+finds-live heap at place found sound where' is live = (
+  live-some heap at found sound is ∙ live,
   subst (λ n. n < length heap.blocks) (sym where') (slice_get_within heap.blocks (passed heap.blocks at) found is),
   where',
-  (found, is, begins),
+  (found, is, eqb-true found.at at (and_parts (eqb found.at at) (not found.delayed) live).0),
 )
 
-pub finds-delayed : (heap : Heap) (at : ℕ) (found : Block) → IsHeap heap → slice_get heap.blocks (passed heap.blocks at) ≡ Some found → found.delayed ≡ true → FindsLive heap at None
-finds-delayed heap at found sound is delayed = live-some heap at found sound is ∙ and_right (eqb found.at at) (not found.delayed) (not_from_true found.delayed delayed)
-
-pub finds-other : (heap : Heap) (at : ℕ) (found : Block) → IsHeap heap → slice_get heap.blocks (passed heap.blocks at) ≡ Some found → (found.at ≡ at → ⊥) → FindsLive heap at None
-finds-other heap at found sound is other = live-some heap at found sound is ∙ and_left (eqb found.at at) (not found.delayed) (ne_eqb found.at at other)
+pub finds-other : (heap : Heap) (at : ℕ) (found : Block) → IsHeap heap → slice_get heap.blocks (passed heap.blocks at) ≡ Some found → (eqb found.at at && not found.delayed) ≡ false → FindsLive heap at None
+finds-other heap at found sound is other = live-some heap at found sound is ∙ other
 
 pub finds-nothing : (heap : Heap) (at : ℕ) → IsHeap heap → slice_get heap.blocks (passed heap.blocks at) ≡ None → FindsLive heap at None
 finds-nothing heap at sound is = any-none at (λ block. eqb block.at at && not block.delayed) (live-is-about at) heap.start heap.blocks heap.end sound.standing is

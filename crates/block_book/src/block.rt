@@ -1,5 +1,5 @@
 // One block of a heap.
-ghost use Rattle.std.specs.Prelude.{◌≡◌, ◌+◌, ◌-◌, ◌^◌, ◌≤◌, ◌||◌, ◌&&◌, not, Some};
+ghost use Rattle.std.specs.Prelude.{◌≡◌, ◌+◌, ◌-◌, ◌^◌, ◌≤◌, ◌||◌, ◌&&◌, not, Some, ◌==◌};
 ghost use Rattle.block_book.specs.Block.{reserved_size, touched, extent_start, extent_end, is_apart, lies_in};
 ghost use Rattle.block_book.specs.Heap.{standing_of};
 
@@ -55,6 +55,14 @@ impl Block {
         } else {
             Standing::Live(self.size)
         }
+    }
+
+    /// Whether the block is live and begins at an address.
+    #[inline]
+    pub fn is_live_at(&self, at: u32) -> bool
+        ensures { result ≡ ((self.now.at == at) && not self.now.delayed) }
+    {
+        self.at == at && !self.delayed
     }
 
     /// Whether so many bytes from an address on lie in the block's extent.

@@ -49,9 +49,9 @@ impl Book {
         Ok(Book { start, end, blocks })
     }
 
-    /// What is so of every book.
+    /// What is so of every book, for whoever proves something of one. It does nothing.
     #[inline]
-    pub fn is_sound(&self)
+    pub fn sound(&self)
         ensures heap { IsHeap self.now }
         ensures within { self.now.end < 2 ^ 32 }
     {
@@ -275,7 +275,7 @@ impl Book {
     {
         let place = self.passed(at);
         match self.block_at(place) {
-            Some(block) if block.at == at && !block.delayed => Some(place),
+            Some(block) if block.is_live_at(at) => Some(place),
             _ => None,
         }
     }

@@ -11,7 +11,7 @@ pub returns-then-at-eq0-clause-freed : goal.returns-then-at-eq0-clause-freed
 returns-then-at-eq0-clause-freed c = free-null c.args.env c.args.book.now c.args.at c.if-at-eq0.true
 
 pub returns-then-at-eq0-clause-live : goal.returns-then-at-eq0-clause-live
-returns-then-at-eq0-clause-live c = (subst (λ n. Follows c.args.book.now n c.args.book.now) (sym c.if-at-eq0.true) (null-follows c.args.book.now c.is_sound.ensures.heap)).live
+returns-then-at-eq0-clause-live c = (subst (λ n. Follows c.args.book.now n c.args.book.now) (sym c.if-at-eq0.true) (null-follows c.args.book.now c.sound.ensures.heap)).live
 
 pub free_live-requires : goal.free_live-requires
 free_live-requires c = live-standing c.args.book.now c.args.at c.in-Live.field-0 (sym c.find.ensures ∙ c.in-Live.is)
@@ -24,7 +24,7 @@ returns-in-Live-clause-freed c = free-standing c.args.env c.args.book.now c.args
 
 pub returns-in-Live-clause-live : goal.returns-in-Live-clause-live
 returns-in-Live-clause-live c =
-    ap (λ (h : Heap). live_blocks h.blocks) c.free_live.ensures.freed ∙ (freed-follows c.args.env c.args.book.now c.args.at c.is_sound.ensures.heap).live
+    ap (λ (h : Heap). live_blocks h.blocks) c.free_live.ensures.freed ∙ (freed-follows c.args.env c.args.book.now c.args.at c.sound.ensures.heap).live
 
 pub returns-then-treatment-clause-freed : goal.returns-then-treatment-clause-freed
 returns-then-treatment-clause-freed c =
@@ -32,7 +32,7 @@ returns-then-treatment-clause-freed c =
     free-standing c.args.env c.args.book.now c.args.at _ c.if-at-eq0.false (sym c.find.ensures ∙ c.in-Delayed.is) ∙ keeps-delayed c.args.env c.args.book.now c.args.at c.in-Delayed.field-0 delays
 
 pub returns-then-treatment-clause-live : goal.returns-then-treatment-clause-live
-returns-then-treatment-clause-live c = (delayed-follows c.args.book.now c.args.at c.in-Delayed.field-0 c.is_sound.ensures.heap (sym c.find.ensures ∙ c.in-Delayed.is)).live
+returns-then-treatment-clause-live c = (delayed-follows c.args.book.now c.args.at c.in-Delayed.field-0 c.sound.ensures.heap (sym c.find.ensures ∙ c.in-Delayed.is)).live
 
 pub returns-else-treatment-clause-freed : goal.returns-else-treatment-clause-freed
 returns-else-treatment-clause-freed c =
