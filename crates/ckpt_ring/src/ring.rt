@@ -1,0 +1,181 @@
+// The ring of checkpoints.
+ghost use Rattle.std.specs.Prelude.{◌≡◌, ◌==◌, ◌+◌, ◌-◌, ◌<◌, ◌≤◌, ℕ, [], ◌++◌, ◌∷◌, length, drop, slice_get, true, Some, Option, Contains, IfOk, IfSome, IsSomeAnd};
+ghost use Rattle.std.specs.List.{list_any};
+ghost use Rattle.std.specs.Option.{option_map};
+ghost use Rattle.ckpt_ring.specs.Slots.{Slots, AreSound, slot_numbers, newest_slot, restored, without_newest, without_oldest, without_newer_slots, StandsEarlier, all_numbers};
+ghost use Rattle.ckpt_ring.specs.Rings.{checkpoints, slots_of, checkpoints_of, has_room, from_newest, without_newer, saved_in_ring};
+
+use crate::{Checkpoint, Snapshot};
+use circular_buffer::HeapCircularBuffer;
+use std::alloc::{AllocError, Global};
+use std::marker::Model;
+
+/// A ring of checkpoints of one thing that can be saved and restored. It knows their slots and how many items each has taken; the
+/// states stand in the slots.
+#[derive(Drop)]
+pub struct Ring {
+    buffer: HeapCircularBuffer<Checkpoint>,
+}
+
+impl Model for Ring {
+    ghost use Rattle.std.specs.Prelude.{◌≤◌};
+    ghost use Rattle.ckpt_ring.specs.Rings.{Checkpoints, checkpoints};
+
+    ghost Value = { Checkpoints };
+
+    ghost view = { λ ring. checkpoints ring.buffer.capacity ring.buffer.items };
+
+    ghost invariant = { (λ ring. (1 ≤ ring.buffer.capacity) × (ring.buffer.capacity ≤ 16)) };
+}
+
+impl Ring {
+    /// A ring in which no checkpoint stands yet.
+    pub fn make(alloc: Global, capacity: u32) -> Result<Ring, AllocError>
+        requires some { 1 ≤ capacity }
+        requires few { capacity ≤ 16 }
+        ensures { IfOk result (λ ring. ring ≡ checkpoints capacity []) }
+    {
+        let buffer = HeapCircularBuffer::with_capacity(alloc, capacity as usize)?;
+        Ok(Ring { buffer })
+    }
+
+    /// How many checkpoints stand.
+    pub fn len(&self) -> u32
+        ensures { result ≡ length self.now.standing }
+    {
+        self.buffer.len() as u32
+    }
+
+    /// How many items were taken at a checkpoint. 0 is the newest one.
+    pub fn taken_at(&self, index: u32) -> u64
+        requires { index < length self.now.standing }
+        ensures { IsSomeAnd (from_newest self.now.standing index) (λ one. result ≡ one.taken) }
+    {
+        self.checkpoint_at(index).taken
+    }
+
+    /// The checkpoint at an index. 0 is the newest one.
+    fn checkpoint_at(&self, index: u32) -> Checkpoint
+        requires { index < length self.now.standing }
+        ensures { from_newest self.now.standing index ≡ Some result }
+    {
+        self.buffer.nth_back(index as usize).copied().unwrap()
+    }
+
+    /// Saves a state as the newest checkpoint. Of the older ones the oldest are dropped before, as long as too many stand or
+    /// too few frames are left.
+    pub fn save<T: Snapshot>(&mut self, t: &mut T)
+        requires count { self.old.capacity ≤ (T.slots t.old).count }
+        requires same { self.old.standing ≡ checkpoints_of T.taken_in (T.slots t.old).saved }
+        requires base { (T.slots t.old).base ≡ newest_slot (T.slots t.old).saved }
+        ensures capacity { self.new.capacity ≡ self.old.capacity }
+        ensures same { self.new.standing ≡ checkpoints_of T.taken_in (T.slots t.new).saved }
+        ensures saved { (slot : ℕ) × (T.slots t.new ≡ saved_in_ring self.old.capacity slot (T.slots t.old)) }
+        ensures newest { IsSomeAnd (from_newest self.new.standing 0) (λ one. one.taken ≡ T.taken_in (T.slots t.old).live) }
+        ensures sound { AreSound (T.slots t.new) }
+    {
+        self.make_room(t);
+        let slot = self.free_slot();
+        let taken = t.taken();
+        t.save_to(slot);
+        self.buffer.push_back(Checkpoint { slot, taken });
+    }
+
+    /// Makes the live state that of the checkpoint at an index. 0 is the newest one.
+    pub fn restore<T: Snapshot>(&self, t: &mut T, index: u32)
+        requires within { index < length self.now.standing }
+        requires same { self.now.standing ≡ checkpoints_of T.taken_in (T.slots t.old).saved }
+        ensures restored { IsSomeAnd (from_newest (T.slots t.old).saved index) (λ one. T.slots t.new ≡ restored one (T.slots t.old)) }
+        ensures sound { AreSound (T.slots t.new) }
+    {
+        t.restore_from(self.checkpoint_at(index).slot);
+    }
+
+    /// Drops the checkpoints that are newer than the one at an index, on which the live state stands. 0 is the newest one.
+    pub fn drop_newer<T: Snapshot>(&mut self, t: &mut T, index: u32)
+        requires within { index < length self.old.standing }
+        requires same { self.old.standing ≡ checkpoints_of T.taken_in (T.slots t.old).saved }
+        requires base { (T.slots t.old).base ≡ from_newest (slot_numbers (T.slots t.old).saved) index }
+        ensures ring { self.new ≡ checkpoints self.old.capacity (without_newer index self.old.standing) }
+        ensures saved { T.slots t.new ≡ without_newer_slots index (T.slots t.old) }
+    {
+        for _ in 0..index {
+            self.drop_newest(t);
+        }
+    }
+
+    /// Drops the oldest checkpoints until one more has room.
+    fn make_room<T: Snapshot>(&mut self, t: &mut T)
+        requires same { self.old.standing ≡ checkpoints_of T.taken_in (T.slots t.old).saved }
+        requires base { (T.slots t.old).base ≡ newest_slot (T.slots t.old).saved }
+        ensures capacity { self.new.capacity ≡ self.old.capacity }
+        ensures same { self.new.standing ≡ checkpoints_of T.taken_in (T.slots t.new).saved }
+        ensures base { (T.slots t.new).base ≡ newest_slot (T.slots t.new).saved }
+        ensures left { (slot : ℕ) → saved_in_ring self.old.capacity slot (T.slots t.new) ≡ saved_in_ring self.old.capacity slot (T.slots t.old) }
+        ensures room { has_room self.old.capacity (T.slots t.new).pages (T.slots t.new).frames (all_numbers (T.slots t.new)) ≡ true }
+        ensures sound { AreSound (T.slots t.new) }
+    {
+        'room: while !self.has_room(t) {
+            self.drop_oldest(t);
+        }
+    }
+
+    /// Whether one more checkpoint has room beside all that stand.
+    fn has_room<T: Snapshot>(&self, t: &T) -> bool
+        requires same { self.now.standing ≡ checkpoints_of T.taken_in (T.slots t.now).saved }
+        requires base { (T.slots t.now).base ≡ newest_slot (T.slots t.now).saved }
+        ensures room { result ≡ has_room self.now.capacity (T.slots t.now).pages (T.slots t.now).frames (all_numbers (T.slots t.now)) }
+        ensures some { 1 ≤ self.now.capacity }
+        ensures sound { AreSound (T.slots t.now) }
+    {
+        let wanted = u64::from(t.used()) + u64::from(t.pages());
+        let fits = wanted <= u64::from(t.frames());
+        self.buffer.len() < self.buffer.capacity() && fits
+    }
+
+    /// Drops the oldest checkpoint.
+    fn drop_oldest<T: Snapshot>(&mut self, t: &mut T)
+        requires some { 0 < length self.old.standing }
+        requires same { self.old.standing ≡ checkpoints_of T.taken_in (T.slots t.old).saved }
+        requires base { (T.slots t.old).base ≡ newest_slot (T.slots t.old).saved }
+        ensures ring { self.new ≡ checkpoints self.old.capacity (drop 1 self.old.standing) }
+        ensures saved { T.slots t.new ≡ without_oldest (T.slots t.old) }
+    {
+        if let Some(oldest) = self.buffer.pop_front() {
+            t.drop_slot(oldest.slot);
+        }
+    }
+
+    /// Drops the newest checkpoint, while the live state stands on an older one.
+    fn drop_newest<T: Snapshot>(&mut self, t: &mut T)
+        requires same { self.old.standing ≡ checkpoints_of T.taken_in (T.slots t.old).saved }
+        requires base { StandsEarlier (T.slots t.old) }
+        ensures ring { self.new ≡ checkpoints self.old.capacity (without_newer 1 self.old.standing) }
+        ensures saved { T.slots t.new ≡ without_newest (T.slots t.old) }
+    {
+        if let Some(newest) = self.buffer.pop_back() {
+            t.drop_slot(newest.slot);
+        }
+    }
+
+    /// Whether a checkpoint stands in this slot.
+    fn has_slot(&self, slot: u32) -> bool
+        ensures { result ≡ list_any (λ one. slot == one.slot) self.now.standing }
+    {
+        self.buffer.iter().any(|one| slot == one.slot)
+    }
+
+    /// The lowest slot in which no checkpoint stands.
+    fn free_slot(&self) -> u32
+        ensures free { ¬ Contains (slots_of self.now.standing) result }
+        ensures low { result ≤ length self.now.standing }
+    {
+        let stand = self.len();
+        for slot in 0..stand {
+            if !self.has_slot(slot) {
+                return slot;
+            }
+        }
+        stand
+    }
+}
