@@ -1,14 +1,16 @@
 -- Slots, and checkpoints that name them.
-use Rattle.std.proofs.Common.{◌≡◌, ℕ, ◌+◌, ◌-◌, ◌<◌, ◌≤◌, Bool, true, false, zero, suc, List, [], ◌∷◌, length, get_or, map, Option, Some, None, eqb, refl, ap, sym, ◌∙◌, subst, ⊎_elim, rules, arith, length-append}
+use Rattle.std.proofs.Common.{◌≡◌, ℕ, ◌+◌, ◌-◌, ◌<◌, ◌≤◌, Bool, true, false, zero, suc, List, [], ◌∷◌, ◌++◌, length, get_or, map, take, drop, Option, Some, None, eqb, refl, ap, sym, ◌∙◌, subst, ⊎_elim, rules, arith, length-append}
 use Rattle.std.specs.Prelude.{slice_get, All, Contains, IsSomeAnd, nat_eq}
 use Rattle.std.specs.List.{list_any}
-use Rattle.std.proofs.lemmas.Option.{slice_get_within, get_or_from_slice_get}
+use Rattle.std.proofs.lemmas.Option.{slice_get_within, get_or_from_slice_get, slice_get-get_or}
+use Rattle.std.proofs.lemmas.List.{length-take, take-map, take-take}
+use Rattle.circular_buffer.specs.Buffer.{keep_last}
 use Rattle.std.proofs.lemmas.Bool.{cases_lt}
 use Rattle.std.proofs.lemmas.Cmp.{nat_eq_equiv}
 use Rattle.std.proofs.lemmas.Map.Views.{list_any-from_Contains}
 use Rattle.std.proofs.lemmas.Map.Steps.{le-length_from_below}
 use Rattle.ckpt_ring.specs.Slots.{Saved, slot_numbers, newest_slot}
-use Rattle.ckpt_ring.specs.Rings.{slots_of, checkpoint_of, checkpoints_of, from_newest}
+use Rattle.ckpt_ring.specs.Rings.{slots_of, checkpoint_of, checkpoints_of, from_newest, without_newer}
 use Rattle.ckpt_ring.specs.declared.checkpoint.Checkpoint.{Checkpoint}
 
 module _ {X : Type 0} where
@@ -24,6 +26,37 @@ module _ {X : Type 0} where
   -- a place that is known has its value
   pub some_at : (P : X → Type 0) (o : Option X) (x : X) → o ≡ Some x → P x → IsSomeAnd o P
   some_at P o x e h = rw e h
+
+  -- at a place within the list something stands
+  pub stands_within : (xs : List X) (i : ℕ) → i < length xs → slice_get xs i ≡ None → ⊥
+  stands_within [] i within e = omega arith
+  stands_within (x ∷ xs) zero within e = cc
+  stands_within (x ∷ xs) (suc i) within e = stands_within xs i (omega arith) e
+
+  -- the one that was put at the end is the newest
+  pub from_newest_push : (xs : List X) (x : X) → from_newest (xs ++ x ∷ []) 0 ≡ Some x
+  from_newest_push xs x =
+      let place : length (xs ++ x ∷ []) - 0 - 1 ≡ length xs = grind (arith, length-append) in rw place (last xs) where
+    last : (ys : List X) → slice_get (ys ++ x ∷ []) (length ys) ≡ Some x
+    last [] = refl
+    last (y ∷ ys) = last ys
+
+  -- what fits is kept
+  pub keep_last-fitting : (n : ℕ) (xs : List X) → length xs ≤ n → keep_last n xs ≡ xs
+  keep_last-fitting n xs fits = let none : length xs - n ≡ 0 = omega arith in rw none refl
+
+  -- a place before a cut
+  pub slice_get-take : (n : ℕ) (xs : List X) (i : ℕ) → i < n → slice_get (take n xs) i ≡ slice_get xs i
+  slice_get-take zero xs i less = absurd (omega arith)
+  slice_get-take (suc n) [] i less = refl
+  slice_get-take (suc n) (x ∷ xs) zero less = refl
+  slice_get-take (suc n) (x ∷ xs) (suc i) less = slice_get-take n xs i (omega arith)
+
+  -- one more of the newest is cut off
+  pub without_newer_more : (count : ℕ) (xs : List X) → without_newer 1 (without_newer count xs) ≡ without_newer (count + 1) xs
+  without_newer_more count xs =
+      let shorter : length (take (length xs - count) xs) - 1 ≡ length xs - (count + 1) = grind (arith, length-take) in
+      rw shorter (take-take (length xs - (count + 1)) (length xs - count) xs (omega arith))
 
 -- a number that is looked for by a test of checkpoints is looked for among their slots
 pub any_slot : (slot : ℕ) (standing : List Checkpoint) → list_any (λ one. eqb slot one.slot) standing ≡ list_any (eqb slot) (slots_of standing)
@@ -57,12 +90,63 @@ module _ {State : Type 0} (taken_in : State → ℕ) where
   slot_at (one ∷ saved) zero c e = let same : checkpoint_of taken_in one ≡ c = cc in ap (λ (x : Checkpoint). Some x.slot) same
   slot_at (one ∷ saved) (suc i) c e = slot_at saved i c e
 
+  -- a place that is counted from the newest
+  pub place_of : (standing : List Checkpoint) (saved : List (Saved State)) (index : ℕ) (c : Checkpoint) → standing ≡ checkpoints_of taken_in saved
+      → from_newest standing index ≡ Some c → slice_get (checkpoints_of taken_in saved) (length saved - index - 1) ≡ Some c
+  place_of standing saved index c same e = rw (sym (length-checkpoints_of saved), sym same) e
+
   -- the newest checkpoint is the slot that was saved last
   pub newest_at : (standing : List Checkpoint) (saved : List (Saved State)) (c : Checkpoint) → standing ≡ checkpoints_of taken_in saved
       → slice_get standing (length standing - 1) ≡ Some c → newest_slot saved ≡ Some c.slot
   newest_at standing saved c same e =
       let there : slice_get (checkpoints_of taken_in saved) (length saved - 1) ≡ Some c = rw (sym (length-checkpoints_of saved), sym same) e in
       slot_at saved (length saved - 1) c there
+
+  -- checkpoints and slots are cut alike
+  pub without_newer-checkpoints_of : (count : ℕ) (standing : List Checkpoint) (saved : List (Saved State)) → standing ≡ checkpoints_of taken_in saved
+      → without_newer count standing ≡ checkpoints_of taken_in (without_newer count saved)
+  without_newer-checkpoints_of count standing saved same =
+      rw (same, length-checkpoints_of saved) (take-map (checkpoint_of taken_in) (length saved - count) saved)
+
+module _ {State : Type 0} where
+  length-slot_numbers : (saved : List (Saved State)) → length (slot_numbers saved) ≡ length saved
+  length-slot_numbers [] = refl
+  length-slot_numbers (one ∷ saved) = ap suc (length-slot_numbers saved)
+
+  -- the slot that was put at the end was saved last
+  pub newest_slot_push : (saved : List (Saved State)) (new : Saved State) → newest_slot (saved ++ new ∷ []) ≡ Some new.slot
+  newest_slot_push saved new =
+      let place : length (saved ++ new ∷ []) - 1 ≡ length saved = grind (arith, length-append) in rw place (last saved) where
+    last : (list : List (Saved State)) → slice_get (slot_numbers (list ++ new ∷ [])) (length list) ≡ Some new.slot
+    last [] = refl
+    last (one ∷ list) = last list
+
+  -- the slot before those that are cut off is the last one then
+  pub newest_slot-without_newer : (saved : List (Saved State)) (index : ℕ) → index < length saved
+      → from_newest (slot_numbers saved) index ≡ newest_slot (without_newer index saved)
+  newest_slot-without_newer saved index within =
+      let numbers : List ℕ = slot_numbers saved in
+      let long : length numbers ≡ length saved = length-slot_numbers saved in
+      let shorter : length (take (length saved - index) saved) - 1 ≡ length saved - index - 1 = grind (arith, length-take) in
+      let cut : slot_numbers (without_newer index saved) ≡ take (length saved - index) numbers =
+      sym (take-map (λ (one : Saved State). one.slot) (length saved - index) saved) in
+      rw (shorter, cut, long) (sym (slice_get-take (length saved - index) numbers (length saved - index - 1) (omega arith)))
+
+  -- where fewer slots are cut off than stand behind that of the live state, it stands on an earlier one than the last
+  pub stands_earlier : (saved : List (Saved State)) (index count : ℕ) (base : Option ℕ) → count < index → index < length saved
+      → base ≡ from_newest (slot_numbers saved) index
+      → IsSomeAnd base (Contains (slot_numbers (without_newer 1 (without_newer count saved))))
+  stands_earlier saved index count base less within e =
+      let numbers : List ℕ = slot_numbers saved in
+      let long : length numbers ≡ length saved = length-slot_numbers saved in
+      let place = length numbers - index - 1 in
+      let there : slice_get numbers place ≡ Some (get_or numbers place 0) = slice_get-get_or numbers place 0 (omega arith) in
+      let cut : slot_numbers (without_newer (count + 1) saved) ≡ take (length saved - (count + 1)) numbers =
+      sym (take-map (λ (one : Saved State). one.slot) (length saved - (count + 1)) saved) in
+      let kept : slice_get (take (length saved - (count + 1)) numbers) place ≡ Some (get_or numbers place 0) =
+      slice_get-take (length saved - (count + 1)) numbers place (omega arith) ∙ there in
+      some_at (Contains (slot_numbers (without_newer 1 (without_newer count saved)))) base (get_or numbers place 0) (e ∙ there)
+      (rw (without_newer_more count saved, cut) (contains_at (take (length saved - (count + 1)) numbers) place (get_or numbers place 0) kept))
 
 -- a slot below which all are in use, and that isn't in use
 pub free_from_test : (slot : ℕ) (standing : List Checkpoint) → list_any (λ one. eqb slot one.slot) standing ≡ false → ¬ Contains (slots_of standing) slot

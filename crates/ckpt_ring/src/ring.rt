@@ -71,6 +71,7 @@ impl Ring {
         ensures capacity { self.new.capacity ≡ self.old.capacity }
         ensures same { self.new.standing ≡ checkpoints_of T.taken_in (T.slots t.new).saved }
         ensures saved { (slot : ℕ) × (T.slots t.new ≡ saved_in_ring self.old.capacity slot (T.slots t.old)) }
+        ensures base { (T.slots t.new).base ≡ newest_slot (T.slots t.new).saved }
         ensures newest { IsSomeAnd (from_newest self.new.standing 0) (λ one. one.taken ≡ T.taken_in (T.slots t.old).live) }
         ensures sound { AreSound (T.slots t.new) }
     {
@@ -98,6 +99,8 @@ impl Ring {
         requires base { (T.slots t.old).base ≡ from_newest (slot_numbers (T.slots t.old).saved) index }
         ensures ring { self.new ≡ checkpoints self.old.capacity (without_newer index self.old.standing) }
         ensures saved { T.slots t.new ≡ without_newer_slots index (T.slots t.old) }
+        ensures same { self.new.standing ≡ checkpoints_of T.taken_in (T.slots t.new).saved }
+        ensures base { (T.slots t.new).base ≡ newest_slot (T.slots t.new).saved }
     {
         for _ in 0..index {
             self.drop_newest(t);
@@ -148,6 +151,7 @@ impl Ring {
 
     /// Drops the newest checkpoint, while the live state stands on an older one.
     fn drop_newest<T: Snapshot>(&mut self, t: &mut T)
+        requires some { 0 < length self.old.standing }
         requires same { self.old.standing ≡ checkpoints_of T.taken_in (T.slots t.old).saved }
         requires base { StandsEarlier (T.slots t.old) }
         ensures ring { self.new ≡ checkpoints self.old.capacity (without_newer 1 self.old.standing) }

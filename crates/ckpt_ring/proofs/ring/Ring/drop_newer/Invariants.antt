@@ -1,0 +1,10 @@
+use Rattle.std.proofs.Common.{◌≡◌}
+use Rattle.ckpt_ring.specs.Slots.{without_newer_slots}
+use Rattle.ckpt_ring.specs.Rings.{checkpoints, without_newer}
+use Rattle.ckpt_ring.proofs.ring.Ring.drop_newer.Given as goal
+
+abbrev pub invariant-loop : goal.invariant-loop
+invariant-loop g l = record {
+  ring : l.self ≡ checkpoints l.fn.self.capacity (without_newer l.counter l.fn.self.standing);
+  saved : g.T.Snapshot.slots l.t ≡ without_newer_slots l.counter (g.T.Snapshot.slots l.fn.t);
+}
