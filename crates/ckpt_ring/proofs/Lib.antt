@@ -1,2 +1,4 @@
+pub mod KeptLemmas
 pub mod RingLemmas
 pub mod SlotLemmas
+pub mod SoundLemmas

@@ -1,10 +1,10 @@
 -- Which checkpoints stand.
-use Rattle.std.proofs.Common.{◌≡◌, ℕ, ◌+◌, ◌-◌, ◌*◌, ◌<◌, ◌≤◌, Bool, true, false, leb, zero, suc, List, [], ◌∷◌, ◌++◌, length, map, drop, Option, Some, None, refl, ap, sym, ◌∙◌, subst, rules, arith, length-append}
+use Rattle.std.proofs.Common.{◌≡◌, ℕ, ◌+◌, ◌-◌, ◌*◌, ◌<◌, ◌≤◌, Bool, true, false, leb, suc, List, [], ◌∷◌, ◌++◌, length, drop, Option, Some, None, refl, ap, sym, ◌∙◌, subst, arith}
 use Rattle.std.proofs.lemmas.Bool.{leb-true, le-leb}
 use Rattle.std.proofs.lemmas.List.Sums.{sum_by-cons}
 use Rattle.std.specs.Prelude.{slice_get, sum, nat_le, IfSome, Contains, MatchOption, ◌&&◌, if◌then◌else◌}
-use Rattle.ckpt_ring.specs.Slots.{Saved, Slots, AreSound, slot_numbers, page_numbers, newest_slot, all_numbers, used_pages, saved_to, with_whole_oldest, without_oldest, without_first}
-use Rattle.ckpt_ring.specs.Rings.{checkpoints_of, has_room, longest_end, kept, line, saved_in_ring}
+use Rattle.ckpt_ring.specs.Slots.{Saved, Slots, AreSound, slot_numbers, page_numbers, newest_slot, all_numbers, saved_to, with_whole_oldest, without_oldest, without_first}
+use Rattle.ckpt_ring.specs.Rings.{checkpoints_of, has_room, longest_end, kept, saved_in_ring}
 
 and_first : (a b : Bool) → (a && b) ≡ true → a ≡ true
 and_first true b e = refl
@@ -102,7 +102,7 @@ module _ {State : Type 0} where
   step_by : (capacity slot : ℕ) (live : State) (saved : List (Saved State)) (base : Option ℕ) (written count pages frames : ℕ)
       → has_room capacity pages frames (page_numbers saved ++ written ∷ []) ≡ false
       → saved_in_ring capacity slot (without_first saved (made live saved base written count pages frames))
-        ≡ saved_in_ring capacity slot (made live saved base written count pages frames)
+      ≡ saved_in_ring capacity slot (made live saved base written count pages frames)
   step_by capacity slot live [] base written count pages frames full = refl
   step_by capacity slot live (one ∷ []) base written count pages frames full =
       ap (λ (list : List (Saved State)). made live list (Some slot) 0 count pages frames)
@@ -140,14 +140,14 @@ module _ {State : Type 0} where
       ∙ whole_line slots.pages slots.saved new sound.oldest
       (written_from_none slots.saved slots.base slots.written slots.pages stands sound.base))
 
-  newest_later : (one next : Saved State) (later : List (Saved State)) → newest_slot (one ∷ next ∷ later) ≡ newest_slot (next ∷ later)
+  pub newest_later : (one next : Saved State) (later : List (Saved State)) → newest_slot (one ∷ next ∷ later) ≡ newest_slot (next ∷ later)
   newest_later one next later =
       let e : length (one ∷ next ∷ later) - 1 ≡ suc (length (next ∷ later) - 1) = grind arith in
       ap (slice_get (slot_numbers (one ∷ next ∷ later))) e
 
   base_by : (live : State) (saved : List (Saved State)) (base : Option ℕ) (written count pages frames : ℕ) → base ≡ newest_slot saved
       → (without_first saved (made live saved base written count pages frames)).base
-        ≡ newest_slot (without_first saved (made live saved base written count pages frames)).saved
+      ≡ newest_slot (without_first saved (made live saved base written count pages frames)).saved
   base_by live [] base written count pages frames e = e
   base_by live (one ∷ []) base written count pages frames e = refl
   base_by live (one ∷ next ∷ later) base written count pages frames e = e ∙ newest_later one next later

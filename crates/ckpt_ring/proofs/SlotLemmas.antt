@@ -1,15 +1,16 @@
 -- Slots, and checkpoints that name them.
-use Rattle.std.proofs.Common.{◌≡◌, ℕ, ◌+◌, ◌-◌, ◌<◌, ◌≤◌, Bool, true, false, zero, suc, List, [], ◌∷◌, ◌++◌, length, get_or, map, take, drop, Option, Some, None, eqb, refl, ap, sym, ◌∙◌, subst, ⊎_elim, rules, arith, length-append}
-use Rattle.std.specs.Prelude.{slice_get, All, Contains, IsSomeAnd, nat_eq}
+use Rattle.std.proofs.Common.{◌≡◌, ℕ, ◌+◌, ◌-◌, ◌<◌, ◌≤◌, true, false, zero, suc, List, [], ◌∷◌, ◌++◌, length, get_or, take, Option, Some, None, eqb, refl, ap, sym, ◌∙◌, subst, ⊎_elim, arith, length-append}
+use Rattle.std.specs.Prelude.{slice_get, All, Contains, IsSomeAnd}
 use Rattle.std.specs.List.{list_any}
-use Rattle.std.proofs.lemmas.Option.{slice_get_within, get_or_from_slice_get, slice_get-get_or}
+use Rattle.std.proofs.lemmas.Option.{slice_get_within, get_or_from_slice_get, slice_get-get_or, slice_get-map}
+use Rattle.std.specs.Option.{option_map}
 use Rattle.std.proofs.lemmas.List.{length-take, take-map, take-take}
 use Rattle.circular_buffer.specs.Buffer.{keep_last}
 use Rattle.std.proofs.lemmas.Bool.{cases_lt}
 use Rattle.std.proofs.lemmas.Cmp.{nat_eq_equiv}
 use Rattle.std.proofs.lemmas.Map.Views.{list_any-from_Contains}
 use Rattle.std.proofs.lemmas.Map.Steps.{le-length_from_below}
-use Rattle.ckpt_ring.specs.Slots.{Saved, slot_numbers, newest_slot}
+use Rattle.ckpt_ring.specs.Slots.{Saved, Slots, restored, slot_numbers, newest_slot}
 use Rattle.ckpt_ring.specs.Rings.{slots_of, checkpoint_of, checkpoints_of, from_newest, without_newer}
 use Rattle.ckpt_ring.specs.declared.checkpoint.Checkpoint.{Checkpoint}
 
@@ -37,9 +38,9 @@ module _ {X : Type 0} where
   pub from_newest_push : (xs : List X) (x : X) → from_newest (xs ++ x ∷ []) 0 ≡ Some x
   from_newest_push xs x =
       let place : length (xs ++ x ∷ []) - 0 - 1 ≡ length xs = grind (arith, length-append) in rw place (last xs) where
-    last : (ys : List X) → slice_get (ys ++ x ∷ []) (length ys) ≡ Some x
-    last [] = refl
-    last (y ∷ ys) = last ys
+        last : (ys : List X) → slice_get (ys ++ x ∷ []) (length ys) ≡ Some x
+        last [] = refl
+        last (y ∷ ys) = last ys
 
   -- what fits is kept
   pub keep_last-fitting : (n : ℕ) (xs : List X) → length xs ≤ n → keep_last n xs ≡ xs
@@ -66,6 +67,11 @@ any_slot slot (one ∷ standing) = rw (any_slot slot standing) refl
 pub length-slots_of : (standing : List Checkpoint) → length (slots_of standing) ≡ length standing
 length-slots_of [] = refl
 length-slots_of (one ∷ standing) = ap suc (length-slots_of standing)
+
+module _ {State : Type 0} where
+  pub length-slot_numbers : (saved : List (Saved State)) → length (slot_numbers saved) ≡ length saved
+  length-slot_numbers [] = refl
+  length-slot_numbers (one ∷ saved) = ap suc (length-slot_numbers saved)
 
 module _ {State : Type 0} (taken_in : State → ℕ) where
   pub slots_of-checkpoints_of : (saved : List (Saved State)) → slots_of (checkpoints_of taken_in saved) ≡ slot_numbers saved
@@ -95,6 +101,21 @@ module _ {State : Type 0} (taken_in : State → ℕ) where
       → from_newest standing index ≡ Some c → slice_get (checkpoints_of taken_in saved) (length saved - index - 1) ≡ Some c
   place_of standing saved index c same e = rw (sym (length-checkpoints_of saved), sym same) e
 
+  -- a restore of the slot of a checkpoint restores what stands at its place
+  pub restored_at : (slots new : Slots State) (standing : List Checkpoint) (index : ℕ) (c : Checkpoint) → standing ≡ checkpoints_of taken_in slots.saved
+      → from_newest standing index ≡ Some c → All (λ one. one.slot ≡ c.slot → new ≡ restored one slots) slots.saved
+      → (one : Saved State) × (from_newest slots.saved index ≡ Some one) × (new ≡ restored one slots)
+      × (from_newest (slot_numbers slots.saved) index ≡ Some one.slot)
+  restored_at slots new standing index c same e all =
+      let place = length slots.saved - index - 1 in
+      let there = saved_at slots.saved place c (place_of standing slots.saved index c same e) in
+      let number = slice_get-map (λ (each : Saved State). each.slot) slots.saved place ∙ ap (option_map (λ (each : Saved State). each.slot)) there.1 in (
+        there.0,
+        there.1,
+        all_at (λ one. one.slot ≡ c.slot → new ≡ restored one slots) slots.saved place there.0 all there.1 there.2,
+        rw (length-slot_numbers slots.saved) number,
+      )
+
   -- the newest checkpoint is the slot that was saved last
   pub newest_at : (standing : List Checkpoint) (saved : List (Saved State)) (c : Checkpoint) → standing ≡ checkpoints_of taken_in saved
       → slice_get standing (length standing - 1) ≡ Some c → newest_slot saved ≡ Some c.slot
@@ -109,17 +130,13 @@ module _ {State : Type 0} (taken_in : State → ℕ) where
       rw (same, length-checkpoints_of saved) (take-map (checkpoint_of taken_in) (length saved - count) saved)
 
 module _ {State : Type 0} where
-  length-slot_numbers : (saved : List (Saved State)) → length (slot_numbers saved) ≡ length saved
-  length-slot_numbers [] = refl
-  length-slot_numbers (one ∷ saved) = ap suc (length-slot_numbers saved)
-
   -- the slot that was put at the end was saved last
   pub newest_slot_push : (saved : List (Saved State)) (new : Saved State) → newest_slot (saved ++ new ∷ []) ≡ Some new.slot
   newest_slot_push saved new =
       let place : length (saved ++ new ∷ []) - 1 ≡ length saved = grind (arith, length-append) in rw place (last saved) where
-    last : (list : List (Saved State)) → slice_get (slot_numbers (list ++ new ∷ [])) (length list) ≡ Some new.slot
-    last [] = refl
-    last (one ∷ list) = last list
+        last : (list : List (Saved State)) → slice_get (slot_numbers (list ++ new ∷ [])) (length list) ≡ Some new.slot
+        last [] = refl
+        last (one ∷ list) = last list
 
   -- the slot before those that are cut off is the last one then
   pub newest_slot-without_newer : (saved : List (Saved State)) (index : ℕ) → index < length saved
@@ -160,8 +177,8 @@ pub free_from_all : (standing : List Checkpoint) → ((slot : ℕ) → slot < le
 free_from_all standing all =
     λ has. let last : list_any (eqb (length standing)) (slots_of standing) ≡ true = list_any-from_Contains nat_eq_equiv (length standing) (slots_of standing) has in
     let each : (slot : ℕ) → slot < length standing + 1 → list_any (eqb slot) (slots_of standing) ≡ true = λ slot below.
-      ⊎_elim (λ less. sym (any_slot slot standing) ∙ all slot less)
-      (λ more. let same : slot ≡ length standing = omega arith in rw same last)
-      (cases_lt slot (length standing)) in
+    ⊎_elim (λ less. sym (any_slot slot standing) ∙ all slot less)
+    (λ more. let same : slot ≡ length standing = omega arith in rw same last)
+    (cases_lt slot (length standing)) in
     let long : length standing + 1 ≤ length (slots_of standing) = le-length_from_below (slots_of standing) (length standing + 1) each in
     omega (arith, long, length-slots_of standing)

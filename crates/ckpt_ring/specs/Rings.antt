@@ -56,5 +56,5 @@ module _ {State : Type 0} where
   saved_in_ring capacity slot slots = record slots {
     saved = with_whole_oldest slots.pages (kept capacity slots.pages slots.frames (λ one. one.pages) (line slot slots));
     base = Some slot;
-    written = 0
+    written = 0;
   }

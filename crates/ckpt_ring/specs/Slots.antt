@@ -1,7 +1,6 @@
 -- What a contract sees of something that can be saved in numbered slots and restored.
-use Rattle.std.specs.Prelude.{◌≡◌, ℕ, ◌+◌, ◌-◌, ◌*◌, ◌<◌, ◌≤◌, List, [], ◌∷◌, ◌++◌, length, map, sum, take, slice_get, nat_eq, Option, Some, None, MatchOption, IfSome, IsSomeAnd, All, Contains}
+use Rattle.std.specs.Prelude.{◌≡◌, ℕ, ◌-◌, ◌*◌, ◌<◌, ◌≤◌, List, [], ◌∷◌, ◌++◌, length, map, sum, take, slice_get, nat_eq, Option, Some, None, MatchOption, IfSome, IsSomeAnd, All, Contains}
 use Rattle.std.specs.List.{IsDistinct}
-use Rattle.std.specs.Option.{option_map}
 
 -- a saved slot: its number, its state, and how many pages were written since the slot that was saved before it
 pub record Saved (State : Type 0) : Type 0 where
@@ -55,7 +54,7 @@ module _ {State : Type 0} where
   saved_to slot slots = record slots {
     saved = slots.saved ++ record { slot = slot; state = slots.live; pages = slots.written } ∷ [];
     base = Some slot;
-    written = 0
+    written = 0;
   }
 
   -- the live state is that of a saved slot, and stands on it

@@ -87,6 +87,8 @@ impl Ring {
         requires within { index < length self.now.standing }
         requires same { self.now.standing ≡ checkpoints_of T.taken_in (T.slots t.old).saved }
         ensures restored { IsSomeAnd (from_newest (T.slots t.old).saved index) (λ one. T.slots t.new ≡ restored one (T.slots t.old)) }
+        ensures same { self.now.standing ≡ checkpoints_of T.taken_in (T.slots t.new).saved }
+        ensures base { (T.slots t.new).base ≡ from_newest (slot_numbers (T.slots t.new).saved) index }
         ensures sound { AreSound (T.slots t.new) }
     {
         t.restore_from(self.checkpoint_at(index).slot);

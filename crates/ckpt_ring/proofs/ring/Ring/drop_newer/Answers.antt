@@ -1,5 +1,4 @@
 use Rattle.std.proofs.Common.{◌≡◌, ◌<◌, length, ap, ◌∙◌, arith}
-use Rattle.ckpt_ring.specs.Slots.{newest_slot}
 use Rattle.ckpt_ring.proofs.SlotLemmas.{without_newer-checkpoints_of, length-checkpoints_of, stands_earlier, newest_slot-without_newer}
 use Rattle.ckpt_ring.proofs.ring.Ring.drop_newer.Goals as goal
 
@@ -29,4 +28,3 @@ returns-clause-base g c =
     omega (arith, c.requires.within, ap length c.requires.same, length-checkpoints_of g.T.Snapshot.taken_in slots.saved) in
     let all : c.loop.counter ≡ c.args.index = omega arith in
     rw (c.loop.invariant.saved, all) (c.requires.base ∙ newest_slot-without_newer slots.saved c.args.index within)
-

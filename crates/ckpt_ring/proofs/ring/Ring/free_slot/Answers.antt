@@ -1,5 +1,4 @@
-use Rattle.std.proofs.Common.{◌≡◌, ℕ, ◌<◌, true, eqb, sym, ◌∙◌, rules, arith, length}
-use Rattle.std.specs.List.{list_any}
+use Rattle.std.proofs.Common.{sym, ◌∙◌, arith}
 use Rattle.ckpt_ring.proofs.SlotLemmas.{free_from_test, free_from_all}
 use Rattle.ckpt_ring.proofs.ring.Ring.free_slot.Goals as goal
 

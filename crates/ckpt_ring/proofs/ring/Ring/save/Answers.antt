@@ -34,10 +34,12 @@ save_to-requires-clause-room g c =
 pub returns-clause-saved : goal.returns-clause-saved
 returns-clause-saved g c =
     let slots = g.T.Snapshot.slots c.make_room.new.t in
-    let slot = c.free_slot-slot.result in
-    (slot, c.save_to.ensures.saved
-      ∙ sym (saved_in_ring-room c.args.self.now.capacity slot slots c.make_room.ensures.sound c.make_room.ensures.base c.make_room.ensures.room)
-      ∙ c.make_room.ensures.left slot)
+    let slot = c.free_slot-slot.result in (
+      slot,
+      c.save_to.ensures.saved
+          ∙ sym (saved_in_ring-room c.args.self.now.capacity slot slots c.make_room.ensures.sound c.make_room.ensures.base c.make_room.ensures.room)
+          ∙ c.make_room.ensures.left slot,
+    )
 
 pub returns-clause-newest : goal.returns-clause-newest
 returns-clause-newest g c =
