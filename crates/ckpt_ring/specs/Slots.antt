@@ -2,21 +2,30 @@
 use Rattle.std.specs.Prelude.{◌≡◌, ℕ, ◌-◌, ◌*◌, ◌<◌, ◌≤◌, List, [], ◌∷◌, ◌++◌, length, map, sum, take, slice_get, nat_eq, Option, Some, None, MatchOption, IfSome, IsSomeAnd, All, Contains}
 use Rattle.std.specs.List.{IsDistinct}
 
--- a saved slot: its number, its state, and how many pages were written since the slot that was saved before it
+-- a saved slot
 pub record Saved (State : Type 0) : Type 0 where
+  -- its number
   pub slot : ℕ
+  -- its state
   pub state : State
+  -- how many pages were written since the slot that was saved before it
   pub pages : ℕ
 
--- the live state, the saved slots with the oldest first, the slot on which the live state stands, how many pages were
--- written since that slot, how many slots there are, how many pages a state has, and how many frames hold them all
+-- what can be saved and restored
 pub record Slots (State : Type 0) : Type 0 where
+  -- the live state
   pub live : State
+  -- the saved slots in the order of saving, the oldest first
   pub saved : List (Saved State)
+  -- the number of the saved slot on which the live state stands
   pub base : Option ℕ
+  -- how many pages were written since that slot
   pub written : ℕ
+  -- how many slots there are
   pub count : ℕ
+  -- how many pages a state has
   pub pages : ℕ
+  -- how many pages can be in use
   pub frames : ℕ
 
 module _ {State : Type 0} where
@@ -24,29 +33,33 @@ module _ {State : Type 0} where
   abbrev pub slot_numbers : List (Saved State) → List ℕ
   slot_numbers saved = map (λ one. one.slot) saved
 
-  -- how many pages were written before each slot
+  -- how many pages were written since the slot before, for each slot
   abbrev pub page_numbers : List (Saved State) → List ℕ
   page_numbers saved = map (λ one. one.pages) saved
 
-  -- the slot that was saved last
+  -- the number of the slot that was saved last
   abbrev pub newest_slot : List (Saved State) → Option ℕ
   newest_slot saved = slice_get (slot_numbers saved) (length saved - 1)
 
-  -- how many pages were written before each slot, and behind the one on which the live state stands
+  -- these numbers, and how many were written since the slot on which the live state stands
   abbrev pub all_numbers : Slots State → List ℕ
   all_numbers slots = page_numbers slots.saved ++ slots.written ∷ []
 
-  -- the pages in use: all these numbers
+  -- how many pages are in use: the sum of all these numbers
   abbrev pub used_pages : Slots State → ℕ
   used_pages slots = sum (all_numbers slots)
 
-  -- numbers are distinct and below the number of slots; the oldest slot has all pages as its number; the live state stands
-  -- on a saved slot, or none is saved and all its pages count as written; the frames hold two states
+  -- what always holds of slots
   pub record AreSound (slots : Slots State) : Type 0 where
+    -- no number is that of two saved slots
     pub distinct : IsDistinct nat_eq (slot_numbers slots.saved)
+    -- each is below the number of slots
     pub counted : All (λ slot. slot < slots.count) (slot_numbers slots.saved)
+    -- before the oldest slot all pages were written
     pub oldest : IfSome (slice_get slots.saved 0) (λ one. one.pages ≡ slots.pages)
+    -- the live state stands on a saved slot; or none is saved, and all its pages were written
     pub base : MatchOption slots.base ((slots.saved ≡ []) × (slots.written ≡ slots.pages)) (Contains (slot_numbers slots.saved))
+    -- two states can be in use
     pub frames : 2 * slots.pages ≤ slots.frames
 
   -- the live state is the last saved slot, and stands on it

@@ -13,7 +13,8 @@ drop_newest-requires-clause-base g c =
     let slots = g.T.Snapshot.slots c.args.t.now in
     let within : c.args.index < length slots.saved =
     omega (arith, c.requires.within, ap length c.requires.same, length-checkpoints_of g.T.Snapshot.taken_in slots.saved) in
-    rw c.loop.invariant.saved (stands_earlier slots.saved c.args.index c.loop.counter slots.base c.loop-test.true within c.requires.base)
+    let before : c.loop.counter < c.args.index = omega arith in
+    rw c.loop.invariant.saved (stands_earlier slots.saved c.args.index c.loop.counter slots.base before within c.requires.base)
 
 pub returns-clause-same : goal.returns-clause-same
 returns-clause-same g c =
