@@ -1,18 +1,19 @@
 -- What saves, restores and drops leave is sound. For who implements a Snapshot.
-use Rattle.std.proofs.Common.{◌≡◌, ℕ, ◌-◌, ◌<◌, Bool, true, false, zero, suc, List, [], ◌∷◌, ◌++◌, length, get_or, take, Option, Some, None, eqb, refl, ap, sym, ◌∙◌, subst, inl, inr, ⊎_elim, arith}
-use Rattle.std.specs.Prelude.{◌⊎◌, slice_get, All, Contains, IfSome, IsSomeAnd, MatchOption, nat_eq}
+use Rattle.std.proofs.Common.{◌≡◌, ℕ, ◌+◌, ◌-◌, ◌≤◌, ◌<◌, Bool, true, false, zero, suc, List, [], ◌∷◌, ◌++◌, length, get_or, take, Option, Some, None, eqb, refl, ap, sym, ◌∙◌, subst, inl, inr, ⊎_elim, arith}
+use Rattle.std.specs.Prelude.{◌⊎◌, sum, slice_get, All, Contains, IfSome, IsSomeAnd, MatchOption, nat_eq}
 use Rattle.std.specs.List.{list_any, IsDistinct, AllByRecursion}
-use Rattle.std.proofs.lemmas.Option.{slice_get-get_or, slice_get-map}
+use Rattle.std.proofs.lemmas.Option.{slice_get-get_or, slice_get-map, get_or_from_slice_get}
 use Rattle.std.specs.Option.{option_map}
 use Rattle.std.proofs.lemmas.List.Folds.{list_any_none}
 use Rattle.std.proofs.lemmas.Cmp.{nat_eq_equiv}
-use Rattle.std.proofs.lemmas.List.{map-append, take-map, get_or_default}
+use Rattle.std.proofs.lemmas.List.Sums.{sum_by_push, sum_by-cons, sum_by-take-le}
+use Rattle.std.proofs.lemmas.List.{map-append, take-map, get_or_default, get_or-take, length-take}
 use Rattle.std.proofs.lemmas.Bool.{eqb-true, eqb-false}
 use Rattle.std.proofs.lemmas.List.Elements.{All-append, All-take}
-use Rattle.std.proofs.lemmas.Map.Keys.{IsDistinct-head, IsDistinct-tail, IsDistinct-cons, IsDistinct-push}
-use Rattle.ckpt_ring.specs.Slots.{Saved, Slots, AreSound, StandsEarlier, slot_numbers, newest_slot, saved_to, restored, without_newest, without_oldest, without_first}
+use Rattle.std.proofs.lemmas.Map.Keys.{IsDistinct-head, IsDistinct-tail, IsDistinct-cons, IsDistinct-push, apart_from_distinct}
+use Rattle.ckpt_ring.specs.Slots.{Saved, Slots, AreSound, used_pages, page_numbers, StandsEarlier, slot_numbers, newest_slot, saved_to, restored, without_newest, without_oldest, without_first}
 use Rattle.ckpt_ring.proofs.SlotLemmas.{contains_at, newest_slot_push, length-slot_numbers}
-use Rattle.ckpt_ring.proofs.RingLemmas.{written_from_none, newest_later}
+use Rattle.ckpt_ring.proofs.RingLemmas.{written_from_none, newest_later, page_numbers_push}
 
 either : (b : Bool) → (b ≡ true) ⊎ (b ≡ false)
 either true = inl refl
@@ -157,3 +158,53 @@ module _ {State : Type 0} where
   pub sound-without_oldest : (slots : Slots State) → AreSound slots → slots.base ≡ newest_slot slots.saved → AreSound (without_oldest slots)
   sound-without_oldest slots sound stands =
       without_by slots.live slots.saved slots.base slots.written slots.count slots.pages slots.frames sound stands
+
+  -- the live state doesn't stand on the last slot and on an earlier one
+  pub stands_apart : (slots : Slots State) → AreSound slots → StandsEarlier slots → slots.base ≡ newest_slot slots.saved → ⊥
+  stands_apart slots sound earlier last = apart_by slots.base slots.saved sound.distinct earlier last where
+    apart_by : (base : Option ℕ) (saved : List (Saved State)) → IsDistinct nat_eq (slot_numbers saved)
+        → IsSomeAnd base (Contains (slot_numbers (take (length saved - 1) saved))) → base ≡ newest_slot saved → ⊥
+    apart_by None saved distinct earlier last = absurd earlier
+    apart_by (Some slot) saved distinct earlier last =
+        let numbers : List ℕ = slot_numbers saved in
+        let long : length numbers ≡ length saved = length-slot_numbers saved in
+        let cut : slot_numbers (take (length saved - 1) saved) ≡ take (length saved - 1) numbers = sym (take-map (λ (each : Saved State). each.slot) (length saved - 1) saved) in
+        let there : Contains (take (length saved - 1) numbers) slot = rw cut at earlier in
+        let short : length (take (length saved - 1) numbers) ≡ length saved - 1 = grind (arith, length-take) in
+        let first : get_or numbers there.0 slot ≡ slot = sym (get_or-take (length saved - 1) numbers there.0 slot (omega (arith, there.1))) ∙ there.2 in
+        let second : get_or numbers (length saved - 1) slot ≡ slot = get_or_from_slice_get numbers (length saved - 1) slot slot (sym last) in
+        let differ : nat_eq (get_or numbers there.0 slot) (get_or numbers (length saved - 1) slot) ≡ false =
+        apart_from_distinct nat_eq numbers there.0 (length saved - 1) slot distinct (omega (arith, there.1)) (omega (arith, there.1)) in
+        eqb-false (get_or numbers there.0 slot) (get_or numbers (length saved - 1) slot) differ (first ∙ sym second)
+
+  pub used_pages-saved_to : (slot : ℕ) (slots : Slots State) → used_pages (saved_to slot slots) ≡ used_pages slots
+  used_pages-saved_to slot slots =
+      let new : Saved State = record { slot = slot; state = slots.live; pages = slots.written } in
+      let numbers : List ℕ = page_numbers slots.saved ++ slots.written ∷ [] in
+      let more : sum (numbers ++ 0 ∷ []) ≡ sum numbers + 0 = sum_by_push (λ x. x) numbers 0 in
+      ap (λ list. sum (list ++ 0 ∷ [])) (page_numbers_push slots.saved new) ∙ omega arith
+
+  pub used_pages-restored : (one : Saved State) (slots : Slots State) → used_pages (restored one slots) + slots.written ≡ used_pages slots
+  used_pages-restored one slots =
+      omega (arith, sum_by_push (λ x. x) (page_numbers slots.saved) slots.written, sum_by_push (λ x. x) (page_numbers slots.saved) 0)
+
+  pub used_pages-without_newest : (slots : Slots State) → used_pages (without_newest slots) ≤ used_pages slots
+  used_pages-without_newest slots =
+      let n = length slots.saved - 1 in
+      let numbers : page_numbers (take n slots.saved) ≡ take n (page_numbers slots.saved) = sym (take-map (λ (each : Saved State). each.pages) n slots.saved) in
+      let less : sum (take n (page_numbers slots.saved)) ≤ sum (page_numbers slots.saved) = sum_by-take-le (λ x. x) (page_numbers slots.saved) n in
+      rw numbers (omega (arith, sum_by_push (λ x. x) (page_numbers slots.saved) slots.written, sum_by_push (λ x. x) (take n (page_numbers slots.saved)) slots.written))
+
+  less_by : (live : State) (saved : List (Saved State)) (base : Option ℕ) (written count pages frames : ℕ)
+      → IfSome (slice_get saved 0) (λ one. one.pages ≡ pages)
+      → used_pages (without_first saved (made live saved base written count pages frames)) ≤ used_pages (made live saved base written count pages frames)
+  less_by live [] base written count pages frames oldest = omega arith
+  less_by live (one ∷ []) base written count pages frames oldest =
+      omega (arith, sum_by-cons (λ x. x) one.pages (written ∷ []), sum_by-cons (λ x. x) written [], sum_by-cons (λ x. x) pages [])
+  less_by live (one ∷ next ∷ later) base written count pages frames oldest =
+      let rest : List ℕ = page_numbers later ++ written ∷ [] in
+      omega (arith, sum_by-cons (λ x. x) one.pages (next.pages ∷ rest), sum_by-cons (λ x. x) next.pages rest, sum_by-cons (λ x. x) pages rest)
+
+  pub used_pages-without_oldest : (slots : Slots State) → AreSound slots → used_pages (without_oldest slots) ≤ used_pages slots
+  used_pages-without_oldest slots sound =
+      less_by slots.live slots.saved slots.base slots.written slots.count slots.pages slots.frames sound.oldest

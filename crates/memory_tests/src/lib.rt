@@ -5,3 +5,8 @@
 mod alloc_env_tests;
 #[cfg(test)]
 mod block_book_tests;
+//! Tests of the crates of memory.
+#![tactic(auto)]
+
+#[cfg(test)]
+mod ckpt_ring_tests;
