@@ -30,7 +30,7 @@ module _ {K : Type 0} (P : K → Type 0) where
   front (suc n) [] all = tt
   front (suc n) (x ∷ xs) all = (all.0, front n xs all.1)
 
-distinct-none : IsDistinct nat_eq []
+pub distinct-none : IsDistinct nat_eq []
 unfolding IsDistinct
 distinct-none = tt
 
