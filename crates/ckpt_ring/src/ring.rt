@@ -1,8 +1,7 @@
 // The ring of checkpoints.
-ghost use Rattle.std.specs.Prelude.{◌≡◌, ◌==◌, ◌+◌, ◌-◌, ◌<◌, ◌≤◌, ℕ, [], ◌++◌, ◌∷◌, length, drop, slice_get, true, Some, Option, Contains, IfOk, IfSome, IsSomeAnd};
+ghost use Rattle.std.specs.Prelude.{◌≡◌, ◌==◌, ◌<◌, ◌≤◌, ℕ, [], length, drop, true, Some, Contains, IfOk, IsSomeAnd};
 ghost use Rattle.std.specs.List.{list_any};
-ghost use Rattle.std.specs.Option.{option_map};
-ghost use Rattle.ckpt_ring.specs.Slots.{Slots, AreSound, slot_numbers, newest_slot, restored, without_newest, without_oldest, without_newer_slots, StandsEarlier, all_numbers};
+ghost use Rattle.ckpt_ring.specs.Slots.{AreSound, slot_numbers, newest_slot, restored, without_newest, without_oldest, without_newer_slots, StandsEarlier, all_numbers};
 ghost use Rattle.ckpt_ring.specs.Rings.{checkpoints, slots_of, checkpoints_of, has_room, from_newest, without_newer, saved_in_ring};
 
 use crate::{Checkpoint, Snapshot};
@@ -10,8 +9,8 @@ use circular_buffer::HeapCircularBuffer;
 use std::alloc::{AllocError, Global};
 use std::marker::Model;
 
-/// A ring of checkpoints of one thing that can be saved and restored. It knows their slots and how many items each has taken; the
-/// states stand in the slots.
+/// The checkpoints of something that can be saved and restored. It knows the slot of each and how many items that state
+/// has taken; the states stand in the slots.
 #[derive(Drop)]
 pub struct Ring {
     buffer: HeapCircularBuffer<Checkpoint>,
@@ -25,7 +24,7 @@ impl Model for Ring {
 
     ghost view = { λ ring. checkpoints ring.buffer.capacity ring.buffer.items };
 
-    ghost invariant = { (λ ring. (1 ≤ ring.buffer.capacity) × (ring.buffer.capacity ≤ 16)) };
+    ghost invariant = { λ ring. (1 ≤ ring.buffer.capacity) × (ring.buffer.capacity ≤ 16) };
 }
 
 impl Ring {
