@@ -1,0 +1,263 @@
+-- How many times a number stands in a list, and how many different ones do.
+use Rattle.std.proofs.Common.{◌≡◌, ℕ, zero, suc, ◌+◌, ◌-◌, ◌<◌, ◌≤◌, Bool, true, false, ◌||◌, ◌==◌, nat_lt, cond, List, [], ◌∷◌, ◌++◌, length, take, drop, get_or, refl, sym, ap, subst, ◌∙◌, ◌⊎◌, inl, inr, arith}
+use Rattle.std.proofs.lemmas.Bool.{cases_Bool, cases_eq, cases_lt, eq-eqb, ne_eqb, eqb-true, eqb-false, lt-ltb, le-ltb, ltb-true, ltb-false, or_left, or_right, or_parts, or_cases, false_from_ne_true, both_ways}
+use Rattle.std.proofs.lemmas.List.{take-append-drop, get_or-drop, length-drop}
+use Rattle.cow_pages.specs.Pages.{has, different}
+use Rattle.cow_pages.specs.Pool.{places}
+
+-- each element of a list is below a number
+abbrev pub AreBelow : ℕ → List ℕ → Type 0
+AreBelow top xs = (k : ℕ) → k < length xs → get_or xs k 0 < top
+
+pub below_tail : (top x : ℕ) (xs : List ℕ) → AreBelow top (x ∷ xs) → AreBelow top xs
+below_tail top x xs below = λ k less. below (suc k) (omega arith)
+
+pub below_head : (top x : ℕ) (xs : List ℕ) → AreBelow top (x ∷ xs) → x < top
+below_head top x xs below = below 0 (omega arith)
+
+or_assoc : (a b c : Bool) → ((a || b) || c) ≡ (a || (b || c))
+or_assoc true b c = refl
+or_assoc false b c = refl
+
+pub or_first : (a b : Bool) → a ≡ true → (a || b) ≡ true
+or_first true b e = refl
+or_first false b e = cc
+
+pub or_second : (a b : Bool) → b ≡ true → (a || b) ≡ true
+or_second true b e = refl
+or_second false b e = e
+
+pub has-append : (n : ℕ) (xs ys : List ℕ) → has n (xs ++ ys) ≡ (has n xs || has n ys)
+has-append n [] ys = refl
+has-append n (x ∷ xs) ys = ap (λ b. (x == n) || b) (has-append n xs ys) ∙ sym (or_assoc (x == n) (has n xs) (has n ys))
+
+pub places-append : (n : ℕ) (xs ys : List ℕ) → places n (xs ++ ys) ≡ places n xs + places n ys
+places-append n [] ys = omega arith
+places-append n (x ∷ xs) ys = omega (arith, places-append n xs ys)
+
+pub places-take-drop : (n i : ℕ) (xs : List ℕ) → places n (take i xs) + places n (drop i xs) ≡ places n xs
+places-take-drop n i xs = sym (places-append n (take i xs) (drop i xs)) ∙ ap (places n) (take-append-drop i xs)
+
+-- a number is in a list if it stands there at least once
+pub has-is : (n : ℕ) (xs : List ℕ) → has n xs ≡ nat_lt 0 (places n xs)
+has-is n [] = refl
+has-is n (x ∷ xs) =
+    elim (x == n) as (λ b. (b || has n xs) ≡ nat_lt 0 (cond b 1 0 + places n xs)) [
+    | true ↦ sym (lt-ltb 0 (1 + places n xs) (omega arith))
+    | false ↦ (let e : 0 + places n xs ≡ places n xs = omega arith in has-is n xs ∙ ap (nat_lt 0) (sym e))
+    ]
+
+pub has-none : (n : ℕ) (xs : List ℕ) → places n xs ≡ 0 → has n xs ≡ false
+has-none n xs none = has-is n xs ∙ ap (nat_lt 0) none
+
+pub has-some : (n : ℕ) (xs : List ℕ) → 0 < places n xs → has n xs ≡ true
+has-some n xs some = has-is n xs ∙ lt-ltb 0 (places n xs) some
+
+pub places-none : (n : ℕ) (xs : List ℕ) → has n xs ≡ false → places n xs ≡ 0
+places-none n xs none = let e : places n xs ≤ 0 = ltb-false 0 (places n xs) (sym (has-is n xs) ∙ none) in omega arith
+
+pub places-some : (n : ℕ) (xs : List ℕ) → has n xs ≡ true → 0 < places n xs
+places-some n xs some = ltb-true 0 (places n xs) (sym (has-is n xs) ∙ some)
+
+-- an element stands in its list
+pub has-get_or : (xs : List ℕ) (k : ℕ) → k < length xs → has (get_or xs k 0) xs ≡ true
+has-get_or [] k less = absurd (omega arith)
+has-get_or (x ∷ xs) zero less = or_first (x == x) (has x xs) (eq-eqb x x refl)
+has-get_or (x ∷ xs) (suc k) less = or_second (x == get_or xs k 0) (has (get_or xs k 0) xs) (has-get_or xs k (omega arith))
+
+-- a number that is in a list stands at some place
+pub has-at : (n : ℕ) (xs : List ℕ) → has n xs ≡ true → (k : ℕ) × (k < length xs) × (get_or xs k 0 ≡ n)
+has-at n [] is = cc
+has-at n (x ∷ xs) is =
+    elim (or_cases (x == n) (has n xs) is) [
+    | inl here ↦ (0, omega arith, eqb-true x n here)
+    | inr later ↦ (let found = has-at n xs later in (suc found.0, omega (arith, found.1), found.2))
+    ]
+
+-- a number that stands at no place of a list isn't in it
+pub has-nowhere : (n : ℕ) (xs : List ℕ) → ((k : ℕ) → k < length xs → get_or xs k 0 ≡ n → ⊥) → has n xs ≡ false
+has-nowhere n xs nowhere = false_from_ne_true (has n xs) (λ is. let found = has-at n xs is in nowhere found.0 found.1 found.2)
+
+-- a list whose elements are all below has no other number
+pub below-has : (top n : ℕ) (xs : List ℕ) → AreBelow top xs → has n xs ≡ true → n < top
+below-has top n xs below is = let found = has-at n xs is in subst (λ m. m < top) found.2 (below found.0 found.1)
+
+pub places-le-length : (n : ℕ) (xs : List ℕ) → places n xs ≤ length xs
+places-le-length n [] = omega arith
+places-le-length n (x ∷ xs) =
+    elim (x == n) as (λ b. cond b 1 0 + places n xs ≤ suc (length xs)) [
+    | true ↦ omega (arith, places-le-length n xs)
+    | false ↦ omega (arith, places-le-length n xs)
+    ]
+
+-- a list whose elements stand at one place each has no number twice
+pub places-le-one : (n : ℕ) (xs : List ℕ) → ((k j : ℕ) → k < length xs → j < length xs → get_or xs k 0 ≡ get_or xs j 0 → k ≡ j) → places n xs ≤ 1
+places-le-one n [] once = omega arith
+places-le-one n (x ∷ xs) once =
+    let rest : places n xs ≤ 1 = places-le-one n xs (λ k j lk lj e. let same : suc k ≡ suc j = once (suc k) (suc j) (omega arith) (omega arith) e in omega arith) in
+    elim (cases_Bool (x == n)) [
+    | inl here ↦ (let gone : has n xs ≡ false = has-nowhere n xs (λ k less e. let same : 0 ≡ suc k = once 0 (suc k) (omega arith) (omega arith) (eqb-true x n here ∙ sym e) in omega arith) in let none : places n xs ≡ 0 = places-none n xs gone in rw here (omega arith))
+    | inr other ↦ rw other (omega arith)
+    ]
+
+-- how many numbers below a limit are in a list
+abbrev pub occupied : ℕ → List ℕ → ℕ
+occupied zero xs = 0
+occupied (suc k) xs = occupied k xs + cond (has k xs) 1 0
+
+-- how many elements below a limit a list has
+abbrev pub tally : ℕ → List ℕ → ℕ
+tally zero xs = 0
+tally (suc k) xs = tally k xs + places k xs
+
+occupied-nil : (k : ℕ) → occupied k [] ≡ 0
+occupied-nil zero = refl
+occupied-nil (suc k) = omega (arith, occupied-nil k)
+
+occupied-above : (k x : ℕ) (xs : List ℕ) → k ≤ x → occupied k (x ∷ xs) ≡ occupied k xs
+occupied-above zero x xs above = refl
+occupied-above (suc k) x xs above =
+    let other : (x == k) ≡ false = ne_eqb x k (λ e. omega arith) in
+    let fewer : occupied k (x ∷ xs) ≡ occupied k xs = occupied-above k x xs (omega arith) in
+    rw other (ap (λ n. n + cond (has k xs) 1 0) fewer)
+
+turned : (b : Bool) (n : ℕ) → n + 1 ≡ n + cond b 1 0 + cond b 0 1
+turned true n = omega arith
+turned false n = omega arith
+
+occupied-cons : (k x : ℕ) (xs : List ℕ) → x < k → occupied k (x ∷ xs) ≡ occupied k xs + cond (has x xs) 0 1
+occupied-cons zero x xs less = absurd (omega arith)
+occupied-cons (suc k) x xs less =
+    elim (cases_eq x k) [
+    | inl same ↦ (
+      let is : (x == k) ≡ true = eq-eqb x k same in
+      let fewer : occupied k (x ∷ xs) ≡ occupied k xs = occupied-above k x xs (omega arith) in
+      rw is (rw fewer (subst (λ n. occupied k xs + 1 ≡ occupied k xs + cond (has k xs) 1 0 + cond (has n xs) 0 1) (sym same) (turned (has k xs) (occupied k xs)))))
+    | inr other ↦ (
+      let is : (x == k) ≡ false = ne_eqb x k other in
+      let fewer : occupied k (x ∷ xs) ≡ occupied k xs + cond (has x xs) 0 1 = occupied-cons k x xs (omega arith) in
+      rw is (omega arith))
+    ]
+
+chosen : (b : Bool) (n : ℕ) → cond b n (n + 1) ≡ n + cond b 0 1
+chosen true n = omega arith
+chosen false n = refl
+
+pub different-occupied : (top : ℕ) (xs : List ℕ) → AreBelow top xs → different xs ≡ occupied top xs
+different-occupied top [] below = sym (occupied-nil top)
+different-occupied top (x ∷ xs) below =
+    let rest : different xs ≡ occupied top xs = different-occupied top xs (below_tail top x xs below) in
+    let first : occupied top (x ∷ xs) ≡ occupied top xs + cond (has x xs) 0 1 = occupied-cons top x xs (below_head top x xs below) in
+    chosen (has x xs) (different xs) ∙ ap (λ n. n + cond (has x xs) 0 1) rest ∙ sym first
+
+occupied-same : (k : ℕ) (xs ys : List ℕ) → ((n : ℕ) → n < k → has n xs ≡ has n ys) → occupied k xs ≡ occupied k ys
+occupied-same zero xs ys same = refl
+occupied-same (suc k) xs ys same =
+    let fewer : occupied k xs ≡ occupied k ys = occupied-same k xs ys (λ n less. same n (omega arith)) in
+    ap (λ n. n + cond (has k xs) 1 0) fewer ∙ ap (λ b. occupied k ys + cond b 1 0) (same k (omega arith))
+
+-- two lists with the same numbers have as many different ones
+pub different-same : (top : ℕ) (xs ys : List ℕ) → AreBelow top xs → AreBelow top ys → ((n : ℕ) → n < top → has n xs ≡ has n ys) → different xs ≡ different ys
+different-same top xs ys bx by same = different-occupied top xs bx ∙ occupied-same top xs ys same ∙ sym (different-occupied top ys by)
+
+tally-nil : (k : ℕ) → tally k [] ≡ 0
+tally-nil zero = refl
+tally-nil (suc k) = omega (arith, tally-nil k)
+
+tally-above : (k x : ℕ) (xs : List ℕ) → k ≤ x → tally k (x ∷ xs) ≡ tally k xs
+tally-above zero x xs above = refl
+tally-above (suc k) x xs above =
+    let other : (x == k) ≡ false = ne_eqb x k (λ e. omega arith) in
+    let fewer : tally k (x ∷ xs) ≡ tally k xs = tally-above k x xs (omega arith) in
+    rw other (omega arith)
+
+tally-cons : (k x : ℕ) (xs : List ℕ) → x < k → tally k (x ∷ xs) ≡ tally k xs + 1
+tally-cons zero x xs less = absurd (omega arith)
+tally-cons (suc k) x xs less =
+    elim (cases_eq x k) [
+    | inl same ↦ (
+      let is : (x == k) ≡ true = eq-eqb x k same in
+      let fewer : tally k (x ∷ xs) ≡ tally k xs = tally-above k x xs (omega arith) in
+      rw is (omega arith))
+    | inr other ↦ (
+      let is : (x == k) ≡ false = ne_eqb x k other in
+      let fewer : tally k (x ∷ xs) ≡ tally k xs + 1 = tally-cons k x xs (omega arith) in
+      rw is (omega arith))
+    ]
+
+pub tally-length : (top : ℕ) (xs : List ℕ) → AreBelow top xs → tally top xs ≡ length xs
+tally-length top [] below = tally-nil top
+tally-length top (x ∷ xs) below =
+    let rest : tally top xs ≡ length xs = tally-length top xs (below_tail top x xs below) in
+    let first : tally top (x ∷ xs) ≡ tally top xs + 1 = tally-cons top x xs (below_head top x xs below) in
+    omega arith
+
+whole : (b : Bool) (m n k : ℕ) → m + n ≡ k → m + cond b 0 1 + (n + cond b 1 0) ≡ suc k
+whole true m n k e = omega arith
+whole false m n k e = omega arith
+
+tally-occupied : (k : ℕ) (free xs : List ℕ) → ((n : ℕ) → n < k → places n free ≡ cond (has n xs) 0 1) → tally k free + occupied k xs ≡ k
+tally-occupied zero free xs each = refl
+tally-occupied (suc k) free xs each =
+    let fewer : tally k free + occupied k xs ≡ k = tally-occupied k free xs (λ n less. each n (omega arith)) in
+    rw (each k (omega arith)) (whole (has k xs) (tally k free) (occupied k xs) k fewer)
+
+-- the free numbers and the different ones in use are all numbers below the limit
+pub length-free : (top : ℕ) (free xs : List ℕ) → AreBelow top free → AreBelow top xs → ((n : ℕ) → n < top → places n free ≡ cond (has n xs) 0 1) → length free + different xs ≡ top
+length-free top free xs bf bx each =
+    let a : tally top free ≡ length free = tally-length top free bf in
+    let b : different xs ≡ occupied top xs = different-occupied top xs bx in
+    let c : tally top free + occupied top xs ≡ top = tally-occupied top free xs each in
+    omega arith
+
+tally-le : (k : ℕ) (free : List ℕ) → ((n : ℕ) → n < k → places n free ≤ 1) → tally k free ≤ k
+tally-le zero free each = omega arith
+tally-le (suc k) free each = omega (arith, tally-le k free (λ n less. each n (omega arith)), each k (omega arith))
+
+tally-lt : (k m : ℕ) (free : List ℕ) → ((n : ℕ) → n < k → places n free ≤ 1) → m < k → places m free ≡ 0 → tally k free < k
+tally-lt zero m free each less none = absurd (omega arith)
+tally-lt (suc k) m free each less none =
+    elim (cases_eq m k) [
+    | inl same ↦ (let last : places k free ≡ 0 = subst (λ n. places n free ≡ 0) same none in omega (arith, tally-le k free (λ n below. each n (omega arith))))
+    | inr other ↦ (let before : m < k = omega arith in omega (arith, tally-lt k m free (λ n below. each n (omega arith)) before none, each k (omega arith)))
+    ]
+
+-- a list that has no number twice, and one not at all, is shorter than the limit
+pub length-missing : (top m : ℕ) (free : List ℕ) → AreBelow top free → ((n : ℕ) → n < top → places n free ≤ 1) → m < top → places m free ≡ 0 → length free < top
+length-missing top m free below each less none =
+    let a : tally top free ≡ length free = tally-length top free below in
+    let b : tally top free < top = tally-lt top m free each less none in
+    omega arith
+
+-- a list adds at most its length to the different numbers, and less where it has a number that stood there
+pub different-append-le : (xs ys : List ℕ) → different (xs ++ ys) ≤ length xs + different ys
+different-append-le [] ys = omega arith
+different-append-le (x ∷ xs) ys =
+    let rest : different (xs ++ ys) ≤ length xs + different ys = different-append-le xs ys in
+    elim (has x (xs ++ ys)) as (λ b. cond b (different (xs ++ ys)) (different (xs ++ ys) + 1) ≤ suc (length xs) + different ys) [
+    | true ↦ omega arith
+    | false ↦ omega arith
+    ]
+
+pub different-append-lt : (xs ys : List ℕ) (k : ℕ) → k < length xs → has (get_or xs k 0) ys ≡ true → different (xs ++ ys) < length xs + different ys
+different-append-lt [] ys k less is = absurd (omega arith)
+different-append-lt (x ∷ xs) ys zero less is =
+    let rest : different (xs ++ ys) ≤ length xs + different ys = different-append-le xs ys in
+    let found : has x (xs ++ ys) ≡ true = has-append x xs ys ∙ or_second (has x xs) (has x ys) is in
+    rw found (omega arith)
+different-append-lt (x ∷ xs) ys (suc k) less is =
+    let rest : different (xs ++ ys) < length xs + different ys = different-append-lt xs ys k (omega arith) is in
+    elim (has x (xs ++ ys)) as (λ b. cond b (different (xs ++ ys)) (different (xs ++ ys) + 1) < suc (length xs) + different ys) [
+    | true ↦ omega arith
+    | false ↦ omega arith
+    ]
+
+-- a list in front adds no fewer
+pub different-le-append : (xs ys : List ℕ) → different ys ≤ different (xs ++ ys)
+different-le-append [] ys = omega arith
+different-le-append (x ∷ xs) ys =
+    let rest : different ys ≤ different (xs ++ ys) = different-le-append xs ys in
+    elim (has x (xs ++ ys)) as (λ b. different ys ≤ cond b (different (xs ++ ys)) (different (xs ++ ys) + 1)) [
+    | true ↦ omega arith
+    | false ↦ omega arith
+    ]

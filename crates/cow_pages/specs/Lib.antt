@@ -1,0 +1,4 @@
+pub mod Pages
+pub mod Writes
+pub mod Little
+pub mod Pool

@@ -1,0 +1,73 @@
+-- How the pages of a store stand in its pool of frames.
+use Rattle.std.specs.Prelude.{◌≡◌, ℕ, ◌+◌, ◌*◌, ◌<◌, ◌≤◌, Bool, true, false, ◌||◌, ◌==◌, nat_lt, if◌then◌else◌, Option, Some, None, List, [], ◌∷◌, ◌++◌, length, take, drop, map, All, slice_index}
+use Rattle.cow_pages.specs.Pages.{Space, Pages, has, different, saved_numbers}
+use Rattle.cow_pages.specs.declared.slot.Slot.{Slot}
+
+-- the bytes of frames, one after the other
+abbrev pub contents : List ℕ → List ℕ → List ℕ
+contents pool [] = []
+contents pool (n ∷ numbers) = take 4096 (drop (4096 * n) pool) ++ contents pool numbers
+
+-- the space whose pages stand in these frames
+abbrev pub space_of : List ℕ → List ℕ → Space
+space_of pool numbers = record { numbers = numbers; bytes = contents pool numbers }
+
+-- what is saved in a slot
+abbrev pub slot_space : List ℕ → Slot → Option Space
+slot_space pool slot = if slot.saved then Some (space_of pool slot.table.items) else None
+
+-- the store of these tables
+abbrev pub pages_of : ℕ → ℕ → List ℕ → List ℕ → List Slot → Pages
+pages_of pages frames pool live slots = record { pages = pages; frames = frames; live = space_of pool live; slots = map (slot_space pool) slots }
+
+-- the numbers that a slot keeps from use
+abbrev pub slot_numbers : Slot → List ℕ
+slot_numbers slot = if slot.saved then slot.table.items else []
+
+-- those of all slots
+abbrev pub table_numbers : List Slot → List ℕ
+table_numbers [] = []
+table_numbers (slot ∷ slots) = slot_numbers slot ++ table_numbers slots
+
+-- how many times a number stands in a list
+abbrev pub places : ℕ → List ℕ → ℕ
+places n [] = 0
+places n (x ∷ xs) = (if x == n then 1 else 0) + places n xs
+
+-- the counts say of each frame how many times a list has its number
+pub record Counts (counts numbers : List ℕ) : Type 0 where
+  pub below : (k : ℕ) → k < length numbers → slice_index numbers k < length counts
+  pub each : (n : ℕ) → n < length counts → slice_index counts n ≡ places n numbers
+
+-- the free frames: each stands once, no other one stands, and none has a count or is live
+pub record IsStack (counts live free : List ℕ) : Type 0 where
+  pub below : (k : ℕ) → k < length free → slice_index free k < length counts
+  pub each : (n : ℕ) → n < length counts → places n free ≡ (if nat_lt 0 (slice_index counts n) || has n live then 0 else 1)
+
+-- a table has a frame for each page, and each frame is that of one page in all tables
+pub record IsTable (pages : ℕ) (homes table : List ℕ) : Type 0 where
+  pub size : length table ≡ pages
+  pub below : (page : ℕ) → page < pages → slice_index table page < length homes
+  pub home : (page : ℕ) → page < pages → slice_index homes (slice_index table page) ≡ page
+
+-- a slot has room for a table, and where it is saved it has one
+pub record IsSlot (pages : ℕ) (homes : List ℕ) (slot : Slot) : Type 0 where
+  pub size : length slot.table.items ≡ pages
+  pub table : slot.saved ≡ true → IsTable pages homes slot.table.items
+
+-- the tables, counts and free frames fit together
+pub record IsSound (pages frames held : ℕ) (pool live counts free : List ℕ) (reserved : ℕ) (slots : List Slot) : Type 0 where
+  pub few : (1 ≤ pages) × (pages ≤ 16384)
+  pub enough : (2 * pages ≤ frames) × (frames ≤ 16 * pages)
+  pub numbered : (1 ≤ length slots) × (length slots ≤ 16)
+  pub pool_size : length pool ≡ 4096 * frames
+  pub counts_size : length counts ≡ frames
+  pub reserved_room : frames ≤ reserved
+  pub homes : List ℕ
+  pub homes_size : length homes ≡ frames
+  pub live_table : IsTable pages homes live
+  pub slot_tables : All (IsSlot pages homes) slots
+  pub counted : Counts counts (table_numbers slots)
+  pub stack : IsStack counts live free
+  pub held_count : held ≡ different (table_numbers slots)
+  pub room : held + pages ≤ frames
