@@ -1,2 +1,4 @@
 pub mod Counting
 pub mod Walks
+pub mod Frames
+pub mod Stores
