@@ -61,6 +61,7 @@ Stands store space = (space ≡ store.live) ⊎ ((slot : ℕ) × (slot_at store 
 
 -- what holds of every store: there is a free frame for each page that a write may have to copy, and equal numbers are shared pages
 pub record IsLawful (store : Pages) : Type 0 where
+  pub few : store.pages ≤ 16384
   pub room : held_of store + store.pages ≤ store.frames
   pub spaces : (space : Space) → Stands store space → IsSpace store.pages store.frames space
   pub agree : (one other : Space) → Stands store one → Stands store other → Agree one other

@@ -1,4 +1,6 @@
-use Rattle.cow_pages.proofs.Stores.{saved_numbers-is}
+use Rattle.std.proofs.Common.{◌≡◌, ℕ, refl, sym, ap, subst, ◌∙◌, arith}
+use Rattle.cow_pages.proofs.Stores.{lawful}
+use Rattle.cow_pages.proofs.Copying.{copy_owns}
 use Rattle.cow_pages.proofs.store.PageStore.byte_at.Goals as goal
 
 pub returns : goal.returns

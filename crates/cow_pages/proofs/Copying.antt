@@ -1,0 +1,225 @@
+-- A page of the live space that moves to a free frame.
+use Rattle.std.proofs.Common.{◌≡◌, ℕ, zero, suc, ◌+◌, ◌-◌, ◌*◌, ◌<◌, ◌≤◌, Bool, true, false, ◌||◌, ◌==◌, nat_lt, cond, Option, Some, None, List, [], ◌∷◌, ◌++◌, length, map, take, drop, get_or, set, All, refl, sym, ap, subst, ◌∙◌, ◌⊎◌, inl, inr, arith}
+use Rattle.std.proofs.lemmas.Bool.{cases_Bool, cases_eq, cases_lt, eq-eqb, ne_eqb, lt-ltb, ltb-true, or_parts, false≢true}
+use Rattle.std.proofs.lemmas.List.{get_or-set_same, get_or-set_other, length-set, length-append}
+use Rattle.std.proofs.lemmas.List.Elements.{All-head, All-tail, All-cons, All-nil}
+use Rattle.cow_pages.specs.Pages.{Space, Pages, has, different, saved_numbers, used_of}
+use Rattle.cow_pages.specs.Writes.{put_at, is_shared, IsFree, NumberAfter, Owns}
+use Rattle.cow_pages.specs.Pool.{contents, space_of, slot_space, pages_of, slot_numbers, table_numbers, places, Counts, IsStack, IsTable, IsSlot, IsSound}
+use Rattle.cow_pages.specs.declared.slot.Slot.{Slot}
+use Rattle.cow_pages.proofs.Counting.{AreBelow, or_first, or_second, has-append, has-is, has-none, has-some, places-none, places-some, places-append, has-get_or, different-append-lt}
+use Rattle.cow_pages.proofs.Walks.{in_use, places-here, places-there}
+use Rattle.cow_pages.proofs.Frames.{copied, length-copied, contents-copied, contents-copied_apart}
+use Rattle.cow_pages.proofs.Stores.{saved_numbers-is, table_below, shared-is, use-has, used-sum}
+
+-- a list with another number at one place
+pub places-set : (n : ℕ) (xs : List ℕ) (k y : ℕ) → k < length xs → places n (set xs k y) + places n (get_or xs k 0 ∷ []) ≡ places n xs + places n (y ∷ [])
+places-set n [] k y less = absurd (omega arith)
+places-set n (x ∷ xs) zero y less = omega arith
+places-set n (x ∷ xs) (suc k) y less = omega (arith, places-set n xs k y (omega arith))
+
+pub has-set_other : (n : ℕ) (xs : List ℕ) (k y : ℕ) → k < length xs → (get_or xs k 0 ≡ n → ⊥) → (y ≡ n → ⊥) → has n (set xs k y) ≡ has n xs
+has-set_other n xs k y less old new =
+    let a : places n (get_or xs k 0 ∷ []) ≡ places n [] = places-there n (get_or xs k 0) [] old in
+    let b : places n (y ∷ []) ≡ places n [] = places-there n y [] new in
+    let c : places n (set xs k y) ≡ places n xs = omega (arith, places-set n xs k y less) in
+    has-is n (set xs k y) ∙ ap (nat_lt 0) c ∙ sym (has-is n xs)
+
+pub has-set_same : (xs : List ℕ) (k y : ℕ) → k < length xs → has y (set xs k y) ≡ true
+has-set_same xs k y less = subst (λ n. has n (set xs k y) ≡ true) (get_or-set_same xs k y 0 less) (has-get_or (set xs k y) k (omega (arith, length-set xs k y)))
+
+-- a shared page leaves a free frame
+pub free_there : (pages frames held : ℕ) (pool live counts free : List ℕ) (reserved : ℕ) (slots : List Slot) (page : ℕ) → IsSound pages frames held pool live counts free reserved slots → page < pages → is_shared (pages_of pages frames pool live slots) page ≡ true → 0 < length free
+free_there pages frames held pool live counts free reserved slots page so less shared =
+    let inside : page < length live = omega (arith, so.live_table.size) in
+    let fewer : different (live ++ saved_numbers (map (slot_space pool) slots)) < length live + different (saved_numbers (map (slot_space pool) slots)) = different-append-lt live (saved_numbers (map (slot_space pool) slots)) page inside shared in
+    let held' : different (saved_numbers (map (slot_space pool) slots)) ≡ held = ap different (saved_numbers-is pool slots) ∙ sym so.held_count in
+    omega (arith, used-sum pages frames held pool live counts free reserved slots so, so.room, so.live_table.size, fewer, held')
+
+at_end : (rest : List ℕ) (fresh : ℕ) → get_or (rest ++ fresh ∷ []) (length rest) 0 ≡ fresh
+at_end [] fresh = refl
+at_end (x ∷ rest) fresh = at_end rest fresh
+
+before : (rest : List ℕ) (fresh k : ℕ) → k < length rest → get_or (rest ++ fresh ∷ []) k 0 ≡ get_or rest k 0
+before [] fresh k less = absurd (omega arith)
+before (x ∷ rest) fresh zero less = refl
+before (x ∷ rest) fresh (suc k) less = before rest fresh k (omega arith)
+
+-- the frame on top of the stack is in no table
+pub top_below : (counts live rest : List ℕ) (fresh : ℕ) → IsStack counts live (rest ++ fresh ∷ []) → fresh < length counts
+top_below counts live rest fresh so =
+    let inside : length rest < length (rest ++ fresh ∷ []) = omega (arith, length-append rest (fresh ∷ [])) in
+    subst (λ n. n < length counts) (at_end rest fresh) (so.below (length rest) inside)
+
+free_test : (b : Bool) → 0 < cond b 0 1 → b ≡ false
+free_test true h = absurd (omega arith)
+free_test false h = refl
+
+pub top_unused : (counts live rest : List ℕ) (fresh : ℕ) → IsStack counts live (rest ++ fresh ∷ []) → in_use counts live fresh ≡ false
+top_unused counts live rest fresh so =
+    let near : fresh < length counts = top_below counts live rest fresh so in
+    let some : 0 < places fresh (rest ++ fresh ∷ []) = omega (arith, places-append fresh rest (fresh ∷ []), places-here fresh []) in
+    free_test (in_use counts live fresh) (subst (λ n. 0 < n) (so.each fresh near) some)
+
+-- a list without a number has it at no place
+pub not-at : (n : ℕ) (xs : List ℕ) → has n xs ≡ false → (k : ℕ) → k < length xs → get_or xs k 0 ≡ n → ⊥
+not-at n xs none k less e = false≢true (sym none ∙ subst (λ m. has m xs ≡ true) e (has-get_or xs k less))
+
+still : (counts live : List ℕ) (page fresh : ℕ) → page < length live → 0 < get_or counts (get_or live page 0) 0 → (n : ℕ) → (fresh ≡ n → ⊥) → in_use counts (set live page fresh) n ≡ in_use counts live n
+still counts live page fresh inside counted n other =
+    elim (cases_eq (get_or live page 0) n) [
+    | inl old ↦
+      (let some : nat_lt 0 (get_or counts n 0) ≡ true = subst (λ m. nat_lt 0 (get_or counts m 0) ≡ true) old (lt-ltb 0 (get_or counts (get_or live page 0) 0) counted) in
+       or_first (nat_lt 0 (get_or counts n 0)) (has n (set live page fresh)) some ∙ sym (or_first (nat_lt 0 (get_or counts n 0)) (has n live) some))
+    | inr apart ↦ ap (λ b. nat_lt 0 (get_or counts n 0) || b) (has-set_other n live page fresh inside apart other)
+    ]
+
+-- the stack without its top, which a page of the live table has now
+pub stack_taken : (counts live rest : List ℕ) (page fresh : ℕ) → IsStack counts live (rest ++ fresh ∷ []) → page < length live → 0 < get_or counts (get_or live page 0) 0 → IsStack counts (set live page fresh) rest
+stack_taken counts live rest page fresh so inside counted = record {
+  below = λ k less. subst (λ n. n < length counts) (before rest fresh k less) (so.below k (omega (arith, length-append rest (fresh ∷ []))));
+  each = λ n less.
+  let sum : places n (rest ++ fresh ∷ []) ≡ places n rest + places n (fresh ∷ []) = places-append n rest (fresh ∷ []) in
+  elim (cases_eq fresh n) [
+  | inl here ↦
+    subst (λ m. places m rest ≡ cond (in_use counts (set live page fresh) m) 0 1) here
+    (let near : fresh < length counts = top_below counts live rest fresh so in
+     let one : places fresh (rest ++ fresh ∷ []) ≡ 1 = so.each fresh near ∙ ap (λ b. cond b 0 1) (top_unused counts live rest fresh so) in
+     let gone : places fresh rest ≡ 0 = omega (arith, places-append fresh rest (fresh ∷ []), places-here fresh []) in
+     gone ∙ ap (λ b. cond b 0 1) (sym (or_second (nat_lt 0 (get_or counts fresh 0)) (has fresh (set live page fresh)) (has-set_same live page fresh inside))))
+  | inr other ↦
+    (let none : places n (fresh ∷ []) ≡ places n [] = places-there n fresh [] other in
+     let same : places n rest ≡ places n (rest ++ fresh ∷ []) = omega arith in
+     same ∙ so.each n less ∙ ap (λ b. cond b 0 1) (sym (still counts live page fresh inside counted n other)))
+  ];
+}
+
+-- the table of the live space, and those of the slots, with a home for the new frame
+pub table_moved : (pages : ℕ) (homes live : List ℕ) (page fresh : ℕ) → IsTable pages homes live → has fresh live ≡ false → page < pages → fresh < length homes → IsTable pages (set homes fresh page) (set live page fresh)
+table_moved pages homes live page fresh so none inside near =
+    let here : page < length live = omega (arith, so.size) in
+    let many : length (set homes fresh page) ≡ length homes = length-set homes fresh page in
+    record {
+      size = length-set live page fresh ∙ so.size;
+      below = λ k less.
+      elim (cases_eq k page) [
+      | inl is ↦ subst (λ m. get_or (set live page fresh) m 0 < length (set homes fresh page)) (sym is) (omega (arith, get_or-set_same live page fresh 0 here))
+      | inr isnt ↦ omega (arith, get_or-set_other live page k fresh 0 isnt, so.below k less)
+      ];
+      home = λ k less.
+      elim (cases_eq k page) [
+      | inl is ↦
+        subst (λ m. get_or (set homes fresh page) (get_or (set live page fresh) m 0) 0 ≡ m) (sym is)
+        (ap (λ n. get_or (set homes fresh page) n 0) (get_or-set_same live page fresh 0 here) ∙ get_or-set_same homes fresh page 0 near)
+      | inr isnt ↦
+        (ap (λ n. get_or (set homes fresh page) n 0) (get_or-set_other live page k fresh 0 isnt)
+         ∙ get_or-set_other homes fresh (get_or live k 0) page 0 (not-at fresh live none k (omega (arith, so.size)))
+         ∙ so.home k less)
+      ];
+    }
+
+pub table_kept : (pages : ℕ) (homes table : List ℕ) (page fresh : ℕ) → IsTable pages homes table → has fresh table ≡ false → IsTable pages (set homes fresh page) table
+table_kept pages homes table page fresh so none = record {
+  size = so.size;
+  below = λ k less. omega (arith, length-set homes fresh page, so.below k less);
+  home = λ k less. get_or-set_other homes fresh (get_or table k 0) page 0 (not-at fresh table none k (omega (arith, so.size))) ∙ so.home k less;
+}
+
+-- a slot's table is part of the numbers of all slots
+first_none : (n : ℕ) (slot : Slot) (slots : List Slot) → has n (table_numbers (slot ∷ slots)) ≡ false → slot.saved ≡ true → has n slot.table.items ≡ false
+first_none n slot slots none saved =
+    let both = or_parts (has n (slot_numbers slot)) (has n (table_numbers slots)) (sym (has-append n (slot_numbers slot) (table_numbers slots)) ∙ none) in
+    subst (λ b. has n (cond b slot.table.items []) ≡ false) saved both.0
+
+rest_none : (n : ℕ) (slot : Slot) (slots : List Slot) → has n (table_numbers (slot ∷ slots)) ≡ false → has n (table_numbers slots) ≡ false
+rest_none n slot slots none = (or_parts (has n (slot_numbers slot)) (has n (table_numbers slots)) (sym (has-append n (slot_numbers slot) (table_numbers slots)) ∙ none)).1
+
+pub slots_kept : (pages : ℕ) (homes : List ℕ) (page fresh : ℕ) (slots : List Slot) → All (IsSlot pages homes) slots → has fresh (table_numbers slots) ≡ false → All (IsSlot pages (set homes fresh page)) slots
+slots_kept pages homes page fresh [] all none = All-nil (IsSlot pages (set homes fresh page))
+slots_kept pages homes page fresh (slot ∷ slots) all none =
+    let one : IsSlot pages homes slot = All-head (IsSlot pages homes) slot slots all in
+    All-cons (IsSlot pages (set homes fresh page)) slot slots
+    record { size = one.size; table = λ saved. table_kept pages homes slot.table.items page fresh (one.table saved) (first_none fresh slot slots none saved) }
+    (slots_kept pages homes page fresh slots (All-tail (IsSlot pages homes) slot slots all) (rest_none fresh slot slots none))
+
+-- slots whose tables haven't a frame don't change with its bytes
+pub slots_same : (pages frames n : ℕ) (homes pool after : List ℕ) (slots : List Slot) → length homes ≡ frames → All (IsSlot pages homes) slots → has n (table_numbers slots) ≡ false → ((table : List ℕ) → AreBelow frames table → has n table ≡ false → contents after table ≡ contents pool table) → map (slot_space after) slots ≡ map (slot_space pool) slots
+slots_same pages frames n homes pool after [] many all none same = refl
+slots_same pages frames n homes pool after (slot ∷ slots) many all none same =
+    let one : IsSlot pages homes slot = All-head (IsSlot pages homes) slot slots all in
+    let rest : map (slot_space after) slots ≡ map (slot_space pool) slots = slots_same pages frames n homes pool after slots many (All-tail (IsSlot pages homes) slot slots all) (rest_none n slot slots none) same in
+    let first : slot_space after slot ≡ slot_space pool slot =
+    elim (cases_Bool slot.saved) [
+    | inl saved ↦
+      (let e : contents after slot.table.items ≡ contents pool slot.table.items = same slot.table.items (table_below pages frames homes slot.table.items (one.table saved) many) (first_none n slot slots none saved) in
+       ap (λ bytes. cond slot.saved (Some (record { numbers = slot.table.items; bytes = bytes })) None) e)
+    | inr unsaved ↦ ap (λ b. cond b (Some (space_of after slot.table.items)) None) unsaved ∙ sym (ap (λ b. cond b (Some (space_of pool slot.table.items)) None) unsaved)
+    ] in
+    ap (λ s. s ∷ map (slot_space after) slots) first ∙ ap (λ xs. slot_space pool slot ∷ xs) rest
+
+counted_is : (n : ℕ) → nat_lt 0 n ≡ true → 0 < n
+counted_is n h = ltb-true 0 n h
+
+-- the store after the copy
+pub copy_sound : (pages frames held : ℕ) (pool live counts rest : List ℕ) (reserved : ℕ) (slots : List Slot) (page fresh : ℕ) → IsSound pages frames held pool live counts (rest ++ fresh ∷ []) reserved slots → page < pages → is_shared (pages_of pages frames pool live slots) page ≡ true → IsSound pages frames held (copied pool (get_or live page 0) fresh) (set live page fresh) counts rest reserved slots
+copy_sound pages frames held pool live counts rest reserved slots page fresh so less shared =
+    let near : fresh < length counts = top_below counts live rest fresh so.stack in
+    let unused = or_parts (nat_lt 0 (get_or counts fresh 0)) (has fresh live) (top_unused counts live rest fresh so.stack) in
+    let none : has fresh (table_numbers slots) ≡ false = has-is fresh (table_numbers slots) ∙ ap (nat_lt 0) (sym (so.counted.each fresh near)) ∙ unused.0 in
+    let counted : 0 < get_or counts (get_or live page 0) 0 = counted_is (get_or counts (get_or live page 0) 0) (sym (shared-is pages frames held pool live counts (rest ++ fresh ∷ []) reserved slots page so less) ∙ shared) in
+    let old : get_or live page 0 < frames = omega (arith, so.homes_size, so.live_table.below page less) in
+    record {
+      few = so.few;
+      enough = so.enough;
+      numbered = so.numbered;
+      pool_size = length-copied frames (get_or live page 0) fresh pool so.pool_size old (omega (arith, so.counts_size)) ∙ so.pool_size;
+      counts_size = so.counts_size;
+      reserved_room = so.reserved_room;
+      homes = set so.homes fresh page;
+      homes_size = length-set so.homes fresh page ∙ so.homes_size;
+      live_table = table_moved pages so.homes live page fresh so.live_table unused.1 less (omega (arith, so.homes_size, so.counts_size));
+      slot_tables = slots_kept pages so.homes page fresh slots so.slot_tables none;
+      counted = so.counted;
+      stack = stack_taken counts live rest page fresh so.stack (omega (arith, so.live_table.size)) counted;
+      held_count = so.held_count;
+      room = so.room;
+    }
+
+-- what it holds
+pub copy_owns : (pages frames held : ℕ) (pool live counts rest : List ℕ) (reserved : ℕ) (slots : List Slot) (page fresh : ℕ) → IsSound pages frames held pool live counts (rest ++ fresh ∷ []) reserved slots → page < pages → is_shared (pages_of pages frames pool live slots) page ≡ true → Owns (pages_of pages frames pool live slots) (pages_of pages frames (copied pool (get_or live page 0) fresh) (set live page fresh) slots) page
+copy_owns pages frames held pool live counts rest reserved slots page fresh so less shared =
+    let near : fresh < length counts = top_below counts live rest fresh so.stack in
+    let new : fresh < frames = omega (arith, so.counts_size) in
+    let here : page < length live = omega (arith, so.live_table.size) in
+    let unused = or_parts (nat_lt 0 (get_or counts fresh 0)) (has fresh live) (top_unused counts live rest fresh so.stack) in
+    let none : has fresh (table_numbers slots) ≡ false = has-is fresh (table_numbers slots) ∙ ap (nat_lt 0) (sym (so.counted.each fresh near)) ∙ unused.0 in
+    let old : get_or live page 0 < frames = omega (arith, so.homes_size, so.live_table.below page less) in
+    let below : AreBelow frames live = table_below pages frames so.homes live so.live_table so.homes_size in
+    let sum : length (rest ++ fresh ∷ []) + used_of (pages_of pages frames pool live slots) ≡ frames = used-sum pages frames held pool live counts (rest ++ fresh ∷ []) reserved slots so in
+    let later : length rest + used_of (pages_of pages frames (copied pool (get_or live page 0) fresh) (set live page fresh) slots) ≡ frames = used-sum pages frames held (copied pool (get_or live page 0) fresh) (set live page fresh) counts rest reserved slots (copy_sound pages frames held pool live counts rest reserved slots page fresh so less shared) in
+    let more : used_of (pages_of pages frames (copied pool (get_or live page 0) fresh) (set live page fresh) slots) ≡ used_of (pages_of pages frames pool live slots) + 1 = omega (arith, length-append rest (fresh ∷ [])) in
+    let set_is : get_or (set live page fresh) page 0 ≡ fresh = get_or-set_same live page fresh 0 here in
+    let free : IsFree (pages_of pages frames pool live slots) fresh = (new, subst (λ xs. has fresh (live ++ xs) ≡ false) (sym (saved_numbers-is pool slots)) (sym (use-has live counts rest frames slots fresh so.counted near) ∙ top_unused counts live rest fresh so.stack)) in
+    record {
+      pages = refl;
+      frames = refl;
+      slots = slots_same pages frames fresh so.homes pool (copied pool (get_or live page 0) fresh) slots so.homes_size so.slot_tables none (λ table under gone. contents-copied_apart frames (get_or live page 0) fresh pool table so.pool_size under old new (not-at fresh table gone));
+      bytes = contents-copied frames page fresh pool live so.pool_size below here new (not-at fresh live unused.1);
+      others = λ place inside other. get_or-set_other live page place fresh 0 other;
+      number = subst (λ b. NumberAfter b (pages_of pages frames pool live slots) page (get_or (set live page fresh) page 0)) (sym shared) (subst (IsFree (pages_of pages frames pool live slots)) (sym set_is) free);
+      used = more ∙ ap (λ b. used_of (pages_of pages frames pool live slots) + cond b 1 0) (sym shared);
+    }
+
+-- a page that isn't shared stays
+pub stay_owns : (store : Pages) (page : ℕ) → is_shared store page ≡ false → Owns store store page
+stay_owns store page own =
+    let same : used_of store ≡ used_of store + 0 = omega arith in
+    record {
+      pages = refl;
+      frames = refl;
+      slots = refl;
+      bytes = refl;
+      others = λ place inside other. refl;
+      number = subst (λ b. NumberAfter b store page (get_or store.live.numbers page 0)) (sym own) refl;
+      used = same ∙ ap (λ b. used_of store + cond b 1 0) (sym own);
+    }
