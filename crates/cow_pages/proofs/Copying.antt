@@ -1,7 +1,7 @@
 -- A page of the live space that moves to a free frame.
 use Rattle.std.proofs.Common.{◌≡◌, ℕ, zero, suc, ◌+◌, ◌-◌, ◌*◌, ◌<◌, ◌≤◌, Bool, true, false, ◌||◌, ◌==◌, nat_lt, cond, Option, Some, None, List, [], ◌∷◌, ◌++◌, length, map, take, drop, get_or, set, All, refl, sym, ap, subst, ◌∙◌, ◌⊎◌, inl, inr, arith}
 use Rattle.std.proofs.lemmas.Bool.{cases_Bool, cases_eq, cases_lt, eq-eqb, ne_eqb, lt-ltb, ltb-true, or_parts, false≢true}
-use Rattle.std.proofs.lemmas.List.{get_or-set_same, get_or-set_other, length-set, length-append}
+use Rattle.std.proofs.lemmas.List.{get_or-set_same, get_or-set_other, length-set, length-append, take_at}
 use Rattle.std.proofs.lemmas.List.Elements.{All-head, All-tail, All-cons, All-nil}
 use Rattle.cow_pages.specs.Pages.{Space, Pages, has, different, saved_numbers, used_of}
 use Rattle.cow_pages.specs.Writes.{put_at, is_shared, IsFree, NumberAfter, Owns}
@@ -9,7 +9,7 @@ use Rattle.cow_pages.specs.Pool.{contents, space_of, slot_space, pages_of, slot_
 use Rattle.cow_pages.specs.declared.slot.Slot.{Slot}
 use Rattle.cow_pages.proofs.Counting.{AreBelow, or_first, or_second, has-append, has-is, has-none, has-some, places-none, places-some, places-append, has-get_or, different-append-lt}
 use Rattle.cow_pages.proofs.Walks.{in_use, places-here, places-there}
-use Rattle.cow_pages.proofs.Frames.{copied, length-copied, contents-copied, contents-copied_apart}
+use Rattle.cow_pages.proofs.Frames.{copied, length-copied, copy_within-copied, contents-copied, contents-copied_apart}
 use Rattle.cow_pages.proofs.Stores.{saved_numbers-is, table_below, shared-is, use-has, used-sum}
 
 -- a list with another number at one place
@@ -223,3 +223,40 @@ stay_owns store page own =
       number = subst (λ b. NumberAfter b store page (get_or store.live.numbers page 0)) (sym own) refl;
       used = same ∙ ap (λ b. used_of store + cond b 1 0) (sym own);
     }
+
+-- the pool after `copy_within` is the pool with the frame copied
+moved_pool : (frames n count from to old fresh : ℕ) (pool moved : List ℕ) → length pool ≡ 4096 * frames → old < frames → fresh < frames → from ≡ 4096 * old → to ≡ 4096 * fresh → count ≡ 4096 → n ≡ length pool → moved ≡ take to pool ++ take count (drop from pool) ++ drop (to + count) pool → take n (moved ++ drop (length moved) pool) ≡ copied pool old fresh
+moved_pool frames n count from to old fresh pool moved size one other start place many whole is =
+    let e : moved ≡ copied pool old fresh =
+    is
+    ∙ ap (λ k. take to pool ++ take k (drop from pool) ++ drop (to + k) pool) many
+    ∙ ap (λ k. take to pool ++ take 4096 (drop k pool) ++ drop (to + 4096) pool) start
+    ∙ ap (λ k. take k pool ++ take 4096 (drop (4096 * old) pool) ++ drop (k + 4096) pool) place
+    ∙ copy_within-copied frames old fresh pool size one other in
+    take_at moved (drop (length moved) pool) n (ap length e ∙ length-copied frames old fresh pool size one other ∙ sym whole) ∙ e
+
+-- the fields of a store whose shared page has moved
+pub moved_sound : (pages frames held n count from to : ℕ) (pool moved live counts free rest : List ℕ) (reserved reserve : ℕ) (slots : List Slot) (store : Pages) (page fresh : ℕ) → IsSound pages frames held pool live counts free reserved slots → pages_of pages frames pool live slots ≡ store → page < store.pages → is_shared store page ≡ true → free ≡ rest ++ fresh ∷ [] → from ≡ 4096 * get_or live page 0 → to ≡ 4096 * fresh → count ≡ 4096 → n ≡ length pool → moved ≡ take to pool ++ take count (drop from pool) ++ drop (to + count) pool → reserve ≡ reserved → IsSound pages frames held (take n (moved ++ drop (length moved) pool)) (set live page fresh) counts rest reserve slots
+moved_sound pages frames held n count from to pool moved live counts free rest reserved reserve slots store page fresh so is inside shared top start place many whole copy room =
+    let mine : IsSound pages frames held pool live counts (rest ++ fresh ∷ []) reserved slots = subst (λ xs. IsSound pages frames held pool live counts xs reserved slots) top so in
+    let less : page < pages = subst (λ s. page < s.pages) (sym is) inside in
+    let hit : is_shared (pages_of pages frames pool live slots) page ≡ true = subst (λ s. is_shared s page ≡ true) (sym is) shared in
+    let old : get_or live page 0 < frames = omega (arith, so.homes_size, so.live_table.below page less) in
+    let new : fresh < frames = omega (arith, top_below counts live rest fresh mine.stack, so.counts_size) in
+    let e : take n (moved ++ drop (length moved) pool) ≡ copied pool (get_or live page 0) fresh = moved_pool frames n count from to (get_or live page 0) fresh pool moved so.pool_size old new start place many whole copy in
+    subst (λ xs. IsSound pages frames held xs (set live page fresh) counts rest reserve slots) (sym e)
+    (subst (λ r. IsSound pages frames held (copied pool (get_or live page 0) fresh) (set live page fresh) counts rest r slots) (sym room)
+     (copy_sound pages frames held pool live counts rest reserved slots page fresh mine less hit))
+
+-- what it holds
+pub moved_owns : (pages frames held n count from to : ℕ) (pool moved live counts free rest : List ℕ) (reserved : ℕ) (slots : List Slot) (store : Pages) (page fresh : ℕ) → IsSound pages frames held pool live counts free reserved slots → pages_of pages frames pool live slots ≡ store → page < store.pages → is_shared store page ≡ true → free ≡ rest ++ fresh ∷ [] → from ≡ 4096 * get_or live page 0 → to ≡ 4096 * fresh → count ≡ 4096 → n ≡ length pool → moved ≡ take to pool ++ take count (drop from pool) ++ drop (to + count) pool → Owns store (pages_of pages frames (take n (moved ++ drop (length moved) pool)) (set live page fresh) slots) page
+moved_owns pages frames held n count from to pool moved live counts free rest reserved slots store page fresh so is inside shared top start place many whole copy =
+    let mine : IsSound pages frames held pool live counts (rest ++ fresh ∷ []) reserved slots = subst (λ xs. IsSound pages frames held pool live counts xs reserved slots) top so in
+    let less : page < pages = subst (λ s. page < s.pages) (sym is) inside in
+    let hit : is_shared (pages_of pages frames pool live slots) page ≡ true = subst (λ s. is_shared s page ≡ true) (sym is) shared in
+    let old : get_or live page 0 < frames = omega (arith, so.homes_size, so.live_table.below page less) in
+    let new : fresh < frames = omega (arith, top_below counts live rest fresh mine.stack, so.counts_size) in
+    let e : take n (moved ++ drop (length moved) pool) ≡ copied pool (get_or live page 0) fresh = moved_pool frames n count from to (get_or live page 0) fresh pool moved so.pool_size old new start place many whole copy in
+    subst (λ s. Owns s (pages_of pages frames (take n (moved ++ drop (length moved) pool)) (set live page fresh) slots) page) is
+    (subst (λ xs. Owns (pages_of pages frames pool live slots) (pages_of pages frames xs (set live page fresh) slots) page) (sym e)
+     (copy_owns pages frames held pool live counts rest reserved slots page fresh mine less hit))

@@ -1,7 +1,7 @@
 -- What the fields of a store say of what it holds.
 use Rattle.std.proofs.Common.{◌≡◌, ℕ, zero, suc, ◌+◌, ◌-◌, ◌*◌, ◌/◌, ◌%◌, ◌<◌, ◌≤◌, Bool, true, false, ◌||◌, ◌&&◌, ◌==◌, nat_lt, nat_le, cond, Option, Some, None, IsSome, List, [], ◌∷◌, ◌++◌, length, take, drop, map, get_or, set, slice_get, All, refl, sym, ap, subst, ◌∙◌, ◌⊎◌, inl, inr, arith}
 use Rattle.std.proofs.lemmas.Bool.{cases_Bool, cases_eq, cases_lt, lt-ltb, true≢false, false≢true}
-use Rattle.std.proofs.lemmas.List.{get_or-map, get_or_past, get_or_default, length-map, length-append, get_or-drop, get_or-take, length-take-le, length-drop}
+use Rattle.std.proofs.lemmas.List.{get_or-map, get_or_past, get_or_read, get_or_default, length-map, length-append, get_or-drop, get_or-take, length-take-le, length-drop}
 use Rattle.std.proofs.lemmas.List.Elements.{All-head, All-tail, All-get_or}
 use Rattle.std.proofs.lemmas.Grind.{same_number_lists}
 use Rattle.cow_pages.specs.Pages.{Space, Pages, has, different, saved_numbers, held_of, used_of, slot_at, page_of, IsSpace, Agree, Stands, IsLawful}
@@ -142,3 +142,8 @@ shared-is pages frames held pool live counts free reserved slots page so less =
     let n = get_or live page 0 in
     let near : n < length counts = omega (arith, so.counts_size, so.homes_size, so.live_table.below page less) in
     ap (has n) (saved_numbers-is pool slots) ∙ has-is n (table_numbers slots) ∙ ap (nat_lt 0) (sym (so.counted.each n near))
+
+-- the count of a page's frame, as it is read
+pub count_read : (counts live : List ℕ) (page frame count : ℕ) → page < length live → frame < length counts → frame ≡ get_or live page frame → count ≡ get_or counts frame count → count ≡ get_or counts (get_or live page 0) 0
+count_read counts live page frame count inside near one other =
+    get_or_read counts frame count near other 0 ∙ ap (λ n. get_or counts n 0) (get_or_read live page frame inside one 0)

@@ -1,15 +1,16 @@
 // Pages that are shared by copy on write.
-ghost use Rattle.std.specs.Prelude.{◌≡◌, ℕ, ◌+◌, ◌*◌, ◌/◌, ◌%◌, ◌<◌, ◌≤◌, length, take, drop, replicate, true, Some, None, is_some, IsSome, IfSome, IfOk, slice_get, slice_set, slice_index, if◌then◌else◌, [], ◌∷◌};
+ghost use Rattle.std.specs.Prelude.{◌≡◌, ℕ, ◌+◌, ◌-◌, ◌*◌, ◌/◌, ◌%◌, ◌<◌, ◌≤◌, length, take, drop, replicate, true, Some, None, is_some, IsSome, IfSome, IfOk, slice_get, slice_set, slice_index, if◌then◌else◌, [], ◌∷◌};
 ghost use Rattle.cow_pages.specs.Pages.{held_of, used_of, slot_at, IsLawful};
 ghost use Rattle.cow_pages.specs.Writes.{is_shared, Writes, Owns};
 ghost use Rattle.cow_pages.specs.Little.{little_number, little_bytes};
 
+use crate::little::{half_bytes, half_of, word_bytes, word_of};
 use crate::slot::Slot;
 use crate::tables::{count_table, give_up, uncount_table};
 use std::alloc::{AllocError, Global};
 use std::marker::Model;
 
-/// How many bytes a page has.
+// How many bytes a page has.
 const PAGE: u32 = 4096;
 
 /// A live space of pages, and slots that it is saved in. A page stands in a frame of 4096 bytes. The live space and the
@@ -18,6 +19,7 @@ const PAGE: u32 = 4096;
 pub struct PageStore {
     pages: u32,
     frames: u32,
+    // How many frames the saved slots have.
     held: u32,
     // The bytes of all frames.
     pool: Vec<u8>,
@@ -45,18 +47,213 @@ impl Model for PageStore {
 impl PageStore {
     /// How many pages each space has.
     pub fn pages(&self) -> u32
-        ensures { result ≡ self.now.pages }
+        ensures pages { result ≡ self.now.pages }
+        ensures lawful { IsLawful self.now }
     {
         self.pages
+    }
+
+    /// How many frames there are.
+    pub fn frames(&self) -> u32
+        ensures frames { result ≡ self.now.frames }
+        ensures lawful { IsLawful self.now }
+    {
+        self.frames
+    }
+
+    /// How many slots there are.
+    pub fn slots(&self) -> u32
+        ensures slots { result ≡ length self.now.slots }
+        ensures lawful { IsLawful self.now }
+    {
+        self.slots.len() as u32
+    }
+
+    /// How many frames the saved slots have, each counted once.
+    pub fn held(&self) -> u32
+        ensures held { result ≡ held_of self.now }
+        ensures lawful { IsLawful self.now }
+    {
+        self.held
+    }
+
+    /// How many frames the live space and the saved slots have, each counted once.
+    pub fn used(&self) -> u32
+        ensures used { result ≡ used_of self.now }
+        ensures lawful { IsLawful self.now }
+    {
+        self.frames - self.free.len() as u32
+    }
+
+    /// Whether something is saved in a slot. Nothing is past the last one.
+    pub fn is_saved(&self, slot: u32) -> bool
+        ensures saved { result ≡ is_some (slot_at self.now slot) }
+        ensures lawful { IsLawful self.now }
+    {
+        (slot as usize) < self.slots.len() && self.slots[slot as usize].saved
     }
 
     /// The byte at an address of the live space.
     #[inline(always)]
     pub fn byte_at(&self, at: u32) -> u8
         requires { at < 4096 * self.now.pages }
-        ensures { slice_get self.now.live.bytes at ≡ Some result }
+        ensures byte { slice_get self.now.live.bytes at ≡ Some result }
+        ensures lawful { IsLawful self.now }
     {
         self.pool[self.place_of(at)]
+    }
+
+    /// The number of the two bytes from an address on, the lowest first. They lie within one page.
+    #[inline(always)]
+    pub fn half_at(&self, at: u32) -> u16
+        requires inside { at < 4096 * self.now.pages }
+        requires within { at % 4096 + 2 ≤ 4096 }
+        ensures half { result ≡ little_number (take 2 (drop at self.now.live.bytes)) }
+        ensures lawful { IsLawful self.now }
+    {
+        let place = self.place_of(at);
+        half_of(&self.pool[place..place + 2])
+    }
+
+    /// The number of the four bytes from an address on, the lowest first. They lie within one page.
+    #[inline(always)]
+    pub fn word_at(&self, at: u32) -> u32
+        requires inside { at < 4096 * self.now.pages }
+        requires within { at % 4096 + 4 ≤ 4096 }
+        ensures word { result ≡ little_number (take 4 (drop at self.now.live.bytes)) }
+        ensures lawful { IsLawful self.now }
+    {
+        let place = self.place_of(at);
+        word_of(&self.pool[place..place + 4])
+    }
+
+    /// Puts a byte at an address of the live space.
+    #[inline(always)]
+    pub fn put_byte(&mut self, at: u32, byte: u8)
+        requires { at < 4096 * self.old.pages }
+        ensures writes { Writes self.old self.new at (byte ∷ []) }
+        ensures used { used_of self.new ≡ used_of self.old + (if is_shared self.old (at / 4096) then 1 else 0) }
+        ensures lawful { IsLawful self.new }
+    {
+        let place = self.own_place(at);
+        self.pool[place] = byte;
+    }
+
+    /// Puts a number of two bytes from an address on, the lowest byte first. They lie within one page.
+    #[inline(always)]
+    pub fn put_half(&mut self, at: u32, value: u16)
+        requires inside { at < 4096 * self.old.pages }
+        requires within { at % 4096 + 2 ≤ 4096 }
+        ensures writes { Writes self.old self.new at (little_bytes 2 value) }
+        ensures used { used_of self.new ≡ used_of self.old + (if is_shared self.old (at / 4096) then 1 else 0) }
+        ensures lawful { IsLawful self.new }
+    {
+        let bytes = half_bytes(value);
+        let place = self.own_place(at);
+        self.pool[place..place + 2].copy_from_slice(&bytes);
+    }
+
+    /// Puts a number of four bytes from an address on, the lowest byte first. They lie within one page.
+    #[inline(always)]
+    pub fn put_word(&mut self, at: u32, value: u32)
+        requires inside { at < 4096 * self.old.pages }
+        requires within { at % 4096 + 4 ≤ 4096 }
+        ensures writes { Writes self.old self.new at (little_bytes 4 value) }
+        ensures used { used_of self.new ≡ used_of self.old + (if is_shared self.old (at / 4096) then 1 else 0) }
+        ensures lawful { IsLawful self.new }
+    {
+        let bytes = word_bytes(value);
+        let place = self.own_place(at);
+        self.pool[place..place + 4].copy_from_slice(&bytes);
+    }
+
+    /// Reads the bytes from an address of the live space on.
+    pub fn read_run(&self, at: u32, buf: &mut [u8])
+        requires { at + length buf.old ≤ 4096 * self.now.pages }
+        ensures read { buf.new ≡ take (length buf.old) (drop at self.now.live.bytes) }
+        ensures lawful { IsLawful self.now }
+    {
+        let mut done = 0;
+        'pages: while done < buf.len() {
+            let from = at + done as u32;
+            let count = (buf.len() - done).min((PAGE - from % PAGE) as usize);
+            let place = self.place_of(from);
+            buf[done..done + count].copy_from_slice(&self.pool[place..place + count]);
+            done += count;
+        }
+    }
+
+    /// Writes bytes from an address of the live space on.
+    pub fn write_run(&mut self, at: u32, bytes: &[u8])
+        requires { at + length bytes.now ≤ 4096 * self.old.pages }
+        ensures writes { Writes self.old self.new at bytes.now }
+        ensures lawful { IsLawful self.new }
+    {
+        let mut done = 0;
+        'pages: while done < bytes.len() {
+            let from = at + done as u32;
+            let count = (bytes.len() - done).min((PAGE - from % PAGE) as usize);
+            self.put_within(from, &bytes[done..done + count]);
+            done += count;
+        }
+    }
+
+    /// Writes so many zeros from an address of the live space on.
+    pub fn zero_run(&mut self, at: u32, count: u32)
+        requires { at + count ≤ 4096 * self.old.pages }
+        ensures writes { Writes self.old self.new at (replicate count 0) }
+        ensures lawful { IsLawful self.new }
+    {
+        let mut done = 0;
+        'pages: while done < count {
+            let from = at + done;
+            let part = (count - done).min(PAGE - from % PAGE);
+            self.zero_within(from, part);
+            done += part;
+        }
+    }
+
+    /// Saves the live space in a slot.
+    pub fn save(&mut self, slot: u32)
+        requires there { slot < length self.old.slots }
+        requires empty { slot_at self.old slot ≡ None }
+        requires room { used_of self.old + self.old.pages ≤ self.old.frames }
+        ensures saved { self.new ≡ record self.old { slots = slice_set self.old.slots slot (Some self.old.live) } }
+        ensures used { used_of self.new ≡ used_of self.old }
+        ensures held { held_of self.new ≡ used_of self.old }
+        ensures lawful { IsLawful self.new }
+    {
+        self.held += count_table(self.counts.as_mut_slice(), self.live.as_slice());
+        let saved = &mut self.slots[slot as usize];
+        saved.table.as_mut_slice().copy_from_slice(self.live.as_slice());
+        saved.saved = true;
+    }
+
+    /// Gives up what is saved in a slot.
+    pub fn release(&mut self, slot: u32)
+        requires { IsSome (slot_at self.old slot) }
+        ensures released { self.new ≡ record self.old { slots = slice_set self.old.slots slot None } }
+        ensures lawful { IsLawful self.new }
+    {
+        let saved = &mut self.slots[slot as usize];
+        saved.saved = false;
+        self.held -= uncount_table(
+            self.counts.as_mut_slice(),
+            saved.table.as_slice(),
+            self.live.as_slice(),
+            &mut self.free,
+        );
+    }
+
+    /// Makes the live space what is saved in a slot.
+    pub fn restore(&mut self, slot: u32)
+        requires { IsSome (slot_at self.old slot) }
+        ensures restored { IfSome (slot_at self.old slot) (λ space. self.new ≡ record self.old { live = space }) }
+        ensures lawful { IsLawful self.new }
+    {
+        give_up(self.counts.as_slice(), self.live.as_slice(), &mut self.free);
+        let saved = &self.slots[slot as usize];
+        self.live.as_mut_slice().copy_from_slice(saved.table.as_slice());
     }
 
     // Where a byte of the live space stands in the pool.
@@ -65,6 +262,75 @@ impl PageStore {
         requires { at < 4096 * self.now.pages }
         ensures { result ≡ 4096 * slice_index self.now.live.numbers (at / 4096) + at % 4096 }
     {
-        self.live[(at / PAGE) as usize] as usize * PAGE as usize + (at % PAGE) as usize
+        place_in(self.live[(at / PAGE) as usize], at)
     }
+
+    // Gives the page of an address a frame of its own, unless it has one. The answer is where the byte stands then.
+    #[inline(always)]
+    fn own_place(&mut self, at: u32) -> usize
+        requires { at < 4096 * self.old.pages }
+        ensures owns { Owns self.old self.new (at / 4096) }
+        ensures place { result ≡ 4096 * slice_index self.new.live.numbers (at / 4096) + at % 4096 }
+    {
+        let page = (at / PAGE) as usize;
+        let frame = self.live[page];
+        if self.counts[frame as usize] == 0 {
+            return place_in(frame, at);
+        }
+        let fresh = self.copy_page(page);
+        place_in(fresh, at)
+    }
+
+    // Moves a shared page to a free frame, with its bytes. The answer is the frame.
+    #[cold]
+    #[inline(never)]
+    fn copy_page(&mut self, page: usize) -> u32
+        requires inside { page < self.old.pages }
+        requires shared { is_shared self.old page ≡ true }
+        ensures owns { Owns self.old self.new page }
+        ensures frame { result ≡ slice_index self.new.live.numbers page }
+    {
+        let from = self.live[page] as usize * PAGE as usize;
+        let Some(fresh) = self.free.pop() else {
+            unreachable!();
+        };
+        let to = fresh as usize * PAGE as usize;
+        self.pool
+            .as_mut_slice()
+            .copy_within(from..from + PAGE as usize, to);
+        self.live[page] = fresh;
+        fresh
+    }
+
+    // Puts bytes from an address on that lie within one page.
+    fn put_within(&mut self, at: u32, bytes: &[u8])
+        requires some { 0 < length bytes.now }
+        requires inside { at < 4096 * self.old.pages }
+        requires within { at % 4096 + length bytes.now ≤ 4096 }
+        ensures writes { Writes self.old self.new at bytes.now }
+        ensures lawful { IsLawful self.new }
+    {
+        let place = self.own_place(at);
+        self.pool[place..place + bytes.len()].copy_from_slice(bytes);
+    }
+
+    // Puts so many zeros from an address on that lie within one page.
+    fn zero_within(&mut self, at: u32, count: u32)
+        requires some { 0 < count }
+        requires inside { at < 4096 * self.old.pages }
+        requires within { at % 4096 + count ≤ 4096 }
+        ensures writes { Writes self.old self.new at (replicate count 0) }
+        ensures lawful { IsLawful self.new }
+    {
+        let place = self.own_place(at);
+        self.pool[place..place + count as usize].fill(0);
+    }
+}
+
+// Where a byte of a page stands in the pool, by the page's frame.
+#[inline(always)]
+fn place_in(frame: u32, at: u32) -> usize
+    ensures { result ≡ 4096 * frame + at % 4096 }
+{
+    frame as usize * PAGE as usize + (at % PAGE) as usize
 }

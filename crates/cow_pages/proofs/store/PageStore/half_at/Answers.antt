@@ -1,0 +1,18 @@
+use Rattle.std.proofs.Common.{◌≡◌, ◌+◌, ◌-◌, take, drop, ap, ◌∙◌, arith}
+use Rattle.cow_pages.specs.Little.{little_number}
+use Rattle.cow_pages.proofs.Stores.{lawful}
+use Rattle.cow_pages.proofs.Runs.{run_is}
+use Rattle.cow_pages.proofs.store.PageStore.half_at.Goals as goal
+
+pub returns-clause-half : goal.returns-clause-half
+returns-clause-half c =
+    let place = c.place_of-place.result in
+    let size : place + 2 - place ≡ 2 = omega arith in
+    c.half_of.ensures
+    ∙ ap little_number
+    (ap (λ n. take n (drop place c.deref.result.now)) size
+     ∙ ap (λ xs. take 2 (drop place xs)) c.deref.ensures.value
+     ∙ run_is _ _ _ _ _ _ _ _ _ _ _ _ _ c.self.invariant c.self.view_is c.requires.inside c.requires.within c.place_of-place.ensures)
+
+pub returns-clause-lawful : goal.returns-clause-lawful
+returns-clause-lawful c = lawful _ _ _ _ _ _ _ _ _ _ c.self.invariant c.self.view_is

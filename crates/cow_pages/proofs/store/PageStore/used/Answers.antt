@@ -1,0 +1,16 @@
+use Rattle.std.proofs.Common.{ap, ◌∙◌, arith}
+use Rattle.cow_pages.specs.Pages.{used_of}
+use Rattle.cow_pages.proofs.Stores.{lawful, used-sum}
+use Rattle.cow_pages.proofs.store.PageStore.used.Goals as goal
+
+pub overflow_cast-result : goal.overflow_cast-result
+overflow_cast-result c = omega (arith, c.self.inside.free.ok, used-sum _ _ _ _ _ _ _ _ _ c.self.invariant, c.self.invariant.enough, c.self.invariant.few)
+
+pub overflow_sub-result : goal.overflow_sub-result
+overflow_sub-result c = omega (arith, c.self.inside.free.ok, used-sum _ _ _ _ _ _ _ _ _ c.self.invariant)
+
+pub returns-clause-used : goal.returns-clause-used
+returns-clause-used c = omega (arith, c.self.inside.free.ok, used-sum _ _ _ _ _ _ _ _ _ c.self.invariant, ap used_of c.self.view_is)
+
+pub returns-clause-lawful : goal.returns-clause-lawful
+returns-clause-lawful c = lawful _ _ _ _ _ _ _ _ _ _ c.self.invariant c.self.view_is
