@@ -5,3 +5,4 @@ pub mod Stores
 pub mod Copying
 pub mod Slots
 pub mod Runs
+pub mod SlotSteps
