@@ -6,3 +6,5 @@ pub mod Copying
 pub mod Slots
 pub mod Runs
 pub mod SlotSteps
+pub mod RunSteps
+pub mod Making

@@ -51,13 +51,13 @@ reaches-here at count some within =
     and_from (nat_lt 0 count) (nat_le (at / 4096) (at / 4096) && nat_le (at / 4096) ((at + count - 1) / 4096)) (lt-ltb 0 count some)
     (and_from (nat_le (at / 4096) (at / 4096)) (nat_le (at / 4096) ((at + count - 1) / 4096)) (le-leb (at / 4096) (at / 4096) (omega arith)) (le-leb (at / 4096) ((at + count - 1) / 4096) (omega arith)))
 
-reached : (at count page : ℕ) → reaches at count page ≡ true → (0 < count) × (at / 4096 ≤ page) × (page ≤ (at + count - 1) / 4096)
+pub reached : (at count page : ℕ) → reaches at count page ≡ true → (0 < count) × (at / 4096 ≤ page) × (page ≤ (at + count - 1) / 4096)
 reached at count page h =
     let a = and_parts (nat_lt 0 count) (nat_le (at / 4096) page && nat_le page ((at + count - 1) / 4096)) h in
     let b = and_parts (nat_le (at / 4096) page) (nat_le page ((at + count - 1) / 4096)) a.1 in
     (ltb-true 0 count a.0, leb-true (at / 4096) page b.0, leb-true page ((at + count - 1) / 4096) b.1)
 
-reaching : (at count page : ℕ) → 0 < count → at / 4096 ≤ page → page ≤ (at + count - 1) / 4096 → reaches at count page ≡ true
+pub reaching : (at count page : ℕ) → 0 < count → at / 4096 ≤ page → page ≤ (at + count - 1) / 4096 → reaches at count page ≡ true
 reaching at count page some first last =
     and_from (nat_lt 0 count) (nat_le (at / 4096) page && nat_le page ((at + count - 1) / 4096)) (lt-ltb 0 count some)
     (and_from (nat_le (at / 4096) page) (nat_le page ((at + count - 1) / 4096)) (le-leb (at / 4096) page first) (le-leb page ((at + count - 1) / 4096) last))

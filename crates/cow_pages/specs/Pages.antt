@@ -1,5 +1,5 @@
 -- What a store of pages holds: a live space and numbered slots, each of them pages of 4096 bytes.
-use Rattle.std.specs.Prelude.{◌≡◌, ℕ, ◌+◌, ◌*◌, ◌<◌, ◌≤◌, Bool, true, false, ◌||◌, ◌==◌, if◌then◌else◌, Option, Some, None, List, [], ◌∷◌, ◌++◌, length, take, drop, All, slice_index, slice_index_or, slice_get, ◌⊎◌}
+use Rattle.std.specs.Prelude.{◌≡◌, ℕ, ◌+◌, ◌*◌, ◌<◌, ◌≤◌, Bool, true, false, ◌||◌, ◌==◌, if◌then◌else◌, Option, Some, None, List, [], ◌∷◌, ◌++◌, length, take, drop, replicate, All, slice_index, slice_index_or, slice_get, ◌⊎◌}
 
 -- one space: the number of the frame in which each page stands, and all its bytes
 pub record Space : Type 0 where
@@ -65,3 +65,11 @@ pub record IsLawful (store : Pages) : Type 0 where
   pub room : held_of store + store.pages ≤ store.frames
   pub spaces : (space : Space) → Stands store space → IsSpace store.pages store.frames space
   pub agree : (one other : Space) → Stands store one → Stands store other → Agree one other
+
+-- a store that was just made: all bytes are 0 and nothing is saved
+pub record IsMade (pages slots frames : ℕ) (store : Pages) : Type 0 where
+  pub pages_are : store.pages ≡ pages
+  pub frames_are : store.frames ≡ frames
+  pub zeros : store.live.bytes ≡ replicate (4096 * pages) 0
+  pub empty : store.slots ≡ replicate slots None
+  pub used : used_of store ≡ pages

@@ -1,5 +1,5 @@
 -- How the pages of a store stand in its pool of frames.
-use Rattle.std.specs.Prelude.{◌≡◌, ℕ, ◌+◌, ◌*◌, ◌<◌, ◌≤◌, Bool, true, false, ◌||◌, ◌==◌, nat_lt, if◌then◌else◌, Option, Some, None, List, [], ◌∷◌, ◌++◌, length, take, drop, map, All, slice_index}
+use Rattle.std.specs.Prelude.{◌≡◌, ℕ, ◌+◌, ◌-◌, ◌*◌, ◌<◌, ◌≤◌, Bool, true, false, ◌||◌, ◌==◌, nat_lt, if◌then◌else◌, Option, Some, None, List, [], ◌∷◌, ◌++◌, length, take, drop, map, All, slice_index}
 use Rattle.cow_pages.specs.Pages.{Space, Pages, has, different, saved_numbers}
 use Rattle.cow_pages.specs.declared.slot.Slot.{Slot}
 
@@ -71,3 +71,13 @@ pub record IsSound (pages frames held : ℕ) (pool live counts free : List ℕ) 
   pub stack : IsStack counts live free
   pub held_count : held ≡ different (table_numbers slots)
   pub room : held + pages ≤ frames
+
+-- the numbers from one on, in order
+pub record IsRow (start end : ℕ) (row : List ℕ) : Type 0 where
+  pub size : length row ≡ end - start
+  pub each : (k : ℕ) → k < length row → slice_index row k ≡ start + k
+
+-- slots that have room for tables, and in which nothing is saved
+pub record AreBlank (count pages : ℕ) (slots : List Slot) : Type 0 where
+  pub size : length slots ≡ count
+  pub each : All (λ slot. (slot.saved ≡ false) × (length slot.table.items ≡ pages)) slots

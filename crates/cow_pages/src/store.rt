@@ -1,12 +1,12 @@
 // Pages that are shared by copy on write.
 ghost use Rattle.std.specs.Prelude.{◌≡◌, ℕ, ◌+◌, ◌-◌, ◌*◌, ◌/◌, ◌%◌, ◌<◌, ◌≤◌, length, take, drop, replicate, true, Some, None, is_some, IsSome, IfSome, IfOk, slice_get, slice_set, slice_index, if◌then◌else◌, [], ◌∷◌};
-ghost use Rattle.cow_pages.specs.Pages.{held_of, used_of, slot_at, IsLawful};
+ghost use Rattle.cow_pages.specs.Pages.{held_of, used_of, slot_at, IsLawful, IsMade};
 ghost use Rattle.cow_pages.specs.Writes.{is_shared, Writes, Owns};
 ghost use Rattle.cow_pages.specs.Little.{little_number, little_bytes};
 
 use crate::little::{half_bytes, half_of, word_bytes, word_of};
-use crate::slot::Slot;
-use crate::tables::{count_table, give_up, uncount_table};
+use crate::slot::{Slot, blank_slots};
+use crate::tables::{count_table, give_up, row, uncount_table};
 use std::alloc::{AllocError, Global};
 use std::marker::Model;
 
@@ -45,6 +45,32 @@ impl Model for PageStore {
 }
 
 impl PageStore {
+    /// A store with all bytes 0 and nothing saved. So many pages, at most 64 MiB, so many slots, and so many frames for
+    /// them, at least twice the pages. It takes memory for all of them, and no other call takes any.
+    pub fn make(
+        alloc: Global,
+        pages: u32,
+        slots: u32,
+        frames: u32,
+    ) -> Result<PageStore, AllocError>
+        requires few { (1 ≤ pages) × (pages ≤ 16384) }
+        requires numbered { (1 ≤ slots) × (slots ≤ 16) }
+        requires enough { (2 * pages ≤ frames) × (frames ≤ 16 * pages) }
+        ensures made { IfOk result (λ store. IsMade pages slots frames store) }
+        ensures lawful { IfOk result (λ store. IsLawful store) }
+    {
+        Ok(PageStore {
+            pages,
+            frames,
+            held: 0,
+            pool: vec![in alloc; 0; frames as usize * PAGE as usize]?,
+            live: row(alloc, pages, 0, pages)?,
+            counts: vec![in alloc; 0; frames as usize]?,
+            free: row(alloc, frames, pages, frames)?,
+            slots: blank_slots(alloc, slots, pages)?,
+        })
+    }
+
     /// How many pages each space has.
     pub fn pages(&self) -> u32
         ensures pages { result ≡ self.now.pages }
@@ -173,6 +199,8 @@ impl PageStore {
         ensures read { buf.new ≡ take (length buf.old) (drop at self.now.live.bytes) }
         ensures lawful { IsLawful self.now }
     {
+        // What holds of every store is known from here on.
+        let _ = &self.pages;
         let mut done = 0;
         'pages: while done < buf.len() {
             let from = at + done as u32;
@@ -189,6 +217,8 @@ impl PageStore {
         ensures writes { Writes self.old self.new at bytes.now }
         ensures lawful { IsLawful self.new }
     {
+        // What holds of every store is known from here on.
+        let _ = &self.pages;
         let mut done = 0;
         'pages: while done < bytes.len() {
             let from = at + done as u32;
@@ -204,6 +234,8 @@ impl PageStore {
         ensures writes { Writes self.old self.new at (replicate count 0) }
         ensures lawful { IsLawful self.new }
     {
+        // What holds of every store is known from here on.
+        let _ = &self.pages;
         let mut done = 0;
         'pages: while done < count {
             let from = at + done;

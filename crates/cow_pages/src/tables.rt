@@ -1,8 +1,22 @@
 // Walks over a table of frames, which change counts and free frames.
-ghost use Rattle.std.specs.Prelude.{◌≡◌, ◌≢◌, ℕ, ◌+◌, ◌*◌, ◌^◌, ◌<◌, ◌≤◌, List, ◌++◌, length, slice_index, vec_capacity, false};
-ghost use Rattle.cow_pages.specs.Pages.{different, has};
-ghost use Rattle.cow_pages.specs.Pool.{places, Counts, IsStack};
-ghost use Rattle.cow_pages.specs.Writes.{put_at};
+ghost use Rattle.std.specs.Prelude.{◌≡◌, ◌≢◌, ℕ, ◌+◌, ◌*◌, ◌^◌, ◌<◌, ◌≤◌, List, ◌++◌, length, slice_index, vec_capacity, IfOk};
+ghost use Rattle.cow_pages.specs.Pages.{different};
+ghost use Rattle.cow_pages.specs.Pool.{places, Counts, IsStack, IsRow};
+
+use std::alloc::{AllocError, Global};
+
+// The numbers from one up to another, with room for so many.
+pub fn row(alloc: Global, room: u32, start: u32, end: u32) -> Result<Vec<u32>, AllocError>
+    requires { start ≤ end }
+    ensures row { IfOk result (λ v. IsRow start end v.items) }
+    ensures room { IfOk result (λ v. room ≤ vec_capacity v) }
+{
+    let mut numbers = Vec::with_capacity(alloc, room as usize)?;
+    'numbers: for number in start..end {
+        numbers.push(number)?;
+    }
+    Ok(numbers)
+}
 
 // Counts each number of a table once more. The answer says how many of them had no count.
 pub fn count_table(counts: &mut [u8], table: &[u32]) -> u32

@@ -1,0 +1,4 @@
+use Rattle.cow_pages.proofs.slot.blank_slots.Given as goal
+
+abbrev pub invariant-slots : goal.invariant-slots
+invariant-slots l = ?
