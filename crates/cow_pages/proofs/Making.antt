@@ -2,7 +2,7 @@
 use Rattle.std.proofs.Common.{◌≡◌, ℕ, zero, suc, ◌+◌, ◌-◌, ◌*◌, ◌/◌, ◌%◌, ◌<◌, ◌≤◌, Bool, true, false, ◌||◌, nat_lt, cond, Option, Some, None, List, [], ◌∷◌, ◌++◌, length, map, take, drop, get_or, replicate, All, refl, sym, ap, subst, ◌∙◌, ◌⊎◌, inl, inr, arith}
 use Rattle.std.proofs.lemmas.Bool.{cases_lt, false≢true}
 use Rattle.std.proofs.lemmas.List.{length-append, length-replicate, get_or-replicate, get_or_append_left}
-use Rattle.std.proofs.lemmas.List.Elements.{All-head, All-tail, All-weaker}
+use Rattle.std.proofs.lemmas.List.Elements.{All-head, All-tail, All-weaker, All-nil, All-push}
 use Rattle.std.proofs.lemmas.Grind.{same_number_lists}
 use Rattle.cow_pages.specs.Pages.{Space, Pages, has, different, saved_numbers, used_of, IsMade}
 use Rattle.cow_pages.specs.Pool.{contents, space_of, slot_space, pages_of, slot_numbers, table_numbers, places, Counts, IsStack, IsTable, IsSlot, IsSound, IsRow, AreBlank}
@@ -28,6 +28,15 @@ blank_seen pages pool (slot ∷ slots) all =
     let one : IsBlank pages slot = All-head (IsBlank pages) slot slots all in
     ap (λ b. cond b (Some (space_of pool slot.table.items)) None ∷ map (slot_space pool) slots) one.0
     ∙ ap (λ xs. None ∷ xs) (blank_seen pages pool slots (All-tail (IsBlank pages) slot slots all))
+
+pub blank_none : (pages : ℕ) → AreBlank 0 pages []
+blank_none pages = record { size = refl; each = All-nil (IsBlank pages) }
+
+pub blank_more : (count pages : ℕ) (slots : List Slot) (slot : Slot) → AreBlank count pages slots → slot.saved ≡ false → length slot.table.items ≡ pages → AreBlank (count + 1) pages (slots ++ slot ∷ [])
+blank_more count pages slots slot so unsaved size = record {
+  size = omega (arith, length-append slots (slot ∷ []), so.size);
+  each = All-push (IsBlank pages) slots slot so.each (unsaved, size);
+}
 
 row_once : (start end : ℕ) (row : List ℕ) → IsRow start end row → (k j : ℕ) → k < length row → j < length row → get_or row k 0 ≡ get_or row j 0 → k ≡ j
 row_once start end row so k j lk lj e = omega (arith, so.each k lk, so.each j lj)

@@ -185,3 +185,7 @@ read_more buf bytes part at done count so is less size =
     ∙ ap (λ xs. xs ++ part) so
     ∙ ap (λ xs. take done (drop at bytes) ++ xs) (is ∙ ap (take count) (sym (drop-drop done at bytes)))
     ∙ sym (take-longer (drop at bytes) done count)
+
+pub mid_size : (buf part : List ℕ) (done count : ℕ) → done + count ≤ length buf → length part ≡ count → length (take done buf ++ (part ++ drop count (drop done buf))) ≡ length buf
+mid_size buf part done count less size =
+    omega (arith, length-append (take done buf) (part ++ drop count (drop done buf)), length-append part (drop count (drop done buf)), length-drop count (drop done buf), length-drop done buf, length-take-le done buf (omega arith))

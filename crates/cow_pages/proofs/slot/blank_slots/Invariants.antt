@@ -1,4 +1,6 @@
+use Rattle.std.proofs.Common.{length}
+use Rattle.cow_pages.specs.Pool.{AreBlank}
 use Rattle.cow_pages.proofs.slot.blank_slots.Given as goal
 
 abbrev pub invariant-slots : goal.invariant-slots
-invariant-slots l = ?
+invariant-slots l = AreBlank l.counter l.pages l.slots.items

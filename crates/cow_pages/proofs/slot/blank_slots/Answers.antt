@@ -1,0 +1,10 @@
+use Rattle.std.proofs.Common.{length, refl, ap, ◌∙◌}
+use Rattle.std.proofs.lemmas.List.{length-replicate}
+use Rattle.cow_pages.proofs.Making.{blank_none, blank_more}
+use Rattle.cow_pages.proofs.slot.blank_slots.Goals as goal
+
+pub slots-init : goal.slots-init
+slots-init c = rw c.in_ok-slots.ensures.items (blank_none _)
+
+pub slots-preserved : goal.slots-preserved
+slots-preserved c = rw c.in_ok-push.ensures.items (blank_more _ _ _ _ c.slots.invariant refl (ap length (c.in_ok-vec.ensures.items_if_clones_equal (λ x h. h)) ∙ length-replicate _ _))

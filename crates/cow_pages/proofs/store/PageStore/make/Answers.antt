@@ -1,0 +1,13 @@
+use Rattle.std.proofs.Common.{refl}
+use Rattle.cow_pages.proofs.Stores.{lawful}
+use Rattle.cow_pages.proofs.Making.{made_sound, made_is}
+use Rattle.cow_pages.proofs.store.PageStore.make.Goals as goal
+
+pub invariant_of-result : goal.invariant_of-result
+invariant_of-result c = made_sound _ _ _ _ _ _ _ _ _ c.requires.few c.requires.numbered c.requires.enough (c.in_ok-vec.ensures.items_if_clones_equal (λ x h. h)) c.in_ok-row.ensures.row (c.in_ok-vec-2.ensures.items_if_clones_equal (λ x h. h)) c.in_ok-row-2.ensures.row c.in_ok-row-2.ensures.room c.in_ok-blank_slots.ensures
+
+pub returns-clause-made : goal.returns-clause-made
+returns-clause-made c = made_is _ _ _ _ _ _ _ _ _ (made_sound _ _ _ _ _ _ _ _ _ c.requires.few c.requires.numbered c.requires.enough (c.in_ok-vec.ensures.items_if_clones_equal (λ x h. h)) c.in_ok-row.ensures.row (c.in_ok-vec-2.ensures.items_if_clones_equal (λ x h. h)) c.in_ok-row-2.ensures.row c.in_ok-row-2.ensures.room c.in_ok-blank_slots.ensures) (c.in_ok-vec.ensures.items_if_clones_equal (λ x h. h)) c.in_ok-row-2.ensures.row c.in_ok-blank_slots.ensures
+
+pub returns-clause-lawful : goal.returns-clause-lawful
+returns-clause-lawful c = lawful _ _ _ _ _ _ _ _ _ _ (made_sound _ _ _ _ _ _ _ _ _ c.requires.few c.requires.numbered c.requires.enough (c.in_ok-vec.ensures.items_if_clones_equal (λ x h. h)) c.in_ok-row.ensures.row (c.in_ok-vec-2.ensures.items_if_clones_equal (λ x h. h)) c.in_ok-row-2.ensures.row c.in_ok-row-2.ensures.room c.in_ok-blank_slots.ensures) refl

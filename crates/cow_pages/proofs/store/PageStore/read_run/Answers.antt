@@ -1,0 +1,28 @@
+use Rattle.std.proofs.Common.{◌≡◌, ◌+◌, ◌-◌, ◌*◌, ◌≤◌, ◌<◌, ◌++◌, length, take, drop, refl, ap, sym, subst, ◌∙◌, arith}
+use Rattle.std.proofs.lemmas.List.{length-append, length-drop, length-take-le}
+use Rattle.cow_pages.proofs.Stores.{lawful}
+use Rattle.cow_pages.proofs.Runs.{run_is}
+use Rattle.cow_pages.proofs.RunSteps.{read_more, mid_size}
+use Rattle.cow_pages.proofs.store.PageStore.read_run.Goals as goal
+
+pub pages-preserved : goal.pages-preserved
+pages-preserved c =
+    let done = c.pages.done in
+    let count = c.min-count.result in
+    let place = c.place_of-place.result in
+    let wide : done + count - done ≡ count = omega arith in
+    let long : place + count - place ≡ count = omega arith in
+    let room : done + count ≤ length c.pages.buf = omega arith in
+    let size : length c.copy_from_slice.new.self ≡ count = c.copy_from_slice.ensures.len ∙ length-take-le _ _ (omega (arith, length-drop done c.pages.buf)) ∙ wide in
+    let part =
+    c.copy_from_slice.ensures.after
+    ∙ ap (λ n. take n (drop place c.deref.result.now)) long
+    ∙ ap (λ xs. take count (drop place xs)) c.deref.ensures.value
+    ∙ run_is _ _ _ _ _ _ _ _ _ _ (c.args.at + done) count place c.self.invariant c.self.view_is (omega (arith, c.requires, c.pages.auto.buf)) (omega arith) c.place_of-place.ensures in
+    record {
+      within = omega (arith, mid_size c.pages.buf c.copy_from_slice.new.self done (done + count - done) (omega arith) (size ∙ sym wide));
+      read = ap (λ n. take (done + count) (take done c.pages.buf ++ (c.copy_from_slice.new.self ++ drop n (drop done c.pages.buf)))) wide ∙ read_more _ _ _ _ _ _ c.pages.invariant.read part room size;
+    }
+
+pub returns-clause-lawful : goal.returns-clause-lawful
+returns-clause-lawful c = lawful _ _ _ _ _ _ _ _ _ _ c.self.invariant c.self.view_is
