@@ -1,13 +1,13 @@
 -- A page of the live space that moves to a free frame.
-use Rattle.std.proofs.Common.{◌≡◌, ℕ, zero, suc, ◌+◌, ◌-◌, ◌*◌, ◌<◌, ◌≤◌, Bool, true, false, ◌||◌, ◌==◌, nat_lt, cond, Option, Some, None, List, [], ◌∷◌, ◌++◌, length, map, take, drop, get_or, set, All, refl, sym, ap, subst, ◌∙◌, ◌⊎◌, inl, inr, arith}
-use Rattle.std.proofs.lemmas.Bool.{cases_Bool, cases_eq, cases_lt, eq-eqb, ne_eqb, lt-ltb, ltb-true, or_parts, false≢true}
+use Rattle.std.proofs.Common.{◌≡◌, ℕ, zero, suc, ◌+◌, ◌*◌, ◌<◌, Bool, true, false, ◌||◌, nat_lt, cond, Some, None, List, [], ◌∷◌, ◌++◌, length, map, take, drop, get_or, set, All, refl, sym, ap, subst, ◌∙◌, inl, inr, arith}
+use Rattle.std.proofs.lemmas.Bool.{cases_Bool, cases_eq, lt-ltb, ltb-true, or_parts, false≢true}
 use Rattle.std.proofs.lemmas.List.{get_or-set_same, get_or-set_other, length-set, length-append, take_at}
 use Rattle.std.proofs.lemmas.List.Elements.{All-head, All-tail, All-cons, All-nil}
-use Rattle.cow_pages.specs.Pages.{Space, Pages, has, different, saved_numbers, used_of}
-use Rattle.cow_pages.specs.Writes.{put_at, is_shared, IsFree, NumberAfter, Owns}
-use Rattle.cow_pages.specs.Pool.{contents, space_of, slot_space, pages_of, slot_numbers, table_numbers, places, Counts, IsStack, IsTable, IsSlot, IsSound}
+use Rattle.cow_pages.specs.Pages.{Pages, has, different, saved_numbers, used_of}
+use Rattle.cow_pages.specs.Writes.{is_shared, IsFree, NumberAfter, Owns}
+use Rattle.cow_pages.specs.Pool.{contents, space_of, slot_space, pages_of, slot_numbers, table_numbers, places, IsStack, IsTable, IsSlot, IsSound}
 use Rattle.cow_pages.specs.declared.slot.Slot.{Slot}
-use Rattle.cow_pages.proofs.Counting.{AreBelow, or_first, or_second, has-append, has-is, has-none, has-some, places-none, places-some, places-append, has-get_or, different-append-lt}
+use Rattle.cow_pages.proofs.Counting.{AreBelow, or_first, or_second, has-append, has-is, places-append, has-get_or, different-append-lt}
 use Rattle.cow_pages.proofs.Walks.{in_use, places-here, places-there}
 use Rattle.cow_pages.proofs.Frames.{copied, length-copied, copy_within-copied, contents-copied, contents-copied_apart}
 use Rattle.cow_pages.proofs.Stores.{saved_numbers-is, table_below, shared-is, use-has, used-sum}
@@ -68,10 +68,10 @@ not-at n xs none k less e = false≢true (sym none ∙ subst (λ m. has m xs ≡
 still : (counts live : List ℕ) (page fresh : ℕ) → page < length live → 0 < get_or counts (get_or live page 0) 0 → (n : ℕ) → (fresh ≡ n → ⊥) → in_use counts (set live page fresh) n ≡ in_use counts live n
 still counts live page fresh inside counted n other =
     elim (cases_eq (get_or live page 0) n) [
-    | inl old ↦
-      (let some : nat_lt 0 (get_or counts n 0) ≡ true = subst (λ m. nat_lt 0 (get_or counts m 0) ≡ true) old (lt-ltb 0 (get_or counts (get_or live page 0) 0) counted) in
-       or_first (nat_lt 0 (get_or counts n 0)) (has n (set live page fresh)) some ∙ sym (or_first (nat_lt 0 (get_or counts n 0)) (has n live) some))
-    | inr apart ↦ ap (λ b. nat_lt 0 (get_or counts n 0) || b) (has-set_other n live page fresh inside apart other)
+      | inl old ↦
+          (let some : nat_lt 0 (get_or counts n 0) ≡ true = subst (λ m. nat_lt 0 (get_or counts m 0) ≡ true) old (lt-ltb 0 (get_or counts (get_or live page 0) 0) counted) in
+          or_first (nat_lt 0 (get_or counts n 0)) (has n (set live page fresh)) some ∙ sym (or_first (nat_lt 0 (get_or counts n 0)) (has n live) some))
+      | inr apart ↦ ap (λ b. nat_lt 0 (get_or counts n 0) || b) (has-set_other n live page fresh inside apart other)
     ]
 
 -- the stack without its top, which a page of the live table has now
@@ -79,19 +79,19 @@ pub stack_taken : (counts live rest : List ℕ) (page fresh : ℕ) → IsStack c
 stack_taken counts live rest page fresh so inside counted = record {
   below = λ k less. subst (λ n. n < length counts) (before rest fresh k less) (so.below k (omega (arith, length-append rest (fresh ∷ []))));
   each = λ n less.
-  let sum : places n (rest ++ fresh ∷ []) ≡ places n rest + places n (fresh ∷ []) = places-append n rest (fresh ∷ []) in
-  elim (cases_eq fresh n) [
-  | inl here ↦
-    subst (λ m. places m rest ≡ cond (in_use counts (set live page fresh) m) 0 1) here
-    (let near : fresh < length counts = top_below counts live rest fresh so in
-     let one : places fresh (rest ++ fresh ∷ []) ≡ 1 = so.each fresh near ∙ ap (λ b. cond b 0 1) (top_unused counts live rest fresh so) in
-     let gone : places fresh rest ≡ 0 = omega (arith, places-append fresh rest (fresh ∷ []), places-here fresh []) in
-     gone ∙ ap (λ b. cond b 0 1) (sym (or_second (nat_lt 0 (get_or counts fresh 0)) (has fresh (set live page fresh)) (has-set_same live page fresh inside))))
-  | inr other ↦
-    (let none : places n (fresh ∷ []) ≡ places n [] = places-there n fresh [] other in
-     let same : places n rest ≡ places n (rest ++ fresh ∷ []) = omega arith in
-     same ∙ so.each n less ∙ ap (λ b. cond b 0 1) (sym (still counts live page fresh inside counted n other)))
-  ];
+      let sum : places n (rest ++ fresh ∷ []) ≡ places n rest + places n (fresh ∷ []) = places-append n rest (fresh ∷ []) in
+      elim (cases_eq fresh n) [
+        | inl here ↦
+            subst (λ m. places m rest ≡ cond (in_use counts (set live page fresh) m) 0 1) here
+            (let near : fresh < length counts = top_below counts live rest fresh so in
+            let one : places fresh (rest ++ fresh ∷ []) ≡ 1 = so.each fresh near ∙ ap (λ b. cond b 0 1) (top_unused counts live rest fresh so) in
+            let gone : places fresh rest ≡ 0 = omega (arith, places-append fresh rest (fresh ∷ []), places-here fresh []) in
+            gone ∙ ap (λ b. cond b 0 1) (sym (or_second (nat_lt 0 (get_or counts fresh 0)) (has fresh (set live page fresh)) (has-set_same live page fresh inside))))
+        | inr other ↦
+            (let none : places n (fresh ∷ []) ≡ places n [] = places-there n fresh [] other in
+            let same : places n rest ≡ places n (rest ++ fresh ∷ []) = omega arith in
+            same ∙ so.each n less ∙ ap (λ b. cond b 0 1) (sym (still counts live page fresh inside counted n other)))
+      ];
 }
 
 -- the table of the live space, and those of the slots, with a home for the new frame
@@ -102,20 +102,20 @@ table_moved pages homes live page fresh so none inside near =
     record {
       size = length-set live page fresh ∙ so.size;
       below = λ k less.
-      elim (cases_eq k page) [
-      | inl is ↦ subst (λ m. get_or (set live page fresh) m 0 < length (set homes fresh page)) (sym is) (omega (arith, get_or-set_same live page fresh 0 here))
-      | inr isnt ↦ omega (arith, get_or-set_other live page k fresh 0 isnt, so.below k less)
-      ];
+          elim (cases_eq k page) [
+            | inl is ↦ subst (λ m. get_or (set live page fresh) m 0 < length (set homes fresh page)) (sym is) (omega (arith, get_or-set_same live page fresh 0 here))
+            | inr isnt ↦ omega (arith, get_or-set_other live page k fresh 0 isnt, so.below k less)
+          ];
       home = λ k less.
-      elim (cases_eq k page) [
-      | inl is ↦
-        subst (λ m. get_or (set homes fresh page) (get_or (set live page fresh) m 0) 0 ≡ m) (sym is)
-        (ap (λ n. get_or (set homes fresh page) n 0) (get_or-set_same live page fresh 0 here) ∙ get_or-set_same homes fresh page 0 near)
-      | inr isnt ↦
-        (ap (λ n. get_or (set homes fresh page) n 0) (get_or-set_other live page k fresh 0 isnt)
-         ∙ get_or-set_other homes fresh (get_or live k 0) page 0 (not-at fresh live none k (omega (arith, so.size)))
-         ∙ so.home k less)
-      ];
+          elim (cases_eq k page) [
+            | inl is ↦
+                subst (λ m. get_or (set homes fresh page) (get_or (set live page fresh) m 0) 0 ≡ m) (sym is)
+                (ap (λ n. get_or (set homes fresh page) n 0) (get_or-set_same live page fresh 0 here) ∙ get_or-set_same homes fresh page 0 near)
+            | inr isnt ↦
+                (ap (λ n. get_or (set homes fresh page) n 0) (get_or-set_other live page k fresh 0 isnt)
+                ∙ get_or-set_other homes fresh (get_or live k 0) page 0 (not-at fresh live none k (omega (arith, so.size)))
+                ∙ so.home k less)
+          ];
     }
 
 pub table_kept : (pages : ℕ) (homes table : List ℕ) (page fresh : ℕ) → IsTable pages homes table → has fresh table ≡ false → IsTable pages (set homes fresh page) table
@@ -150,10 +150,10 @@ slots_same pages frames n homes pool after (slot ∷ slots) many all none same =
     let rest : map (slot_space after) slots ≡ map (slot_space pool) slots = slots_same pages frames n homes pool after slots many (All-tail (IsSlot pages homes) slot slots all) (rest_none n slot slots none) same in
     let first : slot_space after slot ≡ slot_space pool slot =
     elim (cases_Bool slot.saved) [
-    | inl saved ↦
-      (let e : contents after slot.table.items ≡ contents pool slot.table.items = same slot.table.items (table_below pages frames homes slot.table.items (one.table saved) many) (first_none n slot slots none saved) in
-       ap (λ bytes. cond slot.saved (Some (record { numbers = slot.table.items; bytes = bytes })) None) e)
-    | inr unsaved ↦ ap (λ b. cond b (Some (space_of after slot.table.items)) None) unsaved ∙ sym (ap (λ b. cond b (Some (space_of pool slot.table.items)) None) unsaved)
+      | inl saved ↦
+          (let e : contents after slot.table.items ≡ contents pool slot.table.items = same slot.table.items (table_below pages frames homes slot.table.items (one.table saved) many) (first_none n slot slots none saved) in
+          ap (λ bytes. cond slot.saved (Some (record { numbers = slot.table.items; bytes = bytes })) None) e)
+      | inr unsaved ↦ ap (λ b. cond b (Some (space_of after slot.table.items)) None) unsaved ∙ sym (ap (λ b. cond b (Some (space_of pool slot.table.items)) None) unsaved)
     ] in
     ap (λ s. s ∷ map (slot_space after) slots) first ∙ ap (λ xs. slot_space pool slot ∷ xs) rest
 
@@ -246,7 +246,7 @@ moved_sound pages frames held n count from to pool moved live counts free rest r
     let e : take n (moved ++ drop (length moved) pool) ≡ copied pool (get_or live page 0) fresh = moved_pool frames n count from to (get_or live page 0) fresh pool moved so.pool_size old new start place many whole copy in
     subst (λ xs. IsSound pages frames held xs (set live page fresh) counts rest reserve slots) (sym e)
     (subst (λ r. IsSound pages frames held (copied pool (get_or live page 0) fresh) (set live page fresh) counts rest r slots) (sym room)
-     (copy_sound pages frames held pool live counts rest reserved slots page fresh mine less hit))
+    (copy_sound pages frames held pool live counts rest reserved slots page fresh mine less hit))
 
 -- what it holds
 pub moved_owns : (pages frames held n count from to : ℕ) (pool moved live counts free rest : List ℕ) (reserved : ℕ) (slots : List Slot) (store : Pages) (page fresh : ℕ) → IsSound pages frames held pool live counts free reserved slots → pages_of pages frames pool live slots ≡ store → page < store.pages → is_shared store page ≡ true → free ≡ rest ++ fresh ∷ [] → from ≡ 4096 * get_or live page 0 → to ≡ 4096 * fresh → count ≡ 4096 → n ≡ length pool → moved ≡ take to pool ++ take count (drop from pool) ++ drop (to + count) pool → Owns store (pages_of pages frames (take n (moved ++ drop (length moved) pool)) (set live page fresh) slots) page
@@ -259,4 +259,4 @@ moved_owns pages frames held n count from to pool moved live counts free rest re
     let e : take n (moved ++ drop (length moved) pool) ≡ copied pool (get_or live page 0) fresh = moved_pool frames n count from to (get_or live page 0) fresh pool moved so.pool_size old new start place many whole copy in
     subst (λ s. Owns s (pages_of pages frames (take n (moved ++ drop (length moved) pool)) (set live page fresh) slots) page) is
     (subst (λ xs. Owns (pages_of pages frames pool live slots) (pages_of pages frames xs (set live page fresh) slots) page) (sym e)
-     (copy_owns pages frames held pool live counts rest reserved slots page fresh mine less hit))
+    (copy_owns pages frames held pool live counts rest reserved slots page fresh mine less hit))

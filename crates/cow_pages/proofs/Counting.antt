@@ -1,7 +1,7 @@
 -- How many times a number stands in a list, and how many different ones do.
-use Rattle.std.proofs.Common.{◌≡◌, ℕ, zero, suc, ◌+◌, ◌-◌, ◌<◌, ◌≤◌, Bool, true, false, ◌||◌, ◌==◌, nat_lt, cond, List, [], ◌∷◌, ◌++◌, length, take, drop, get_or, refl, sym, ap, subst, ◌∙◌, ◌⊎◌, inl, inr, arith}
-use Rattle.std.proofs.lemmas.Bool.{cases_Bool, cases_eq, cases_lt, eq-eqb, ne_eqb, eqb-true, eqb-false, lt-ltb, le-ltb, ltb-true, ltb-false, or_left, or_right, or_parts, or_cases, false_from_ne_true, both_ways}
-use Rattle.std.proofs.lemmas.List.{take-append-drop, get_or-drop, length-drop}
+use Rattle.std.proofs.Common.{◌≡◌, ℕ, zero, suc, ◌+◌, ◌<◌, ◌≤◌, Bool, true, false, ◌||◌, ◌==◌, nat_lt, cond, List, [], ◌∷◌, ◌++◌, length, take, drop, get_or, refl, sym, ap, subst, ◌∙◌, inl, inr, arith}
+use Rattle.std.proofs.lemmas.Bool.{cases_Bool, cases_eq, eq-eqb, ne_eqb, eqb-true, lt-ltb, ltb-true, ltb-false, or_cases, false_from_ne_true}
+use Rattle.std.proofs.lemmas.List.{take-append-drop}
 use Rattle.cow_pages.specs.Pages.{has, different}
 use Rattle.cow_pages.specs.Pool.{places}
 
@@ -43,8 +43,8 @@ pub has-is : (n : ℕ) (xs : List ℕ) → has n xs ≡ nat_lt 0 (places n xs)
 has-is n [] = refl
 has-is n (x ∷ xs) =
     elim (x == n) as (λ b. (b || has n xs) ≡ nat_lt 0 (cond b 1 0 + places n xs)) [
-    | true ↦ sym (lt-ltb 0 (1 + places n xs) (omega arith))
-    | false ↦ (let e : 0 + places n xs ≡ places n xs = omega arith in has-is n xs ∙ ap (nat_lt 0) (sym e))
+      | true ↦ sym (lt-ltb 0 (1 + places n xs) (omega arith))
+      | false ↦ (let e : 0 + places n xs ≡ places n xs = omega arith in has-is n xs ∙ ap (nat_lt 0) (sym e))
     ]
 
 pub has-none : (n : ℕ) (xs : List ℕ) → places n xs ≡ 0 → has n xs ≡ false
@@ -70,8 +70,8 @@ pub has-at : (n : ℕ) (xs : List ℕ) → has n xs ≡ true → (k : ℕ) × (k
 has-at n [] is = cc
 has-at n (x ∷ xs) is =
     elim (or_cases (x == n) (has n xs) is) [
-    | inl here ↦ (0, omega arith, eqb-true x n here)
-    | inr later ↦ (let found = has-at n xs later in (suc found.0, omega (arith, found.1), found.2))
+      | inl here ↦ (0, omega arith, eqb-true x n here)
+      | inr later ↦ (let found = has-at n xs later in (suc found.0, omega (arith, found.1), found.2))
     ]
 
 -- a number that stands at no place of a list isn't in it
@@ -86,8 +86,8 @@ pub places-le-length : (n : ℕ) (xs : List ℕ) → places n xs ≤ length xs
 places-le-length n [] = omega arith
 places-le-length n (x ∷ xs) =
     elim (x == n) as (λ b. cond b 1 0 + places n xs ≤ suc (length xs)) [
-    | true ↦ omega (arith, places-le-length n xs)
-    | false ↦ omega (arith, places-le-length n xs)
+      | true ↦ omega (arith, places-le-length n xs)
+      | false ↦ omega (arith, places-le-length n xs)
     ]
 
 -- a list whose elements stand at one place each has no number twice
@@ -96,8 +96,8 @@ places-le-one n [] once = omega arith
 places-le-one n (x ∷ xs) once =
     let rest : places n xs ≤ 1 = places-le-one n xs (λ k j lk lj e. let same : suc k ≡ suc j = once (suc k) (suc j) (omega arith) (omega arith) e in omega arith) in
     elim (cases_Bool (x == n)) [
-    | inl here ↦ (let gone : has n xs ≡ false = has-nowhere n xs (λ k less e. let same : 0 ≡ suc k = once 0 (suc k) (omega arith) (omega arith) (eqb-true x n here ∙ sym e) in omega arith) in let none : places n xs ≡ 0 = places-none n xs gone in rw here (omega arith))
-    | inr other ↦ rw other (omega arith)
+      | inl here ↦ (let gone : has n xs ≡ false = has-nowhere n xs (λ k less e. let same : 0 ≡ suc k = once 0 (suc k) (omega arith) (omega arith) (eqb-true x n here ∙ sym e) in omega arith) in let none : places n xs ≡ 0 = places-none n xs gone in rw here (omega arith))
+      | inr other ↦ rw other (omega arith)
     ]
 
 -- how many numbers below a limit are in a list
@@ -129,14 +129,14 @@ occupied-cons : (k x : ℕ) (xs : List ℕ) → x < k → occupied k (x ∷ xs) 
 occupied-cons zero x xs less = absurd (omega arith)
 occupied-cons (suc k) x xs less =
     elim (cases_eq x k) [
-    | inl same ↦ (
-      let is : (x == k) ≡ true = eq-eqb x k same in
-      let fewer : occupied k (x ∷ xs) ≡ occupied k xs = occupied-above k x xs (omega arith) in
-      rw is (rw fewer (subst (λ n. occupied k xs + 1 ≡ occupied k xs + cond (has k xs) 1 0 + cond (has n xs) 0 1) (sym same) (turned (has k xs) (occupied k xs)))))
-    | inr other ↦ (
-      let is : (x == k) ≡ false = ne_eqb x k other in
-      let fewer : occupied k (x ∷ xs) ≡ occupied k xs + cond (has x xs) 0 1 = occupied-cons k x xs (omega arith) in
-      rw is (omega arith))
+      | inl same ↦ (
+          let is : (x == k) ≡ true = eq-eqb x k same in
+          let fewer : occupied k (x ∷ xs) ≡ occupied k xs = occupied-above k x xs (omega arith) in
+          rw is (rw fewer (subst (λ n. occupied k xs + 1 ≡ occupied k xs + cond (has k xs) 1 0 + cond (has n xs) 0 1) (sym same) (turned (has k xs) (occupied k xs)))))
+      | inr other ↦ (
+          let is : (x == k) ≡ false = ne_eqb x k other in
+          let fewer : occupied k (x ∷ xs) ≡ occupied k xs + cond (has x xs) 0 1 = occupied-cons k x xs (omega arith) in
+          rw is (omega arith))
     ]
 
 chosen : (b : Bool) (n : ℕ) → cond b n (n + 1) ≡ n + cond b 0 1
@@ -175,14 +175,14 @@ tally-cons : (k x : ℕ) (xs : List ℕ) → x < k → tally k (x ∷ xs) ≡ ta
 tally-cons zero x xs less = absurd (omega arith)
 tally-cons (suc k) x xs less =
     elim (cases_eq x k) [
-    | inl same ↦ (
-      let is : (x == k) ≡ true = eq-eqb x k same in
-      let fewer : tally k (x ∷ xs) ≡ tally k xs = tally-above k x xs (omega arith) in
-      rw is (omega arith))
-    | inr other ↦ (
-      let is : (x == k) ≡ false = ne_eqb x k other in
-      let fewer : tally k (x ∷ xs) ≡ tally k xs + 1 = tally-cons k x xs (omega arith) in
-      rw is (omega arith))
+      | inl same ↦ (
+          let is : (x == k) ≡ true = eq-eqb x k same in
+          let fewer : tally k (x ∷ xs) ≡ tally k xs = tally-above k x xs (omega arith) in
+          rw is (omega arith))
+      | inr other ↦ (
+          let is : (x == k) ≡ false = ne_eqb x k other in
+          let fewer : tally k (x ∷ xs) ≡ tally k xs + 1 = tally-cons k x xs (omega arith) in
+          rw is (omega arith))
     ]
 
 pub tally-length : (top : ℕ) (xs : List ℕ) → AreBelow top xs → tally top xs ≡ length xs
@@ -218,8 +218,8 @@ tally-lt : (k m : ℕ) (free : List ℕ) → ((n : ℕ) → n < k → places n f
 tally-lt zero m free each less none = absurd (omega arith)
 tally-lt (suc k) m free each less none =
     elim (cases_eq m k) [
-    | inl same ↦ (let last : places k free ≡ 0 = subst (λ n. places n free ≡ 0) same none in omega (arith, tally-le k free (λ n below. each n (omega arith))))
-    | inr other ↦ (let before : m < k = omega arith in omega (arith, tally-lt k m free (λ n below. each n (omega arith)) before none, each k (omega arith)))
+      | inl same ↦ (let last : places k free ≡ 0 = subst (λ n. places n free ≡ 0) same none in omega (arith, tally-le k free (λ n below. each n (omega arith))))
+      | inr other ↦ (let before : m < k = omega arith in omega (arith, tally-lt k m free (λ n below. each n (omega arith)) before none, each k (omega arith)))
     ]
 
 -- a list that has no number twice, and one not at all, is shorter than the limit
@@ -235,8 +235,8 @@ different-append-le [] ys = omega arith
 different-append-le (x ∷ xs) ys =
     let rest : different (xs ++ ys) ≤ length xs + different ys = different-append-le xs ys in
     elim (has x (xs ++ ys)) as (λ b. cond b (different (xs ++ ys)) (different (xs ++ ys) + 1) ≤ suc (length xs) + different ys) [
-    | true ↦ omega arith
-    | false ↦ omega arith
+      | true ↦ omega arith
+      | false ↦ omega arith
     ]
 
 pub different-append-lt : (xs ys : List ℕ) (k : ℕ) → k < length xs → has (get_or xs k 0) ys ≡ true → different (xs ++ ys) < length xs + different ys
@@ -248,8 +248,8 @@ different-append-lt (x ∷ xs) ys zero less is =
 different-append-lt (x ∷ xs) ys (suc k) less is =
     let rest : different (xs ++ ys) < length xs + different ys = different-append-lt xs ys k (omega arith) is in
     elim (has x (xs ++ ys)) as (λ b. cond b (different (xs ++ ys)) (different (xs ++ ys) + 1) < suc (length xs) + different ys) [
-    | true ↦ omega arith
-    | false ↦ omega arith
+      | true ↦ omega arith
+      | false ↦ omega arith
     ]
 
 -- a list in front adds no fewer
@@ -258,6 +258,6 @@ different-le-append [] ys = omega arith
 different-le-append (x ∷ xs) ys =
     let rest : different ys ≤ different (xs ++ ys) = different-le-append xs ys in
     elim (has x (xs ++ ys)) as (λ b. different ys ≤ cond b (different (xs ++ ys)) (different (xs ++ ys) + 1)) [
-    | true ↦ omega arith
-    | false ↦ omega arith
+      | true ↦ omega arith
+      | false ↦ omega arith
     ]

@@ -1,5 +1,5 @@
 -- Bytes of frames: reading them, writing some, and copying a frame.
-use Rattle.std.proofs.Common.{◌≡◌, ℕ, zero, suc, ◌+◌, ◌-◌, ◌*◌, ◌/◌, ◌%◌, ◌<◌, ◌≤◌, Bool, true, false, ◌||◌, cond, List, [], ◌∷◌, ◌++◌, length, take, drop, get_or, set, refl, sym, ap, subst, ◌∙◌, ◌⊎◌, inl, inr, arith, add-one}
+use Rattle.std.proofs.Common.{◌≡◌, ℕ, suc, ◌+◌, ◌-◌, ◌*◌, ◌/◌, ◌%◌, ◌<◌, ◌≤◌, List, [], ◌∷◌, ◌++◌, length, take, drop, get_or, set, refl, sym, ap, subst, ◌∙◌, inl, inr, arith}
 use Rattle.std.proofs.lemmas.Bool.{cases_eq, cases_lt}
 use Rattle.std.proofs.lemmas.List.{get_or-drop, get_or-take, length-drop, length-take-le, get_or-set_same, get_or-set_other, length-set, get_or-append_right, get_or_append_left, append_assoc, length-append, set_split, drop-drop}
 use Rattle.std.proofs.lemmas.Grind.{same_number_lists}
@@ -61,29 +61,29 @@ put_at-put_at at first second xs room =
     same_number_lists (put_at (at + length first) second (put_at at first xs)) (put_at at (first ++ second) xs) (outer ∙ inner ∙ sym whole)
     (λ k less.
     elim (cases_lt k at) [
-    | inl before ↦
-      (get_or-put_before (at + length first) second (put_at at first xs) k (omega arith) (omega arith) ∙ get_or-put_before at first xs k (omega arith) before ∙ sym (get_or-put_before at (first ++ second) xs k (omega arith) before))
-    | inr from ↦
-      (elim (cases_lt k (at + length first)) [
-       | inl inside ↦
-         (get_or-put_before (at + length first) second (put_at at first xs) k (omega arith) inside
-          ∙ get_or-put_inside at first xs k (omega arith) from inside
-          ∙ sym (get_or_append_left first second 0 (k - at) (omega arith))
-          ∙ sym (get_or-put_inside at (first ++ second) xs k (omega arith) from (omega arith)))
-       | inr later ↦
-         (elim (cases_lt k (at + length first + length second)) [
-          | inl inside ↦
-            (let place : k - (at + length first) ≡ k - at - length first = omega arith in
-             get_or-put_inside (at + length first) second (put_at at first xs) k (omega arith) later inside
-             ∙ ap (λ n. get_or second n 0) place
-             ∙ sym (get_or-append_right first second (length first) (k - at) 0 refl (omega arith))
-             ∙ sym (get_or-put_inside at (first ++ second) xs k (omega arith) from (omega arith)))
-          | inr behind ↦
-            (get_or-put_behind (at + length first) second (put_at at first xs) k (omega arith) behind
-             ∙ get_or-put_behind at first xs k (omega arith) later
-             ∙ sym (get_or-put_behind at (first ++ second) xs k (omega arith) (omega arith)))
+      | inl before ↦
+          (get_or-put_before (at + length first) second (put_at at first xs) k (omega arith) (omega arith) ∙ get_or-put_before at first xs k (omega arith) before ∙ sym (get_or-put_before at (first ++ second) xs k (omega arith) before))
+      | inr from ↦
+          (elim (cases_lt k (at + length first)) [
+            | inl inside ↦
+                (get_or-put_before (at + length first) second (put_at at first xs) k (omega arith) inside
+                ∙ get_or-put_inside at first xs k (omega arith) from inside
+                ∙ sym (get_or_append_left first second 0 (k - at) (omega arith))
+                ∙ sym (get_or-put_inside at (first ++ second) xs k (omega arith) from (omega arith)))
+            | inr later ↦
+                (elim (cases_lt k (at + length first + length second)) [
+                  | inl inside ↦
+                      (let place : k - (at + length first) ≡ k - at - length first = omega arith in
+                      get_or-put_inside (at + length first) second (put_at at first xs) k (omega arith) later inside
+                      ∙ ap (λ n. get_or second n 0) place
+                      ∙ sym (get_or-append_right first second (length first) (k - at) 0 refl (omega arith))
+                      ∙ sym (get_or-put_inside at (first ++ second) xs k (omega arith) from (omega arith)))
+                  | inr behind ↦
+                      (get_or-put_behind (at + length first) second (put_at at first xs) k (omega arith) behind
+                      ∙ get_or-put_behind at first xs k (omega arith) later
+                      ∙ sym (get_or-put_behind at (first ++ second) xs k (omega arith) (omega arith)))
+                ])
           ])
-       ])
     ])
 
 pub put_at-nil : (at : ℕ) (xs : List ℕ) → at ≤ length xs → put_at at [] xs ≡ xs
@@ -91,8 +91,8 @@ put_at-nil at xs room =
     same_number_lists (put_at at [] xs) xs (length-put_at at [] xs (omega arith))
     (λ k less.
     elim (cases_lt k at) [
-    | inl before ↦ get_or-put_before at [] xs k (omega arith) before
-    | inr from ↦ get_or-put_behind at [] xs k (omega arith) (omega arith)
+      | inl before ↦ get_or-put_before at [] xs k (omega arith) before
+      | inr from ↦ get_or-put_behind at [] xs k (omega arith) (omega arith)
     ])
 
 frame_size : (n : ℕ) (pool : List ℕ) → 4096 * n + 4096 ≤ length pool → length (take 4096 (drop (4096 * n) pool)) ≡ 4096
@@ -112,21 +112,21 @@ get_or-contents frames pool (n ∷ numbers) k size below less =
     let first : n < frames = below_head frames n numbers below in
     let frame : length (take 4096 (drop (4096 * n) pool)) ≡ 4096 = frame_size n pool (omega arith) in
     elim (cases_lt k 4096) [
-    | inl here ↦
-      (let page : 0 ≡ k / 4096 = omega arith in
-       let place : k ≡ k % 4096 = omega arith in
-       get_or_append_left (take 4096 (drop (4096 * n) pool)) (contents pool numbers) 0 k (omega arith)
-       ∙ get_or-take 4096 (drop (4096 * n) pool) k 0 here
-       ∙ get_or-drop (4096 * n) pool k 0
-       ∙ ap (λ m. get_or pool (4096 * n + m) 0) place
-       ∙ ap (λ m. get_or pool (4096 * get_or (n ∷ numbers) m 0 + k % 4096) 0) page)
-    | inr later ↦
-      (let page : suc ((k - 4096) / 4096) ≡ k / 4096 = omega arith in
-       let place : (k - 4096) % 4096 ≡ k % 4096 = omega arith in
-       get_or-append_right (take 4096 (drop (4096 * n) pool)) (contents pool numbers) 4096 k 0 frame later
-       ∙ get_or-contents frames pool numbers (k - 4096) size (below_tail frames n numbers below) (omega arith)
-       ∙ ap (λ m. get_or pool (4096 * get_or numbers ((k - 4096) / 4096) 0 + m) 0) place
-       ∙ ap (λ m. get_or pool (4096 * get_or (n ∷ numbers) m 0 + k % 4096) 0) page)
+      | inl here ↦
+          (let page : 0 ≡ k / 4096 = omega arith in
+          let place : k ≡ k % 4096 = omega arith in
+          get_or_append_left (take 4096 (drop (4096 * n) pool)) (contents pool numbers) 0 k (omega arith)
+          ∙ get_or-take 4096 (drop (4096 * n) pool) k 0 here
+          ∙ get_or-drop (4096 * n) pool k 0
+          ∙ ap (λ m. get_or pool (4096 * n + m) 0) place
+          ∙ ap (λ m. get_or pool (4096 * get_or (n ∷ numbers) m 0 + k % 4096) 0) page)
+      | inr later ↦
+          (let page : suc ((k - 4096) / 4096) ≡ k / 4096 = omega arith in
+          let place : (k - 4096) % 4096 ≡ k % 4096 = omega arith in
+          get_or-append_right (take 4096 (drop (4096 * n) pool)) (contents pool numbers) 4096 k 0 frame later
+          ∙ get_or-contents frames pool numbers (k - 4096) size (below_tail frames n numbers below) (omega arith)
+          ∙ ap (λ m. get_or pool (4096 * get_or numbers ((k - 4096) / 4096) 0 + m) 0) place
+          ∙ ap (λ m. get_or pool (4096 * get_or (n ∷ numbers) m 0 + k % 4096) 0) page)
     ]
 
 -- a run within a page stands in the frame of the page
@@ -154,8 +154,8 @@ run-contents frames pool numbers at count size below inside within =
 other_frame : (frames n m offset k : ℕ) (bytes pool : List ℕ) → length pool ≡ 4096 * frames → n < frames → offset + length bytes ≤ 4096 → (m ≡ n → ⊥) → k < 4096 → get_or (put_at (4096 * n + offset) bytes pool) (4096 * m + k) 0 ≡ get_or pool (4096 * m + k) 0
 other_frame frames n m offset k bytes pool size inside within other less =
     elim (cases_lt m n) [
-    | inl before ↦ get_or-put_before (4096 * n + offset) bytes pool (4096 * m + k) (omega arith) (omega arith)
-    | inr from ↦ get_or-put_behind (4096 * n + offset) bytes pool (4096 * m + k) (omega arith) (omega arith)
+      | inl before ↦ get_or-put_before (4096 * n + offset) bytes pool (4096 * m + k) (omega arith) (omega arith)
+      | inr from ↦ get_or-put_behind (4096 * n + offset) bytes pool (4096 * m + k) (omega arith) (omega arith)
     ]
 
 -- a write into a frame that no page has
@@ -193,38 +193,38 @@ contents-put_here frames bytes pool numbers at size below once inside within =
     let read : get_or (contents after numbers) k 0 ≡ get_or after (4096 * get_or numbers (k / 4096) 0 + k % 4096) 0 = get_or-contents frames after numbers k same below near in
     let plain : get_or (contents pool numbers) k 0 ≡ get_or pool (4096 * get_or numbers (k / 4096) 0 + k % 4096) 0 = get_or-contents frames pool numbers k size below near in
     elim (cases_eq (k / 4096) page) [
-    | inl is ↦
-      (let place : 4096 * get_or numbers (k / 4096) 0 + k % 4096 ≡ 4096 * get_or numbers page 0 + k % 4096 = ap (λ p. 4096 * get_or numbers p 0 + k % 4096) is in
-       elim (cases_lt k at) [
-       | inl before ↦
-         (read ∙ ap (λ n. get_or after n 0) place
-          ∙ get_or-put_before from bytes pool (4096 * get_or numbers page 0 + k % 4096) (omega arith) (omega arith)
-          ∙ sym (ap (λ n. get_or pool n 0) place) ∙ sym plain
-          ∙ sym (get_or-put_before at bytes (contents pool numbers) k (omega arith) before))
-       | inr later ↦
-         (elim (cases_lt k (at + length bytes)) [
-          | inl inside ↦
-            (let offset : 4096 * get_or numbers page 0 + k % 4096 - from ≡ k - at = omega arith in
-             read ∙ ap (λ n. get_or after n 0) place
-             ∙ get_or-put_inside from bytes pool (4096 * get_or numbers page 0 + k % 4096) (omega arith) (omega arith) (omega arith)
-             ∙ ap (λ n. get_or bytes n 0) offset
-             ∙ sym (get_or-put_inside at bytes (contents pool numbers) k (omega arith) later inside))
-          | inr behind ↦
-            (read ∙ ap (λ n. get_or after n 0) place
-             ∙ get_or-put_behind from bytes pool (4096 * get_or numbers page 0 + k % 4096) (omega arith) (omega arith)
-             ∙ sym (ap (λ n. get_or pool n 0) place) ∙ sym plain
-             ∙ sym (get_or-put_behind at bytes (contents pool numbers) k (omega arith) behind))
+      | inl is ↦
+          (let place : 4096 * get_or numbers (k / 4096) 0 + k % 4096 ≡ 4096 * get_or numbers page 0 + k % 4096 = ap (λ p. 4096 * get_or numbers p 0 + k % 4096) is in
+          elim (cases_lt k at) [
+            | inl before ↦
+                (read ∙ ap (λ n. get_or after n 0) place
+                ∙ get_or-put_before from bytes pool (4096 * get_or numbers page 0 + k % 4096) (omega arith) (omega arith)
+                ∙ sym (ap (λ n. get_or pool n 0) place) ∙ sym plain
+                ∙ sym (get_or-put_before at bytes (contents pool numbers) k (omega arith) before))
+            | inr later ↦
+                (elim (cases_lt k (at + length bytes)) [
+                  | inl inside ↦
+                      (let offset : 4096 * get_or numbers page 0 + k % 4096 - from ≡ k - at = omega arith in
+                      read ∙ ap (λ n. get_or after n 0) place
+                      ∙ get_or-put_inside from bytes pool (4096 * get_or numbers page 0 + k % 4096) (omega arith) (omega arith) (omega arith)
+                      ∙ ap (λ n. get_or bytes n 0) offset
+                      ∙ sym (get_or-put_inside at bytes (contents pool numbers) k (omega arith) later inside))
+                  | inr behind ↦
+                      (read ∙ ap (λ n. get_or after n 0) place
+                      ∙ get_or-put_behind from bytes pool (4096 * get_or numbers page 0 + k % 4096) (omega arith) (omega arith)
+                      ∙ sym (ap (λ n. get_or pool n 0) place) ∙ sym plain
+                      ∙ sym (get_or-put_behind at bytes (contents pool numbers) k (omega arith) behind))
+                ])
           ])
-       ])
-    | inr apart ↦
-      (let unlike : get_or numbers (k / 4096) 0 ≡ get_or numbers page 0 → ⊥ = λ e. apart (once (k / 4096) page there here e) in
-       read
-       ∙ other_frame frames (get_or numbers page 0) (get_or numbers (k / 4096) 0) (at % 4096) (k % 4096) bytes pool size number within unlike rest
-       ∙ sym plain
-       ∙ elim (cases_lt k at) [
-       | inl before ↦ sym (get_or-put_before at bytes (contents pool numbers) k (omega arith) before)
-       | inr later ↦ sym (get_or-put_behind at bytes (contents pool numbers) k (omega arith) (omega arith))
-       ])
+      | inr apart ↦
+          (let unlike : get_or numbers (k / 4096) 0 ≡ get_or numbers page 0 → ⊥ = λ e. apart (once (k / 4096) page there here e) in
+          read
+          ∙ other_frame frames (get_or numbers page 0) (get_or numbers (k / 4096) 0) (at % 4096) (k % 4096) bytes pool size number within unlike rest
+          ∙ sym plain
+          ∙ elim (cases_lt k at) [
+            | inl before ↦ sym (get_or-put_before at bytes (contents pool numbers) k (omega arith) before)
+            | inr later ↦ sym (get_or-put_behind at bytes (contents pool numbers) k (omega arith) (omega arith))
+          ])
     ])
 
 -- the pool with one frame copied to another
@@ -260,8 +260,8 @@ contents-copied frames page to pool numbers size below here other apart =
     let below' : AreBelow frames (set numbers page to) =
     λ k less.
     elim (cases_eq k page) [
-    | inl is ↦ subst (λ m. get_or (set numbers page to) m 0 < frames) (sym is) (subst (λ m. m < frames) (sym (get_or-set_same numbers page to 0 here)) other)
-    | inr isnt ↦ subst (λ m. m < frames) (sym (get_or-set_other numbers page k to 0 isnt)) (below k (omega arith))
+      | inl is ↦ subst (λ m. get_or (set numbers page to) m 0 < frames) (sym is) (subst (λ m. m < frames) (sym (get_or-set_same numbers page to 0 here)) other)
+      | inr isnt ↦ subst (λ m. m < frames) (sym (get_or-set_other numbers page k to 0 isnt)) (below k (omega arith))
     ] in
     let one : length (contents after (set numbers page to)) ≡ 4096 * length (set numbers page to) = length-contents frames after (set numbers page to) same below' in
     let whole : length (contents pool numbers) ≡ 4096 * length numbers = length-contents frames pool numbers size below in
@@ -273,21 +273,21 @@ contents-copied frames page to pool numbers size below here other apart =
     let read : get_or (contents after (set numbers page to)) k 0 ≡ get_or after (4096 * get_or (set numbers page to) (k / 4096) 0 + k % 4096) 0 = get_or-contents frames after (set numbers page to) k same below' (omega arith) in
     let plain : get_or (contents pool numbers) k 0 ≡ get_or pool (4096 * get_or numbers (k / 4096) 0 + k % 4096) 0 = get_or-contents frames pool numbers k size below near in
     elim (cases_eq (k / 4096) page) [
-    | inl is ↦
-      (let at : get_or (set numbers page to) (k / 4096) 0 ≡ to = ap (λ p. get_or (set numbers page to) p 0) is ∙ get_or-set_same numbers page to 0 here in
-       let offset : 4096 * to + k % 4096 - 4096 * to ≡ k % 4096 = omega arith in
-       read ∙ ap (λ n. get_or after (4096 * n + k % 4096) 0) at
-       ∙ get_or-put_inside (4096 * to) (take 4096 (drop (4096 * from) pool)) pool (4096 * to + k % 4096) (omega arith) (omega arith) (omega arith)
-       ∙ ap (λ n. get_or (take 4096 (drop (4096 * from) pool)) n 0) offset
-       ∙ get_or-take 4096 (drop (4096 * from) pool) (k % 4096) 0 rest
-       ∙ get_or-drop (4096 * from) pool (k % 4096) 0
-       ∙ ap (λ p. get_or pool (4096 * get_or numbers p 0 + k % 4096) 0) (sym is)
-       ∙ sym plain)
-    | inr isnt ↦
-      (let at : get_or (set numbers page to) (k / 4096) 0 ≡ get_or numbers (k / 4096) 0 = get_or-set_other numbers page (k / 4096) to 0 isnt in
-       let place : 4096 * to + 0 ≡ 4096 * to = omega arith in
-       read ∙ ap (λ n. get_or after (4096 * n + k % 4096) 0) at
-       ∙ ap (λ n. get_or (put_at n (take 4096 (drop (4096 * from) pool)) pool) (4096 * get_or numbers (k / 4096) 0 + k % 4096) 0) (sym place)
-       ∙ other_frame frames to (get_or numbers (k / 4096) 0) 0 (k % 4096) (take 4096 (drop (4096 * from) pool)) pool size other (omega arith) (apart (k / 4096) there) rest
-       ∙ sym plain)
+      | inl is ↦
+          (let at : get_or (set numbers page to) (k / 4096) 0 ≡ to = ap (λ p. get_or (set numbers page to) p 0) is ∙ get_or-set_same numbers page to 0 here in
+          let offset : 4096 * to + k % 4096 - 4096 * to ≡ k % 4096 = omega arith in
+          read ∙ ap (λ n. get_or after (4096 * n + k % 4096) 0) at
+          ∙ get_or-put_inside (4096 * to) (take 4096 (drop (4096 * from) pool)) pool (4096 * to + k % 4096) (omega arith) (omega arith) (omega arith)
+          ∙ ap (λ n. get_or (take 4096 (drop (4096 * from) pool)) n 0) offset
+          ∙ get_or-take 4096 (drop (4096 * from) pool) (k % 4096) 0 rest
+          ∙ get_or-drop (4096 * from) pool (k % 4096) 0
+          ∙ ap (λ p. get_or pool (4096 * get_or numbers p 0 + k % 4096) 0) (sym is)
+          ∙ sym plain)
+      | inr isnt ↦
+          (let at : get_or (set numbers page to) (k / 4096) 0 ≡ get_or numbers (k / 4096) 0 = get_or-set_other numbers page (k / 4096) to 0 isnt in
+          let place : 4096 * to + 0 ≡ 4096 * to = omega arith in
+          read ∙ ap (λ n. get_or after (4096 * n + k % 4096) 0) at
+          ∙ ap (λ n. get_or (put_at n (take 4096 (drop (4096 * from) pool)) pool) (4096 * get_or numbers (k / 4096) 0 + k % 4096) 0) (sym place)
+          ∙ other_frame frames to (get_or numbers (k / 4096) 0) 0 (k % 4096) (take 4096 (drop (4096 * from) pool)) pool size other (omega arith) (apart (k / 4096) there) rest
+          ∙ sym plain)
     ])

@@ -1,14 +1,13 @@
 -- A store that was just made.
-use Rattle.std.proofs.Common.{◌≡◌, ℕ, zero, suc, ◌+◌, ◌-◌, ◌*◌, ◌/◌, ◌%◌, ◌<◌, ◌≤◌, Bool, true, false, ◌||◌, nat_lt, cond, Option, Some, None, List, [], ◌∷◌, ◌++◌, length, map, take, drop, get_or, replicate, All, refl, sym, ap, subst, ◌∙◌, ◌⊎◌, inl, inr, arith}
+use Rattle.std.proofs.Common.{◌≡◌, ℕ, ◌+◌, ◌-◌, ◌*◌, ◌/◌, ◌%◌, ◌<◌, ◌≤◌, true, false, ◌||◌, nat_lt, cond, Some, None, List, [], ◌∷◌, ◌++◌, length, map, get_or, replicate, All, refl, sym, ap, subst, ◌∙◌, inl, inr, arith}
 use Rattle.std.proofs.lemmas.Bool.{cases_lt, false≢true}
 use Rattle.std.proofs.lemmas.List.{length-append, length-replicate, get_or-replicate, get_or_append_left}
 use Rattle.std.proofs.lemmas.List.Elements.{All-head, All-tail, All-weaker, All-nil, All-push}
 use Rattle.std.proofs.lemmas.Grind.{same_number_lists}
-use Rattle.cow_pages.specs.Pages.{Space, Pages, has, different, saved_numbers, used_of, IsMade}
-use Rattle.cow_pages.specs.Pool.{contents, space_of, slot_space, pages_of, slot_numbers, table_numbers, places, Counts, IsStack, IsTable, IsSlot, IsSound, IsRow, AreBlank}
+use Rattle.cow_pages.specs.Pages.{has, different, IsMade}
+use Rattle.cow_pages.specs.Pool.{contents, space_of, slot_space, pages_of, table_numbers, places, Counts, IsStack, IsSlot, IsSound, IsRow, AreBlank}
 use Rattle.cow_pages.specs.declared.slot.Slot.{Slot}
 use Rattle.cow_pages.proofs.Counting.{AreBelow, has-get_or, has-nowhere, places-none, places-some, places-le-one}
-use Rattle.cow_pages.proofs.Walks.{in_use}
 use Rattle.cow_pages.proofs.Frames.{get_or-contents, length-contents}
 use Rattle.cow_pages.proofs.Stores.{table_below, used-sum}
 
@@ -53,29 +52,29 @@ pub row_more : (start end : ℕ) (row : List ℕ) → IsRow start end row → st
 row_more start end row so less = record {
   size = (let e : length (row ++ end ∷ []) ≡ end + 1 - start = omega (arith, length-append row (end ∷ []), so.size) in e);
   each = λ k inside.
-  elim (cases_lt k (length row)) [
-  | inl before ↦ get_or_append_left row (end ∷ []) 0 k before ∙ so.each k before
-  | inr last ↦
-    (let place : k ≡ length row = omega (arith, length-append row (end ∷ [])) in
-     subst (λ n. get_or (row ++ end ∷ []) n 0 ≡ start + n) (sym place) (at_end row end ∙ (let e : end ≡ start + length row = omega (arith, so.size) in e)))
-  ];
+      elim (cases_lt k (length row)) [
+        | inl before ↦ get_or_append_left row (end ∷ []) 0 k before ∙ so.each k before
+        | inr last ↦
+            (let place : k ≡ length row = omega (arith, length-append row (end ∷ [])) in
+            subst (λ n. get_or (row ++ end ∷ []) n 0 ≡ start + n) (sym place) (at_end row end ∙ (let e : end ≡ start + length row = omega (arith, so.size) in e)))
+      ];
 }
 
 row_places : (pages frames : ℕ) (live free : List ℕ) (n : ℕ) → IsRow 0 pages live → IsRow pages frames free → pages ≤ frames → n < frames → places n free ≡ cond (has n live) 0 1
 row_places pages frames live free n low high less under =
     elim (cases_lt n pages) [
-    | inl inside ↦
-      (let here : has n live ≡ true = subst (λ m. has m live ≡ true) (low.each n (omega (arith, low.size)) ∙ (let e : 0 + n ≡ n = omega arith in e)) (has-get_or live n (omega (arith, low.size))) in
-       let none : places n free ≡ 0 = places-none n free (has-nowhere n free (λ k near e. absurd (omega (arith, high.each k near, e)))) in
-       none ∙ sym (ap (λ b. cond b 0 1) here))
-    | inr past ↦
-      (let gone : has n live ≡ false = has-nowhere n live (λ k near e. absurd (omega (arith, low.each k near, low.size, e))) in
-       let there : n - pages < length free = omega (arith, high.size) in
-       let number : get_or free (n - pages) 0 ≡ n = high.each (n - pages) there ∙ (let e : pages + (n - pages) ≡ n = omega arith in e) in
-       let some : 0 < places n free = places-some n free (subst (λ m. has m free ≡ true) number (has-get_or free (n - pages) there)) in
-       let once : places n free ≤ 1 = places-le-one n free (row_once pages frames free high) in
-       let one : places n free ≡ 1 = omega arith in
-       one ∙ sym (ap (λ b. cond b 0 1) gone))
+      | inl inside ↦
+          (let here : has n live ≡ true = subst (λ m. has m live ≡ true) (low.each n (omega (arith, low.size)) ∙ (let e : 0 + n ≡ n = omega arith in e)) (has-get_or live n (omega (arith, low.size))) in
+          let none : places n free ≡ 0 = places-none n free (has-nowhere n free (λ k near e. absurd (omega (arith, high.each k near, e)))) in
+          none ∙ sym (ap (λ b. cond b 0 1) here))
+      | inr past ↦
+          (let gone : has n live ≡ false = has-nowhere n live (λ k near e. absurd (omega (arith, low.each k near, low.size, e))) in
+          let there : n - pages < length free = omega (arith, high.size) in
+          let number : get_or free (n - pages) 0 ≡ n = high.each (n - pages) there ∙ (let e : pages + (n - pages) ≡ n = omega arith in e) in
+          let some : 0 < places n free = places-some n free (subst (λ m. has m free ≡ true) number (has-get_or free (n - pages) there)) in
+          let once : places n free ≤ 1 = places-le-one n free (row_once pages frames free high) in
+          let one : places n free ≡ 1 = omega arith in
+          one ∙ sym (ap (λ b. cond b 0 1) gone))
     ]
 
 first_stack : (pages frames : ℕ) (live free counts : List ℕ) → IsRow 0 pages live → IsRow pages frames free → pages ≤ frames → counts ≡ replicate frames 0 → IsStack counts live free
@@ -84,8 +83,8 @@ first_stack pages frames live free counts low high less is =
     record {
       below = λ k inside. omega (arith, high.each k inside, high.size, size);
       each = λ n under.
-      let zero_count : nat_lt 0 (get_or counts n 0) ≡ false = ap (λ xs. nat_lt 0 (get_or xs n 0)) is ∙ ap (nat_lt 0) (get_or-replicate frames n 0 0 (omega (arith, size))) in
-      row_places pages frames live free n low high less (omega (arith, size)) ∙ ap (λ b. cond (b || has n live) 0 1) (sym zero_count);
+          let zero_count : nat_lt 0 (get_or counts n 0) ≡ false = ap (λ xs. nat_lt 0 (get_or xs n 0)) is ∙ ap (nat_lt 0) (get_or-replicate frames n 0 0 (omega (arith, size))) in
+          row_places pages frames live free n low high less (omega (arith, size)) ∙ ap (λ b. cond (b || has n live) 0 1) (sym zero_count);
     }
 
 pub made_sound : (pages frames count : ℕ) (pool live counts free : List ℕ) (reserved : ℕ) (slots : List Slot) → (1 ≤ pages) × (pages ≤ 16384) → (1 ≤ count) × (count ≤ 16) → (2 * pages ≤ frames) × (frames ≤ 16 * pages) → pool ≡ replicate (frames * 4096) 0 → IsRow 0 pages live → counts ≡ replicate frames 0 → IsRow pages frames free → frames ≤ reserved → AreBlank count pages slots → IsSound pages frames 0 pool live counts free reserved slots
@@ -107,9 +106,9 @@ made_sound pages frames count pool live counts free reserved slots few numbered 
         size = low.size ∙ (let e : pages - 0 ≡ pages = omega arith in e);
         below = λ page less. omega (arith, low.each page (omega (arith, low.size)), many, enough.0);
         home = λ page less.
-        let inside : page < length live = omega (arith, low.size) in
-        let number : get_or live page 0 ≡ page = low.each page inside ∙ (let e : 0 + page ≡ page = omega arith in e) in
-        ap (λ n. get_or homes n 0) number ∙ get_or_append_left live (replicate {A = ℕ} (frames - pages) 0) 0 page inside ∙ number;
+            let inside : page < length live = omega (arith, low.size) in
+            let number : get_or live page 0 ≡ page = low.each page inside ∙ (let e : 0 + page ≡ page = omega arith in e) in
+            ap (λ n. get_or homes n 0) number ∙ get_or_append_left live (replicate {A = ℕ} (frames - pages) 0) 0 page inside ∙ number;
       };
       slot_tables = All-weaker (IsBlank pages) (IsSlot pages homes) (λ slot h. record { size = h.1; table = λ saved. absurd (false≢true (sym h.0 ∙ saved)) }) slots blank.each;
       counted = subst (Counts counts) (sym none) record { below = λ k less. absurd (omega arith); each = λ n less. ap (λ xs. get_or xs n 0) zeros ∙ get_or-replicate frames n 0 0 (omega (arith, size)) };
@@ -127,13 +126,13 @@ made_is pages frames count pool live counts free reserved slots so bytes high bl
       pages_are = refl;
       frames_are = refl;
       zeros = same_number_lists (contents pool live) (replicate (4096 * pages) 0) (omega (arith, so.live_table.size))
-      (λ k less.
-       let number : get_or live (k / 4096) 0 < frames = below (k / 4096) (omega arith) in
-       let place : 4096 * get_or live (k / 4096) 0 + k % 4096 < frames * 4096 = omega arith in
-       get_or-contents frames pool live k so.pool_size below (omega arith)
-       ∙ ap (λ xs. get_or xs (4096 * get_or live (k / 4096) 0 + k % 4096) 0) bytes
-       ∙ get_or-replicate (frames * 4096) (4096 * get_or live (k / 4096) 0 + k % 4096) 0 0 place
-       ∙ sym (get_or-replicate (4096 * pages) k 0 0 (omega (arith, so.live_table.size))));
+          (λ k less.
+          let number : get_or live (k / 4096) 0 < frames = below (k / 4096) (omega arith) in
+          let place : 4096 * get_or live (k / 4096) 0 + k % 4096 < frames * 4096 = omega arith in
+          get_or-contents frames pool live k so.pool_size below (omega arith)
+          ∙ ap (λ xs. get_or xs (4096 * get_or live (k / 4096) 0 + k % 4096) 0) bytes
+          ∙ get_or-replicate (frames * 4096) (4096 * get_or live (k / 4096) 0 + k % 4096) 0 0 place
+          ∙ sym (get_or-replicate (4096 * pages) k 0 0 (omega (arith, so.live_table.size))));
       empty = blank_seen pages pool slots blank.each ∙ ap (λ n. replicate n None) blank.size;
       used = omega (arith, used-sum pages frames 0 pool live counts free reserved slots so, high.size, so.enough);
     }

@@ -1,8 +1,8 @@
 -- A write right behind another one, and runs that are read page by page.
-use Rattle.std.proofs.Common.{◌≡◌, ℕ, zero, suc, ◌+◌, ◌-◌, ◌*◌, ◌/◌, ◌%◌, ◌<◌, ◌≤◌, Bool, true, false, ◌||◌, ◌&&◌, nat_lt, nat_le, cond, List, [], ◌∷◌, ◌++◌, length, take, drop, get_or, replicate, refl, sym, ap, subst, ◌∙◌, ◌⊎◌, inl, inr, arith}
-use Rattle.std.proofs.lemmas.Bool.{cases_Bool, cases_eq, cases_lt, lt-ltb, le-leb, ltb-true, leb-true, or_parts, and_parts, and_from, or_cases, false≢true, false_from_ne_true, true_from_ne_false}
+use Rattle.std.proofs.Common.{◌≡◌, ℕ, zero, suc, ◌+◌, ◌-◌, ◌*◌, ◌/◌, ◌<◌, ◌≤◌, Bool, true, false, ◌||◌, ◌&&◌, cond, List, [], ◌++◌, length, take, drop, get_or, replicate, refl, sym, ap, subst, ◌∙◌, inl, inr, arith}
+use Rattle.std.proofs.lemmas.Bool.{cases_Bool, cases_lt, or_parts, and_parts, or_cases, false≢true, false_from_ne_true}
 use Rattle.std.proofs.lemmas.List.{length-append, take-append-drop, take-take, drop-take, drop-drop, append-nil, append_assoc, take_at, length-take-le, length-drop, length-replicate, replicate-append-replicate}
-use Rattle.cow_pages.specs.Pages.{Space, Pages, has, saved_numbers, used_of, IsSpace, IsLawful}
+use Rattle.cow_pages.specs.Pages.{Pages, has, saved_numbers, used_of, IsSpace, IsLawful}
 use Rattle.cow_pages.specs.Writes.{put_at, is_shared, IsFree, NumberAfter, reaches, copied_pages, Writes}
 use Rattle.cow_pages.proofs.Counting.{has-append, has-get_or, has-at, or_first, or_second}
 use Rattle.cow_pages.proofs.Frames.{put_at-put_at}
@@ -40,35 +40,35 @@ pub reaches-append : (at first second page : ℕ) → reaches at (first + second
 reaches-append at first second page =
     same_truth (reaches at (first + second) page) (reaches at first page || reaches (at + first) second page)
     (λ h.
-     let r = reached at (first + second) page h in
-     elim (cases_lt 0 first) [
-     | inl some ↦
-       (elim (cases_lt ((at + first - 1) / 4096) page) [
-        | inl later ↦ or_second (reaches at first page) (reaches (at + first) second page) (reaching (at + first) second page (omega (arith, r.0, r.1, r.2)) (omega (arith, r.0, r.1, r.2)) (omega (arith, r.0, r.1, r.2)))
-        | inr within ↦ or_first (reaches at first page) (reaches (at + first) second page) (reaching at first page some r.1 within)
-        ])
-     | inr none ↦
-       (let zero_first : first ≡ 0 = omega arith in
-        or_second (reaches at first page) (reaches (at + first) second page) (reaching (at + first) second page (omega (arith, r.0)) (omega (arith, r.1)) (omega (arith, r.2))))
-     ])
+    let r = reached at (first + second) page h in
+    elim (cases_lt 0 first) [
+      | inl some ↦
+          (elim (cases_lt ((at + first - 1) / 4096) page) [
+            | inl later ↦ or_second (reaches at first page) (reaches (at + first) second page) (reaching (at + first) second page (omega (arith, r.0, r.1, r.2)) (omega (arith, r.0, r.1, r.2)) (omega (arith, r.0, r.1, r.2)))
+            | inr within ↦ or_first (reaches at first page) (reaches (at + first) second page) (reaching at first page some r.1 within)
+          ])
+      | inr none ↦
+          (let zero_first : first ≡ 0 = omega arith in
+          or_second (reaches at first page) (reaches (at + first) second page) (reaching (at + first) second page (omega (arith, r.0)) (omega (arith, r.1)) (omega (arith, r.2))))
+    ])
     (λ h.
-     elim (or_cases (reaches at first page) (reaches (at + first) second page) h) [
-     | inl one ↦ (let r = reached at first page one in reaching at (first + second) page (omega (arith, r.0)) r.1 (omega (arith, r.2)))
-     | inr two ↦ (let r = reached (at + first) second page two in reaching at (first + second) page (omega (arith, r.0)) (omega (arith, r.1)) (omega (arith, r.2)))
-     ])
+    elim (or_cases (reaches at first page) (reaches (at + first) second page) h) [
+      | inl one ↦ (let r = reached at first page one in reaching at (first + second) page (omega (arith, r.0)) r.1 (omega (arith, r.2)))
+      | inr two ↦ (let r = reached (at + first) second page two in reaching at (first + second) page (omega (arith, r.0)) (omega (arith, r.1)) (omega (arith, r.2)))
+    ])
 
 -- a page that was copied isn't shared any more, and every other one is as it was
 pub shared_after : (old new : Pages) (at : ℕ) (bytes : List ℕ) (page : ℕ) → Writes old new at bytes → page < old.pages → is_shared new page ≡ cond (reaches at (length bytes) page && is_shared old page) false (is_shared old page)
 shared_after old new at bytes page so less =
     ap (λ xs. has (get_or new.live.numbers page 0) (saved_numbers xs)) so.slots
     ∙ elim (cases_Bool (reaches at (length bytes) page && is_shared old page)) [
-    | inl copied ↦
-      (let free : IsFree old (get_or new.live.numbers page 0) = subst (λ b. NumberAfter b old page (get_or new.live.numbers page 0)) copied (so.numbers page less) in
-       let none : has (get_or new.live.numbers page 0) (saved_numbers old.slots) ≡ false = (or_parts (has (get_or new.live.numbers page 0) old.live.numbers) (has (get_or new.live.numbers page 0) (saved_numbers old.slots)) (sym (has-append (get_or new.live.numbers page 0) old.live.numbers (saved_numbers old.slots)) ∙ free.1)).1 in
-       none ∙ sym (ap (λ b. cond b false (is_shared old page)) copied))
-    | inr kept ↦
-      (let same : get_or new.live.numbers page 0 ≡ get_or old.live.numbers page 0 = subst (λ b. NumberAfter b old page (get_or new.live.numbers page 0)) kept (so.numbers page less) in
-       ap (λ n. has n (saved_numbers old.slots)) same ∙ sym (ap (λ b. cond b false (is_shared old page)) kept))
+      | inl copied ↦
+          (let free : IsFree old (get_or new.live.numbers page 0) = subst (λ b. NumberAfter b old page (get_or new.live.numbers page 0)) copied (so.numbers page less) in
+          let none : has (get_or new.live.numbers page 0) (saved_numbers old.slots) ≡ false = (or_parts (has (get_or new.live.numbers page 0) old.live.numbers) (has (get_or new.live.numbers page 0) (saved_numbers old.slots)) (sym (has-append (get_or new.live.numbers page 0) old.live.numbers (saved_numbers old.slots)) ∙ free.1)).1 in
+          none ∙ sym (ap (λ b. cond b false (is_shared old page)) copied))
+      | inr kept ↦
+          (let same : get_or new.live.numbers page 0 ≡ get_or old.live.numbers page 0 = subst (λ b. NumberAfter b old page (get_or new.live.numbers page 0)) kept (so.numbers page less) in
+          ap (λ n. has n (saved_numbers old.slots)) same ∙ sym (ap (λ b. cond b false (is_shared old page)) kept))
     ]
 
 -- a number that is free after a write was free before it
@@ -79,18 +79,18 @@ free_before old new at bytes n so many more free =
     let unlive : has n old.live.numbers ≡ false =
     false_from_ne_true (has n old.live.numbers)
     (λ is.
-     let found = has-at n old.live.numbers is in
-     let page = found.0 in
-     let less : page < old.pages = omega (arith, found.1) in
-     elim (cases_Bool (reaches at (length bytes) page && is_shared old page)) [
-     | inl copied ↦
-       (let shared : is_shared old page ≡ true = (and_parts (reaches at (length bytes) page) (is_shared old page) copied).1 in
-        false≢true (sym unsaved ∙ subst (λ m. has m (saved_numbers old.slots) ≡ true) found.2 shared))
-     | inr kept ↦
-       (let same : get_or new.live.numbers page 0 ≡ get_or old.live.numbers page 0 = subst (λ b. NumberAfter b old page (get_or new.live.numbers page 0)) kept (so.numbers page less) in
-        let inside : page < length new.live.numbers = omega (arith, so.pages) in
-        false≢true (sym parts.0 ∙ subst (λ m. has m new.live.numbers ≡ true) (same ∙ found.2) (has-get_or new.live.numbers page inside)))
-     ]) in
+    let found = has-at n old.live.numbers is in
+    let page = found.0 in
+    let less : page < old.pages = omega (arith, found.1) in
+    elim (cases_Bool (reaches at (length bytes) page && is_shared old page)) [
+      | inl copied ↦
+          (let shared : is_shared old page ≡ true = (and_parts (reaches at (length bytes) page) (is_shared old page) copied).1 in
+          false≢true (sym unsaved ∙ subst (λ m. has m (saved_numbers old.slots) ≡ true) found.2 shared))
+      | inr kept ↦
+          (let same : get_or new.live.numbers page 0 ≡ get_or old.live.numbers page 0 = subst (λ b. NumberAfter b old page (get_or new.live.numbers page 0)) kept (so.numbers page less) in
+          let inside : page < length new.live.numbers = omega (arith, so.pages) in
+          false≢true (sym parts.0 ∙ subst (λ m. has m new.live.numbers ≡ true) (same ∙ found.2) (has-get_or new.live.numbers page inside)))
+    ]) in
     (subst (λ f. n < f) so.frames free.0, has-append n old.live.numbers (saved_numbers old.slots) ∙ ap (λ b. b || has n (saved_numbers old.slots)) unlive ∙ unsaved)
 
 -- the two numbers that a page got, one after the other
@@ -138,18 +138,18 @@ writes_more old mid new at first second so then before between room =
       slots = then.slots ∙ so.slots;
       written = then.written ∙ ap (put_at (at + length first) second) so.written ∙ put_at-put_at at first second old.live.bytes (omega (arith, here.bytes));
       numbers = λ page less.
-      let later : NumberAfter (reaches (at + length first) (length second) page && is_shared mid page) mid page (get_or new.live.numbers page 0) = then.numbers page (omega (arith, so.pages)) in
-      let last : NumberAfter (reaches (at + length first) (length second) page && cond (reaches at (length first) page && is_shared old page) false (is_shared old page)) mid page (get_or new.live.numbers page 0) =
-      subst (λ b. NumberAfter (reaches (at + length first) (length second) page && b) mid page (get_or new.live.numbers page 0)) (shared_after old mid at first page so less) later in
-      subst (λ b. NumberAfter (b && is_shared old page) old page (get_or new.live.numbers page 0))
-      (sym (ap (λ n. reaches at n page) many ∙ reaches-append at (length first) (length second) page))
-      (both_numbers (reaches at (length first) page) (reaches (at + length first) (length second) page) (is_shared old page) old mid page (get_or new.live.numbers page 0) (so.numbers page less) last
-       (free_before old mid at first (get_or new.live.numbers page 0) so here.numbers there.numbers));
+          let later : NumberAfter (reaches (at + length first) (length second) page && is_shared mid page) mid page (get_or new.live.numbers page 0) = then.numbers page (omega (arith, so.pages)) in
+          let last : NumberAfter (reaches (at + length first) (length second) page && cond (reaches at (length first) page && is_shared old page) false (is_shared old page)) mid page (get_or new.live.numbers page 0) =
+          subst (λ b. NumberAfter (reaches (at + length first) (length second) page && b) mid page (get_or new.live.numbers page 0)) (shared_after old mid at first page so less) later in
+          subst (λ b. NumberAfter (b && is_shared old page) old page (get_or new.live.numbers page 0))
+          (sym (ap (λ n. reaches at n page) many ∙ reaches-append at (length first) (length second) page))
+          (both_numbers (reaches at (length first) page) (reaches (at + length first) (length second) page) (is_shared old page) old mid page (get_or new.live.numbers page 0) (so.numbers page less) last
+          (free_before old mid at first (get_or new.live.numbers page 0) so here.numbers there.numbers));
       used =
-      (let sum : copied_pages old at (length first + length second) old.pages ≡ copied_pages old at (length first) old.pages + copied_pages mid (at + length first) (length second) old.pages = copied-append old mid at (length second) first old.pages so (omega arith) in
-       let all : copied_pages old at (length (first ++ second)) old.pages ≡ copied_pages old at (length first + length second) old.pages = ap (λ n. copied_pages old at n old.pages) many in
-       let same : copied_pages mid (at + length first) (length second) mid.pages ≡ copied_pages mid (at + length first) (length second) old.pages = ap (copied_pages mid (at + length first) (length second)) so.pages in
-       omega (arith, so.used, then.used, sum, all, same));
+          (let sum : copied_pages old at (length first + length second) old.pages ≡ copied_pages old at (length first) old.pages + copied_pages mid (at + length first) (length second) old.pages = copied-append old mid at (length second) first old.pages so (omega arith) in
+          let all : copied_pages old at (length (first ++ second)) old.pages ≡ copied_pages old at (length first + length second) old.pages = ap (λ n. copied_pages old at n old.pages) many in
+          let same : copied_pages mid (at + length first) (length second) mid.pages ≡ copied_pages mid (at + length first) (length second) old.pages = ap (copied_pages mid (at + length first) (length second)) so.pages in
+          omega (arith, so.used, then.used, sum, all, same));
     }
 
 -- the front of a list, longer by a part

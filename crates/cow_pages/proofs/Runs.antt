@@ -1,15 +1,14 @@
 -- Writes, and several one after the other.
-use Rattle.std.proofs.Common.{◌≡◌, ℕ, zero, suc, ◌+◌, ◌-◌, ◌*◌, ◌/◌, ◌%◌, ◌<◌, ◌≤◌, Bool, true, false, ◌||◌, ◌&&◌, ◌==◌, nat_lt, nat_le, cond, Option, Some, None, List, [], ◌∷◌, ◌++◌, length, slice_get, map, take, drop, get_or, set, All, MatchBool, refl, sym, ap, subst, ◌∙◌, ◌⊎◌, inl, inr, arith}
-use Rattle.std.proofs.lemmas.Bool.{cases_Bool, cases_eq, cases_lt, lt-ltb, le-ltb, le-leb, lt-leb, ltb-true, leb-true, ltb-false, leb-false, or_parts, or_cases, and_parts, and_cases, and_from, and_left, and_right, false≢true, false_from_ne_true}
-use Rattle.std.proofs.lemmas.Bool.Decides.{nat_tests}
+use Rattle.std.proofs.Common.{◌≡◌, ℕ, zero, suc, ◌+◌, ◌-◌, ◌*◌, ◌/◌, ◌%◌, ◌<◌, ◌≤◌, true, false, ◌&&◌, nat_lt, nat_le, cond, Some, List, [], ◌∷◌, ◌++◌, length, slice_get, take, drop, get_or, set, refl, sym, ap, subst, ◌∙◌, inl, inr, arith}
+use Rattle.std.proofs.lemmas.Bool.{cases_Bool, cases_eq, cases_lt, lt-ltb, le-ltb, le-leb, ltb-true, leb-true, or_parts, and_parts, and_from, false_from_ne_true}
 use Rattle.std.proofs.lemmas.Option.{slice_get-get_or}
 use Rattle.std.proofs.lemmas.List.{length-append, length-drop, length-set, length-take-le, get_or_default, take_at}
-use Rattle.cow_pages.specs.Pages.{Space, Pages, has, different, saved_numbers, used_of, IsSpace, IsLawful}
+use Rattle.cow_pages.specs.Pages.{Pages, has, different, saved_numbers, used_of, IsLawful}
 use Rattle.cow_pages.specs.Writes.{put_at, is_shared, IsFree, NumberAfter, reaches, copied_pages, Writes, Owns}
-use Rattle.cow_pages.specs.Pool.{contents, space_of, slot_space, pages_of, slot_numbers, table_numbers, places, Counts, IsStack, IsTable, IsSlot, IsSound}
+use Rattle.cow_pages.specs.Pool.{contents, pages_of, table_numbers, IsSound}
 use Rattle.cow_pages.specs.declared.slot.Slot.{Slot}
-use Rattle.cow_pages.proofs.Counting.{AreBelow, has-append, has-is, has-get_or}
-use Rattle.cow_pages.proofs.Frames.{length-put_at, contents-put_here, contents-put_apart, put_at-put_at, put_at-nil, part-put_at, set-put_at, get_or-contents, length-contents, run-contents}
+use Rattle.cow_pages.proofs.Counting.{AreBelow, has-append}
+use Rattle.cow_pages.proofs.Frames.{length-put_at, contents-put_here, contents-put_apart, part-put_at, set-put_at, get_or-contents, length-contents, run-contents}
 use Rattle.cow_pages.proofs.Stores.{saved_numbers-is, table_below, table_once, lawful}
 use Rattle.cow_pages.proofs.Copying.{slots_same, not-at}
 
@@ -18,12 +17,12 @@ pub owned-apart : (old new : Pages) (page : ℕ) → Owns old new page → is_sh
 owned-apart old new page so =
     ap (λ xs. has (get_or new.live.numbers page 0) (saved_numbers xs)) so.slots ∙
     elim (cases_Bool (is_shared old page)) [
-    | inl shared ↦
-      (let free : IsFree old (get_or new.live.numbers page 0) = subst (λ b. NumberAfter b old page (get_or new.live.numbers page 0)) shared so.number in
-       (or_parts (has (get_or new.live.numbers page 0) old.live.numbers) (has (get_or new.live.numbers page 0) (saved_numbers old.slots)) (sym (has-append (get_or new.live.numbers page 0) old.live.numbers (saved_numbers old.slots)) ∙ free.1)).1)
-    | inr own ↦
-      (let same : get_or new.live.numbers page 0 ≡ get_or old.live.numbers page 0 = subst (λ b. NumberAfter b old page (get_or new.live.numbers page 0)) own so.number in
-       ap (λ n. has n (saved_numbers old.slots)) same ∙ own)
+      | inl shared ↦
+          (let free : IsFree old (get_or new.live.numbers page 0) = subst (λ b. NumberAfter b old page (get_or new.live.numbers page 0)) shared so.number in
+          (or_parts (has (get_or new.live.numbers page 0) old.live.numbers) (has (get_or new.live.numbers page 0) (saved_numbers old.slots)) (sym (has-append (get_or new.live.numbers page 0) old.live.numbers (saved_numbers old.slots)) ∙ free.1)).1)
+      | inr own ↦
+          (let same : get_or new.live.numbers page 0 ≡ get_or old.live.numbers page 0 = subst (λ b. NumberAfter b old page (get_or new.live.numbers page 0)) own so.number in
+          ap (λ n. has n (saved_numbers old.slots)) same ∙ own)
     ]
 
 -- bytes are written into the pool
@@ -69,8 +68,8 @@ reaches-other at count page within other =
 same_test : (a b : ℕ) → (a ≡ b → ⊥) → nat_lt a b ≡ nat_lt a (suc b)
 same_test a b other =
     elim (cases_lt a b) [
-    | inl less ↦ lt-ltb a b less ∙ sym (lt-ltb a (suc b) (omega arith))
-    | inr past ↦ le-ltb a b past ∙ sym (le-ltb a (suc b) (omega arith))
+      | inl less ↦ lt-ltb a b less ∙ sym (lt-ltb a (suc b) (omega arith))
+      | inr past ↦ le-ltb a b past ∙ sym (le-ltb a (suc b) (omega arith))
     ]
 
 -- how many pages such a write copies
@@ -81,20 +80,20 @@ copied_one store at count some within zero =
 copied_one store at count some within (suc pages) =
     let fewer : copied_pages store at count pages ≡ cond (nat_lt (at / 4096) pages && is_shared store (at / 4096)) 1 0 = copied_one store at count some within pages in
     elim (cases_eq pages (at / 4096)) [
-    | inl here ↦
-      (let far : nat_lt (at / 4096) pages ≡ false = le-ltb (at / 4096) pages (omega arith) in
-       let near : nat_lt (at / 4096) (suc pages) ≡ true = lt-ltb (at / 4096) (suc pages) (omega arith) in
-       let none : copied_pages store at count pages ≡ 0 = fewer ∙ ap (λ b. cond (b && is_shared store (at / 4096)) 1 0) far in
-       let hit : reaches at count pages ≡ true = subst (λ p. reaches at count p ≡ true) (sym here) (reaches-here at count some within) in
-       let last : ◌≡◌ {A = ℕ} (cond (reaches at count pages && is_shared store pages) 1 0) (cond (is_shared store (at / 4096)) 1 0) = ap (λ b. cond (b && is_shared store pages) 1 0) hit ∙ ap (λ p. cond (is_shared store p) 1 0) here in
-       let sum : copied_pages store at count pages + cond (reaches at count pages && is_shared store pages) 1 0 ≡ 0 + cond (is_shared store (at / 4096)) 1 0 = ap (λ n. n + cond (reaches at count pages && is_shared store pages) 1 0) none ∙ ap (λ n. 0 + n) last in
-       let plain : (n : ℕ) → 0 + n ≡ n = λ n. omega arith in
-       sum ∙ plain (cond (is_shared store (at / 4096)) 1 0) ∙ sym (ap (λ b. cond (b && is_shared store (at / 4096)) 1 0) near))
-    | inr other ↦
-      (let miss : ◌≡◌ {A = ℕ} (cond (reaches at count pages && is_shared store pages) 1 0) 0 = ap (λ b. cond (b && is_shared store pages) 1 0) (reaches-other at count pages within other) in
-       let same : nat_lt (at / 4096) pages ≡ nat_lt (at / 4096) (suc pages) = same_test (at / 4096) pages (λ e. other (sym e)) in
-       let sum : copied_pages store at count pages + cond (reaches at count pages && is_shared store pages) 1 0 ≡ cond (nat_lt (at / 4096) pages && is_shared store (at / 4096)) 1 0 = omega (arith, fewer, miss) in
-       sum ∙ ap (λ b. cond (b && is_shared store (at / 4096)) 1 0) same)
+      | inl here ↦
+          (let far : nat_lt (at / 4096) pages ≡ false = le-ltb (at / 4096) pages (omega arith) in
+          let near : nat_lt (at / 4096) (suc pages) ≡ true = lt-ltb (at / 4096) (suc pages) (omega arith) in
+          let none : copied_pages store at count pages ≡ 0 = fewer ∙ ap (λ b. cond (b && is_shared store (at / 4096)) 1 0) far in
+          let hit : reaches at count pages ≡ true = subst (λ p. reaches at count p ≡ true) (sym here) (reaches-here at count some within) in
+          let last : ◌≡◌ {A = ℕ} (cond (reaches at count pages && is_shared store pages) 1 0) (cond (is_shared store (at / 4096)) 1 0) = ap (λ b. cond (b && is_shared store pages) 1 0) hit ∙ ap (λ p. cond (is_shared store p) 1 0) here in
+          let sum : copied_pages store at count pages + cond (reaches at count pages && is_shared store pages) 1 0 ≡ 0 + cond (is_shared store (at / 4096)) 1 0 = ap (λ n. n + cond (reaches at count pages && is_shared store pages) 1 0) none ∙ ap (λ n. 0 + n) last in
+          let plain : (n : ℕ) → 0 + n ≡ n = λ n. omega arith in
+          sum ∙ plain (cond (is_shared store (at / 4096)) 1 0) ∙ sym (ap (λ b. cond (b && is_shared store (at / 4096)) 1 0) near))
+      | inr other ↦
+          (let miss : ◌≡◌ {A = ℕ} (cond (reaches at count pages && is_shared store pages) 1 0) 0 = ap (λ b. cond (b && is_shared store pages) 1 0) (reaches-other at count pages within other) in
+          let same : nat_lt (at / 4096) pages ≡ nat_lt (at / 4096) (suc pages) = same_test (at / 4096) pages (λ e. other (sym e)) in
+          let sum : copied_pages store at count pages + cond (reaches at count pages && is_shared store pages) 1 0 ≡ cond (nat_lt (at / 4096) pages && is_shared store (at / 4096)) 1 0 = omega (arith, fewer, miss) in
+          sum ∙ ap (λ b. cond (b && is_shared store (at / 4096)) 1 0) same)
     ]
 
 -- a page gets a frame of its own, and bytes are written there
@@ -107,18 +106,18 @@ owned_write old mid new at bytes some within inside so pages frames slots number
       slots = slots ∙ so.slots;
       written = written ∙ ap (put_at at bytes) so.bytes;
       numbers = λ p less.
-      subst (λ xs. NumberAfter (reaches at (length bytes) p && is_shared old p) old p (get_or xs p 0)) (sym numbers)
-      (elim (cases_eq p (at / 4096)) [
-       | inl here ↦
-         subst (λ q. NumberAfter (reaches at (length bytes) q && is_shared old q) old q (get_or mid.live.numbers q 0)) (sym here)
-         (subst (λ b. NumberAfter (b && is_shared old (at / 4096)) old (at / 4096) (get_or mid.live.numbers (at / 4096) 0)) (sym (reaches-here at (length bytes) some within)) so.number)
-       | inr other ↦
-         subst (λ b. NumberAfter (b && is_shared old p) old p (get_or mid.live.numbers p 0)) (sym (reaches-other at (length bytes) p within other)) (so.others p less other)
-       ]);
+          subst (λ xs. NumberAfter (reaches at (length bytes) p && is_shared old p) old p (get_or xs p 0)) (sym numbers)
+          (elim (cases_eq p (at / 4096)) [
+            | inl here ↦
+                subst (λ q. NumberAfter (reaches at (length bytes) q && is_shared old q) old q (get_or mid.live.numbers q 0)) (sym here)
+                (subst (λ b. NumberAfter (b && is_shared old (at / 4096)) old (at / 4096) (get_or mid.live.numbers (at / 4096) 0)) (sym (reaches-here at (length bytes) some within)) so.number)
+            | inr other ↦
+                subst (λ b. NumberAfter (b && is_shared old p) old p (get_or mid.live.numbers p 0)) (sym (reaches-other at (length bytes) p within other)) (so.others p less other)
+          ]);
       used =
-      (let same : used_of new ≡ used_of mid = ap (λ xs. different (xs ++ saved_numbers new.slots)) numbers ∙ ap (λ xs. different (mid.live.numbers ++ saved_numbers xs)) slots in
-       let one : copied_pages old at (length bytes) old.pages ≡ cond (is_shared old (at / 4096)) 1 0 = copied_one old at (length bytes) some within old.pages ∙ ap (λ b. cond (b && is_shared old (at / 4096)) 1 0) (lt-ltb (at / 4096) old.pages page) in
-       same ∙ so.used ∙ ap (λ n. used_of old + n) (sym one));
+          (let same : used_of new ≡ used_of mid = ap (λ xs. different (xs ++ saved_numbers new.slots)) numbers ∙ ap (λ xs. different (mid.live.numbers ++ saved_numbers xs)) slots in
+          let one : copied_pages old at (length bytes) old.pages ≡ cond (is_shared old (at / 4096)) 1 0 = copied_one old at (length bytes) some within old.pages ∙ ap (λ b. cond (b && is_shared old (at / 4096)) 1 0) (lt-ltb (at / 4096) old.pages page) in
+          same ∙ so.used ∙ ap (λ n. used_of old + n) (sym one));
     }
 
 -- the pool's bytes behind a place, read as those of the live space
@@ -132,7 +131,7 @@ byte_is pages frames held pool live counts free reserved slots store at place x 
     let within : at < length (contents pool live) = omega (arith, so.live_table.size) in
     subst (λ s. slice_get s.live.bytes at ≡ Some x) is
     (slice_get-get_or (contents pool live) at 0 within
-     ∙ ap Some (get_or-contents frames pool live at so.pool_size below (omega arith) ∙ ap (λ n. get_or pool n 0) (sym where') ∙ get_or_default pool place 0 x (omega (arith, so.pool_size)) ∙ sym read))
+    ∙ ap Some (get_or-contents frames pool live at so.pool_size below (omega arith) ∙ ap (λ n. get_or pool n 0) (sym where') ∙ get_or_default pool place 0 x (omega (arith, so.pool_size)) ∙ sym read))
 
 pub run_is : (pages frames held : ℕ) (pool live counts free : List ℕ) (reserved : ℕ) (slots : List Slot) (store : Pages) (at count place : ℕ) → IsSound pages frames held pool live counts free reserved slots → pages_of pages frames pool live slots ≡ store → at < 4096 * store.pages → at % 4096 + count ≤ 4096 → place ≡ 4096 * get_or store.live.numbers (at / 4096) 0 + at % 4096 → take count (drop place pool) ≡ take count (drop at store.live.bytes)
 run_is pages frames held pool live counts free reserved slots store at count place so is inside within there =
@@ -155,9 +154,9 @@ put_done pages frames held pool after live counts free reserved slots old mid at
     let written : after ≡ put_at (4096 * n + at % 4096) bytes pool = e ∙ ap (λ m. put_at m bytes pool) where' in
     subst (λ xs. Writes old (pages_of pages frames xs live slots) at bytes) (sym written)
     (owned_write old (pages_of pages frames pool live slots) (pages_of pages frames (put_at (4096 * n + at % 4096) bytes pool) live slots) at bytes some within inside mine refl refl
-     (slots_same pages frames n so.homes pool (put_at (4096 * n + at % 4096) bytes pool) slots so.homes_size so.slot_tables none (λ table under gone. contents-put_apart frames n (at % 4096) bytes pool table so.pool_size under number within (not-at n table gone)))
-     refl
-     (contents-put_here frames bytes pool live at so.pool_size below (table_once pages so.homes live so.live_table) near within))
+    (slots_same pages frames n so.homes pool (put_at (4096 * n + at % 4096) bytes pool) slots so.homes_size so.slot_tables none (λ table under gone. contents-put_apart frames n (at % 4096) bytes pool table so.pool_size under number within (not-at n table gone)))
+    refl
+    (contents-put_here frames bytes pool live at so.pool_size below (table_once pages so.homes live so.live_table) near within))
 
 pub used_one : (old new : Pages) (at : ℕ) (bytes : List ℕ) → Writes old new at bytes → 0 < length bytes → at % 4096 + length bytes ≤ 4096 → at < 4096 * old.pages → used_of new ≡ used_of old + cond (is_shared old (at / 4096)) 1 0
 used_one old new at bytes so some within inside =

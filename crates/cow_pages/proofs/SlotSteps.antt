@@ -1,11 +1,10 @@
 -- What the calls of `save`, `release` and `restore` leave, from what their parts say.
-use Rattle.std.proofs.Common.{◌≡◌, ℕ, zero, suc, ◌+◌, ◌-◌, ◌*◌, ◌^◌, ◌<◌, ◌≤◌, Bool, true, false, cond, Option, Some, None, IsSome, IfSome, List, [], ◌∷◌, ◌++◌, length, map, take, drop, get_or, set, All, refl, sym, ap, subst, ◌∙◌, arith}
-use Rattle.std.proofs.lemmas.Bool.{cases_Bool, false≢true}
-use Rattle.std.proofs.lemmas.List.{length-map, get_or_past, take_at}
-use Rattle.cow_pages.specs.Pages.{Space, Pages, has, different, saved_numbers, held_of, used_of, slot_at, IsLawful}
-use Rattle.cow_pages.specs.Pool.{contents, space_of, slot_space, pages_of, slot_numbers, table_numbers, places, Counts, IsStack, IsTable, IsSlot, IsSound}
+use Rattle.std.proofs.Common.{◌≡◌, ℕ, ◌+◌, ◌-◌, ◌^◌, ◌<◌, ◌≤◌, Bool, true, false, cond, Some, None, IsSome, List, ◌++◌, length, take, drop, get_or, set, refl, sym, ap, subst, ◌∙◌, arith}
+use Rattle.std.proofs.lemmas.List.{length-map}
+use Rattle.cow_pages.specs.Pages.{Space, Pages, different, held_of, used_of, slot_at, IsLawful}
+use Rattle.cow_pages.specs.Pool.{space_of, slot_space, pages_of, table_numbers, places, Counts, IsStack, IsTable, IsSlot, IsSound}
 use Rattle.cow_pages.specs.declared.slot.Slot.{Slot}
-use Rattle.cow_pages.proofs.Stores.{saved_numbers-is, table_below, table_once, table_home, used-sum, held-is, lawful, slot_at-is, slot_within, slot_saved}
+use Rattle.cow_pages.proofs.Stores.{saved_numbers-is, table_home, used-sum, held-is, lawful, slot_at-is, slot_within, slot_saved}
 use Rattle.cow_pages.proofs.Slots.{save_sound, save_fits, save_few, slots_set, saved_space, unsaved_space, release_counts, release_held, release_sound, slot_counted, slot_table, slot_used, restore_sound}
 use Rattle.cow_pages.proofs.Runs.{refill}
 
@@ -152,7 +151,7 @@ releasing_counted pages frames held pool live counts free reserved slots store i
     let less : i < length slots = slot_within pages frames pool live slots i here in
     let saved : slot.saved ≡ true = slot_saved pages frames pool live slots i slot is here in
     subst (λ xs. places n table ≤ get_or xs n 0) (sym first) (subst (λ xs. places n xs ≤ get_or counts n 0) (sym second)
-     (slot_counted pages frames held pool live counts free reserved slots i slot so less is saved n (subst (λ xs. n < length xs) first under)))
+    (slot_counted pages frames held pool live counts free reserved slots i slot so less is saved n (subst (λ xs. n < length xs) first under)))
 
 pub releasing_home : (pages frames held : ℕ) (pool live counts free : List ℕ) (reserved : ℕ) (slots : List Slot) (store : Pages) (i : ℕ) (table line : List ℕ) (slot : Slot) → IsSound pages frames held pool live counts free reserved slots → pages_of pages frames pool live slots ≡ store → IsSome (slot_at store i) → table ≡ slot.table.items → line ≡ live → slot ≡ get_or slots i slot → (k j : ℕ) → k < length table → j < length line → get_or table k 0 ≡ get_or line j 0 → k ≡ j
 releasing_home pages frames held pool live counts free reserved slots store i table line slot so seen some second third is =

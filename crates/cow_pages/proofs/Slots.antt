@@ -1,14 +1,14 @@
 -- Saving, releasing and restoring.
-use Rattle.std.proofs.Common.{◌≡◌, ℕ, zero, suc, ◌+◌, ◌-◌, ◌*◌, ◌^◌, ◌<◌, ◌≤◌, Bool, true, false, ◌||◌, ◌==◌, nat_lt, cond, Option, Some, None, IsSome, IfSome, List, [], ◌∷◌, ◌++◌, length, map, take, drop, get_or, set, slice_set, All, refl, sym, ap, subst, ◌∙◌, ◌⊎◌, inl, inr, arith}
-use Rattle.std.proofs.lemmas.Bool.{cases_Bool, cases_eq, cases_lt, lt-ltb, ltb-true, or_parts, false≢true}
-use Rattle.std.proofs.lemmas.List.{get_or-set_same, get_or-set_other, length-set, length-append, map-set, get_or_past}
-use Rattle.std.proofs.lemmas.List.Elements.{All-head, All-tail, All-cons, All-nil, All-set, All-get_or}
-use Rattle.cow_pages.specs.Pages.{Space, Pages, has, different, saved_numbers, held_of, used_of, slot_at}
-use Rattle.cow_pages.specs.Pool.{contents, space_of, slot_space, pages_of, slot_numbers, table_numbers, places, Counts, IsStack, IsTable, IsSlot, IsSound}
+use Rattle.std.proofs.Common.{◌≡◌, ℕ, zero, suc, ◌+◌, ◌-◌, ◌<◌, ◌≤◌, true, false, ◌||◌, nat_lt, cond, Option, Some, None, List, [], ◌∷◌, ◌++◌, length, map, get_or, set, All, refl, sym, ap, subst, ◌∙◌, inl, inr, arith}
+use Rattle.std.proofs.lemmas.Bool.{cases_Bool, cases_lt, false≢true}
+use Rattle.std.proofs.lemmas.List.{length-set, map-set, get_or_past}
+use Rattle.std.proofs.lemmas.List.Elements.{All-head, All-tail, All-set, All-get_or}
+use Rattle.cow_pages.specs.Pages.{Space, has, different, used_of}
+use Rattle.cow_pages.specs.Pool.{space_of, slot_space, pages_of, slot_numbers, table_numbers, places, Counts, IsStack, IsTable, IsSlot, IsSound}
 use Rattle.cow_pages.specs.declared.slot.Slot.{Slot}
-use Rattle.cow_pages.proofs.Counting.{AreBelow, or_first, or_second, has-append, has-is, has-none, has-some, places-none, places-some, places-append, places-le-one, has-get_or, different-same, different-le-append}
+use Rattle.cow_pages.proofs.Counting.{AreBelow, or_second, has-is, places-none, places-some, places-append, places-le-one, has-get_or, different-same}
 use Rattle.cow_pages.proofs.Walks.{in_use, below_append, stack_same}
-use Rattle.cow_pages.proofs.Stores.{saved_numbers-is, table_below, table_once, table_home, used-sum, slot_at-is}
+use Rattle.cow_pages.proofs.Stores.{saved_numbers-is, table_below, table_once, used-sum}
 
 -- another slot at a place
 pub places-slots : (n : ℕ) (slots : List Slot) (i : ℕ) (slot next : Slot) → i < length slots → slot ≡ get_or slots i slot → places n (table_numbers (set slots i next)) + places n (slot_numbers slot) ≡ places n (table_numbers slots) + places n (slot_numbers next)
@@ -36,8 +36,8 @@ places-slots_le pages n homes (slot ∷ slots) all =
     let rest : places n (table_numbers slots) ≤ length slots = places-slots_le pages n homes slots (All-tail (IsSlot pages homes) slot slots all) in
     let first : places n (slot_numbers slot) ≤ 1 =
     elim (cases_Bool slot.saved) [
-    | inl saved ↦ subst (λ b. places n (cond b slot.table.items []) ≤ 1) (sym saved) (places-le-one n slot.table.items (table_once pages homes slot.table.items (one.table saved)))
-    | inr unsaved ↦ subst (λ b. places n (cond b slot.table.items []) ≤ 1) (sym unsaved) (omega arith)
+      | inl saved ↦ subst (λ b. places n (cond b slot.table.items []) ≤ 1) (sym saved) (places-le-one n slot.table.items (table_once pages homes slot.table.items (one.table saved)))
+      | inr unsaved ↦ subst (λ b. places n (cond b slot.table.items []) ≤ 1) (sym unsaved) (omega arith)
     ] in
     omega (arith, places-append n (slot_numbers slot) (table_numbers slots))
 
@@ -47,8 +47,8 @@ tables_below pages frames homes (slot ∷ slots) many all =
     let one : IsSlot pages homes slot = All-head (IsSlot pages homes) slot slots all in
     let first : AreBelow frames (slot_numbers slot) =
     elim (cases_Bool slot.saved) [
-    | inl saved ↦ subst (λ b. AreBelow frames (cond b slot.table.items [])) (sym saved) (table_below pages frames homes slot.table.items (one.table saved) many)
-    | inr unsaved ↦ subst (λ b. AreBelow frames (cond b slot.table.items [])) (sym unsaved) (λ k less. absurd (omega arith))
+      | inl saved ↦ subst (λ b. AreBelow frames (cond b slot.table.items [])) (sym saved) (table_below pages frames homes slot.table.items (one.table saved) many)
+      | inr unsaved ↦ subst (λ b. AreBelow frames (cond b slot.table.items [])) (sym unsaved) (λ k less. absurd (omega arith))
     ] in
     below_append frames (slot_numbers slot) (table_numbers slots) first (tables_below pages frames homes slots many (All-tail (IsSlot pages homes) slot slots all))
 
@@ -65,8 +65,8 @@ save_few pages frames held pool live counts free reserved slots so n =
     let once : places n live ≤ 1 = places-le-one n live (table_once pages so.homes live so.live_table) in
     let few : get_or counts n 0 ≤ 16 =
     elim (cases_lt n (length counts)) [
-    | inl less ↦ omega (arith, so.counted.each n less, places-slots_le pages n so.homes slots so.slot_tables, so.numbered.1)
-    | inr past ↦ omega (arith, get_or_past counts n 0 past)
+      | inl less ↦ omega (arith, so.counted.each n less, places-slots_le pages n so.homes slots so.slot_tables, so.numbered.1)
+      | inr past ↦ omega (arith, get_or_past counts n 0 past)
     ] in
     omega arith
 
@@ -87,11 +87,11 @@ places-saved n live slots i slot next less is unsaved saved table =
 save_use : (counts after live : List ℕ) (slots : List Slot) (n : ℕ) → Counts counts (table_numbers slots) → Counts after (live ++ table_numbers slots) → n < length after → n < length counts → in_use after live n ≡ in_use counts live n
 save_use counts after live slots n so next near less =
     elim (cases_Bool (has n live)) [
-    | inl is ↦ or_second (nat_lt 0 (get_or after n 0)) (has n live) is ∙ sym (or_second (nat_lt 0 (get_or counts n 0)) (has n live) is)
-    | inr isnt ↦
-      (let none : places n live ≡ 0 = places-none n live isnt in
-       let same : get_or after n 0 ≡ get_or counts n 0 = omega (arith, next.each n near, so.each n less, places-append n live (table_numbers slots)) in
-       ap (λ m. nat_lt 0 m || has n live) same)
+      | inl is ↦ or_second (nat_lt 0 (get_or after n 0)) (has n live) is ∙ sym (or_second (nat_lt 0 (get_or counts n 0)) (has n live) is)
+      | inr isnt ↦
+          (let none : places n live ≡ 0 = places-none n live isnt in
+          let same : get_or after n 0 ≡ get_or counts n 0 = omega (arith, next.each n near, so.each n less, places-append n live (table_numbers slots)) in
+          ap (λ m. nat_lt 0 m || has n live) same)
     ]
 
 pub save_sound : (pages frames held added : ℕ) (pool live counts after free : List ℕ) (reserved : ℕ) (slots : List Slot) (i : ℕ) (slot next : Slot) → IsSound pages frames held pool live counts free reserved slots → length after ≡ length counts → Counts after (live ++ table_numbers slots) → added + different (table_numbers slots) ≡ different (live ++ table_numbers slots) → i < length slots → slot ≡ get_or slots i slot → slot.saved ≡ false → next.saved ≡ true → next.table.items ≡ live → used_of (pages_of pages frames pool live slots) + pages ≤ frames → IsSound pages frames (held + added) pool live after free reserved (set slots i next)

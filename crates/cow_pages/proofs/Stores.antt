@@ -1,23 +1,22 @@
 -- What the fields of a store say of what it holds.
-use Rattle.std.proofs.Common.{◌≡◌, ℕ, zero, suc, ◌+◌, ◌-◌, ◌*◌, ◌/◌, ◌%◌, ◌<◌, ◌≤◌, Bool, true, false, ◌||◌, ◌&&◌, ◌==◌, nat_lt, nat_le, cond, Option, Some, None, IsSome, List, [], ◌∷◌, ◌++◌, length, take, drop, map, get_or, set, slice_get, All, refl, sym, ap, subst, ◌∙◌, ◌⊎◌, inl, inr, arith}
-use Rattle.std.proofs.lemmas.Bool.{cases_Bool, cases_eq, cases_lt, lt-ltb, true≢false, false≢true}
-use Rattle.std.proofs.lemmas.List.{get_or-map, get_or_past, get_or_read, get_or_default, length-map, length-append, get_or-drop, get_or-take, length-take-le, length-drop}
-use Rattle.std.proofs.lemmas.List.Elements.{All-head, All-tail, All-get_or}
-use Rattle.std.proofs.lemmas.Grind.{same_number_lists}
+use Rattle.std.proofs.Common.{◌≡◌, ℕ, zero, suc, ◌+◌, ◌*◌, ◌/◌, ◌%◌, ◌<◌, ◌≤◌, Bool, true, false, ◌||◌, nat_lt, cond, Some, None, IsSome, List, [], ◌∷◌, ◌++◌, length, take, drop, map, get_or, All, refl, sym, ap, subst, ◌∙◌, inl, inr, arith}
+use Rattle.std.proofs.lemmas.Bool.{cases_lt, false≢true}
+use Rattle.std.proofs.lemmas.List.{get_or-map, get_or_past, get_or_read, length-map}
+use Rattle.std.proofs.lemmas.List.Elements.{All-head, All-tail}
 use Rattle.cow_pages.specs.Pages.{Space, Pages, has, different, saved_numbers, held_of, used_of, slot_at, page_of, IsSpace, Agree, Stands, IsLawful}
-use Rattle.cow_pages.specs.Writes.{put_at, is_shared, IsFree, NumberAfter, reaches, copied_pages, Writes, Owns}
-use Rattle.cow_pages.specs.Pool.{contents, space_of, slot_space, pages_of, slot_numbers, table_numbers, places, Counts, IsStack, IsTable, IsSlot, IsSound}
+use Rattle.cow_pages.specs.Writes.{is_shared}
+use Rattle.cow_pages.specs.Pool.{space_of, slot_space, pages_of, table_numbers, Counts, IsTable, IsSlot, IsSound}
 use Rattle.cow_pages.specs.declared.slot.Slot.{Slot}
-use Rattle.cow_pages.proofs.Counting.{AreBelow, has-append, has-is, has-none, has-some, places-none, places-some, places-append, has-get_or, length-free}
+use Rattle.cow_pages.proofs.Counting.{AreBelow, has-append, has-is, length-free}
 use Rattle.cow_pages.proofs.Walks.{below_append, in_use}
-use Rattle.cow_pages.proofs.Frames.{IsOnce, get_or-contents, length-contents, run-contents}
+use Rattle.cow_pages.proofs.Frames.{IsOnce, length-contents, run-contents}
 
 pub saved_numbers-is : (pool : List ℕ) (slots : List Slot) → saved_numbers (map (slot_space pool) slots) ≡ table_numbers slots
 saved_numbers-is pool [] = refl
 saved_numbers-is pool (slot ∷ slots) =
     elim slot.saved as (λ b. saved_numbers (cond b (Some (space_of pool slot.table.items)) None ∷ map (slot_space pool) slots) ≡ cond b slot.table.items [] ++ table_numbers slots) [
-    | true ↦ ap (λ xs. slot.table.items ++ xs) (saved_numbers-is pool slots)
-    | false ↦ saved_numbers-is pool slots
+      | true ↦ ap (λ xs. slot.table.items ++ xs) (saved_numbers-is pool slots)
+      | false ↦ saved_numbers-is pool slots
     ]
 
 pub table_below : (pages frames : ℕ) (homes table : List ℕ) → IsTable pages homes table → length homes ≡ frames → AreBelow frames table
@@ -38,8 +37,8 @@ slot_at-is pages frames pool live slots i slot less is = get_or-map (slot_space 
 pub slot_within : (pages frames : ℕ) (pool live : List ℕ) (slots : List Slot) (i : ℕ) → IsSome (slot_at (pages_of pages frames pool live slots) i) → i < length slots
 slot_within pages frames pool live slots i some =
     elim (cases_lt i (length slots)) [
-    | inl less ↦ less
-    | inr past ↦ absurd (false≢true (subst IsSome (get_or_past (map (slot_space pool) slots) i None (omega (arith, length-map slots (slot_space pool)))) some))
+      | inl less ↦ less
+      | inr past ↦ absurd (false≢true (subst IsSome (get_or_past (map (slot_space pool) slots) i None (omega (arith, length-map slots (slot_space pool)))) some))
     ]
 
 some_saved : (b : Bool) (space : Space) → IsSome (cond b (Some space) None) → b ≡ true
@@ -67,12 +66,12 @@ table_found pages pool homes space (slot ∷ slots) (suc i) less e all = table_f
 table_of : (pages frames held : ℕ) (pool live counts free : List ℕ) (reserved : ℕ) (slots : List Slot) (so : IsSound pages frames held pool live counts free reserved slots) (space : Space) → Stands (pages_of pages frames pool live slots) space → (table : List ℕ) × (IsTable pages so.homes table) × (space ≡ space_of pool table)
 table_of pages frames held pool live counts free reserved slots so space stands =
     elim stands [
-    | inl is ↦ (live, so.live_table, is)
-    | inr there ↦
-      (let i = there.0 in
-       let some : IsSome (slot_at (pages_of pages frames pool live slots) i) = subst IsSome (sym there.1) refl in
-       let less : i < length slots = slot_within pages frames pool live slots i some in
-       table_found pages pool so.homes space slots i less there.1 so.slot_tables)
+      | inl is ↦ (live, so.live_table, is)
+      | inr there ↦
+          (let i = there.0 in
+          let some : IsSome (slot_at (pages_of pages frames pool live slots) i) = subst IsSome (sym there.1) refl in
+          let less : i < length slots = slot_within pages frames pool live slots i some in
+          table_found pages pool so.homes space slots i less there.1 so.slot_tables)
     ]
 
 space_is : (pages frames : ℕ) (pool homes table : List ℕ) → length pool ≡ 4096 * frames → length homes ≡ frames → IsTable pages homes table → IsSpace pages frames (space_of pool table)
@@ -91,25 +90,12 @@ page_is pages frames pool homes table page size many so less =
     ∙ ap (λ n. take 4096 (drop (4096 * get_or table page 0 + n) pool)) start
 
 agree_is : (pages frames : ℕ) (pool homes table other : List ℕ) → length pool ≡ 4096 * frames → length homes ≡ frames → IsTable pages homes table → IsTable pages homes other → Agree (space_of pool table) (space_of pool other)
-agree_is pages frames pool homes table other size many so too = λ page place lp lq e.
-    (table_home pages homes table other so too page place lp lq e,
-     page_is pages frames pool homes table page size many so lp
-     ∙ ap (λ n. take 4096 (drop (4096 * n + 0) pool)) e
-     ∙ sym (page_is pages frames pool homes other place size many too lq))
-
-pub lawful : (pages frames held : ℕ) (pool live counts free : List ℕ) (reserved : ℕ) (slots : List Slot) (store : Pages) → IsSound pages frames held pool live counts free reserved slots → pages_of pages frames pool live slots ≡ store → IsLawful store
-lawful pages frames held pool live counts free reserved slots store so is =
-    subst IsLawful is record {
-      few = so.few.1;
-      room = subst (λ xs. different xs + pages ≤ frames) (sym (saved_numbers-is pool slots)) (subst (λ n. n + pages ≤ frames) so.held_count so.room);
-      spaces = λ space stands.
-      let found = table_of pages frames held pool live counts free reserved slots so space stands in
-      subst (IsSpace pages frames) (sym found.2) (space_is pages frames pool so.homes found.0 so.pool_size so.homes_size found.1);
-      agree = λ one other stands too.
-      let first = table_of pages frames held pool live counts free reserved slots so one stands in
-      let second = table_of pages frames held pool live counts free reserved slots so other too in
-      subst (λ s. Agree s other) (sym first.2) (subst (Agree (space_of pool first.0)) (sym second.2) (agree_is pages frames pool so.homes first.0 second.0 so.pool_size so.homes_size first.1 second.1));
-    }
+agree_is pages frames pool homes table other size many so too = λ page place lp lq e. (
+  table_home pages homes table other so too page place lp lq e,
+  page_is pages frames pool homes table page size many so lp
+      ∙ ap (λ n. take 4096 (drop (4096 * n + 0) pool)) e
+      ∙ sym (page_is pages frames pool homes other place size many too lq),
+)
 
 -- the counts of held and used frames
 pub held-is : (pages frames held : ℕ) (pool live counts free : List ℕ) (reserved : ℕ) (slots : List Slot) → IsSound pages frames held pool live counts free reserved slots → held ≡ held_of (pages_of pages frames pool live slots)
@@ -130,11 +116,28 @@ pub used-sum : (pages frames held : ℕ) (pool live counts free : List ℕ) (res
 used-sum pages frames held pool live counts free reserved slots so =
     subst (λ xs. length free + different (live ++ xs) ≡ frames) (sym (saved_numbers-is pool slots))
     (length-free frames free (live ++ table_numbers slots)
-     (subst (λ n. AreBelow n free) so.counts_size so.stack.below)
-     (below_append frames live (table_numbers slots) (table_below pages frames so.homes live so.live_table so.homes_size) (subst (λ n. AreBelow n (table_numbers slots)) so.counts_size so.counted.below))
-     (λ n less.
-     let near : n < length counts = omega (arith, so.counts_size) in
-     so.stack.each n near ∙ ap (λ b. cond b 0 1) (use-has live counts free frames slots n so.counted near)))
+    (subst (λ n. AreBelow n free) so.counts_size so.stack.below)
+    (below_append frames live (table_numbers slots) (table_below pages frames so.homes live so.live_table so.homes_size) (subst (λ n. AreBelow n (table_numbers slots)) so.counts_size so.counted.below))
+    (λ n less.
+    let near : n < length counts = omega (arith, so.counts_size) in
+    so.stack.each n near ∙ ap (λ b. cond b 0 1) (use-has live counts free frames slots n so.counted near)))
+
+-- what holds of every store
+pub lawful : (pages frames held : ℕ) (pool live counts free : List ℕ) (reserved : ℕ) (slots : List Slot) (store : Pages) → IsSound pages frames held pool live counts free reserved slots → pages_of pages frames pool live slots ≡ store → IsLawful store
+lawful pages frames held pool live counts free reserved slots store so is =
+    subst IsLawful is record {
+      few = so.few.1;
+      enough = so.enough.1;
+      used = omega (arith, used-sum pages frames held pool live counts free reserved slots so);
+      room = subst (λ xs. different xs + pages ≤ frames) (sym (saved_numbers-is pool slots)) (subst (λ n. n + pages ≤ frames) so.held_count so.room);
+      spaces = λ space stands.
+          let found = table_of pages frames held pool live counts free reserved slots so space stands in
+          subst (IsSpace pages frames) (sym found.2) (space_is pages frames pool so.homes found.0 so.pool_size so.homes_size found.1);
+      agree = λ one other stands too.
+          let first = table_of pages frames held pool live counts free reserved slots so one stands in
+          let second = table_of pages frames held pool live counts free reserved slots so other too in
+          subst (λ s. Agree s other) (sym first.2) (subst (Agree (space_of pool first.0)) (sym second.2) (agree_is pages frames pool so.homes first.0 second.0 so.pool_size so.homes_size first.1 second.1));
+    }
 
 -- whether a page is shared is what its count says
 pub shared-is : (pages frames held : ℕ) (pool live counts free : List ℕ) (reserved : ℕ) (slots : List Slot) (page : ℕ) → IsSound pages frames held pool live counts free reserved slots → page < pages → is_shared (pages_of pages frames pool live slots) page ≡ nat_lt 0 (get_or counts (get_or live page 0) 0)

@@ -1,16 +1,16 @@
 -- One step of each walk over a table.
-use Rattle.std.proofs.Common.{◌≡◌, ℕ, zero, suc, ◌+◌, ◌-◌, ◌<◌, ◌≤◌, Bool, true, false, ◌||◌, ◌==◌, nat_lt, cond, List, [], ◌∷◌, ◌++◌, length, take, drop, get_or, set, refl, sym, ap, subst, ◌∙◌, ◌⊎◌, inl, inr, arith}
-use Rattle.std.proofs.lemmas.Bool.{cases_Bool, cases_eq, cases_lt, eq-eqb, ne_eqb, eqb-true, eqb-false, lt-ltb, le-ltb, ltb-true, ltb-false}
-use Rattle.std.proofs.lemmas.List.{take-append-drop, take_more, drop_more, drop_all, take_all, get_or-drop, get_or-take, length-drop, length-take-le, get_or-set_same, get_or-set_other, length-set, get_or-append_right, get_or_append_left, get_or-append-add, append_assoc, length_push, length-append}
-use Rattle.cow_pages.proofs.Counting.{AreBelow, or_first, or_second, has-append, places-append, places-take-drop, places-le-one, places-le-length, has-is, has-none, has-some, places-none, places-some, has-get_or, has-at, has-nowhere, below-has, different-same, length-missing, different-le-append}
+use Rattle.std.proofs.Common.{◌≡◌, ℕ, zero, suc, ◌+◌, ◌-◌, ◌<◌, ◌≤◌, Bool, true, false, ◌||◌, ◌==◌, nat_lt, cond, List, [], ◌∷◌, ◌++◌, length, take, drop, get_or, set, refl, sym, ap, subst, ◌∙◌, inl, inr, arith}
+use Rattle.std.proofs.lemmas.Bool.{cases_Bool, cases_eq, cases_lt, eq-eqb, ne_eqb, lt-ltb}
+use Rattle.std.proofs.lemmas.List.{take_more, drop_more, drop_all, take_all, get_or-drop, get_or-take, length-drop, length-take-le, get_or-set_same, get_or-set_other, length-set, get_or-append_right, get_or_append_left, get_or-append-add, length-append}
+use Rattle.cow_pages.proofs.Counting.{AreBelow, or_first, or_second, places-append, places-take-drop, has-is, has-at, has-nowhere, different-same, length-missing}
 use Rattle.cow_pages.specs.Pages.{has, different}
 use Rattle.cow_pages.specs.Pool.{places, Counts, IsStack}
 
 pub below_append : (top : ℕ) (xs ys : List ℕ) → AreBelow top xs → AreBelow top ys → AreBelow top (xs ++ ys)
 below_append top xs ys bx by = λ k less.
     elim (cases_lt k (length xs)) [
-    | inl first ↦ subst (λ n. n < top) (sym (get_or_append_left xs ys 0 k first)) (bx k first)
-    | inr later ↦ subst (λ n. n < top) (sym (get_or-append_right xs ys (length xs) k 0 refl later)) (by (k - length xs) (omega (arith, length-append xs ys)))
+      | inl first ↦ subst (λ n. n < top) (sym (get_or_append_left xs ys 0 k first)) (bx k first)
+      | inr later ↦ subst (λ n. n < top) (sym (get_or-append_right xs ys (length xs) k 0 refl later)) (by (k - length xs) (omega (arith, length-append xs ys)))
     ]
 
 pub below_take : (top i : ℕ) (xs : List ℕ) → i ≤ length xs → AreBelow top xs → AreBelow top (take i xs)
@@ -79,12 +79,12 @@ places-next n i x table numbers less is =
     let a : places n (take (i + 1) table ++ numbers) ≡ places n (take (i + 1) table) + places n numbers = places-append n (take (i + 1) table) numbers in
     let b : places n (take i table ++ numbers) ≡ places n (take i table) + places n numbers = places-append n (take i table) numbers in
     elim (cases_eq x n) [
-    | inl here ↦ (
-      let c : places x (take (i + 1) table) ≡ places x (take i table) + 1 = places-take-here i table x less is in
-      let d : places n (take (i + 1) table) ≡ places n (take i table) + 1 = subst (λ m. places m (take (i + 1) table) ≡ places m (take i table) + 1) here c in
-      let e : places n (x ∷ (take i table ++ numbers)) ≡ 1 + places n (take i table ++ numbers) = subst (λ m. places m (x ∷ (take i table ++ numbers)) ≡ 1 + places m (take i table ++ numbers)) here (places-here x (take i table ++ numbers)) in
-      omega (arith, a, b, d, e))
-    | inr other ↦ omega (arith, a, b, places-take-there i table n x less is other, places-there n x (take i table ++ numbers) other)
+      | inl here ↦ (
+          let c : places x (take (i + 1) table) ≡ places x (take i table) + 1 = places-take-here i table x less is in
+          let d : places n (take (i + 1) table) ≡ places n (take i table) + 1 = subst (λ m. places m (take (i + 1) table) ≡ places m (take i table) + 1) here c in
+          let e : places n (x ∷ (take i table ++ numbers)) ≡ 1 + places n (take i table ++ numbers) = subst (λ m. places m (x ∷ (take i table ++ numbers)) ≡ 1 + places m (take i table ++ numbers)) here (places-here x (take i table ++ numbers)) in
+          omega (arith, a, b, d, e))
+      | inr other ↦ omega (arith, a, b, places-take-there i table n x less is other, places-there n x (take i table ++ numbers) other)
     ]
 
 different-next : (top i x : ℕ) (table numbers : List ℕ) → AreBelow top table → AreBelow top numbers → i < length table → x ≡ get_or table i 0 → different (take (i + 1) table ++ numbers) ≡ different (x ∷ (take i table ++ numbers))
@@ -110,21 +110,21 @@ counting_more initial counts table i added later x so below less is rise =
     record {
       size = length-set counts x (get_or counts x 0 + 1) ∙ so.size;
       each = λ n under.
-      elim (cases_eq x n) [
-      | inl here ↦ subst (λ m. get_or (set counts x (get_or counts x 0 + 1)) m 0 ≡ get_or initial m 0 + places m (take (i + 1) table)) here
-        (omega (arith, get_or-set_same counts x (get_or counts x 0 + 1) 0 inside, so.each x near, places-take-here i table x less is))
-      | inr other ↦ omega (arith, get_or-set_other counts x n (get_or counts x 0 + 1) 0 (λ e. other (sym e)), so.each n under, places-take-there i table n x less is other)
-      ];
+          elim (cases_eq x n) [
+            | inl here ↦ subst (λ m. get_or (set counts x (get_or counts x 0 + 1)) m 0 ≡ get_or initial m 0 + places m (take (i + 1) table)) here
+                (omega (arith, get_or-set_same counts x (get_or counts x 0 + 1) 0 inside, so.each x near, places-take-here i table x less is))
+            | inr other ↦ omega (arith, get_or-set_other counts x n (get_or counts x 0 + 1) 0 (λ e. other (sym e)), so.each n under, places-take-there i table n x less is other)
+          ];
       few = elim (nat_lt 0 (get_or counts x 0)) as (λ b. later ≡ added + cond b 0 1 → later ≤ i + 1) [ true ↦ (λ e. omega (arith, so.few)) | false ↦ (λ e. omega (arith, so.few)) ] rise;
       fresh = λ numbers counted.
-      let rest = take i table ++ numbers in
-      let a : added + different numbers ≡ different rest = so.fresh numbers counted in
-      let p : places x rest ≡ places x (take i table) + places x numbers = places-append x (take i table) numbers in
-      let c : get_or counts x 0 ≡ places x rest = omega (arith, so.each x near, counted.each x near) in
-      let d : different (x ∷ rest) ≡ different rest + cond (nat_lt 0 (get_or counts x 0)) 0 1 = different-front x rest ∙ ap (λ n. different rest + cond (nat_lt 0 n) 0 1) (sym c) in
-      let e : different (take (i + 1) table ++ numbers) ≡ different (x ∷ rest) = different-next (length initial) i x table numbers below counted.below less is in
-      let f : later + different numbers ≡ different rest + cond (nat_lt 0 (get_or counts x 0)) 0 1 = omega (arith, rise, a) in
-      f ∙ sym d ∙ sym e;
+          let rest = take i table ++ numbers in
+          let a : added + different numbers ≡ different rest = so.fresh numbers counted in
+          let p : places x rest ≡ places x (take i table) + places x numbers = places-append x (take i table) numbers in
+          let c : get_or counts x 0 ≡ places x rest = omega (arith, so.each x near, counted.each x near) in
+          let d : different (x ∷ rest) ≡ different rest + cond (nat_lt 0 (get_or counts x 0)) 0 1 = different-front x rest ∙ ap (λ n. different rest + cond (nat_lt 0 n) 0 1) (sym c) in
+          let e : different (take (i + 1) table ++ numbers) ≡ different (x ∷ rest) = different-next (length initial) i x table numbers below counted.below less is in
+          let f : later + different numbers ≡ different rest + cond (nat_lt 0 (get_or counts x 0)) 0 1 = omega (arith, rise, a) in
+          f ∙ sym d ∙ sym e;
     }
 
 -- the whole table is counted
@@ -134,9 +134,9 @@ counting_all initial counts table added i so below end numbers counted =
     record {
       below = subst (λ n. AreBelow n (table ++ numbers)) (sym so.size) (below_append (length initial) table numbers below counted.below);
       each = λ n under.
-      let near : n < length initial = omega (arith, so.size) in
-      let a : get_or counts n 0 ≡ get_or initial n 0 + places n table = subst (λ xs. get_or counts n 0 ≡ get_or initial n 0 + places n xs) whole (so.each n near) in
-      omega (arith, a, counted.each n near, places-append n table numbers);
+          let near : n < length initial = omega (arith, so.size) in
+          let a : get_or counts n 0 ≡ get_or initial n 0 + places n table = subst (λ xs. get_or counts n 0 ≡ get_or initial n 0 + places n xs) whole (so.each n near) in
+          omega (arith, a, counted.each n near, places-append n table numbers);
     }
 
 pub counting_added : (initial counts table : List ℕ) (added : ℕ) (i : ℕ) → Counting initial counts table i added → length table ≤ i → (numbers : List ℕ) → Counts initial numbers → added + different numbers ≡ different (table ++ numbers)
@@ -167,19 +167,19 @@ stack_push counts after live next free x size near so same was is =
     record {
       below = subst (λ n. AreBelow n (free ++ x ∷ [])) (sym size) (below_append (length counts) free (x ∷ []) so.below one);
       each = λ n less.
-      let under : n < length counts = omega arith in
-      let sum : places n (free ++ x ∷ []) ≡ places n free + places n (x ∷ []) = places-append n free (x ∷ []) in
-      elim (cases_eq x n) [
-      | inl here ↦ subst (λ m. places m (free ++ x ∷ []) ≡ cond (in_use after next m) 0 1) here
-        (let a : places x free ≡ 0 = so.each x near ∙ ap (λ b. cond b 0 1) was in
-         let b : places x (x ∷ []) ≡ 1 + 0 = places-here x [] in
-         let c : places x (free ++ x ∷ []) ≡ 1 = omega (arith, places-append x free (x ∷ [])) in
-         c ∙ ap (λ t. cond t 0 1) (sym is))
-      | inr other ↦
-        (let a : places n (x ∷ []) ≡ 0 = places-there n x [] other in
-         let b : places n (free ++ x ∷ []) ≡ places n free = omega arith in
-         b ∙ so.each n under ∙ ap (λ t. cond t 0 1) (sym (same n under other)))
-      ];
+          let under : n < length counts = omega arith in
+          let sum : places n (free ++ x ∷ []) ≡ places n free + places n (x ∷ []) = places-append n free (x ∷ []) in
+          elim (cases_eq x n) [
+            | inl here ↦ subst (λ m. places m (free ++ x ∷ []) ≡ cond (in_use after next m) 0 1) here
+                (let a : places x free ≡ 0 = so.each x near ∙ ap (λ b. cond b 0 1) was in
+                let b : places x (x ∷ []) ≡ 1 + 0 = places-here x [] in
+                let c : places x (free ++ x ∷ []) ≡ 1 = omega (arith, places-append x free (x ∷ [])) in
+                c ∙ ap (λ t. cond t 0 1) (sym is))
+            | inr other ↦
+                (let a : places n (x ∷ []) ≡ 0 = places-there n x [] other in
+                let b : places n (free ++ x ∷ []) ≡ places n free = omega arith in
+                b ∙ so.each n under ∙ ap (λ t. cond t 0 1) (sym (same n under other)))
+          ];
     }
 
 small : (b : Bool) → cond b 0 1 ≤ 1
@@ -225,21 +225,21 @@ uncounting_more initial counts table live free left i removed later x so below c
     record {
       size = length-set counts x (get_or counts x 0 - 1) ∙ so.size;
       each = λ n under.
-      elim (cases_eq x n) [
-      | inl here ↦ subst (λ m. get_or (set counts x (get_or counts x 0 - 1)) m 0 + places m (take (i + 1) table) ≡ get_or initial m 0) here
-        (omega (arith, get_or-set_same counts x (get_or counts x 0 - 1) 0 inside, so.each x near, places-take-here i table x less is))
-      | inr other ↦ omega (arith, get_or-set_other counts x n (get_or counts x 0 - 1) 0 (λ e. other (sym e)), so.each n under, places-take-there i table n x less is other)
-      ];
+          elim (cases_eq x n) [
+            | inl here ↦ subst (λ m. get_or (set counts x (get_or counts x 0 - 1)) m 0 + places m (take (i + 1) table) ≡ get_or initial m 0) here
+                (omega (arith, get_or-set_same counts x (get_or counts x 0 - 1) 0 inside, so.each x near, places-take-here i table x less is))
+            | inr other ↦ omega (arith, get_or-set_other counts x n (get_or counts x 0 - 1) 0 (λ e. other (sym e)), so.each n under, places-take-there i table n x less is other)
+          ];
       few = elim (nat_lt 0 (get_or counts x 0 - 1)) as (λ b. later ≡ removed + cond b 0 1 → later ≤ i + 1) [ true ↦ (λ e. omega (arith, so.few)) | false ↦ (λ e. omega (arith, so.few)) ] rise;
       gone = λ numbers all.
-      let rest = drop (i + 1) table ++ numbers in
-      let a : removed + different (drop i table ++ numbers) ≡ different (table ++ numbers) = so.gone numbers all in
-      let front : drop i table ++ numbers ≡ x ∷ rest = ap (λ xs. xs ++ numbers) (drop_more table i 0 less) ∙ ap (λ n. n ∷ rest) (sym is) in
-      let p : places x rest ≡ places x (drop (i + 1) table) + places x numbers = places-append x (drop (i + 1) table) numbers in
-      let q : get_or counts x 0 - 1 ≡ places x rest = omega (arith, so.each x near, all.each x near, places-append x table numbers, places-take-drop x (i + 1) table, places-take-here i table x less is) in
-      let d : different (x ∷ rest) ≡ different rest + cond (nat_lt 0 (get_or counts x 0 - 1)) 0 1 = different-front x rest ∙ ap (λ n. different rest + cond (nat_lt 0 n) 0 1) (sym q) in
-      let e : different (drop i table ++ numbers) ≡ different (x ∷ rest) = ap different front in
-      omega (arith, rise, a, d, e);
+          let rest = drop (i + 1) table ++ numbers in
+          let a : removed + different (drop i table ++ numbers) ≡ different (table ++ numbers) = so.gone numbers all in
+          let front : drop i table ++ numbers ≡ x ∷ rest = ap (λ xs. xs ++ numbers) (drop_more table i 0 less) ∙ ap (λ n. n ∷ rest) (sym is) in
+          let p : places x rest ≡ places x (drop (i + 1) table) + places x numbers = places-append x (drop (i + 1) table) numbers in
+          let q : get_or counts x 0 - 1 ≡ places x rest = omega (arith, so.each x near, all.each x near, places-append x table numbers, places-take-drop x (i + 1) table, places-take-here i table x less is) in
+          let d : different (x ∷ rest) ≡ different rest + cond (nat_lt 0 (get_or counts x 0 - 1)) 0 1 = different-front x rest ∙ ap (λ n. different rest + cond (nat_lt 0 n) 0 1) (sym q) in
+          let e : different (drop i table ++ numbers) ≡ different (x ∷ rest) = ap different front in
+          omega (arith, rise, a, d, e);
       stack = stack;
     }
 
@@ -250,9 +250,9 @@ uncount_kept counts live free x so near some still =
     stack_same counts (set counts x (get_or counts x 0 - 1)) live live free size so
     (λ n under.
     elim (cases_eq x n) [
-    | inl here ↦ subst (λ m. in_use (set counts x (get_or counts x 0 - 1)) live m ≡ in_use counts live m) here
-      (ap (λ b. b || has x live) (ap (nat_lt 0) (get_or-set_same counts x (get_or counts x 0 - 1) 0 near) ∙ lt-ltb 0 (get_or counts x 0 - 1) (omega arith) ∙ sym (lt-ltb 0 (get_or counts x 0) some)))
-    | inr other ↦ ap (λ m. nat_lt 0 m || has n live) (get_or-set_other counts x n (get_or counts x 0 - 1) 0 (λ e. other (sym e)))
+      | inl here ↦ subst (λ m. in_use (set counts x (get_or counts x 0 - 1)) live m ≡ in_use counts live m) here
+          (ap (λ b. b || has x live) (ap (nat_lt 0) (get_or-set_same counts x (get_or counts x 0 - 1) 0 near) ∙ lt-ltb 0 (get_or counts x 0 - 1) (omega arith) ∙ sym (lt-ltb 0 (get_or counts x 0) some)))
+      | inr other ↦ ap (λ m. nat_lt 0 m || has n live) (get_or-set_other counts x n (get_or counts x 0 - 1) 0 (λ e. other (sym e)))
     ])
 
 -- it isn't, and it is live
@@ -262,9 +262,9 @@ uncount_live counts live free x so near is =
     stack_same counts (set counts x (get_or counts x 0 - 1)) live live free size so
     (λ n under.
     elim (cases_eq x n) [
-    | inl here ↦ subst (λ m. in_use (set counts x (get_or counts x 0 - 1)) live m ≡ in_use counts live m) here
-      (or_second (nat_lt 0 (get_or (set counts x (get_or counts x 0 - 1)) x 0)) (has x live) is ∙ sym (or_second (nat_lt 0 (get_or counts x 0)) (has x live) is))
-    | inr other ↦ ap (λ m. nat_lt 0 m || has n live) (get_or-set_other counts x n (get_or counts x 0 - 1) 0 (λ e. other (sym e)))
+      | inl here ↦ subst (λ m. in_use (set counts x (get_or counts x 0 - 1)) live m ≡ in_use counts live m) here
+          (or_second (nat_lt 0 (get_or (set counts x (get_or counts x 0 - 1)) x 0)) (has x live) is ∙ sym (or_second (nat_lt 0 (get_or counts x 0)) (has x live) is))
+      | inr other ↦ ap (λ m. nat_lt 0 m || has n live) (get_or-set_other counts x n (get_or counts x 0 - 1) 0 (λ e. other (sym e)))
     ])
 
 -- it isn't, and it isn't live
@@ -288,9 +288,9 @@ pub uncounting_all : (initial counts table live free : List ℕ) (i removed : �
 uncounting_all initial counts table live free i removed so end numbers all = record {
   below = λ k less. subst (λ n. n < length counts) (get_or-append-add table numbers k 0) (subst (λ n. get_or (table ++ numbers) (length table + k) 0 < n) (sym so.size) (all.below (length table + k) (omega (arith, length-append table numbers))));
   each = λ n under.
-  let near : n < length initial = omega (arith, so.size) in
-  let a : get_or counts n 0 + places n table ≡ get_or initial n 0 = subst (λ xs. get_or counts n 0 + places n xs ≡ get_or initial n 0) (take_all i table end) (so.each n near) in
-  omega (arith, a, all.each n near, places-append n table numbers);
+      let near : n < length initial = omega (arith, so.size) in
+      let a : get_or counts n 0 + places n table ≡ get_or initial n 0 = subst (λ xs. get_or counts n 0 + places n xs ≡ get_or initial n 0) (take_all i table end) (so.each n near) in
+      omega (arith, a, all.each n near, places-append n table numbers);
 }
 
 pub uncounting_removed : (initial counts table live free : List ℕ) (i removed : ℕ) → Uncounting initial counts table live free i removed → length table ≤ i → (numbers : List ℕ) → Counts initial (table ++ numbers) → removed + different numbers ≡ different (table ++ numbers)
@@ -303,10 +303,10 @@ give_kept counts live free i x so less is some =
     stack_same counts counts (x ∷ drop (i + 1) live) (drop (i + 1) live) free refl (subst (λ xs. IsStack counts xs free) front so)
     (λ n under.
     elim (cases_eq x n) [
-    | inl here ↦ subst (λ m. in_use counts (drop (i + 1) live) m ≡ in_use counts (x ∷ drop (i + 1) live) m) here
-      (let a : nat_lt 0 (get_or counts x 0) ≡ true = lt-ltb 0 (get_or counts x 0) (omega arith) in
-       or_first (nat_lt 0 (get_or counts x 0)) (has x (drop (i + 1) live)) a ∙ sym (or_first (nat_lt 0 (get_or counts x 0)) (has x (x ∷ drop (i + 1) live)) a))
-    | inr other ↦ ap (λ b. nat_lt 0 (get_or counts n 0) || (b || has n (drop (i + 1) live))) (sym (ne_eqb x n other))
+      | inl here ↦ subst (λ m. in_use counts (drop (i + 1) live) m ≡ in_use counts (x ∷ drop (i + 1) live) m) here
+          (let a : nat_lt 0 (get_or counts x 0) ≡ true = lt-ltb 0 (get_or counts x 0) (omega arith) in
+          or_first (nat_lt 0 (get_or counts x 0)) (has x (drop (i + 1) live)) a ∙ sym (or_first (nat_lt 0 (get_or counts x 0)) (has x (x ∷ drop (i + 1) live)) a))
+      | inr other ↦ ap (λ b. nat_lt 0 (get_or counts n 0) || (b || has n (drop (i + 1) live))) (sym (ne_eqb x n other))
     ])
 
 -- it has none
@@ -333,9 +333,9 @@ give_all counts live free i so end other counted =
     stack_same counts counts [] other free refl (subst (λ xs. IsStack counts xs free) (drop_all i live end) so)
     (λ n under.
     elim (cases_Bool (has n other)) [
-    | inl is ↦
-      (let found = has-at n other is in
-       let some : nat_lt 0 (get_or counts n 0) ≡ true = lt-ltb 0 (get_or counts n 0) (subst (λ m. 0 < get_or counts m 0) found.2 (counted found.0 found.1)) in
-       or_first (nat_lt 0 (get_or counts n 0)) (has n other) some ∙ sym (or_first (nat_lt 0 (get_or counts n 0)) false some))
-    | inr isnt ↦ ap (λ b. nat_lt 0 (get_or counts n 0) || b) isnt
+      | inl is ↦
+          (let found = has-at n other is in
+          let some : nat_lt 0 (get_or counts n 0) ≡ true = lt-ltb 0 (get_or counts n 0) (subst (λ m. 0 < get_or counts m 0) found.2 (counted found.0 found.1)) in
+          or_first (nat_lt 0 (get_or counts n 0)) (has n other) some ∙ sym (or_first (nat_lt 0 (get_or counts n 0)) false some))
+      | inr isnt ↦ ap (λ b. nat_lt 0 (get_or counts n 0) || b) isnt
     ])

@@ -1,5 +1,5 @@
 -- What a store of pages holds: a live space and numbered slots, each of them pages of 4096 bytes.
-use Rattle.std.specs.Prelude.{◌≡◌, ℕ, ◌+◌, ◌*◌, ◌<◌, ◌≤◌, Bool, true, false, ◌||◌, ◌==◌, if◌then◌else◌, Option, Some, None, List, [], ◌∷◌, ◌++◌, length, take, drop, replicate, All, slice_index, slice_index_or, slice_get, ◌⊎◌}
+use Rattle.std.specs.Prelude.{◌≡◌, ℕ, ◌+◌, ◌*◌, ◌<◌, ◌≤◌, Bool, false, ◌||◌, ◌==◌, if◌then◌else◌, Option, Some, None, List, [], ◌∷◌, ◌++◌, length, take, drop, replicate, slice_index, slice_index_or, ◌⊎◌}
 
 -- one space: the number of the frame in which each page stands, and all its bytes
 pub record Space : Type 0 where
@@ -62,6 +62,8 @@ Stands store space = (space ≡ store.live) ⊎ ((slot : ℕ) × (slot_at store 
 -- what holds of every store: there is a free frame for each page that a write may have to copy, and equal numbers are shared pages
 pub record IsLawful (store : Pages) : Type 0 where
   pub few : store.pages ≤ 16384
+  pub enough : store.frames ≤ 16 * store.pages
+  pub used : used_of store ≤ store.frames
   pub room : held_of store + store.pages ≤ store.frames
   pub spaces : (space : Space) → Stands store space → IsSpace store.pages store.frames space
   pub agree : (one other : Space) → Stands store one → Stands store other → Agree one other

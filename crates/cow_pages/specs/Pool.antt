@@ -1,6 +1,6 @@
 -- How the pages of a store stand in its pool of frames.
-use Rattle.std.specs.Prelude.{◌≡◌, ℕ, ◌+◌, ◌-◌, ◌*◌, ◌<◌, ◌≤◌, Bool, true, false, ◌||◌, ◌==◌, nat_lt, if◌then◌else◌, Option, Some, None, List, [], ◌∷◌, ◌++◌, length, take, drop, map, All, slice_index}
-use Rattle.cow_pages.specs.Pages.{Space, Pages, has, different, saved_numbers}
+use Rattle.std.specs.Prelude.{◌≡◌, ℕ, ◌+◌, ◌-◌, ◌*◌, ◌<◌, ◌≤◌, true, false, ◌||◌, ◌==◌, nat_lt, if◌then◌else◌, Option, Some, None, List, [], ◌∷◌, ◌++◌, length, take, drop, map, All, slice_index}
+use Rattle.cow_pages.specs.Pages.{Space, Pages, has, different}
 use Rattle.cow_pages.specs.declared.slot.Slot.{Slot}
 
 -- the bytes of frames, one after the other

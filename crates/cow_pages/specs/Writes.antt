@@ -1,6 +1,6 @@
 -- What a write to the live space of a store leaves.
-use Rattle.std.specs.Prelude.{◌≡◌, ℕ, zero, suc, ◌+◌, ◌-◌, ◌*◌, ◌/◌, ◌<◌, ◌≤◌, Bool, true, false, ◌&&◌, nat_le, nat_lt, if◌then◌else◌, List, ◌++◌, length, take, drop, slice_index, MatchBool}
-use Rattle.cow_pages.specs.Pages.{Space, Pages, has, saved_numbers, used_of}
+use Rattle.std.specs.Prelude.{◌≡◌, ℕ, zero, suc, ◌+◌, ◌-◌, ◌/◌, ◌<◌, Bool, false, ◌&&◌, nat_le, nat_lt, if◌then◌else◌, List, ◌++◌, length, take, drop, slice_index, MatchBool}
+use Rattle.cow_pages.specs.Pages.{Pages, has, saved_numbers, used_of}
 
 -- a list with other elements from a place on
 abbrev pub put_at : ℕ → List ℕ → List ℕ → List ℕ

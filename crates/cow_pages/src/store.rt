@@ -1,5 +1,6 @@
 // Pages that are shared by copy on write.
 ghost use Rattle.std.specs.Prelude.{◌≡◌, ℕ, ◌+◌, ◌-◌, ◌*◌, ◌/◌, ◌%◌, ◌<◌, ◌≤◌, length, take, drop, replicate, true, Some, None, is_some, IsSome, IfSome, IfOk, slice_get, slice_set, slice_index, if◌then◌else◌, [], ◌∷◌};
+ghost use Rattle.std.specs.Bool.{OnFalse};
 ghost use Rattle.cow_pages.specs.Pages.{held_of, used_of, slot_at, IsLawful, IsMade};
 ghost use Rattle.cow_pages.specs.Writes.{is_shared, Writes, Owns};
 ghost use Rattle.cow_pages.specs.Little.{little_number, little_bytes};
@@ -47,12 +48,7 @@ impl Model for PageStore {
 impl PageStore {
     /// A store with all bytes 0 and nothing saved. So many pages, at most 64 MiB, so many slots, and so many frames for
     /// them, at least twice the pages. It takes memory for all of them, and no other call takes any.
-    pub fn make(
-        alloc: Global,
-        pages: u32,
-        slots: u32,
-        frames: u32,
-    ) -> Result<PageStore, AllocError>
+    pub fn make(alloc: Global, pages: u32, slots: u32, frames: u32) -> Result<PageStore, AllocError>
         requires few { (1 ≤ pages) × (pages ≤ 16384) }
         requires numbered { (1 ≤ slots) × (slots ≤ 16) }
         requires enough { (2 * pages ≤ frames) × (frames ≤ 16 * pages) }
@@ -114,6 +110,7 @@ impl PageStore {
     /// Whether something is saved in a slot. Nothing is past the last one.
     pub fn is_saved(&self, slot: u32) -> bool
         ensures saved { result ≡ is_some (slot_at self.now slot) }
+        ensures empty { OnFalse result (slot_at self.now slot ≡ None) }
         ensures lawful { IsLawful self.now }
     {
         (slot as usize) < self.slots.len() && self.slots[slot as usize].saved
@@ -257,7 +254,10 @@ impl PageStore {
     {
         self.held += count_table(self.counts.as_mut_slice(), self.live.as_slice());
         let saved = &mut self.slots[slot as usize];
-        saved.table.as_mut_slice().copy_from_slice(self.live.as_slice());
+        saved
+            .table
+            .as_mut_slice()
+            .copy_from_slice(self.live.as_slice());
         saved.saved = true;
     }
 
@@ -285,7 +285,9 @@ impl PageStore {
     {
         give_up(self.counts.as_slice(), self.live.as_slice(), &mut self.free);
         let saved = &self.slots[slot as usize];
-        self.live.as_mut_slice().copy_from_slice(saved.table.as_slice());
+        self.live
+            .as_mut_slice()
+            .copy_from_slice(saved.table.as_slice());
     }
 
     // Where a byte of the live space stands in the pool.

@@ -1,4 +1,3 @@
-use Rattle.std.proofs.Common.{length}
 use Rattle.cow_pages.specs.Pool.{AreBlank}
 use Rattle.cow_pages.proofs.slot.blank_slots.Given as goal
 

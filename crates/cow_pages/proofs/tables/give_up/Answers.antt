@@ -1,5 +1,4 @@
-use Rattle.std.proofs.Common.{refl, sym, ap, ◌∙◌, subst, arith}
-use Rattle.cow_pages.specs.Pool.{IsStack}
+use Rattle.std.proofs.Common.{refl, ◌∙◌, arith}
 use Rattle.cow_pages.proofs.Walks.{give_kept, give_free, give_room, give_all}
 use Rattle.cow_pages.proofs.tables.give_up.Goals as goal
 use Rattle.cow_pages.proofs.tables.give_up.Goals.{then-counts-number-eq0, else-counts-number-eq0}
@@ -10,14 +9,14 @@ push_reserved-requires c = omega (arith, c.entries.free.ok, give_room _ _ _ _ _ 
 pub entries-preserved : goal.entries-preserved
 entries-preserved c =
     elim c.if-counts-number-eq0.branch [
-    | then-counts-number-eq0 w ↦ record {
-      stack = rw (w.free-is, w.push_reserved.ensures.items) (give_free _ _ _ _ _ c.entries.invariant.stack c.requires.below c.requires.home c.entries-test.true refl w.if-counts-number-eq0.true);
-      reserved = rw w.free-is (w.push_reserved.ensures.capacity ∙ c.entries.invariant.reserved);
-    }
-    | else-counts-number-eq0 w ↦ record {
-      stack = rw w.free-is (give_kept _ _ _ _ _ c.entries.invariant.stack c.entries-test.true refl w.if-counts-number-eq0.false);
-      reserved = rw w.free-is c.entries.invariant.reserved;
-    }
+      | then-counts-number-eq0 w ↦ record {
+        stack = rw (w.free-is, w.push_reserved.ensures.items) (give_free _ _ _ _ _ c.entries.invariant.stack c.requires.below c.requires.home c.entries-test.true refl w.if-counts-number-eq0.true);
+        reserved = rw w.free-is (w.push_reserved.ensures.capacity ∙ c.entries.invariant.reserved);
+      }
+      | else-counts-number-eq0 w ↦ record {
+        stack = rw w.free-is (give_kept _ _ _ _ _ c.entries.invariant.stack c.entries-test.true refl w.if-counts-number-eq0.false);
+        reserved = rw w.free-is c.entries.invariant.reserved;
+      }
     ]
 
 pub returns-clause-stack : goal.returns-clause-stack

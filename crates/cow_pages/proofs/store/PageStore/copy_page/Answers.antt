@@ -1,6 +1,6 @@
-use Rattle.std.proofs.Common.{◌≡◌, ◌<◌, ◌+◌, ◌-◌, ◌*◌, true, length, take, drop, ◌++◌, get_or, refl, sym, ap, subst, ◌∙◌, arith}
+use Rattle.std.proofs.Common.{◌≡◌, ◌<◌, ◌+◌, ◌-◌, ◌*◌, length, take, drop, ◌++◌, get_or, sym, ap, subst, ◌∙◌, arith}
 use Rattle.std.proofs.lemmas.List.{get_or_read}
-use Rattle.cow_pages.specs.Writes.{is_shared, Owns}
+use Rattle.cow_pages.specs.Writes.{is_shared}
 use Rattle.cow_pages.proofs.Copying.{free_there, moved_sound, moved_owns}
 use Rattle.cow_pages.proofs.store.PageStore.copy_page.Goals as goal
 

@@ -1,5 +1,5 @@
-use Rattle.std.proofs.Common.{◌≡◌, ◌+◌, ◌-◌, ◌*◌, ◌≤◌, ◌<◌, ◌++◌, length, take, drop, refl, ap, sym, subst, ◌∙◌, arith}
-use Rattle.std.proofs.lemmas.List.{length-append, length-drop, length-take-le}
+use Rattle.std.proofs.Common.{◌≡◌, ◌+◌, ◌-◌, ◌≤◌, ◌++◌, length, take, drop, ap, sym, ◌∙◌, arith}
+use Rattle.std.proofs.lemmas.List.{length-drop, length-take-le}
 use Rattle.cow_pages.proofs.Stores.{lawful}
 use Rattle.cow_pages.proofs.Runs.{run_is}
 use Rattle.cow_pages.proofs.RunSteps.{read_more, mid_size}

@@ -1,5 +1,4 @@
 use Rattle.std.proofs.Common.{◌≡◌, ◌≤◌, ◌-◌, length, take, drop}
-use Rattle.cow_pages.proofs.RunSteps.{read_more}
 use Rattle.cow_pages.proofs.store.PageStore.read_run.Given as goal
 
 abbrev pub invariant-pages : goal.invariant-pages

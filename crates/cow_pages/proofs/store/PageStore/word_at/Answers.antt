@@ -11,8 +11,8 @@ returns-clause-word c =
     c.word_of.ensures
     ∙ ap little_number
     (ap (λ n. take n (drop place c.deref.result.now)) size
-     ∙ ap (λ xs. take 4 (drop place xs)) c.deref.ensures.value
-     ∙ run_is _ _ _ _ _ _ _ _ _ _ _ _ _ c.self.invariant c.self.view_is c.requires.inside c.requires.within c.place_of-place.ensures)
+    ∙ ap (λ xs. take 4 (drop place xs)) c.deref.ensures.value
+    ∙ run_is _ _ _ _ _ _ _ _ _ _ _ _ _ c.self.invariant c.self.view_is c.requires.inside c.requires.within c.place_of-place.ensures)
 
 pub returns-clause-lawful : goal.returns-clause-lawful
 returns-clause-lawful c = lawful _ _ _ _ _ _ _ _ _ _ c.self.invariant c.self.view_is

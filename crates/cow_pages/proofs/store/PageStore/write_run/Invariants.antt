@@ -1,7 +1,6 @@
 use Rattle.std.proofs.Common.{◌≤◌, ◌-◌, length, take}
 use Rattle.cow_pages.specs.Pages.{IsLawful}
 use Rattle.cow_pages.specs.Writes.{Writes}
-use Rattle.cow_pages.proofs.RunSteps.{run_more}
 use Rattle.cow_pages.proofs.store.PageStore.write_run.Given as goal
 
 abbrev pub invariant-pages : goal.invariant-pages

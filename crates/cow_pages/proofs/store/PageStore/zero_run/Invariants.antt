@@ -1,7 +1,6 @@
 use Rattle.std.proofs.Common.{◌≤◌, ◌-◌, replicate}
 use Rattle.cow_pages.specs.Pages.{IsLawful}
 use Rattle.cow_pages.specs.Writes.{Writes}
-use Rattle.cow_pages.proofs.Making.{made_is}
 use Rattle.cow_pages.proofs.store.PageStore.zero_run.Given as goal
 
 abbrev pub invariant-pages : goal.invariant-pages
