@@ -10,3 +10,4 @@ mod block_book_tests;
 
 #[cfg(test)]
 mod ckpt_ring_tests;
+mod cow_pages_tests;
