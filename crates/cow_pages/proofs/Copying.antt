@@ -236,27 +236,29 @@ moved_pool frames n count from to old fresh pool moved size one other start plac
     take_at moved (drop (length moved) pool) n (ap length e ∙ length-copied frames old fresh pool size one other ∙ sym whole) ∙ e
 
 -- the fields of a store whose shared page has moved
-pub moved_sound : (pages frames held n count from to : ℕ) (pool moved live counts free rest : List ℕ) (reserved reserve : ℕ) (slots : List Slot) (store : Pages) (page fresh : ℕ) → IsSound pages frames held pool live counts free reserved slots → pages_of pages frames pool live slots ≡ store → page < store.pages → is_shared store page ≡ true → free ≡ rest ++ fresh ∷ [] → from ≡ 4096 * get_or live page 0 → to ≡ 4096 * fresh → count ≡ 4096 → n ≡ length pool → moved ≡ take to pool ++ take count (drop from pool) ++ drop (to + count) pool → reserve ≡ reserved → IsSound pages frames held (take n (moved ++ drop (length moved) pool)) (set live page fresh) counts rest reserve slots
-moved_sound pages frames held n count from to pool moved live counts free rest reserved reserve slots store page fresh so is inside shared top start place many whole copy room =
+pub moved_sound : (pages frames held n count from to : ℕ) (pool whole moved live counts free rest : List ℕ) (reserved reserve : ℕ) (slots : List Slot) (store : Pages) (page fresh : ℕ) → IsSound pages frames held pool live counts free reserved slots → pages_of pages frames pool live slots ≡ store → page < store.pages → is_shared store page ≡ true → free ≡ rest ++ fresh ∷ [] → moved ≡ take to whole ++ take count (drop from whole) ++ drop (to + count) whole → whole ≡ pool → from ≡ 4096 * get_or live page 0 → to ≡ 4096 * fresh → count ≡ 4096 → n ≡ length pool → reserve ≡ reserved → IsSound pages frames held (take n (moved ++ drop (length moved) pool)) (set live page fresh) counts rest reserve slots
+moved_sound pages frames held n count from to pool whole moved live counts free rest reserved reserve slots store page fresh so is inside shared top moving full start place many size room =
     let mine : IsSound pages frames held pool live counts (rest ++ fresh ∷ []) reserved slots = subst (λ xs. IsSound pages frames held pool live counts xs reserved slots) top so in
     let less : page < pages = subst (λ s. page < s.pages) (sym is) inside in
     let hit : is_shared (pages_of pages frames pool live slots) page ≡ true = subst (λ s. is_shared s page ≡ true) (sym is) shared in
     let old : get_or live page 0 < frames = omega (arith, so.homes_size, so.live_table.below page less) in
     let new : fresh < frames = omega (arith, top_below counts live rest fresh mine.stack, so.counts_size) in
-    let e : take n (moved ++ drop (length moved) pool) ≡ copied pool (get_or live page 0) fresh = moved_pool frames n count from to (get_or live page 0) fresh pool moved so.pool_size old new start place many whole copy in
+    let copy : moved ≡ take to pool ++ take count (drop from pool) ++ drop (to + count) pool = moving ∙ ap (λ xs. take to xs ++ take count (drop from xs) ++ drop (to + count) xs) full in
+    let e : take n (moved ++ drop (length moved) pool) ≡ copied pool (get_or live page 0) fresh = moved_pool frames n count from to (get_or live page 0) fresh pool moved so.pool_size old new start place many size copy in
     subst (λ xs. IsSound pages frames held xs (set live page fresh) counts rest reserve slots) (sym e)
     (subst (λ r. IsSound pages frames held (copied pool (get_or live page 0) fresh) (set live page fresh) counts rest r slots) (sym room)
     (copy_sound pages frames held pool live counts rest reserved slots page fresh mine less hit))
 
 -- what it holds
-pub moved_owns : (pages frames held n count from to : ℕ) (pool moved live counts free rest : List ℕ) (reserved : ℕ) (slots : List Slot) (store : Pages) (page fresh : ℕ) → IsSound pages frames held pool live counts free reserved slots → pages_of pages frames pool live slots ≡ store → page < store.pages → is_shared store page ≡ true → free ≡ rest ++ fresh ∷ [] → from ≡ 4096 * get_or live page 0 → to ≡ 4096 * fresh → count ≡ 4096 → n ≡ length pool → moved ≡ take to pool ++ take count (drop from pool) ++ drop (to + count) pool → Owns store (pages_of pages frames (take n (moved ++ drop (length moved) pool)) (set live page fresh) slots) page
-moved_owns pages frames held n count from to pool moved live counts free rest reserved slots store page fresh so is inside shared top start place many whole copy =
+pub moved_owns : (pages frames held n count from to : ℕ) (pool whole moved live counts free rest : List ℕ) (reserved : ℕ) (slots : List Slot) (store : Pages) (page fresh : ℕ) → IsSound pages frames held pool live counts free reserved slots → pages_of pages frames pool live slots ≡ store → page < store.pages → is_shared store page ≡ true → free ≡ rest ++ fresh ∷ [] → moved ≡ take to whole ++ take count (drop from whole) ++ drop (to + count) whole → whole ≡ pool → from ≡ 4096 * get_or live page 0 → to ≡ 4096 * fresh → count ≡ 4096 → n ≡ length pool → Owns store (pages_of pages frames (take n (moved ++ drop (length moved) pool)) (set live page fresh) slots) page
+moved_owns pages frames held n count from to pool whole moved live counts free rest reserved slots store page fresh so is inside shared top moving full start place many size =
     let mine : IsSound pages frames held pool live counts (rest ++ fresh ∷ []) reserved slots = subst (λ xs. IsSound pages frames held pool live counts xs reserved slots) top so in
     let less : page < pages = subst (λ s. page < s.pages) (sym is) inside in
     let hit : is_shared (pages_of pages frames pool live slots) page ≡ true = subst (λ s. is_shared s page ≡ true) (sym is) shared in
     let old : get_or live page 0 < frames = omega (arith, so.homes_size, so.live_table.below page less) in
     let new : fresh < frames = omega (arith, top_below counts live rest fresh mine.stack, so.counts_size) in
-    let e : take n (moved ++ drop (length moved) pool) ≡ copied pool (get_or live page 0) fresh = moved_pool frames n count from to (get_or live page 0) fresh pool moved so.pool_size old new start place many whole copy in
+    let copy : moved ≡ take to pool ++ take count (drop from pool) ++ drop (to + count) pool = moving ∙ ap (λ xs. take to xs ++ take count (drop from xs) ++ drop (to + count) xs) full in
+    let e : take n (moved ++ drop (length moved) pool) ≡ copied pool (get_or live page 0) fresh = moved_pool frames n count from to (get_or live page 0) fresh pool moved so.pool_size old new start place many size copy in
     subst (λ s. Owns s (pages_of pages frames (take n (moved ++ drop (length moved) pool)) (set live page fresh) slots) page) is
     (subst (λ xs. Owns (pages_of pages frames pool live slots) (pages_of pages frames xs (set live page fresh) slots) page) (sym e)
     (copy_owns pages frames held pool live counts rest reserved slots page fresh mine less hit))

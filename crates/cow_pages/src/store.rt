@@ -324,10 +324,11 @@ impl PageStore {
         ensures owns { Owns self.old self.new page }
         ensures frame { result ≡ slice_index self.new.live.numbers page }
     {
-        let from = self.live[page] as usize * PAGE as usize;
+        let shared = self.live[page];
         let Some(fresh) = self.free.pop() else {
             unreachable!();
         };
+        let from = shared as usize * PAGE as usize;
         let to = fresh as usize * PAGE as usize;
         self.pool
             .as_mut_slice()

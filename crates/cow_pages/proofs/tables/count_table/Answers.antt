@@ -9,8 +9,8 @@ overflow_add-counts c = omega (arith, counting_fits _ _ _ _ _ _ c.entries.invari
 pub entries-preserved : goal.entries-preserved
 entries-preserved c =
     elim c.if-count-eq0.branch [
-      | then-count-eq0 w ↦ counting_more _ _ _ _ _ _ _ c.entries.invariant c.requires.below c.entries-test.true refl (rise_none _ _ _ w.if-count-eq0.true w.added-is)
-      | else-count-eq0 w ↦ counting_more _ _ _ _ _ _ _ c.entries.invariant c.requires.below c.entries-test.true refl (rise_some _ _ _ w.if-count-eq0.false w.added-is)
+      | then-count-eq0 w ↦ counting_more _ _ _ _ _ _ _ c.entries.invariant c.requires.below c.entries-test.true refl (rise_none _ _ _ w.if-count-eq0.true (omega (arith, w.added-is)))
+      | else-count-eq0 w ↦ counting_more _ _ _ _ _ _ _ c.entries.invariant c.requires.below c.entries-test.true refl (rise_some _ _ _ w.if-count-eq0.false (omega (arith, w.added-is)))
     ]
 
 pub returns-clause-counts : goal.returns-clause-counts

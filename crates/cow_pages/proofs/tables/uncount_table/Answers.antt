@@ -26,7 +26,7 @@ entries-preserved c =
           (let gone : has x c.args.live.now ≡ false = not-live _ _ _ _ c.requires.home c.entries-test.true refl w.if-live-k.true in
           let stack : IsStack _ _ _ = uncount_free _ _ _ x so.stack near some w.if-count-eq0.true gone in
           record {
-            walk = uncounting_more _ _ _ _ _ _ _ _ _ _ so c.requires.below c.requires.counted c.entries-test.true refl (rise_none _ _ _ w.if-count-eq0.true w.removed-is) (rw (w.free-is, w.push_reserved.ensures.items) stack);
+            walk = uncounting_more _ _ _ _ _ _ _ _ _ _ so c.requires.below c.requires.counted c.entries-test.true refl (rise_none _ _ _ w.if-count-eq0.true (omega (arith, w.removed-is))) (rw (w.free-is, w.push_reserved.ensures.items) stack);
             reserved = rw w.free-is (w.push_reserved.ensures.capacity ∙ c.entries.invariant.reserved);
           })
       | then-count-eq0+else-live-k w ↦
@@ -34,13 +34,13 @@ entries-preserved c =
           let is : has x c.args.live.now ≡ true = subst (λ n. has n c.args.live.now ≡ true) w.if-live-k.false (has-get_or c.args.live.now c.entries.k inside) in
           let stack = uncount_live _ _ _ x so.stack near is in
           record {
-            walk = uncounting_more _ _ _ _ _ _ _ _ _ _ so c.requires.below c.requires.counted c.entries-test.true refl (rise_none _ _ _ w.if-count-eq0.true w.removed-is) (rw w.free-is stack);
+            walk = uncounting_more _ _ _ _ _ _ _ _ _ _ so c.requires.below c.requires.counted c.entries-test.true refl (rise_none _ _ _ w.if-count-eq0.true (omega (arith, w.removed-is))) (rw w.free-is stack);
             reserved = rw w.free-is c.entries.invariant.reserved;
           })
       | else-count-eq0 w ↦
           (let stack = uncount_kept _ _ _ x so.stack near some w.if-count-eq0.false in
           record {
-            walk = uncounting_more _ _ _ _ _ _ _ _ _ _ so c.requires.below c.requires.counted c.entries-test.true refl (rise_some _ _ _ w.if-count-eq0.false w.removed-is) (rw w.free-is stack);
+            walk = uncounting_more _ _ _ _ _ _ _ _ _ _ so c.requires.below c.requires.counted c.entries-test.true refl (rise_some _ _ _ w.if-count-eq0.false (omega (arith, w.removed-is))) (rw w.free-is stack);
             reserved = rw w.free-is c.entries.invariant.reserved;
           })
     ]

@@ -1,4 +1,4 @@
-use Rattle.std.proofs.Common.{◌≡◌, ◌<◌, ◌+◌, ◌-◌, ◌*◌, length, take, drop, ◌++◌, get_or, sym, ap, subst, ◌∙◌, arith}
+use Rattle.std.proofs.Common.{◌<◌, ◌+◌, ◌-◌, ◌*◌, length, refl, sym, ap, subst, ◌∙◌, arith}
 use Rattle.std.proofs.lemmas.List.{get_or_read}
 use Rattle.cow_pages.specs.Writes.{is_shared}
 use Rattle.cow_pages.proofs.Copying.{free_there, moved_sound, moved_owns}
@@ -15,22 +15,14 @@ pub invariant_of-self : goal.invariant_of-self
 invariant_of-self c =
     let less : c.args.page < c.self.inside.pages = subst (λ s. c.args.page < s.pages) (sym c.self.view_is) c.requires.inside in
     let inside : c.args.page < length c.self.inside.live.items = omega (arith, c.self.invariant.live_table.size) in
-    let number = get_or_read c.self.inside.live.items c.args.page c.index.result.now inside c.index.ensures 0 in
-    let from : c.index.result.now * 4096 ≡ 4096 * get_or c.self.inside.live.items c.args.page 0 = omega (arith, number) in
-    let to : c.in-Some.fresh * 4096 ≡ 4096 * c.in-Some.fresh = omega arith in
-    let count : c.index.result.now * 4096 + 4096 - c.index.result.now * 4096 ≡ 4096 = omega arith in
-    let copy : c.copy_within.new.self ≡ take (c.in-Some.fresh * 4096) c.self.inside.pool.items ++ take (c.index.result.now * 4096 + 4096 - c.index.result.now * 4096) (drop (c.index.result.now * 4096) c.self.inside.pool.items) ++ drop (c.in-Some.fresh * 4096 + (c.index.result.now * 4096 + 4096 - c.index.result.now * 4096)) c.self.inside.pool.items =
-    c.copy_within.ensures.after ∙ ap (λ xs. take (c.in-Some.fresh * 4096) xs ++ take (c.index.result.now * 4096 + 4096 - c.index.result.now * 4096) (drop (c.index.result.now * 4096) xs) ++ drop (c.in-Some.fresh * 4096 + (c.index.result.now * 4096 + 4096 - c.index.result.now * 4096)) xs) c.as_mut_slice.ensures.value in
-    moved_sound _ _ _ _ _ _ _ _ _ _ _ _ _ _ _ _ _ _ _ c.self.invariant c.self.view_is c.requires.inside c.requires.shared c.in-Some.ensures.items from to count c.self.inside.pool.ok.0 copy c.pop.ensures.capacity
+    let number = get_or_read c.self.inside.live.items c.args.page c.index-shared.result.now inside c.index-shared.ensures 0 in
+    let from = c.index-shared.result.now * 4096 in
+    moved_sound _ _ _ _ (from + 4096 - from) from (c.in-Some.fresh * 4096) _ _ _ _ _ _ _ _ _ _ _ _ c.in-Some.fresh c.self.invariant c.self.view_is c.requires.inside c.requires.shared c.in-Some.ensures.items c.copy_within.ensures.after c.as_mut_slice.ensures.value (omega (arith, number)) (omega arith) (omega arith) c.self.inside.pool.ok.0 c.pop.ensures.capacity
 
 pub returns-clause-owns : goal.returns-clause-owns
 returns-clause-owns c =
     let less : c.args.page < c.self.inside.pages = subst (λ s. c.args.page < s.pages) (sym c.self.view_is) c.requires.inside in
     let inside : c.args.page < length c.self.inside.live.items = omega (arith, c.self.invariant.live_table.size) in
-    let number = get_or_read c.self.inside.live.items c.args.page c.index.result.now inside c.index.ensures 0 in
-    let from : c.index.result.now * 4096 ≡ 4096 * get_or c.self.inside.live.items c.args.page 0 = omega (arith, number) in
-    let to : c.in-Some.fresh * 4096 ≡ 4096 * c.in-Some.fresh = omega arith in
-    let count : c.index.result.now * 4096 + 4096 - c.index.result.now * 4096 ≡ 4096 = omega arith in
-    let copy : c.copy_within.new.self ≡ take (c.in-Some.fresh * 4096) c.self.inside.pool.items ++ take (c.index.result.now * 4096 + 4096 - c.index.result.now * 4096) (drop (c.index.result.now * 4096) c.self.inside.pool.items) ++ drop (c.in-Some.fresh * 4096 + (c.index.result.now * 4096 + 4096 - c.index.result.now * 4096)) c.self.inside.pool.items =
-    c.copy_within.ensures.after ∙ ap (λ xs. take (c.in-Some.fresh * 4096) xs ++ take (c.index.result.now * 4096 + 4096 - c.index.result.now * 4096) (drop (c.index.result.now * 4096) xs) ++ drop (c.in-Some.fresh * 4096 + (c.index.result.now * 4096 + 4096 - c.index.result.now * 4096)) xs) c.as_mut_slice.ensures.value in
-    moved_owns _ _ _ _ _ _ _ _ _ _ _ _ _ _ _ _ _ _ c.self.invariant c.self.view_is c.requires.inside c.requires.shared c.in-Some.ensures.items from to count c.self.inside.pool.ok.0 copy
+    let number = get_or_read c.self.inside.live.items c.args.page c.index-shared.result.now inside c.index-shared.ensures 0 in
+    let from = c.index-shared.result.now * 4096 in
+    moved_owns _ _ _ _ (from + 4096 - from) from (c.in-Some.fresh * 4096) _ _ _ _ _ _ _ _ _ _ _ c.in-Some.fresh c.self.invariant c.self.view_is c.requires.inside c.requires.shared c.in-Some.ensures.items c.copy_within.ensures.after c.as_mut_slice.ensures.value (omega (arith, number)) (omega arith) (omega arith) c.self.inside.pool.ok.0
