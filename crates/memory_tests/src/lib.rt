@@ -1,13 +1,11 @@
-//! Tests of memory's blocks and pages.
+//! Tests of blocks, pages and checkpoints: what no clause of their crates says.
 #![tactic(auto)]
 
 #[cfg(test)]
 mod alloc_env_tests;
 #[cfg(test)]
 mod block_book_tests;
-//! Tests of the crates of memory.
-#![tactic(auto)]
-
 #[cfg(test)]
 mod ckpt_ring_tests;
+#[cfg(test)]
 mod cow_pages_tests;
