@@ -77,29 +77,13 @@ fn funct7_of(word: u32) -> u8
     (word >> 25) as u8
 }
 
-/// What the low twelve bits stand for in two's complement.
-#[inline(always)]
-fn signed_12(bits: u32) -> i32
-    requires { bits < 2 ^ 12 }
-    ensures { result ≡ signed 12 bits }
-{
-    if bits < 0x800 {
-        bits as i32
-    } else {
-        bits as i32 - 0x1000
-    }
-}
-
+/// What the low thirteen bits stand for in two's complement: the highest one is taken off twice.
 #[inline(always)]
 fn signed_13(bits: u32) -> i32
     requires { bits < 2 ^ 13 }
     ensures { result ≡ signed 13 bits }
 {
-    if bits < 0x1000 {
-        bits as i32
-    } else {
-        bits as i32 - 0x2000
-    }
+    bits as i32 - ((bits >> 12) << 13) as i32
 }
 
 #[inline(always)]
@@ -107,11 +91,7 @@ fn signed_21(bits: u32) -> i32
     requires { bits < 2 ^ 21 }
     ensures { result ≡ signed 21 bits }
 {
-    if bits < 0x10_0000 {
-        bits as i32
-    } else {
-        bits as i32 - 0x20_0000
-    }
+    bits as i32 - ((bits >> 20) << 21) as i32
 }
 
 #[inline(always)]
@@ -120,7 +100,7 @@ fn imm_i_of(word: u32) -> i32
     ensures value { result ≡ imm_i word }
     ensures in_range { IsImmediate 12 1 result }
 {
-    signed_12(word >> 20)
+    word.cast_signed() >> 20
 }
 
 #[inline(always)]
@@ -129,7 +109,7 @@ fn imm_s_of(word: u32) -> i32
     ensures value { result ≡ imm_s word }
     ensures in_range { IsImmediate 12 1 result }
 {
-    signed_12((word >> 25 << 5) + (word >> 7 & 0x1f))
+    (word.cast_signed() >> 25 << 5) + (word >> 7 & 0x1f) as i32
 }
 
 #[inline(always)]
