@@ -63,8 +63,17 @@ impl Area {
         requires within { at + size ≤ 2 ^ 32 }
         ensures { result ≡ meets flag self.now at size }
     {
-        self.flags / flag % 2 == 1
-            && (self.start as usize) < at as usize + size
+        if self.flags / flag % 2 != 1 {
+            return false;
+        }
+        // Most ranges lie whole in the area, and `range` asks for no more than this.
+        if 0 < size
+            && self.start <= at
+            && (at - self.start) as usize + size <= self.bytes.len()
+        {
+            return true;
+        }
+        (self.start as usize) < at as usize + size
             && (at.saturating_sub(self.start) as usize) < self.bytes.len()
     }
 
