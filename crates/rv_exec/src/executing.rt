@@ -87,9 +87,9 @@ fn branch(regs: &mut Regs, op: BranchOp, rs1: u8, rs2: u8, imm: i32) -> Result<(
     Ok(())
 }
 
-/// Loads: also one into register 0 touches memory.
+/// A load of one kind: also one into register 0 touches memory.
 #[inline(always)]
-fn load(
+fn load_of(
     regs: &mut Regs,
     space: &GuestSpace,
     op: LoadOp,
@@ -111,9 +111,32 @@ fn load(
     }
 }
 
-/// Stores.
+/// Loads, each kind with its own size.
 #[inline(always)]
-fn store(
+fn load(
+    regs: &mut Regs,
+    space: &GuestSpace,
+    op: LoadOp,
+    rd: u8,
+    rs1: u8,
+    imm: i32,
+) -> Result<(), Cause>
+    requires written { IsRegister rd }
+    requires first { IsRegister rs1 }
+    ensures { (m : Machine) → Does (load op rd rs1 imm) m regs.old space.now result regs.new space.now }
+{
+    match op {
+        LoadOp::Lb => load_of(regs, space, LoadOp::Lb, rd, rs1, imm),
+        LoadOp::Lh => load_of(regs, space, LoadOp::Lh, rd, rs1, imm),
+        LoadOp::Lw => load_of(regs, space, LoadOp::Lw, rd, rs1, imm),
+        LoadOp::Lbu => load_of(regs, space, LoadOp::Lbu, rd, rs1, imm),
+        LoadOp::Lhu => load_of(regs, space, LoadOp::Lhu, rd, rs1, imm),
+    }
+}
+
+/// A store of one kind.
+#[inline(always)]
+fn store_of(
     regs: &mut Regs,
     space: &mut GuestSpace,
     op: StoreOp,
@@ -132,6 +155,27 @@ fn store(
             Ok(())
         }
         Err(_) => Err(Cause::BadAccess),
+    }
+}
+
+/// Stores, each kind with its own size.
+#[inline(always)]
+fn store(
+    regs: &mut Regs,
+    space: &mut GuestSpace,
+    op: StoreOp,
+    rs1: u8,
+    rs2: u8,
+    imm: i32,
+) -> Result<(), Cause>
+    requires first { IsRegister rs1 }
+    requires second { IsRegister rs2 }
+    ensures { (m : Machine) → Does (store op rs1 rs2 imm) m regs.old space.old result regs.new space.new }
+{
+    match op {
+        StoreOp::Sb => store_of(regs, space, StoreOp::Sb, rs1, rs2, imm),
+        StoreOp::Sh => store_of(regs, space, StoreOp::Sh, rs1, rs2, imm),
+        StoreOp::Sw => store_of(regs, space, StoreOp::Sw, rs1, rs2, imm),
     }
 }
 
