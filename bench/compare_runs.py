@@ -29,17 +29,26 @@ EXECUTE, WRITE, READ = 1, 2, 4
 MASK = 0xFFFFFFFF
 
 BAD_ACCESS, BAD_JUMP, BAD_INSTRUCTION = "BadAccess", "BadJump", "BadInstruction"
-ASSERT_FAILED, HANG, BAD_CALL = "AssertFailed(0)", "Hang", "BadCall"
+HANG, BAD_CALL = "Hang", "BadCall"
 
 # what standard error says of a cause
 CAUSES = {
     "it touched memory that it may not touch so": BAD_ACCESS,
     "it jumped to an address that is no multiple of 4": BAD_JUMP,
     "it came to a word that is no instruction": BAD_INSTRUCTION,
-    "its assertion 0 failed": ASSERT_FAILED,
     "1000000 instructions came since the last item or the start, which is the limit": HANG,
-    "it made a call with a number in a7 that isn't 1, 2 or 5": BAD_CALL,
+    "it made a call with a number in a7 that isn't 1, 2, 5 or 6": BAD_CALL,
 }
+
+
+def assert_failed(code):
+    return f"AssertFailed({code})"
+
+
+def cause_of(sentence):
+    """The cause that a sentence on standard error tells."""
+    assertion = re.fullmatch(r"its assertion (\d+) failed", sentence)
+    return assert_failed(int(assertion.group(1))) if assertion else CAUSES[sentence]
 
 
 class Failure(Exception):
@@ -153,7 +162,7 @@ class Guest:
         elif opcode == 0x0F and funct3 == 0:
             pass
         elif word == 0x00100073:
-            raise Failure(ASSERT_FAILED)
+            raise Failure(assert_failed(0))
         elif word == 0x00000073:
             return self.call()
         else:
@@ -193,6 +202,8 @@ class Guest:
             self.x[10] = self.send(a0, a1, a2)
         elif number == 5:
             raise End(("Exited", a0))
+        elif number == 6:
+            raise Failure(assert_failed(a0))
         else:
             raise Failure(BAD_CALL)
         return self.pc + 4
@@ -426,7 +437,7 @@ def answer_of_rx(rx, folder, program, frames):
     refused = re.search(r"no whole frame at byte (\d+):", said)
     exited = re.search(r"ended itself with the code (\d+)", said)
     if done.returncode == 5 and failed:
-        answer = ("GaveUp", int(failed.group(1)), CAUSES[failed.group(2)])
+        answer = ("GaveUp", int(failed.group(1)), cause_of(failed.group(2)))
     elif done.returncode == 4 and refused:
         answer = ("InputRefused", int(refused.group(1)))
     elif done.returncode == 1 and exited:

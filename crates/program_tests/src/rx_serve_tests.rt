@@ -399,6 +399,18 @@ fn a_program_fails(rt: HostRuntime) -> Result<(), Fail> {
         ),
         // addi a7, x0, 7; ecall
         ("call 7", &[0x0070_0893, 0x0000_0073], 0, Cause::BadCall, 1),
+        // addi a7, x0, 3; ecall
+        ("malloc", &[0x0030_0893, 0x0000_0073], 0, Cause::BadCall, 1),
+        // addi a7, x0, 4; ecall
+        ("free", &[0x0040_0893, 0x0000_0073], 0, Cause::BadCall, 1),
+        // addi a0, x0, 7; addi a7, x0, 6; ecall
+        (
+            "an assertion",
+            &[0x0070_0513, 0x0060_0893, 0x0000_0073],
+            0,
+            Cause::AssertFailed(7),
+            2,
+        ),
         // lw t0, 0(x0)
         ("a load", &[0x0000_2283], 0, Cause::BadAccess, 0),
         // addi x0, x0, 0

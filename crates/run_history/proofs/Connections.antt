@@ -1,5 +1,5 @@
 -- Laws of the connections that may be sent to: an open adds its own, a close removes it, and no send goes elsewhere.
-use Rattle.std.proofs.Common.{◌≡◌, ◌≢◌, ◌⊎◌, ℕ, ◌<◌, Bool, true, false, List, [], length, set, replicate, refl, sym, ◌∙◌, ap, subst, inl, inr, length-set}
+use Rattle.std.proofs.Common.{◌≡◌, ◌≢◌, ◌⊎◌, ℕ, ◌<◌, Bool, true, false, List, [], length, set, replicate, refl, sym, ◌∙◌, ap, subst, inl, inr, length-set, None}
 use Rattle.std.specs.Prelude.{slice_get, unwrap_or}
 use Rattle.std.proofs.lemmas.Bool.{cases_eq, cases_lt, eq-eqb, ne_eqb, both_ways}
 use Rattle.std.proofs.lemmas.Option.{unwrap_or-slice_get}
@@ -7,7 +7,7 @@ use Rattle.std.proofs.lemmas.List.{length-replicate, get_or-replicate, get_or-se
 use Rattle.rx_io.specs.declared.bytes.Item.{Item}
 use Rattle.run_history.specs.Machine.{Machine, no_connections, Emits}
 use Rattle.run_history.specs.Call.{connections_after, received}
-use Rattle.run_history.specs.Run.{effect}
+use Rattle.run_history.specs.Run.{does}
 use Rattle.run_history.proofs.Shapes.{Keeps}
 use Rattle.run_history.proofs.Runs.{emits_may, received_keeps}
 
@@ -133,5 +133,5 @@ pub within_keeps : (P : ℕ → Type 0) (m new : Machine) (steps : ℕ) → Keep
 within_keeps P m new steps keeps before = rw keeps.connections before
 
 -- a send goes to a connection that has it
-pub within_sends : (P : ℕ → Type 0) (m new : Machine) (conn : ℕ) (bytes : List ℕ) → OpenWithin P m.connections → effect [] [] m ≡ Emits conn bytes new → P conn
-within_sends P m new conn bytes within does = within.each conn (emits_may m new conn bytes does).allowed
+pub within_sends : (P : ℕ → Type 0) (m new : Machine) (conn : ℕ) (bytes : List ℕ) → OpenWithin P m.connections → does None None m ≡ Emits conn bytes new → P conn
+within_sends P m new conn bytes within acts = within.each conn (emits_may m new conn bytes acts).allowed

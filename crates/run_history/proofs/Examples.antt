@@ -1,5 +1,5 @@
 -- The definitions at values that were worked out by hand from the RISC-V manual's formats and the ELF specification.
-use Rattle.std.proofs.Common.{◌≡◌, ℕ, true, false, List, [], ◌∷◌, ◌++◌, length, map, Some, None, refl, lit<, lit≤}
+use Rattle.std.proofs.Common.{◌≡◌, ℕ, true, false, List, [], ◌∷◌, ◌++◌, length, map, Some, None, refl, lit<, lit≤, Option, None, Bool}
 use Rattle.std.specs.List.{All}
 use Rattle.std.proofs.lemmas.List.Elements.{All-cons, All-nil}
 use Rattle.std.specs.Prelude.{pos, negsuc, flat_map, option_and_then}
@@ -20,10 +20,14 @@ use Rattle.rx_io.specs.Sends.{sent_to}
 use Rattle.run_history.specs.declared.answer.Cause.TheVariants.{BadAccess, BadJump, AssertFailed, BadCall, Hang}
 use Rattle.elf_image.specs.Memory.{Area, execute, read, write, byte_at, permitted, bytes_at, put_bytes}
 use Rattle.elf_image.specs.Image.{base, heap_start, heap_end, stack_top, zeros, memory_of, written}
-use Rattle.run_history.specs.Machine.{Machine, State, register, with_register, start_machine, Goes, Emits, Ends, Fails}
+use Rattle.run_history.specs.Machine.{Machine, State, register, with_register, start_machine, Goes, Emits, Ends, Chooses, Fails}
 use Rattle.run_history.specs.Instruction.{auipc, jal, jalr, branch, load, store, op_imm, op, fence, ebreak}
-use Rattle.run_history.specs.Call.{received, answered, send, call}
-use Rattle.run_history.specs.Run.{instruction, effect, effect_within, next, run}
+use Rattle.run_history.specs.Call.{received, answered, send, allocated, freed, call}
+use Rattle.run_history.specs.Run.{instruction, does, next, run}
+use Rattle.run_history.specs.Served.{Limits, Guest, serves, Override, env_at}
+use Rattle.block_book.specs.declared.choice.Choice.{Choice}
+use Rattle.block_book.specs.Answer.{is_allowed, is_clear}
+use Rattle.alloc_env.specs.declared.env.Env.TheVariants.{Plain, Pad, Delay}
 
 -- A program that sends back each message. Its words, as an assembler gives them:
 abbrev pub echo : List ℕ
@@ -333,6 +337,8 @@ waiting =
           ∷ 0 ∷ 0 ∷ 0 ∷ 0 ∷ 0 ∷ 0 ∷ 0 ∷ 0 ∷ 0 ∷ 0 ∷ 0 ∷ 0 ∷ 0 ∷ 0 ∷ 0 ∷ 0
           ∷ [];
       memory = record { start = 0; flags = 5; bytes = echo_bytes } ∷ record { start = 68; flags = 6; bytes = 0 ∷ 0 ∷ 0 ∷ 0 ∷ 0 ∷ 0 ∷ 0 ∷ 0 ∷ [] } ∷ [];
+      heap_start = 0x1000;
+      heap_end = 0x2000;
       blocks = [];
       allocations = 0;
       taken = 0;
@@ -513,19 +519,87 @@ unfolding permitted
 send_some = refl
 
 -- a call with no such number, and an end
-pub no_such_call : call 0 [] waiting ≡ Fails BadCall
+pub no_such_call : call 0 None None waiting ≡ Fails BadCall
 no_such_call = refl
 
-pub end_with_code : call 5 [] (sending 7 0 0) ≡ Ends 7
+pub no_seventh_call : call 7 None None waiting ≡ Fails BadCall
+no_seventh_call = refl
+
+pub end_with_code : call 5 None None (sending 7 0 0) ≡ Ends 7
 end_with_code = refl
 
--- an empty budget is tested before all else; no word is fetched from where none may be executed
-pub hang_first : effect_within 0 [] [] (record waiting { pc = 5000 }) ≡ Fails Hang
+pub failed_assertion : call 6 None None (sending 7 0 0) ≡ Fails (AssertFailed 7)
+failed_assertion = refl
+
+-- malloc of 20 bytes, with a block of 16 live at 0x1010: without an answer, and with null
+abbrev pub asking : Machine
+asking = record (sending 20 0 0) { blocks = (0x1010, 16) ∷ [] }
+
+abbrev pub choosing : ℕ → Bool → Option Choice
+choosing at zeroed = Some (record { at = at; zeroed = zeroed })
+
+pub malloc_unanswered : call 3 None None asking ≡ Chooses 20
+malloc_unanswered = refl
+
+pub malloc_null : call 3 None (choosing 0 false) asking ≡ Goes (record asking { pc = 16; registers = with_register 10 0 asking.registers; allocations = 1; since = 1 })
+unfolding is_allowed is_clear allocated
+malloc_null = refl
+
+-- behind the live block, and in the first bytes of the heap, into which 20 bytes don't fit
+pub malloc_behind : call 3 None (choosing 0x1020 false) asking ≡
+    Goes (record asking { pc = 16; registers = with_register 10 0x1020 asking.registers; blocks = (0x1010, 16) ∷ (0x1020, 20) ∷ []; allocations = 1; since = 1 })
+unfolding is_allowed is_clear allocated
+malloc_behind = refl
+
+pub malloc_overlaps : call 3 None (choosing 0x1000 false) asking ≡ Chooses 20
+unfolding is_allowed is_clear
+malloc_overlaps = refl
+
+-- no multiple of 16; past the end of the heap; null that is zeroed
+pub malloc_unaligned : call 3 None (choosing 0x1028 false) asking ≡ Chooses 20
+unfolding is_allowed is_clear
+malloc_unaligned = refl
+
+pub malloc_past_the_end : call 3 None (choosing 0x1ff0 false) asking ≡ Chooses 20
+unfolding is_allowed is_clear
+malloc_past_the_end = refl
+
+pub malloc_zeroed_null : call 3 None (choosing 0 true) asking ≡ Chooses 20
+unfolding is_allowed is_clear
+malloc_zeroed_null = refl
+
+-- free of a live block, and of an address at which none is live
+pub free_live : call 4 None None (record asking { registers = with_register 10 0x1010 asking.registers }) ≡
+    Goes (record asking { pc = 16; registers = with_register 10 0x1010 asking.registers; blocks = []; since = 1 })
+unfolding freed
+free_live = refl
+
+pub free_nothing : call 4 None None asking ≡ Goes (record asking { pc = 16; since = 1 })
+unfolding freed
+free_nothing = refl
+
+-- an empty budget is tested before all else, and the rule before the instruction is done; no word is fetched from where
+-- none may be executed
+abbrev pub forbidding : ℕ → Limits
+forbidding budget = record { budget = budget; permits = λ heap at count. false }
+
+abbrev pub guest : ℕ → Guest
+guest pc = record { machine = record waiting { pc = pc }; heap = record { start = 0x1000; end = 0x2000; blocks = [] } }
+
+pub hang_first : serves (forbidding 0) Plain None (guest 5000) ≡ Fails Hang
+unfolding serves
 hang_first = refl
 
-pub fetch_outside : effect [] [] (record waiting { pc = 68 }) ≡ Fails BadAccess
-unfolding effect permitted
+pub fetch_outside : does None None (record waiting { pc = 68 }) ≡ Fails BadAccess
+unfolding does permitted
 fetch_outside = refl
+
+-- a plan: Pad from count 2 up to 7, after Delay from 4 up to 9
+abbrev pub planned : List Override
+planned = record { low = 4; until = 9; env = Delay } ∷ record { low = 2; until = 7; env = Pad } ∷ []
+
+pub envs : map (env_at planned) (0 ∷ 1 ∷ 2 ∷ 3 ∷ 4 ∷ 8 ∷ 9 ∷ []) ≡ Plain ∷ Plain ∷ Pad ∷ Pad ∷ Delay ∷ Delay ∷ Plain ∷ []
+envs = refl
 
 -- the sends of a connection, in their order
 pub bytes_sent : sent_to 3 (record { conn = 3; bytes = 1 ∷ 2 ∷ []; taken = 1 } ∷ record { conn = 0; bytes = 9 ∷ []; taken = 1 } ∷ record { conn = 3; bytes = 3 ∷ []; taken = 2 } ∷ []) ≡ 1 ∷ 2 ∷ 3 ∷ []
@@ -543,11 +617,11 @@ message = record { kind = 2; conn = 3; bytes = 104 ∷ 105 ∷ [] }
 
 -- three instructions, and then it wants an item
 pub echo_waits : option_and_then (λ (s : State). Some s.machine.pc) (run [] [] before 3) ≡ Some 24
-unfolding next effect permitted instruction row branch_row branch_op imm_row imm_op op_row reg_op base_op system_row opcode rd funct3 rs1 rs2 funct7 imm_i imm_b imm_u imm_j received displaced word_sum
+unfolding next does permitted instruction row branch_row branch_op imm_row imm_op op_row reg_op base_op system_row opcode rd funct3 rs1 rs2 funct7 imm_i imm_b imm_u imm_j received displaced word_sum
 echo_waits = refl
 
 pub echo_wants : run [] [] before 4 ≡ None
-unfolding next effect permitted instruction row branch_row branch_op imm_row imm_op op_row reg_op base_op system_row opcode rd funct3 rs1 rs2 funct7 imm_i imm_b imm_u imm_j received displaced word_sum
+unfolding next does permitted instruction row branch_row branch_op imm_row imm_op op_row reg_op base_op system_row opcode rd funct3 rs1 rs2 funct7 imm_i imm_b imm_u imm_j received displaced word_sum
 echo_wants = refl
 
 -- with the message there, thirteen instructions send it back and are at the same place again
@@ -562,6 +636,8 @@ pub echo_answers : run (message ∷ []) [] before 13 ≡
                 ∷ 0 ∷ 2 ∷ 0 ∷ 0 ∷ 0 ∷ 0 ∷ 0 ∷ 0 ∷ 0 ∷ 0 ∷ 0 ∷ 0 ∷ 0 ∷ 0 ∷ 0 ∷ 0
                 ∷ [];
             memory = record { start = 0; flags = 5; bytes = echo_bytes } ∷ record { start = 68; flags = 6; bytes = 104 ∷ 105 ∷ 0 ∷ 0 ∷ 0 ∷ 0 ∷ 0 ∷ 0 ∷ [] } ∷ [];
+            heap_start = 0x1000;
+            heap_end = 0x2000;
             blocks = [];
             allocations = 0;
             taken = 1;
@@ -571,5 +647,5 @@ pub echo_answers : run (message ∷ []) [] before 13 ≡
       sends = record { conn = 3; bytes = 104 ∷ 105 ∷ []; taken = 1 } ∷ [];
       ended = None;
     })
-unfolding next effect permitted instruction row branch_row branch_op imm_row imm_op op_row reg_op base_op system_row opcode rd funct3 rs1 rs2 funct7 imm_i imm_b imm_u imm_j received displaced word_sum
+unfolding next does permitted instruction row branch_row branch_op imm_row imm_op op_row reg_op base_op system_row opcode rd funct3 rs1 rs2 funct7 imm_i imm_b imm_u imm_j received displaced word_sum
 echo_answers = refl

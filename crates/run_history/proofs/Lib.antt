@@ -1,6 +1,9 @@
+pub mod Repeats
 pub mod Shapes
 pub mod Runs
 pub mod Connections
 pub mod Outputs
+pub mod Serves
+pub mod Blocks
+pub mod Layouts
 pub mod Examples
-pub mod Within

@@ -1,13 +1,14 @@
 -- Laws of the output: it only grows.
 use Rattle.std.proofs.Common.{◌≡◌, ℕ, zero, suc, ◌+◌, cond, eqb, List, [], ◌∷◌, ◌++◌, Some, refl, sym, ◌∙◌, ap, append_assoc, append-nil}
 use Rattle.std.proofs.lemmas.Grind.{flat_map-append}
-use Rattle.std.proofs.lemmas.Option.{option_and_then_some, none-some, same_Some}
+use Rattle.std.proofs.lemmas.Option.{none-some, same_Some}
 use Rattle.rx_io.specs.declared.bytes.Item.{Item}
 use Rattle.rx_io.specs.Prefix.{Prefix}
 use Rattle.rx_io.specs.Sends.{Send, sent_to}
-use Rattle.run_history.specs.declared.choice.Choice.{Choice}
-use Rattle.run_history.specs.Machine.{State, Effect, Goes, Emits, Ends, Wants, Fails}
+use Rattle.block_book.specs.declared.choice.Choice.{Choice}
+use Rattle.run_history.specs.Machine.{State, Effect, Goes, Emits, Ends, Wants, Chooses, Fails}
 use Rattle.run_history.specs.Run.{effect, after, next, run, output}
+use Rattle.run_history.proofs.Repeats.{repeated_keeps}
 use Rattle.run_history.proofs.Runs.{next_parts, run_from}
 
 -- a list is its own front
@@ -41,18 +42,18 @@ after_sends s t (Goes m) h = let e = ap (λ (v : State). v.sends) (same_Some _ t
 after_sends s t (Emits conn bytes m) h = let e = ap (λ (v : State). v.sends) (same_Some _ t h) in (_, e)
 after_sends s t (Ends code) h = let e = ap (λ (v : State). v.sends) (same_Some _ t h) in rw (← e) (prefix_same s.sends)
 after_sends s t Wants h = absurd (none-some t h)
+after_sends s t (Chooses size) h = absurd (none-some t h)
 after_sends s t (Fails cause) h = absurd (none-some t h)
 
 -- one instruction only adds to the sends
 pub next_sends : (items : List Item) (choices : List Choice) (s t : State) → next items choices s ≡ Some t → Prefix s.sends t.sends
-next_sends items choices s t goes = after_sends s t (effect items choices s.machine) (next_parts items choices s t goes).2
+next_sends items choices s t goes = after_sends s t (effect items choices s.machine) (next_parts items choices s t goes).1
 
 -- a run only adds to the sends
 pub run_sends : (items : List Item) (choices : List Choice) (s t : State) (n : ℕ) → run items choices s n ≡ Some t → Prefix s.sends t.sends
-run_sends items choices s t zero ran = let e = ap (λ (v : State). v.sends) (same_Some s t ran) in rw (← e) (prefix_same s.sends)
-run_sends items choices s t (suc n) ran =
-    option_and_then_some (next items choices) (run items choices s n) t ran (λ mid before last.
-    prefix_trans s.sends mid.sends t.sends (run_sends items choices s mid n before) (next_sends items choices mid t last))
+run_sends items choices s t n ran =
+    repeated_keeps (next items choices) (λ a b. Prefix a.sends b.sends)
+    (λ a. prefix_same a.sends) (λ a b c first second. prefix_trans a.sends b.sends c.sends first second) (λ a b goes. next_sends items choices a b goes) n s t ran
 
 -- so it only adds to each connection's output
 pub run_output : (items : List Item) (choices : List Choice) (s t : State) (n conn : ℕ) → run items choices s n ≡ Some t → Prefix (output s conn) (output t conn)

@@ -1,9 +1,11 @@
 -- One guest call: an ECALL, with its number in x17. A call that answers goes on behind the ECALL.
-use Rattle.std.specs.Prelude.{ℕ, ◌+◌, Bool, true, false, not, List, length, take, Option, Some, None, slice_get, slice_set, unwrap_or, nat_lt, if◌then◌else◌, ◌==◌}
+use Rattle.std.specs.Prelude.{ℕ, ◌+◌, Bool, true, false, not, List, length, take, replicate, filter, Option, Some, None, slice_get, slice_set, unwrap_or, nat_lt, if◌then◌else◌, ◌==◌}
 use Rattle.rx_io.specs.declared.bytes.Item.{Item}
-use Rattle.run_history.specs.declared.answer.Cause.TheVariants.{BadAccess, BadCall}
+use Rattle.block_book.specs.declared.choice.Choice.{Choice}
+use Rattle.block_book.specs.Answer.{is_allowed, insert_live, without_live}
+use Rattle.run_history.specs.declared.answer.Cause.TheVariants.{AssertFailed, BadAccess, BadCall}
 use Rattle.elf_image.specs.Memory.{read, write, permitted, bytes_at, put_bytes}
-use Rattle.run_history.specs.Machine.{Machine, register, with_register, next_pc, Effect, Goes, Emits, Ends, Wants, Fails}
+use Rattle.run_history.specs.Machine.{Machine, register, with_register, next_pc, Effect, Goes, Emits, Ends, Wants, Chooses, Fails}
 
 -- the connections that may be sent to, once an item was taken: an open (kind 1) adds its own, a close (3) removes it
 abbrev pub connections_after : Item → List Bool → List Bool
@@ -30,8 +32,8 @@ takes m None = Wants
 takes m (Some item) = Goes (received item m)
 
 -- call 1, recv: x10 the buffer's address, x11 its length, all of it writable
-abbrev pub recv : List Item → Machine → Effect
-recv items m = if permitted write m.memory (register m 10) (register m 11) then takes m (slice_get items m.taken) else Fails BadAccess
+abbrev pub recv : Option Item → Machine → Effect
+recv item m = if permitted write m.memory (register m 10) (register m 11) then takes m item else Fails BadAccess
 
 -- the machine once a call answered
 abbrev pub answered : ℕ → Machine → Machine
@@ -50,10 +52,43 @@ send m =
     if register m 12 == 0 then Goes (answered 0 m) else
     Emits (register m 10) (bytes_at read m.memory (register m 11) (register m 12)) (answered 0 m)
 
--- the call of a number
-abbrev pub call : ℕ → List Item → Machine → Effect
-call number items m =
-    if number == 1 then recv items m else
+-- The machine once malloc answered for a block of so many bytes: x10 is the block's address, or 0. Where the block's
+-- bytes are zeroed they are 0; else they are as they were.
+unfoldable pub allocated : ℕ → Choice → Machine → Machine
+allocated size choice m = record m {
+  pc = next_pc m;
+  registers = with_register 10 choice.at m.registers;
+  memory = if choice.zeroed then put_bytes m.memory choice.at (replicate size 0) else m.memory;
+  blocks = if choice.at == 0 then m.blocks else insert_live (choice.at, size) m.blocks;
+  allocations = m.allocations + 1;
+  since = m.since + 1;
+}
+
+-- what malloc does with the answer that is next, if it is there and C allows it
+abbrev pub chooses : ℕ → Machine → Option Choice → Effect
+chooses size m None = Chooses size
+chooses size m (Some choice) =
+    if is_allowed m.heap_start m.heap_end m.blocks size choice then Goes (allocated size choice m) else Chooses size
+
+-- call 3, malloc: x10 the block's size
+abbrev pub malloc : Option Choice → Machine → Effect
+malloc choice m = chooses (register m 10) m choice
+
+-- the machine once a block was freed: a live one at this address isn't live any more
+unfoldable pub freed : ℕ → Machine → Machine
+freed at m = record m { pc = next_pc m; blocks = without_live at m.blocks; since = m.since + 1 }
+
+-- call 4, free: x10 the block's address; no register changes
+abbrev pub free : Machine → Effect
+free m = Goes (freed (register m 10) m)
+
+-- the call of a number: 1 recv, 2 send, 3 malloc, 4 free, 5 exit, 6 a failed assertion
+abbrev pub call : ℕ → Option Item → Option Choice → Machine → Effect
+call number item choice m =
+    if number == 1 then recv item m else
     if number == 2 then send m else
+    if number == 3 then malloc choice m else
+    if number == 4 then free m else
     if number == 5 then Ends (register m 10) else
+    if number == 6 then Fails (AssertFailed (register m 10)) else
     Fails BadCall

@@ -1,10 +1,12 @@
 -- What holds of every run.
-use Rattle.std.specs.Prelude.{◌≡◌, ℕ, ◌+◌, List, ◌++◌, Some}
+use Rattle.std.specs.Prelude.{◌≡◌, ℕ, ◌+◌, List, [], ◌++◌, Some}
 use Rattle.rx_io.specs.declared.bytes.Item.{Item}
 use Rattle.rx_io.specs.Prefix.{Prefix}
-use Rattle.run_history.specs.declared.choice.Choice.{Choice}
+use Rattle.block_book.specs.declared.choice.Choice.{Choice}
+use Rattle.elf_image.specs.declared.image.Image.{Image}
 use Rattle.run_history.specs.Machine.{State}
-use Rattle.run_history.specs.Run.{run, output}
+use Rattle.run_history.specs.Run.{Run, run, output}
+use Rattle.run_history.specs.Served.{Limits, Override, Path, origin, serve}
 
 -- runs compose: n + m instructions do what m do from where n ended
 abbrev pub RunsCompose : Type 0
@@ -12,7 +14,7 @@ RunsCompose =
     (items : List Item) (choices : List Choice) (s t : State) (n m : ℕ) →
     run items choices s n ≡ Some t → run items choices s (n + m) ≡ run items choices t m
 
--- a run stays as it is when more items and answers of the allocator come behind those it was made with
+-- a run stays as it is when more items and answers of malloc come behind those it was made with
 abbrev pub RunsStay : Type 0
 RunsStay =
     (items more : List Item) (choices others : List Choice) (s t : State) (n : ℕ) →
@@ -23,3 +25,15 @@ abbrev pub OutputsGrow : Type 0
 OutputsGrow =
     (items : List Item) (choices : List Choice) (s t u : State) (n m conn : ℕ) →
     run items choices s n ≡ Some t → run items choices s (n + m) ≡ Some u → Prefix (output t conn) (output u conn)
+
+-- a served run is a run, of which each answer of malloc is one that C allows, and which used all of them
+abbrev pub ServedRuns : Type 0
+ServedRuns =
+    (limits : Limits) (image : Image) (items : List Item) (plan : List Override) (path : Path) (n : ℕ) →
+    serve limits items plan (origin image) n ≡ Some path → Run image items path.choices n path.state
+
+-- a served run stays as it is when more items come behind
+abbrev pub ServedStay : Type 0
+ServedStay =
+    (limits : Limits) (items more : List Item) (plan : List Override) (first second : Path) (n : ℕ) →
+    serve limits items plan first n ≡ Some second → serve limits (items ++ more) plan first n ≡ Some second

@@ -4,7 +4,7 @@ use Rattle.run_history.specs.declared.answer.Cause.{Cause}
 use Rattle.elf_image.specs.declared.image.Image.{Image}
 use Rattle.rx_io.specs.Sends.{Send}
 use Rattle.elf_image.specs.Memory.{Area}
-use Rattle.elf_image.specs.Image.{memory_of, stack_top}
+use Rattle.elf_image.specs.Image.{memory_of, heap_start, heap_end, stack_top}
 
 -- what an instruction reads and changes
 pub record Machine : Type 0 where
@@ -12,7 +12,10 @@ pub record Machine : Type 0 where
   -- 32 of them
   pub registers : List ℕ
   pub memory : List Area
-  -- the live blocks, each an address and a size
+  -- the ends of the heap, in which malloc may answer a block; they never change
+  pub heap_start : ℕ
+  pub heap_end : ℕ
+  -- the live blocks, each an address and a size, in order of address
   pub blocks : List (ℕ × ℕ)
   -- the answers of the allocator that were used
   pub allocations : ℕ
@@ -48,6 +51,8 @@ start_machine image = record {
   pc = image.entry;
   registers = slice_set (replicate 32 0) 2 (stack_top image % 2 ^ 32);
   memory = memory_of image;
+  heap_start = heap_start image;
+  heap_end = heap_end image;
   blocks = [];
   allocations = 0;
   taken = 0;
@@ -59,10 +64,11 @@ unfoldable pub start : Image → State
 start image = record { machine = start_machine image; sends = []; ended = None }
 
 -- What one instruction does: it goes on, sends bytes to a connection, ends the program with a code, wants an item
--- that isn't there, or fails and changes nothing.
+-- that isn't there, wants an answer of malloc for a block of so many bytes, or fails and changes nothing.
 pub data Effect : Type 0 where
   Goes : Machine → Effect
   Emits : ℕ → List ℕ → Machine → Effect
   Ends : ℕ → Effect
   Wants : Effect
+  Chooses : ℕ → Effect
   Fails : Cause → Effect

@@ -1,5 +1,5 @@
 -- An instruction, by its kind.
-use Rattle.std.proofs.Common.{◌≡◌, List, [], Result, Ok, Err, ap, ◌∙◌}
+use Rattle.std.proofs.Common.{◌≡◌, List, None, Result, Ok, Err, ap, ◌∙◌}
 use Rattle.rv_isa.specs.declared.instr.Instr.{Instr}
 use Rattle.run_history.specs.declared.answer.Cause.{Cause}
 use Rattle.run_history.specs.declared.regs.Regs.{Regs}
@@ -10,8 +10,8 @@ use Rattle.rv_exec.specs.Stepping.{StepsTo, with_parts}
 use Rattle.rv_exec.specs.Execution.{Does}
 
 -- what a kind of instruction does, an instruction of it does
-pub steps_to : (instr kind : Instr) (does : Machine → Effect) (m : Machine) (regs : Regs) (memory : List Area) (result : Result (Unit {0}) Cause) (new_regs : Regs) (new_memory : List Area) → Does does m regs memory result new_regs new_memory → instr ≡ kind → ((n : Machine) → instruction kind [] [] n ≡ does n) → StepsTo instr m regs memory result new_regs new_memory
+pub steps_to : (instr kind : Instr) (does : Machine → Effect) (m : Machine) (regs : Regs) (memory : List Area) (result : Result (Unit {0}) Cause) (new_regs : Regs) (new_memory : List Area) → Does does m regs memory result new_regs new_memory → instr ≡ kind → ((n : Machine) → instruction kind None None n ≡ does n) → StepsTo instr m regs memory result new_regs new_memory
 steps_to instr kind does m regs memory (Ok done) new_regs new_memory h is same =
-    ap (λ i. instruction i [] [] (with_parts m regs memory)) is ∙ same (with_parts m regs memory) ∙ h
+    ap (λ i. instruction i None None (with_parts m regs memory)) is ∙ same (with_parts m regs memory) ∙ h
 steps_to instr kind does m regs memory (Err cause) new_regs new_memory h is same =
-    (ap (λ i. instruction i [] [] (with_parts m regs memory)) is ∙ same (with_parts m regs memory) ∙ h.0, h.1, h.2)
+    (ap (λ i. instruction i None None (with_parts m regs memory)) is ∙ same (with_parts m regs memory) ∙ h.0, h.1, h.2)

@@ -1,5 +1,5 @@
 -- One instruction on registers and a memory: what the instruction step says of every machine that has them.
-use Rattle.std.specs.Prelude.{◌≡◌, ◌+◌, List, [], Result, Ok, Err}
+use Rattle.std.specs.Prelude.{◌≡◌, ◌+◌, List, None, Result, Ok, Err}
 use Rattle.rv_isa.specs.declared.instr.Instr.{Instr}
 use Rattle.run_history.specs.declared.answer.Cause.{Cause}
 use Rattle.run_history.specs.declared.regs.Regs.{Regs}
@@ -14,6 +14,6 @@ with_parts m regs memory = record m { pc = regs.pc; registers = regs.x; memory =
 -- the instruction was done, or failed and changed nothing
 abbrev pub StepsTo : Instr → Machine → Regs → List Area → Result (Unit {0}) Cause → Regs → List Area → Type 0
 StepsTo instr m regs memory (Ok done) new_regs new_memory =
-    instruction instr [] [] (with_parts m regs memory) ≡ Goes (record (with_parts m new_regs new_memory) { since = m.since + 1 })
+    instruction instr None None (with_parts m regs memory) ≡ Goes (record (with_parts m new_regs new_memory) { since = m.since + 1 })
 StepsTo instr m regs memory (Err cause) new_regs new_memory =
-    (instruction instr [] [] (with_parts m regs memory) ≡ Fails cause) × (new_regs ≡ regs) × (new_memory ≡ memory)
+    (instruction instr None None (with_parts m regs memory) ≡ Fails cause) × (new_regs ≡ regs) × (new_memory ≡ memory)

@@ -126,7 +126,10 @@ impl Message<'_> {
                 "1000000 instructions came since the last item or the start, which is the limit"
             ),
             Cause::BadFree => write!(f, "it freed what wasn't its own"),
-            Cause::BadCall => write!(f, "it made a call with a number in a7 that isn't 1, 2 or 5"),
+            Cause::BadCall => write!(
+                f,
+                "it made a call with a number in a7 that isn't 1, 2, 5 or 6"
+            ),
         }
     }
 }

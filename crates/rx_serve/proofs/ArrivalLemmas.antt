@@ -4,14 +4,15 @@ use Rattle.std.specs.Io.KnownBytes.{Appends}
 use Rattle.rx_io.specs.declared.bytes.Item.{Item}
 use Rattle.rx_io.specs.declared.fault.IoFault.{IoFault}
 use Rattle.rx_io.specs.Outside.{Stream, Took, IsDrained}
+use Rattle.rx_serve.specs.FirstPath.{effect, effect_within, quiet_run}
 use Rattle.run_history.specs.declared.answer.Answer.{Answer}
 use Rattle.run_history.specs.declared.answer.Answer.TheVariants as answer
 use Rattle.run_history.specs.declared.answer.Cause.{Cause}
 use Rattle.elf_image.specs.declared.image.Image.{Image}
 use Rattle.run_history.specs.Machine.{Machine, State, Emits, Wants}
 use Rattle.run_history.specs.Call.{received}
-use Rattle.run_history.specs.Run.{effect, effect_within, quiet_run}
-use Rattle.run_history.proofs.Runs.{within, emits_may, emits_keeps, quiet_keeps, received_keeps}
+use Rattle.run_history.proofs.Runs.{received_keeps}
+use Rattle.rx_serve.proofs.FirstRuns.{within, emits_may, emits_keeps, quiet_keeps}
 use Rattle.rx_serve.specs.declared.guest_cpu.Event.{Event}
 use Rattle.rx_serve.specs.declared.guest_cpu.Event.TheVariants as event
 use Rattle.rx_serve.specs.Events.{Meets, Reaches}

@@ -8,10 +8,10 @@ use Rattle.rx_io.proofs.Composing.{took_nothing, took_more}
 use Rattle.run_history.specs.declared.answer.Answer.{Answer}
 use Rattle.run_history.specs.declared.answer.Answer.TheVariants as answer
 use Rattle.elf_image.specs.declared.image.Image.{Image}
-use Rattle.run_history.specs.Machine.{State, start, Effect, Goes, Emits, Ends, Wants, Fails}
+use Rattle.run_history.specs.Machine.{State, start, Effect, Goes, Emits, Ends, Wants, Chooses, Fails}
 use Rattle.run_history.specs.Run.{Run, run, next, after, effect, output}
 use Rattle.run_history.proofs.Runs.{next_parts}
-use Rattle.run_history.proofs.Within.{within_run}
+use Rattle.rx_serve.proofs.FirstWithin.{within_run}
 use Rattle.rx_serve.specs.declared.run.End.{End}
 use Rattle.rx_serve.specs.Words.{AreRunWords}
 use Rattle.elf_image.specs.Refusals.{IsImage}
@@ -26,7 +26,7 @@ use Rattle.rx_serve.specs.Headline.{NamesImage, IsEnd, LastExits, Headline}
 use Rattle.rx_serve.specs.Patience.{IsPatient}
 use Rattle.rx_serve.specs.Causes.{Serves}
 use Rattle.rx_serve.proofs.PayloadLemmas.{payload_front, frames_payload}
-use Rattle.run_history.specs.declared.choice.Choice.{Choice}
+use Rattle.block_book.specs.declared.choice.Choice.{Choice}
 use Rattle.rx_serve.proofs.SessionLemmas.{begins, start_goes, start_taken}
 use Rattle.std.proofs.lemmas.Option.{option_and_then_some}
 
@@ -90,6 +90,7 @@ last_after image items n before state code ran goes (Ends c) is then ended =
     let same : c ≡ code = exit_code (ap ended_of then) ended in
     record { earlier = n; before = before; counted = omega arith; ran = ran; exits = is ∙ ap Ends same }
 last_after image items n before state code ran goes Wants is then ended = cc
+last_after image items n before state code ran goes (Chooses size) is then ended = cc
 last_after image items n before state code ran goes (Fails cause) is then ended = cc
 
 last_exits : (image : Image) (items : List Item) (steps : ℕ) (state : State) (code : ℕ) → run items [] (start image) steps ≡ Some state → state.ended ≡ Some code → LastExits image items steps code
@@ -98,7 +99,7 @@ last_exits image items zero state code ran ended = absurd (no_code (ap ended_of 
 last_exits image items (suc n) state code ran ended =
     option_and_then_some (next items []) (run items [] (start image) n) state ran (λ before earlier last.
     let parts = next_parts items [] before state last in
-    last_after image items n before state code earlier parts.0 (effect items [] before.machine) refl parts.2 ended)
+    last_after image items n before state code earlier parts.0 (effect items [] before.machine) refl parts.1 ended)
 
 -- before a session nothing was read or written
 pub untouched : (image : Image) (source : Option Stream) (sink : Option (List ℕ)) (end : End) (answer : Answer) → IsEndOf end answer 0 0 → (IsEnd answer → ⊥)

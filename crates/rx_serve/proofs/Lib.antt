@@ -1,3 +1,5 @@
+pub mod FirstRuns
+pub mod FirstWithin
 pub mod ArrivalLemmas
 pub mod CpuLemmas
 pub mod HeadlineLemmas

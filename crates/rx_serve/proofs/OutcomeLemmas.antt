@@ -5,14 +5,14 @@ use Rattle.std.proofs.lemmas.List.{length-append, append_assoc}
 use Rattle.std.proofs.lemmas.Bool.{cases_lt}
 use Rattle.std.proofs.lemmas.Option.{none-some, same_Some}
 use Rattle.rx_io.specs.declared.bytes.Item.{Item}
+use Rattle.rx_serve.specs.FirstPath.{next_within, run_within}
 use Rattle.run_history.specs.declared.answer.Answer.{Answer}
 use Rattle.run_history.specs.declared.answer.Answer.TheVariants as answer
 use Rattle.run_history.specs.declared.answer.Cause.{Cause}
 use Rattle.elf_image.specs.declared.image.Image.{Image}
 use Rattle.run_history.specs.Machine.{State, start, Effect, Wants, Fails}
-use Rattle.run_history.specs.Run.{next_within, run_within}
-use Rattle.run_history.proofs.Runs.{item_none}
-use Rattle.run_history.proofs.Within.{within_from, within_run_more, within_waits, within_fails, within_ended}
+use Rattle.rx_serve.proofs.FirstRuns.{item_none}
+use Rattle.rx_serve.proofs.FirstWithin.{within_from, within_run_more, within_waits, within_fails, within_ended}
 use Rattle.rx_serve.specs.Trunk.{item_frame, HasNoFrame}
 use Rattle.rx_serve.specs.Journal.{Asks}
 use Rattle.rx_serve.specs.Session.{AreItems}

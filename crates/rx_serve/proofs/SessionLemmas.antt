@@ -10,6 +10,7 @@ use Rattle.rx_io.specs.Outside.{Stream, Took, IsDrained}
 use Rattle.rx_io.specs.Prefix.{Prefix}
 use Rattle.rx_io.proofs.Composing.{took_nothing, took_more, gave_nothing, gave_more}
 use Rattle.rx_io.specs.Sends.{Send}
+use Rattle.rx_serve.specs.FirstPath.{effect_within, quiet_run, run_within}
 use Rattle.run_history.specs.declared.answer.Answer.{Answer}
 use Rattle.run_history.specs.declared.answer.Answer.TheVariants as answer
 use Rattle.run_history.specs.declared.answer.Cause.{Cause}
@@ -17,11 +18,11 @@ use Rattle.run_history.specs.declared.answer.Cause.TheVariants.{Hang}
 use Rattle.elf_image.specs.declared.image.Image.{Image}
 use Rattle.run_history.specs.Machine.{Machine, State, start, start_machine, Emits, Ends, Wants, Fails}
 use Rattle.run_history.specs.Call.{received}
-use Rattle.run_history.specs.Run.{effect_within, quiet_run, run_within}
-use Rattle.run_history.proofs.Runs.{quiet_keeps, quiet_since, emits_keeps, emits_may, emits_since, within, item_behind, received_keeps}
-use Rattle.run_history.proofs.Within.{within_run, within_join, within_one, within_run_more, within_quiet, within_emits, within_takes, within_ends}
+use Rattle.run_history.proofs.Runs.{received_keeps}
+use Rattle.rx_serve.proofs.FirstRuns.{quiet_keeps, quiet_since, emits_keeps, emits_may, emits_since, within, item_behind, within_sends}
+use Rattle.rx_serve.proofs.FirstWithin.{within_run, within_join, within_one, within_run_more, within_quiet, within_emits, within_takes, within_ends}
 use Rattle.run_history.proofs.Shapes.{Keeps}
-use Rattle.run_history.proofs.Connections.{OpenWithin, within_start, within_received, within_keeps, within_sends}
+use Rattle.run_history.proofs.Connections.{OpenWithin, within_start, within_received, within_keeps}
 use Rattle.run_history.proofs.Outputs.{prefix_same}
 use Rattle.rx_serve.specs.Trunk.{frame, item_frame, send_frame, frames, IsItemAt, HasNoFrame, TookSome}
 use Rattle.rx_serve.proofs.TrunkLemmas.{Prefix-behind}

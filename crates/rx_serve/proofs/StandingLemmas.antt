@@ -5,10 +5,11 @@ use Rattle.std.specs.Io.KnownBytes.{Appends}
 use Rattle.rx_io.specs.declared.bytes.Item.{Item}
 use Rattle.rx_io.specs.Outside.{Stream, Took}
 use Rattle.elf_image.specs.declared.image.Image.{Image}
+use Rattle.rx_serve.specs.FirstPath.{effect_within, quiet_run}
 use Rattle.run_history.specs.Machine.{Machine, start_machine, Emits, Wants}
 use Rattle.run_history.specs.Call.{received}
-use Rattle.run_history.specs.Run.{effect_within, quiet_run}
-use Rattle.run_history.proofs.Runs.{quiet_keeps, quiet_since, emits_keeps, emits_since, received_keeps, within}
+use Rattle.run_history.proofs.Runs.{received_keeps}
+use Rattle.rx_serve.proofs.FirstRuns.{quiet_keeps, quiet_since, emits_keeps, emits_since, within}
 use Rattle.rx_serve.specs.declared.guest_cpu.Event.{Event}
 use Rattle.rx_serve.specs.declared.guest_cpu.Event.TheVariants as event
 use Rattle.rx_serve.specs.Events.{Reaches, RunsTo}

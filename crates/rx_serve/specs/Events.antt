@@ -1,8 +1,8 @@
 -- A machine that runs to its next event.
 use Rattle.std.specs.Prelude.{◌≡◌, ℕ, ◌+◌, [], Option, Some, None, Result, Ok, Err}
 use Rattle.std.specs.declared.alloc.AllocError.{AllocError}
+use Rattle.rx_serve.specs.FirstPath.{effect_within, quiet_run}
 use Rattle.run_history.specs.Machine.{Machine, Goes, Emits, Ends, Wants, Fails}
-use Rattle.run_history.specs.Run.{effect_within, quiet_run}
 use Rattle.rx_serve.specs.declared.guest_cpu.Event.{Event}
 use Rattle.rx_serve.specs.declared.guest_cpu.Event.TheVariants as event
 

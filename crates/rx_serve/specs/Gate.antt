@@ -2,7 +2,7 @@
 use Rattle.std.specs.Prelude.{◌≡◌, ℕ, ◌+◌, ◌%◌, ◌^◌, ◌<◌, ◌≤◌, true, List, Result, Ok, Err, slice_index, length, if◌then◌else◌, ◌==◌}
 use Rattle.rx_io.specs.declared.bytes.Item.{Item}
 use Rattle.run_history.specs.declared.answer.Cause.{Cause}
-use Rattle.run_history.specs.declared.answer.Cause.TheVariants.{BadCall}
+use Rattle.run_history.specs.declared.answer.Cause.TheVariants.{AssertFailed, BadCall}
 use Rattle.run_history.specs.declared.regs.Regs.{Regs}
 use Rattle.elf_image.specs.Memory.{Area, read, permitted, bytes_at}
 use Rattle.run_history.specs.Machine.{Machine, register, with_register, Goes, Emits, Fails}
@@ -18,6 +18,7 @@ called registers =
     if slice_index registers 17 == 1 then Ok (Recv (slice_index registers 10) (slice_index registers 11)) else
     if slice_index registers 17 == 2 then Ok (Send (slice_index registers 10) (slice_index registers 11) (slice_index registers 12)) else
     if slice_index registers 17 == 5 then Ok (Exit (slice_index registers 10)) else
+    if slice_index registers 17 == 6 then Err (AssertFailed (slice_index registers 10)) else
     Err BadCall
 
 -- the registers once a call answered

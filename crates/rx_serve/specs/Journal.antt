@@ -8,8 +8,9 @@ use Rattle.rx_io.specs.declared.journal.LinkEvent.{LinkEvent}
 use Rattle.rx_io.specs.declared.journal.LinkEvent.TheVariants as event
 use Rattle.elf_image.specs.declared.image.Image.{Image}
 use Rattle.rx_io.specs.Sends.{Send}
+use Rattle.rx_serve.specs.FirstPath.{effect_within}
 use Rattle.run_history.specs.Machine.{State, start, Wants}
-use Rattle.run_history.specs.Run.{effect_within, run}
+use Rattle.run_history.specs.Run.{run}
 use Rattle.rx_io.specs.Prefix.{Prefix}
 use Rattle.rx_serve.specs.Trunk.{send_frame, frames}
 

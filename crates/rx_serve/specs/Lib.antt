@@ -16,3 +16,4 @@ pub mod Patience
 pub mod Limits
 pub mod Outcome
 pub mod Assembly
+pub mod FirstPath

@@ -4,10 +4,10 @@ use Rattle.rx_io.specs.declared.bytes.Item.{Item}
 use Rattle.rx_io.specs.Outside.{Stream}
 use Rattle.rx_io.specs.Named.{Contents}
 use Rattle.elf_image.specs.declared.image.Image.{Image}
+use Rattle.rx_serve.specs.FirstPath.{effect_within, run_within}
 use Rattle.run_history.specs.declared.answer.Answer.{Answer}
 use Rattle.run_history.specs.declared.answer.Answer.TheVariants as answer
 use Rattle.run_history.specs.Machine.{State, start, Fails}
-use Rattle.run_history.specs.Run.{effect_within, run_within}
 use Rattle.rx_serve.specs.Limits.{default_budget}
 use Rattle.rx_serve.specs.Trunk.{item_frame, HasNoFrame}
 use Rattle.rx_serve.specs.Journal.{Asks}

@@ -6,11 +6,11 @@ use Rattle.rx_io.specs.declared.bytes.Item.{Item}
 use Rattle.rx_io.specs.Outside.{Stream, Took, IsDrained}
 use Rattle.rx_io.specs.Prefix.{Prefix}
 use Rattle.rx_io.specs.Sends.{Send}
+use Rattle.rx_serve.specs.FirstPath.{effect_within, run_within}
 use Rattle.run_history.specs.declared.answer.Answer.{Answer}
 use Rattle.run_history.specs.declared.answer.Answer.TheVariants as answer
 use Rattle.elf_image.specs.declared.image.Image.{Image}
 use Rattle.run_history.specs.Machine.{State, start, Fails}
-use Rattle.run_history.specs.Run.{effect_within, run_within}
 use Rattle.rx_serve.specs.Journal.{Asks, JournalOf}
 use Rattle.rx_serve.specs.Trunk.{item_frame, frames, IsItemAt, HasNoFrame}
 

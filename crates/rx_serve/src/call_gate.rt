@@ -87,7 +87,8 @@ impl ConnSet {
     }
 }
 
-/// The call that the registers make. `BadCall` where there is none of this number.
+/// The call that the registers make. `AssertFailed` where it says that the program's own assertion failed, `BadCall`
+/// where there is none of this number.
 pub fn read_call(regs: &Regs) -> Result<Call, Cause>
     ensures { result ≡ called regs.now.x }
 {
@@ -102,6 +103,7 @@ pub fn read_call(regs: &Regs) -> Result<Call, Cause>
             len: regs.x[12],
         }),
         5 => Ok(Call::Exit { code: regs.x[10] }),
+        6 => Err(Cause::AssertFailed(regs.x[10])),
         _ => Err(Cause::BadCall),
     }
 }

@@ -1,8 +1,8 @@
 // One guest, which runs to its next event.
 ghost use Rattle.std.specs.Prelude.{◌≡◌, ℕ, ◌+◌, ◌-◌, ◌^◌, ◌<◌, ◌≤◌, [], length, IfOk, IfSome};
+ghost use Rattle.rx_serve.specs.FirstPath.{call, effect};
 ghost use Rattle.run_history.specs.Machine.{register, Wants, start_machine};
-ghost use Rattle.run_history.specs.Call.{call, send, answered, received};
-ghost use Rattle.run_history.specs.Run.{effect};
+ghost use Rattle.run_history.specs.Call.{send, answered, received};
 
 use crate::call_gate::{Call, ConnSet, Reply, answer, read_call, receive, reply_to_send};
 use elf_image::Image;
@@ -29,6 +29,8 @@ pub enum Event {
 pub struct Cpu {
     regs: Regs,
     space: GuestSpace,
+    heap_start: u32,
+    heap_end: u32,
     connections: ConnSet,
     taken: u64,
     since: u64,
@@ -44,6 +46,8 @@ impl Model for Cpu {
       pc = c.regs.pc;
       registers = c.regs.x;
       memory = c.space;
+      heap_start = c.heap_start;
+      heap_end = c.heap_end;
       blocks = [];
       allocations = 0;
       taken = c.taken;
@@ -66,6 +70,8 @@ impl Cpu {
         Ok(Cpu {
             regs: Regs { pc: image.entry, x },
             space: GuestSpace::make(alloc, image)?,
+            heap_start: image.heap_start(),
+            heap_end: image.heap_end(),
             connections: ConnSet::make(alloc)?,
             taken: 0,
             since: 0,

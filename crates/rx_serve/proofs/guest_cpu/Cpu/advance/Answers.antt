@@ -1,4 +1,4 @@
-use Rattle.std.proofs.Common.{◌<◌, refl, arith}
+use Rattle.std.proofs.Common.{◌<◌, refl, arith, rules}
 use Rattle.rx_serve.specs.contracts.guest_cpu.Cpu.{the_view}
 use Rattle.rx_serve.proofs.CpuLemmas.{within_fetched, within_unfetched, within_call, advances_by, same_parts}
 use Rattle.rx_serve.proofs.guest_cpu.Cpu.advance.Goals as goal
@@ -21,7 +21,7 @@ returns-in-Ecall-clause-does g c =
 pub returns-in-Ok-step-clause-does : goal.returns-in-Ok-step-clause-does
 returns-in-Ok-step-clause-does g c =
     let early : c.self.inside.since < c.args.budget = omega arith in (
-      within_fetched c.args.budget c.args.self.now (the_view c.self.inside) c.self.inside.regs c.self.inside.space c.in-Ok.instr _ c.self.view_is early c.in-Ok.ensures.value (c.in-Ok-step.ensures.done (the_view c.self.inside)),
+      within_fetched c.args.budget c.args.self.now (the_view c.self.inside) c.self.inside.regs c.self.inside.space c.in-Ok.instr _ c.self.view_is early c.in-Ok.ensures.value (search rules) (c.in-Ok-step.ensures.done (the_view c.self.inside)),
       omega (arith, c.in-Ok-step.ensures.counted),
     )
 
@@ -29,7 +29,7 @@ pub returns-in-Err-step-clause-does : goal.returns-in-Err-step-clause-does
 returns-in-Err-step-clause-does g c =
     let early : c.self.inside.since < c.args.budget = omega arith in
     let failed = c.in-Err-step.ensures.done (the_view c.self.inside) in (
-      within_fetched c.args.budget c.args.self.now (the_view c.self.inside) c.self.inside.regs c.self.inside.space c.in-Ok.instr _ c.self.view_is early c.in-Ok.ensures.value failed.0,
-      same_parts c.args.self.now c.self.inside.regs _ c.self.inside.space _ c.self.inside.connections c.self.inside.taken c.self.inside.since c.self.view_is failed.1 failed.2,
+      within_fetched c.args.budget c.args.self.now (the_view c.self.inside) c.self.inside.regs c.self.inside.space c.in-Ok.instr _ c.self.view_is early c.in-Ok.ensures.value (search rules) failed.0,
+      same_parts c.args.self.now c.self.inside.regs _ c.self.inside.space _ c.self.inside.heap_start c.self.inside.heap_end c.self.inside.connections c.self.inside.taken c.self.inside.since c.self.view_is failed.1 failed.2,
       omega (arith, c.in-Err-step.ensures.counted),
     )

@@ -1,5 +1,5 @@
 use Rattle.std.proofs.Common.{◌≡◌, ◌-◌, ◌≤◌, Some}
-use Rattle.run_history.specs.Run.{quiet_run}
+use Rattle.rx_serve.specs.FirstPath.{quiet_run}
 use Rattle.rx_serve.proofs.guest_cpu.Cpu.run_to_event.Given as goal
 
 -- no event came so far

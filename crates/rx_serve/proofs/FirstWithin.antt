@@ -1,15 +1,21 @@
--- Runs within a budget: they are runs, they compose, and they don't depend on items behind those that they take.
+-- Runs of the first path: they are runs, they compose, and they don't depend on items behind those that they take.
 use Rattle.std.proofs.Common.{◌≡◌, ◌≢◌, ℕ, zero, suc, ◌+◌, List, [], ◌++◌, Option, Some, None, refl, sym, ◌∙◌, ap, add-zero, add-suc, add-one}
 use Rattle.std.specs.Prelude.{slice_get, option_and_then}
 use Rattle.std.proofs.lemmas.Option.{option_and_then_some, none-some, same_Some}
 use Rattle.rx_io.specs.declared.bytes.Item.{Item}
 use Rattle.run_history.specs.declared.answer.Cause.{Cause}
 use Rattle.run_history.specs.declared.answer.Cause.TheVariants.{Hang}
-use Rattle.run_history.specs.declared.choice.Choice.{Choice}
-use Rattle.run_history.specs.Machine.{Machine, State, Effect, Goes, Emits, Ends, Wants, Fails}
+use Rattle.block_book.specs.declared.choice.Choice.{Choice}
+use Rattle.run_history.specs.Machine.{Machine, State, Effect, Goes, Emits, Ends, Wants, Chooses, Fails}
 use Rattle.run_history.specs.Call.{received}
-use Rattle.run_history.specs.Run.{effect_within, after, next, run, next_within, run_within, stays_quiet, quiet_run}
-use Rattle.run_history.proofs.Runs.{and_then_same, and_then_twice, within, within_more, within_longer, within_effect, within_early, quiet_goes, next_after, asks_taken, asks_none}
+use Rattle.run_history.specs.Run.{does, after, next, run}
+use Rattle.run_history.specs.Touching.{instruction_at}
+use Rattle.run_history.specs.Served.{Request, Malloc, Free, Nothing, request_of}
+use Rattle.run_history.specs.Run as runs
+use Rattle.rx_serve.specs.FirstPath.{unserved, effect, effect_within, next_within, run_within, stays_quiet, quiet_run}
+use Rattle.run_history.proofs.Repeats.{and_then_same, and_then_twice}
+use Rattle.run_history.proofs.Runs.{next_after}
+use Rattle.rx_serve.proofs.FirstRuns.{within, within_more, within_longer, within_effect, within_early, quiet_goes, asks_taken, asks_none}
 
 -- what comes within a budget after a state that hasn't ended is what comes after its effect
 pub within_after : (budget : ℕ) (items : List Item) (choices : List Choice) (s : State) (e : Effect) → s.ended ≡ None → effect_within budget items choices s.machine ≡ e → next_within budget items choices s ≡ after s e
@@ -39,22 +45,34 @@ goes_on_from s t (Goes m) h = ((λ e. cc), (λ e. cc))
 goes_on_from s t (Emits conn bytes m) h = ((λ e. cc), (λ e. cc))
 goes_on_from s t (Ends code) h = ((λ e. cc), (λ e. cc))
 goes_on_from s t Wants h = absurd (none-some t h)
+goes_on_from s t (Chooses size) h = absurd (none-some t h)
 goes_on_from s t (Fails cause) h = absurd (none-some t h)
 
+-- an effect of the first path after which something comes is one of a run without answers of malloc
+first_is : (items : List Item) (choices : List Choice) (s t : State) → after s (effect items choices s.machine) ≡ Some t → runs.effect items [] s.machine ≡ effect items choices s.machine
+unfolding effect
+first_is items choices s t goes = of_request (request_of (instruction_at s.machine) s.machine) refl
+  where
+    of_request : (request : Request) → request_of (instruction_at s.machine) s.machine ≡ request → runs.effect items [] s.machine ≡ effect items choices s.machine
+    of_request (Malloc size) asked = absurd (none-some t (ap (λ r. after s (unserved r (does (slice_get items s.machine.taken) None s.machine))) (sym asked) ∙ goes))
+    of_request (Free address) asked = absurd (none-some t (ap (λ r. after s (unserved r (does (slice_get items s.machine.taken) None s.machine))) (sym asked) ∙ goes))
+    of_request Nothing asked = sym (ap (λ r. unserved r (does (slice_get items s.machine.taken) None s.machine)) asked)
+
 -- an instruction within a budget is one of a run
-pub within_next : (budget : ℕ) (items : List Item) (choices : List Choice) (s t : State) → next_within budget items choices s ≡ Some t → next items choices s ≡ Some t
+pub within_next : (budget : ℕ) (items : List Item) (choices : List Choice) (s t : State) → next_within budget items choices s ≡ Some t → next items [] s ≡ Some t
 within_next budget items choices s t goes =
     let parts = within_parts budget items choices s t goes in
     let lives = (goes_on_from s t (effect_within budget items choices s.machine) parts.1).1 in
     let same = within budget items choices s.machine (effect_within budget items choices s.machine) refl lives in
-    next_after items choices s (effect_within budget items choices s.machine) parts.0 same ∙ parts.1
+    let here : after s (effect items choices s.machine) ≡ Some t = ap (after s) same ∙ parts.1 in
+    next_after items [] s (effect items choices s.machine) parts.0 (first_is items choices s t here) ∙ here
 
 -- a run within a budget is a run
-pub within_run : (budget : ℕ) (items : List Item) (choices : List Choice) (s t : State) (n : ℕ) → run_within budget items choices s n ≡ Some t → run items choices s n ≡ Some t
+pub within_run : (budget : ℕ) (items : List Item) (choices : List Choice) (s t : State) (n : ℕ) → run_within budget items choices s n ≡ Some t → run items [] s n ≡ Some t
 within_run budget items choices s t zero ran = ran
 within_run budget items choices s t (suc n) ran =
     option_and_then_some (next_within budget items choices) (run_within budget items choices s n) t ran (λ mid before last.
-    ap (option_and_then (next items choices)) (within_run budget items choices s mid n before) ∙ within_next budget items choices mid t last)
+    ap (option_and_then (next items [])) (within_run budget items choices s mid n before) ∙ within_next budget items choices mid t last)
 
 -- a run within a budget of n + m instructions is one of m after one of n
 pub within_add : (budget : ℕ) (items : List Item) (choices : List Choice) (s : State) (n m : ℕ)

@@ -1,0 +1,193 @@
+-- The live blocks of a machine are those of the layout of its heap, and stay so along a served run.
+use Rattle.std.proofs.Common.{◌≡◌, inl, inr, ℕ, zero, suc, ◌+◌, Bool, true, false, not, cond, eqb, ltb, List, Option, Some, None, refl, sym, ◌∙◌, ap, subst, arith}
+use Rattle.std.specs.Prelude.{ℤ, slice_get}
+use Rattle.std.proofs.lemmas.Bool.{cases_Bool, cond_both}
+use Rattle.std.proofs.lemmas.Option.{none-some, same_Some}
+use Rattle.rx_io.specs.declared.bytes.Item.{Item}
+use Rattle.rv_isa.specs.declared.instr.Instr.{Instr}
+use Rattle.rv_isa.specs.declared.instr.Instr.TheVariants.{Lui, Auipc, Jal, Jalr, Branch, Load, Store, OpImm, Op, Fence, Ecall, Ebreak}
+use Rattle.rv_isa.specs.declared.instr.BranchOp.{BranchOp}
+use Rattle.rv_isa.specs.Table.{row}
+use Rattle.rv_isa.specs.Meaning.{is_taken, displaced}
+use Rattle.block_book.specs.declared.choice.Choice.{Choice}
+use Rattle.block_book.specs.Heap.{Heap, IsHeap}
+use Rattle.block_book.specs.Answer.{is_allowed, live_blocks, without_live}
+use Rattle.alloc_env.specs.declared.env.Env.{Env}
+use Rattle.alloc_env.specs.Serving.{served_malloc, served_free, live_with}
+use Rattle.alloc_env.specs.Laws.{MallocServes, FreeFollows}
+use Rattle.elf_image.specs.Memory.{Area, read, write, execute, permitted, bytes_at}
+use Rattle.run_history.specs.declared.answer.Cause.TheVariants.{AssertFailed, BadAccess, BadJump, BadInstruction, BadCall}
+use Rattle.run_history.specs.Machine.{Machine, State, register, with_register, next_pc, Effect, Goes, Emits, Ends, Wants, Chooses, Fails}
+use Rattle.run_history.specs.Instruction.{goes_on, writes, jumps, branch}
+use Rattle.run_history.specs.Call.{takes, received, recv, may_send, answered, send, chooses, malloc, allocated, freed, free, call}
+use Rattle.run_history.specs.Run.{instruction, executed, word_at, does, after}
+use Rattle.run_history.specs.Touching.{instruction_at}
+use Rattle.run_history.specs.Served.{Guest, Request, Malloc, Free, Nothing, request_of, Grant, granted, grant}
+
+-- the live blocks and the ends of the heap are as they were
+pub record SameHeap (m new : Machine) : Type 0 where
+  pub blocks : new.blocks ≡ m.blocks
+  pub start : new.heap_start ≡ m.heap_start
+  pub end : new.heap_end ≡ m.heap_end
+
+-- an effect leaves them so, and wants no answer of malloc
+abbrev pub LeavesHeap : Machine → Effect → Type 0
+LeavesHeap m (Goes new) = SameHeap m new
+LeavesHeap m (Emits conn bytes new) = SameHeap m new
+LeavesHeap m (Ends code) = Unit {0}
+LeavesHeap m Wants = Unit {0}
+LeavesHeap m (Chooses size) = ⊥
+LeavesHeap m (Fails cause) = Unit {0}
+
+goes_leaves : (pc : ℕ) (registers : List ℕ) (memory : List Area) (m : Machine) → LeavesHeap m (goes_on pc registers memory m)
+goes_leaves pc registers memory m = record { blocks = refl; start = refl; end = refl }
+
+answered_leaves : (value : ℕ) (m : Machine) → LeavesHeap m (Goes (answered value m))
+answered_leaves value m = record { blocks = refl; start = refl; end = refl }
+
+received_leaves : (item : Item) (m : Machine) → SameHeap m (received item m)
+unfolding received
+received_leaves item m = record { blocks = refl; start = refl; end = refl }
+
+jumps_leaves : (target : ℕ) (registers : List ℕ) (m : Machine) → LeavesHeap m (jumps target registers m)
+jumps_leaves target registers m =
+    cond_both _ (goes_on target registers m.memory m) (Fails BadJump) (LeavesHeap m) (λ _. goes_leaves target registers m.memory m) (λ _. tt)
+
+branch_leaves : (operation : BranchOp) (rs1 rs2 : ℕ) (imm : ℤ) (m : Machine) → LeavesHeap m (branch operation rs1 rs2 imm m)
+branch_leaves operation rs1 rs2 imm m =
+    cond_both (is_taken operation (register m rs1) (register m rs2)) (jumps (displaced m.pc imm) m.registers m) (goes_on (next_pc m) m.registers m.memory m) (LeavesHeap m)
+    (λ _. jumps_leaves (displaced m.pc imm) m.registers m)
+    (λ _. goes_leaves (next_pc m) m.registers m.memory m)
+
+-- an instruction that goes on, or may not touch what it touches
+may_leaves : (b : Bool) (pc : ℕ) (registers : List ℕ) (memory : List Area) (m : Machine) → LeavesHeap m (cond b (goes_on pc registers memory m) (Fails BadAccess))
+may_leaves true pc registers memory m = goes_leaves pc registers memory m
+may_leaves false pc registers memory m = tt
+
+send_leaves : (m : Machine) → LeavesHeap m (send m)
+send_leaves m =
+    cond_both (ltb 65535 (register m 12)) (Goes (answered 2 m)) _ (LeavesHeap m) (λ _. answered_leaves 2 m) (λ _.
+    cond_both (not (may_send m (register m 10))) (Goes (answered 1 m)) _ (LeavesHeap m) (λ _. answered_leaves 1 m) (λ _.
+    cond_both (not (permitted read m.memory (register m 11) (register m 12))) (Fails BadAccess) _ (LeavesHeap m) (λ _. tt) (λ _.
+    cond_both (eqb (register m 12) 0) (Goes (answered 0 m)) _ (LeavesHeap m) (λ _. answered_leaves 0 m) (λ _. answered_leaves 0 m))))
+
+takes_leaves : (item : Option Item) (m : Machine) → LeavesHeap m (takes m item)
+takes_leaves None m = tt
+takes_leaves (Some item) m = received_leaves item m
+
+recv_leaves : (item : Option Item) (m : Machine) → LeavesHeap m (recv item m)
+recv_leaves item m =
+    cond_both _ (takes m item) (Fails BadAccess) (LeavesHeap m) (λ _. takes_leaves item m) (λ _. tt)
+
+-- a call other than malloc and free
+call_leaves : (m : Machine) (number : ℕ) (item : Option Item) (choice : Option Choice) → eqb number 3 ≡ false → eqb number 4 ≡ false → LeavesHeap m (call number item choice m)
+call_leaves m number item choice no_malloc no_free =
+    rw (no_malloc, no_free)
+    (cond_both (eqb number 1) (recv item m) _ (LeavesHeap m) (λ _. recv_leaves item m) (λ _.
+    cond_both (eqb number 2) (send m) _ (LeavesHeap m) (λ _. send_leaves m) (λ _.
+    cond_both (eqb number 5) (Ends (register m 10)) _ (LeavesHeap m) (λ _. tt) (λ _.
+    cond_both (eqb number 6) (Fails (AssertFailed (register m 10))) (Fails BadCall) (LeavesHeap m) (λ _. tt) (λ _. tt)))))
+
+-- what the registers ask of the allocator at a call
+abbrev asks : Machine → Request
+asks m = cond (eqb (register m 17) 3) (Malloc (register m 10)) (cond (eqb (register m 17) 4) (Free (register m 10)) Nothing)
+
+nothing_number : (m : Machine) → asks m ≡ Nothing → (eqb (register m 17) 3 ≡ false) × (eqb (register m 17) 4 ≡ false)
+nothing_number m h = of_tests (eqb (register m 17) 3) (eqb (register m 17) 4) h
+  where
+    of_tests : (first second : Bool) → cond first (Malloc (register m 10)) (cond second (Free (register m 10)) Nothing) ≡ Nothing → (first ≡ false) × (second ≡ false)
+    of_tests true second e = cc
+    of_tests false true e = cc
+    of_tests false false e = (refl, refl)
+
+-- an instruction that asks nothing of the allocator leaves the heap as it is
+instruction_leaves : (instr : Instr) (m : Machine) (item : Option Item) (choice : Option Choice) → request_of (Some instr) m ≡ Nothing → LeavesHeap m (instruction instr item choice m)
+unfolding instruction
+instruction_leaves (Lui rd imm) m item choice h = goes_leaves _ _ _ m
+instruction_leaves (Auipc rd imm) m item choice h = goes_leaves _ _ _ m
+instruction_leaves (Jal rd imm) m item choice h = jumps_leaves _ _ m
+instruction_leaves (Jalr rd rs1 imm) m item choice h = jumps_leaves _ _ m
+instruction_leaves (Branch operation rs1 rs2 imm) m item choice h = branch_leaves operation rs1 rs2 imm m
+instruction_leaves (Load operation rd rs1 imm) m item choice h = may_leaves _ _ _ _ m
+instruction_leaves (Store operation rs1 rs2 imm) m item choice h = may_leaves _ _ _ _ m
+instruction_leaves (OpImm operation rd rs1 imm) m item choice h = goes_leaves _ _ _ m
+instruction_leaves (Op operation rd rs1 rs2) m item choice h = goes_leaves _ _ _ m
+instruction_leaves (Fence word) m item choice h = goes_leaves _ _ _ m
+instruction_leaves Ecall m item choice h = let n = nothing_number m h in call_leaves m (register m 17) item choice n.0 n.1
+instruction_leaves Ebreak m item choice h = tt
+
+pub does_leaves : (m : Machine) (item : Option Item) (choice : Option Choice) → request_of (instruction_at m) m ≡ Nothing → LeavesHeap m (does item choice m)
+unfolding does instruction_at
+does_leaves m item choice h =
+    elim (cases_Bool (permitted execute m.memory m.pc 4)) [
+      | inl may ↦ rw may (of_row (row (word_at m)) (rw may at h))
+      | inr not_may ↦ rw not_may tt
+    ]
+  where
+    of_row : (found : Option Instr) → request_of found m ≡ Nothing → LeavesHeap m (executed found item choice m)
+    of_row None e = tt
+    of_row (Some instr) e = instruction_leaves instr m item choice e
+
+-- an instruction that frees
+call_frees : (m : Machine) (at : ℕ) → asks m ≡ Free at → (item : Option Item) (choice : Option Choice) → instruction Ecall item choice m ≡ free m
+unfolding instruction
+call_frees m at h item choice =
+    elim (cases_Bool (eqb (register m 17) 3)) [
+      | inl is ↦ absurd (never (rw is at h))
+      | inr not_malloc ↦ elim (cases_Bool (eqb (register m 17) 4)) [
+        | inl is ↦
+            let first : eqb (register m 17) 1 ≡ false = grind arith in
+            let second : eqb (register m 17) 2 ≡ false = grind arith in
+            rw (first, second, not_malloc, is) refl
+        | inr not_free ↦ absurd (nothing (rw (not_malloc, not_free) at h))
+      ]
+    ]
+  where
+    never : Malloc (register m 10) ≡ Free at → ⊥
+    never e = cc
+
+    nothing : Nothing ≡ Free at → ⊥
+    nothing e = cc
+
+pub frees : (m : Machine) (at : ℕ) → request_of (instruction_at m) m ≡ Free at → (item : Option Item) (choice : Option Choice) → does item choice m ≡ free m
+unfolding does instruction_at
+frees m at h item choice =
+    elim (cases_Bool (permitted execute m.memory m.pc 4)) [
+      | inl may ↦ rw may (of_row (row (word_at m)) (rw may at h))
+      | inr not_may ↦ absurd (never (rw not_may at h))
+    ]
+  where
+    never : Nothing ≡ Free at → ⊥
+    never e = cc
+
+    of_row : (found : Option Instr) → request_of found m ≡ Free at → executed found item choice m ≡ free m
+    of_row None e = absurd (never e)
+    of_row (Some Ecall) e = call_frees m at e item choice
+    of_row (Some _) e = absurd (never e)
+
+-- what a request asks for is what register 10 has
+pub requested_size : (m : Machine) (size : ℕ) → request_of (instruction_at m) m ≡ Malloc size → size ≡ register m 10
+requested_size m size h = of_found (instruction_at m) h
+  where
+    of_tests : (first second : Bool) → cond first (Malloc (register m 10)) (cond second (Free (register m 10)) Nothing) ≡ Malloc size → size ≡ register m 10
+    of_tests true second e = cc
+    of_tests false true e = cc
+    of_tests false false e = cc
+
+    of_found : (found : Option Instr) → request_of found m ≡ Malloc size → size ≡ register m 10
+    of_found None e = cc
+    of_found (Some Ecall) e = of_tests (eqb (register m 17) 3) (eqb (register m 17) 4) e
+    of_found (Some _) e = cc
+
+pub requested_address : (m : Machine) (at : ℕ) → request_of (instruction_at m) m ≡ Free at → at ≡ register m 10
+requested_address m at h = of_found (instruction_at m) h
+  where
+    of_tests : (first second : Bool) → cond first (Malloc (register m 10)) (cond second (Free (register m 10)) Nothing) ≡ Free at → at ≡ register m 10
+    of_tests true second e = cc
+    of_tests false true e = cc
+    of_tests false false e = cc
+
+    of_found : (found : Option Instr) → request_of found m ≡ Free at → at ≡ register m 10
+    of_found None e = cc
+    of_found (Some Ecall) e = of_tests (eqb (register m 17) 3) (eqb (register m 17) 4) e
+    of_found (Some _) e = cc

@@ -1,0 +1,110 @@
+-- Along a served run the live blocks of the machine are those of the layout of its heap, so each malloc is answered.
+use Rattle.std.proofs.Common.{◌≡◌, ℕ, zero, suc, ◌+◌, Bool, true, false, cond, eqb, List, Option, Some, None, refl, sym, ◌∙◌, ap, subst}
+use Rattle.std.specs.Prelude.{slice_get, option_map}
+use Rattle.std.proofs.lemmas.Option.{none-some, same_Some}
+use Rattle.rx_io.specs.declared.bytes.Item.{Item}
+use Rattle.block_book.specs.declared.choice.Choice.{Choice}
+use Rattle.block_book.specs.Heap.{Heap, IsHeap}
+use Rattle.block_book.specs.Answer.{is_allowed, live_blocks, without_live}
+use Rattle.alloc_env.specs.declared.env.Env.{Env}
+use Rattle.alloc_env.specs.Serving.{Served, served_malloc, served_free, live_with}
+use Rattle.alloc_env.specs.Laws.{Serves, Follows}
+use Rattle.alloc_env.proofs.Mallocs.{malloc-serves}
+use Rattle.alloc_env.proofs.Frees.{free-follows}
+use Rattle.run_history.specs.Machine.{Machine, State, register, Effect, Goes, Emits, Ends, Wants, Chooses, Fails}
+use Rattle.run_history.specs.Call.{chooses, allocated, freed, free}
+use Rattle.run_history.specs.Run.{does, after}
+use Rattle.run_history.specs.Touching.{instruction_at}
+use Rattle.run_history.specs.Served.{Limits, Guest, IsLaidOut, Request, Malloc, Free, Nothing, request_of, Grant, granted, grant, Path, guest_of, served_next}
+use Rattle.run_history.proofs.Serves.{ServesTo, serves_to, mallocs, map_some}
+use Rattle.run_history.proofs.Blocks.{SameHeap, LeavesHeap, does_leaves, frees, requested_size, requested_address}
+
+-- where nothing was asked of the allocator, the machine's heap is as it was
+left_after : (s t : State) (e : Effect) → LeavesHeap s.machine e → after s e ≡ Some t → SameHeap s.machine t.machine
+left_after s t (Goes new) leaves h = let same = ap (λ (v : State). v.machine) (same_Some _ t h) in rw (← same) leaves
+left_after s t (Emits conn bytes new) leaves h = let same = ap (λ (v : State). v.machine) (same_Some _ t h) in rw (← same) leaves
+left_after s t (Ends code) leaves h = let same = ap (λ (v : State). v.machine) (same_Some _ t h) in rw (← same) (record { blocks = refl; start = refl; end = refl })
+left_after s t Wants leaves h = absurd (none-some t h)
+left_after s t (Chooses size) leaves h = absurd leaves
+left_after s t (Fails cause) leaves h = absurd (none-some t h)
+
+-- a machine with this heap is laid out so
+laid : (m : Machine) (heap : Heap) (live : List (ℕ × ℕ)) → IsHeap heap → m.heap_start ≡ heap.start → m.heap_end ≡ heap.end → m.blocks ≡ live → live_blocks heap.blocks ≡ live
+    → IsLaidOut (record { machine = m; heap = heap })
+laid m heap live sound start end blocks is = record { sound = sound; start = start; end = end; live = blocks ∙ sym is }
+
+-- where malloc was answered, the block is live
+allocated_after : (s t : State) (size : ℕ) (choice : Choice) → after s (chooses size s.machine (Some choice)) ≡ Some t
+    → (t.machine.blocks ≡ live_with choice size s.machine.blocks) × (t.machine.heap_start ≡ s.machine.heap_start) × (t.machine.heap_end ≡ s.machine.heap_end)
+unfolding allocated
+allocated_after s t size choice h = of_test (is_allowed s.machine.heap_start s.machine.heap_end s.machine.blocks size choice) h
+  where
+    of_test : (b : Bool) → after s (cond b (Goes (allocated size choice s.machine)) (Chooses size)) ≡ Some t
+        → (t.machine.blocks ≡ live_with choice size s.machine.blocks) × (t.machine.heap_start ≡ s.machine.heap_start) × (t.machine.heap_end ≡ s.machine.heap_end)
+    of_test true e =
+        let same = ap (λ (v : State). v.machine) (same_Some _ t e) in
+        (sym (ap (λ (m : Machine). m.blocks) same), sym (ap (λ (m : Machine). m.heap_start) same), sym (ap (λ (m : Machine). m.heap_end) same))
+    of_test false e = absurd (none-some t e)
+
+-- where a block was freed, it isn't live any more
+freed_after : (s t : State) → after s (free s.machine) ≡ Some t
+    → (t.machine.blocks ≡ without_live (register s.machine 10) s.machine.blocks) × (t.machine.heap_start ≡ s.machine.heap_start) × (t.machine.heap_end ≡ s.machine.heap_end)
+unfolding freed
+freed_after s t e =
+    let same = ap (λ (v : State). v.machine) (same_Some _ t e) in
+    (sym (ap (λ (m : Machine). m.blocks) same), sym (ap (λ (m : Machine). m.heap_start) same), sym (ap (λ (m : Machine). m.heap_end) same))
+
+-- each instruction of a served run keeps the layout
+pub laid_out_next : (limits : Limits) (items : List Item) (env : Env) (path to : Path) → IsLaidOut (guest_of path) → ServesTo limits items env path to → IsLaidOut (guest_of to)
+unfolding grant
+laid_out_next limits items env path to out parts = of_request (request_of (instruction_at path.state.machine) path.state.machine) refl parts.granted_by
+  where
+    m : Machine
+    m = path.state.machine
+
+    with_heap : (heap : Heap) → parts.given.heap ≡ heap → IsLaidOut (record { machine = to.state.machine; heap = heap }) → IsLaidOut (guest_of to)
+    with_heap heap is out = subst (λ h. IsLaidOut (record { machine = to.state.machine; heap = h })) (sym (parts.heap ∙ is)) out
+
+    of_request : (request : Request) → request_of (instruction_at path.state.machine) path.state.machine ≡ request → granted env path.heap request ≡ Some parts.given → IsLaidOut (guest_of to)
+    of_request Nothing asked given =
+        let same = same_Some _ parts.given given in
+        let kept = left_after path.state to.state _ (does_leaves path.state.machine (slice_get items path.state.machine.taken) parts.given.chosen asked) parts.goes in
+        with_heap path.heap (sym (ap (λ (g : Grant). g.heap) same))
+        (laid to.state.machine path.heap path.state.machine.blocks out.sound (kept.start ∙ out.start) (kept.end ∙ out.end) kept.blocks (sym out.live))
+    of_request (Malloc size) asked given =
+        let same = same_Some _ parts.given given in
+        let served = served_malloc env path.heap size in
+        let law = malloc-serves env path.heap size out.sound in
+        let chosen : parts.given.chosen ≡ Some served.choice = sym (ap (λ (g : Grant). g.chosen) same) in
+        let goes : after path.state (chooses (register path.state.machine 10) path.state.machine (Some served.choice)) ≡ Some to.state =
+        ap (after path.state) (sym (mallocs path.state.machine size asked (slice_get items path.state.machine.taken) (Some served.choice)))
+        ∙ ap (λ c. after path.state (does (slice_get items path.state.machine.taken) c path.state.machine)) (sym chosen)
+        ∙ parts.goes in
+        let kept = allocated_after path.state to.state (register path.state.machine 10) served.choice goes in
+        let sized : register path.state.machine 10 ≡ size = sym (requested_size path.state.machine size asked) in
+        with_heap served.heap (sym (ap (λ (g : Grant). g.heap) same))
+        (laid to.state.machine served.heap (live_with served.choice size (live_blocks path.heap.blocks)) law.sound (kept.1 ∙ out.start ∙ sym law.start) (kept.2 ∙ out.end ∙ sym law.end)
+        (kept.0 ∙ ap (λ n. live_with served.choice n path.state.machine.blocks) sized ∙ ap (live_with served.choice size) out.live) law.live)
+    of_request (Free at) asked given =
+        let found = map_some _ _ parts.given given in
+        let law = free-follows env path.heap found.0 at out.sound found.1 in
+        let goes : after path.state (free path.state.machine) ≡ Some to.state =
+        ap (after path.state) (sym (frees path.state.machine at asked (slice_get items path.state.machine.taken) parts.given.chosen)) ∙ parts.goes in
+        let kept = freed_after path.state to.state goes in
+        let here : register path.state.machine 10 ≡ at = sym (requested_address path.state.machine at asked) in
+        with_heap found.0 (sym (ap (λ (g : Grant). g.heap) found.2))
+        (laid to.state.machine found.0 (without_live at (live_blocks path.heap.blocks)) law.sound (kept.1 ∙ out.start ∙ sym law.start) (kept.2 ∙ out.end ∙ sym law.end)
+        (kept.0 ∙ ap (λ n. without_live n path.state.machine.blocks) here ∙ ap (without_live at) out.live) law.live)
+
+-- so a malloc of a guest that is laid out so is never left without an answer
+pub malloc_goes : (env : Env) (guest : Guest) (size : ℕ) → IsLaidOut guest
+    → chooses size guest.machine (Some (served_malloc env guest.heap size).choice) ≡ Goes (allocated size (served_malloc env guest.heap size).choice guest.machine)
+malloc_goes env guest size out =
+    let served = served_malloc env guest.heap size in
+    let law = malloc-serves env guest.heap size out.sound in
+    let may : is_allowed guest.machine.heap_start guest.machine.heap_end guest.machine.blocks size served.choice ≡ true =
+    ap (λ s. is_allowed s guest.machine.heap_end guest.machine.blocks size served.choice) out.start
+    ∙ ap (λ e. is_allowed guest.heap.start e guest.machine.blocks size served.choice) out.end
+    ∙ ap (λ b. is_allowed guest.heap.start guest.heap.end b size served.choice) out.live
+    ∙ law.allowed in
+    ap (λ b. cond b (Goes (allocated size served.choice guest.machine)) (Chooses size)) may

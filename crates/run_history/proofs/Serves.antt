@@ -1,0 +1,299 @@
+-- A served run is a run: its mallocs took the choices of the environments, each in its turn.
+use Rattle.std.proofs.Common.{◌≡◌, ◌≢◌, inl, inr, ℕ, zero, suc, ◌+◌, ◌<◌, ◌≤◌, Bool, true, false, cond, eqb, leb, List, [], ◌∷◌, ◌++◌, length, Option, Some, None, refl, sym, ◌∙◌, ap, subst, arith, add-zero, add-suc, append-nil, length-append, append_assoc}
+use Rattle.std.specs.Prelude.{slice_get, option_and_then, option_map, is_some}
+use Rattle.std.proofs.lemmas.Bool.{cases_Bool, cond_both, leb-false}
+use Rattle.std.proofs.lemmas.Option.{option_and_then_some, none-some, same_Some}
+use Rattle.rx_io.specs.declared.bytes.Item.{Item}
+use Rattle.rv_isa.specs.declared.instr.Instr.{Instr}
+use Rattle.rv_isa.specs.declared.instr.Instr.TheVariants.{Ecall}
+use Rattle.rv_isa.specs.Table.{row}
+use Rattle.block_book.specs.declared.choice.Choice.{Choice}
+use Rattle.block_book.specs.Answer.{is_allowed}
+use Rattle.block_book.specs.Heap.{Heap}
+use Rattle.alloc_env.specs.declared.env.Env.{Env}
+use Rattle.elf_image.specs.Memory.{execute, permitted}
+use Rattle.run_history.specs.Machine.{Machine, State, register, start, start_machine, Effect, Goes, Emits, Ends, Wants, Chooses, Fails}
+use Rattle.run_history.specs.Call.{takes, chooses, malloc, allocated, received}
+use Rattle.run_history.specs.Repeating.{repeated}
+use Rattle.elf_image.specs.declared.image.Image.{Image}
+use Rattle.run_history.specs.declared.answer.Cause.TheVariants.{Hang, BadAccess}
+use Rattle.run_history.specs.Run.{Run, does, effect, after, next, run, word_at, instruction, executed}
+use Rattle.run_history.specs.Touching.{instruction_at, touched}
+use Rattle.run_history.specs.Served.{Limits, Guest, Request, Malloc, Free, Nothing, request_of, Grant, granted, grant, is_refused, does_with, serves, Path, origin, guest_of, listed, longer, served_next, Override, env_at, planned_next, serve}
+use Rattle.run_history.proofs.Repeats.{repeated_as}
+use Rattle.run_history.proofs.Shapes.{Shape, Same, Takes, Picks, does_shape, Alone, Keeps}
+use Rattle.run_history.proofs.Runs.{IsSettled, Extends, Later, Kept, extends_longer, settled_after, does_more, extends_same, next_after, run_chosen, run_one, element_behind, element_none, allocated_keeps, received_keeps}
+
+-- a value that was mapped
+pub map_some : {A B : Type 0} (f : A → B) (o : Option A) (y : B) → option_map f o ≡ Some y → (x : A) × (o ≡ Some x) × (f x ≡ y)
+map_some f None y e = absurd (none-some y e)
+map_some f (Some x) y e = (x, refl, same_Some (f x) y e)
+
+-- an answer to malloc that is there was asked for by a malloc
+pub data Asked (env : Env) (guest : Guest) (given : Grant) : Type 0 where
+  Chosen : (size : ℕ) (choice : Choice) → request_of (instruction_at guest.machine) guest.machine ≡ Malloc size → given.chosen ≡ Some choice → Asked env guest given
+  Unchosen : given.chosen ≡ None → Asked env guest given
+
+asked_of : (env : Env) (guest : Guest) (given : Grant) (request : Request) → request_of (instruction_at guest.machine) guest.machine ≡ request → granted env guest.heap request ≡ Some given → Asked env guest given
+asked_of env guest given (Malloc size) is h =
+    let e = ap (λ (g : Grant). g.chosen) (same_Some _ given h) in Chosen size _ is (sym e)
+asked_of env guest given (Free at) is h =
+    let p = map_some _ _ given h in Unchosen (ap (λ (g : Grant). g.chosen) (sym p.2))
+asked_of env guest given Nothing is h =
+    let e = ap (λ (g : Grant). g.chosen) (same_Some _ given h) in Unchosen (sym e)
+
+pub asked : (env : Env) (guest : Guest) (given : Grant) → grant env guest ≡ Some given → Asked env guest given
+unfolding grant
+asked env guest given h = asked_of env guest given (request_of (instruction_at guest.machine) guest.machine) refl h
+
+-- an instruction that asks for a block is a malloc
+call_mallocs : (m : Machine) (size : ℕ) → cond (eqb (register m 17) 3) (Malloc (register m 10)) (cond (eqb (register m 17) 4) (Free (register m 10)) Nothing) ≡ Malloc size
+    → (item : Option Item) (choice : Option Choice) → instruction Ecall item choice m ≡ malloc choice m
+unfolding instruction
+call_mallocs m size h item choice =
+    elim (cases_Bool (eqb (register m 17) 3)) [
+      | inl is ↦
+          let first : eqb (register m 17) 1 ≡ false = grind arith in
+          let second : eqb (register m 17) 2 ≡ false = grind arith in
+          rw (first, second, is) refl
+      | inr not_it ↦ absurd (other (eqb (register m 17) 4) (rw not_it at h))
+    ]
+  where
+    other : (b : _) → cond b (Free (register m 10)) Nothing ≡ Malloc size → ⊥
+    other true e = cc
+    other false e = cc
+
+pub mallocs : (m : Machine) (size : ℕ) → request_of (instruction_at m) m ≡ Malloc size → (item : Option Item) (choice : Option Choice) → does item choice m ≡ malloc choice m
+unfolding does instruction_at
+mallocs m size h item choice =
+    elim (cases_Bool (permitted execute m.memory m.pc 4)) [
+      | inl may ↦ rw may (of_row (row (word_at m)) (rw may at h))
+      | inr not_may ↦ absurd (never (rw not_may at h))
+    ]
+  where
+    never : Nothing ≡ Malloc size → ⊥
+    never e = cc
+
+    of_row : (found : Option Instr) → request_of found m ≡ Malloc size → executed found item choice m ≡ malloc choice m
+    of_row None e = absurd (never e)
+    of_row (Some Ecall) e = call_mallocs m size e item choice
+    of_row (Some _) e = absurd (never e)
+
+-- how many answers of malloc an effect without one uses: none
+pub unchosen_keeps : (m new : Machine) (item : Option Item) → does item None m ≡ Goes new → new.allocations ≡ m.allocations
+unchosen_keeps m new item acts = of_shape (does_shape m)
+  where
+    of_alone : (e : Effect) → Alone m e → e ≡ Goes new → new.allocations ≡ m.allocations
+    of_alone (Goes other) alone e = let same : other ≡ new = cc in rw (← same) alone.allocations
+    of_alone (Emits conn bytes other) alone e = cc
+    of_alone (Ends code) alone e = cc
+    of_alone Wants alone e = cc
+    of_alone (Chooses size) alone e = cc
+    of_alone (Fails cause) alone e = cc
+
+    of_next : (found : Option Item) → takes m found ≡ Goes new → new.allocations ≡ m.allocations
+    of_next None e = cc
+    of_next (Some it) e = let same : received it m ≡ new = cc in rw (← same) (received_keeps it m).allocations
+
+    of_shape : Shape m (λ item choice. does item choice m) → new.allocations ≡ m.allocations
+    of_shape (Same e alone is) = of_alone e alone (sym (is item None) ∙ acts)
+    of_shape (Takes may is) = of_next item (sym (is item None) ∙ acts)
+    of_shape (Picks is) = let wants : chooses (register m 10) m None ≡ Goes new = sym (is item None) ∙ acts in cc
+
+-- a malloc that is answered uses one
+pub chosen_keeps : (m new : Machine) (size : ℕ) (choice : Choice) → chooses size m (Some choice) ≡ Goes new → new.allocations ≡ m.allocations + 1
+chosen_keeps m new size choice acts = of_test (is_allowed m.heap_start m.heap_end m.blocks size choice) acts
+  where
+    of_test : (b : _) → cond b (Goes (allocated size choice m)) (Chooses size) ≡ Goes new → new.allocations ≡ m.allocations + 1
+    of_test true e = let same : allocated size choice m ≡ new = cc in rw (← same) (allocated_keeps size choice m).allocations
+    of_test false e = cc
+
+-- an instruction without an answer of malloc uses none
+pub unchosen_after : (s t : State) (item : Option Item) → after s (does item None s.machine) ≡ Some t → t.machine.allocations ≡ s.machine.allocations
+unchosen_after s t item goes = of_shape (does_shape s.machine)
+  where
+    of_alone : (e : Effect) → Alone s.machine e → after s e ≡ Some t → t.machine.allocations ≡ s.machine.allocations
+    of_alone (Goes new) alone h = let same = ap (λ (v : State). v.machine) (same_Some _ t h) in rw (← same) alone.allocations
+    of_alone (Emits conn bytes new) alone h = let same = ap (λ (v : State). v.machine) (same_Some _ t h) in rw (← same) alone.0.allocations
+    of_alone (Ends code) alone h = let same = ap (λ (v : State). v.machine) (same_Some _ t h) in rw (← same) refl
+    of_alone Wants alone h = absurd alone
+    of_alone (Chooses size) alone h = absurd alone
+    of_alone (Fails cause) alone h = absurd (none-some t h)
+
+    of_next : (found : Option Item) → after s (takes s.machine found) ≡ Some t → t.machine.allocations ≡ s.machine.allocations
+    of_next None h = absurd (none-some t h)
+    of_next (Some it) h = let same = ap (λ (v : State). v.machine) (same_Some _ t h) in rw (← same) (received_keeps it s.machine).allocations
+
+    of_shape : Shape s.machine (λ item choice. does item choice s.machine) → t.machine.allocations ≡ s.machine.allocations
+    of_shape (Same e alone is) = of_alone e alone (ap (after s) (sym (is item None)) ∙ goes)
+    of_shape (Takes may is) = of_next item (ap (after s) (sym (is item None)) ∙ goes)
+    of_shape (Picks is) = absurd (none-some t (ap (after s) (sym (is item None)) ∙ goes))
+
+-- a malloc with an answer uses it
+pub chosen_after : (s t : State) (size : ℕ) (choice : Choice) → after s (chooses size s.machine (Some choice)) ≡ Some t → t.machine.allocations ≡ s.machine.allocations + 1
+chosen_after s t size choice goes = of_test (is_allowed s.machine.heap_start s.machine.heap_end s.machine.blocks size choice) goes
+  where
+    of_test : (b : Bool) → after s (cond b (Goes (allocated size choice s.machine)) (Chooses size)) ≡ Some t → t.machine.allocations ≡ s.machine.allocations + 1
+    of_test true h = let same = ap (λ (v : State). v.machine) (same_Some _ t h) in rw (← same) (allocated_keeps size choice s.machine).allocations
+    of_test false h = absurd (none-some t h)
+
+-- behind an effect after which nothing comes, the other one stands
+passes : (s t : State) (b : Bool) (e other : Effect) → after s e ≡ None → after s (cond b e other) ≡ Some t → (b ≡ false) × (after s other ≡ Some t)
+passes s t true e other none h = absurd (none-some t (sym none ∙ h))
+passes s t false e other none h = (refl, h)
+
+-- an instruction of a served run, by its parts
+pub record ServesTo (limits : Limits) (items : List Item) (env : Env) (path to : Path) : Type 0 where
+  pub lives : path.state.ended ≡ None
+  pub early : path.state.machine.since < limits.budget
+  pub kept_rule : is_refused limits path.heap (touched path.state.machine) ≡ false
+  pub given : Grant
+  pub granted_by : grant env (guest_of path) ≡ Some given
+  pub goes : after path.state (does (slice_get items path.state.machine.taken) given.chosen path.state.machine) ≡ Some to.state
+  pub heap : to.heap ≡ given.heap
+  pub choices : to.choices ≡ path.choices ++ listed given.chosen
+  pub steps : to.steps ≡ path.steps + 1
+
+pub serves_to : (limits : Limits) (items : List Item) (env : Env) (path to : Path) → served_next limits items env path ≡ Some to → ServesTo limits items env path to
+unfolding served_next serves
+serves_to limits items env path to goes = of_ended path.state.ended refl
+  where
+    with_grant : (given : Option Grant) (state : State) → grant env (guest_of path) ≡ given → path.state.ended ≡ None → path.state.machine.since < limits.budget → is_refused limits path.heap (touched path.state.machine) ≡ false
+        → after path.state (does_with given (slice_get items path.state.machine.taken) path.state.machine) ≡ Some state → longer path given state ≡ to → ServesTo limits items env path to
+    with_grant None state is lives early rule h same = absurd (none-some state h)
+    with_grant (Some given) state is lives early rule h same = record {
+      lives = lives;
+      early = early;
+      kept_rule = rule;
+      given = given;
+      granted_by = is;
+      goes = h ∙ ap (λ (p : Path). Some p.state) same;
+      heap = sym (ap (λ (p : Path). p.heap) same);
+      choices = sym (ap (λ (p : Path). p.choices) same);
+      steps = sym (ap (λ (p : Path). p.steps) same);
+    }
+
+    of_ended : (ended : Option ℕ) → path.state.ended ≡ ended → ServesTo limits items env path to
+    of_ended (Some code) is = absurd (none-some to (rw is at goes))
+    of_ended None is =
+        let more : Option Path = option_map (longer path (grant env (guest_of path))) (after path.state (serves limits env (slice_get items path.state.machine.taken) (guest_of path))) in
+        let h : more ≡ Some to = sym (ap (λ (ended : Option ℕ). cond (is_some ended) None more) is) ∙ goes in
+        let p = map_some _ _ to h in
+        let first = passes path.state p.0 (leb limits.budget path.state.machine.since) _ _ refl p.1 in
+        let second = passes path.state p.0 (is_refused limits path.heap (touched path.state.machine)) _ _ refl first.1 in
+        with_grant (grant env (guest_of path)) p.0 refl is (leb-false limits.budget path.state.machine.since first.0) second.0 second.1 p.2
+
+-- the choice behind those that were used has the next number
+choice_here : (choices : List Choice) (chosen : Option Choice) (n : ℕ) → length choices ≡ n → slice_get (choices ++ listed chosen) n ≡ chosen
+choice_here choices None n e = rw append-nil (element_none choices n e)
+choice_here choices (Some choice) n e = element_behind choices choice n e
+
+-- a run used all of its answers of malloc
+abbrev pub IsUsed : Path → Type 0
+IsUsed path = path.state.machine.allocations ≡ length path.choices
+
+-- an instruction of a served run is one of a run that has its answers of malloc
+pub serves_next : (limits : Limits) (items : List Item) (env : Env) (path to : Path) → IsUsed path → ServesTo limits items env path to → next items to.choices path.state ≡ Some to.state
+serves_next limits items env path to used parts =
+    let here : slice_get to.choices path.state.machine.allocations ≡ parts.given.chosen =
+    ap (λ cs. slice_get cs path.state.machine.allocations) parts.choices ∙ choice_here path.choices parts.given.chosen path.state.machine.allocations (sym used) in
+    next_after items to.choices path.state _ parts.lives (ap (λ c. does (slice_get items path.state.machine.taken) c path.state.machine) here) ∙ parts.goes
+
+-- and it used all of them
+pub serves_used : (limits : Limits) (items : List Item) (env : Env) (path to : Path) → IsUsed path → ServesTo limits items env path to → IsUsed to
+serves_used limits items env path to used parts = of_asked (asked env (guest_of path) parts.given parts.granted_by)
+  where
+    of_asked : Asked env (guest_of path) parts.given → IsUsed to
+    of_asked (Chosen size choice is chosen) =
+        let goes : after path.state (chooses (register path.state.machine 10) path.state.machine (Some choice)) ≡ Some to.state =
+        ap (after path.state) (sym (mallocs path.state.machine size is (slice_get items path.state.machine.taken) (Some choice)))
+        ∙ ap (λ c. after path.state (does (slice_get items path.state.machine.taken) c path.state.machine)) (sym chosen)
+        ∙ parts.goes in
+        let more = chosen_after path.state to.state (register path.state.machine 10) choice goes in
+        let count : length to.choices ≡ length path.choices + 1 = ap length parts.choices ∙ ap (λ c. length (path.choices ++ listed c)) chosen ∙ length-append path.choices (choice ∷ []) in
+        more ∙ omega (arith, used, count)
+    of_asked (Unchosen chosen) =
+        let goes : after path.state (does (slice_get items path.state.machine.taken) None path.state.machine) ≡ Some to.state =
+        ap (λ c. after path.state (does (slice_get items path.state.machine.taken) c path.state.machine)) (sym chosen) ∙ parts.goes in
+        let same = unchosen_after path.state to.state (slice_get items path.state.machine.taken) goes in
+        let count : length to.choices ≡ length path.choices = ap length parts.choices ∙ ap (λ c. length (path.choices ++ listed c)) chosen ∙ ap length (append-nil path.choices) in
+        same ∙ used ∙ sym count
+
+-- the second run is the first with so many more instructions, which used more answers of malloc
+pub record Follows (items : List Item) (first second : Path) (more : ℕ) : Type 0 where
+  pub others : List Choice
+  pub chose : second.choices ≡ first.choices ++ others
+  pub counted : second.steps ≡ first.steps + more
+  pub ran : run items second.choices first.state more ≡ Some second.state
+  pub used : IsUsed second
+
+-- a served run goes on as a run
+pub served_follows : (limits : Limits) (items : List Item) (plan : List Override) (first second : Path) (n : ℕ) → IsUsed first → serve limits items plan first n ≡ Some second → Follows items first second n
+served_follows limits items plan first second zero used ran =
+    let same = same_Some first second ran in
+    subst (λ (p : Path). Follows items first p 0) same (record {
+      others = [];
+      chose = sym (append-nil first.choices);
+      counted = sym (add-zero first.steps);
+      ran = refl;
+      used = used;
+    })
+served_follows limits items plan first second (suc n) used ran =
+    option_and_then_some (planned_next limits items plan) (serve limits items plan first n) second ran (λ mid before goes.
+    let earlier = served_follows limits items plan first mid n used before in
+    let env = env_at plan mid.state.machine.taken in
+    let parts = serves_to limits items env mid second goes in
+    let last = serves_next limits items env mid second earlier.used parts in
+    record {
+      others = earlier.others ++ listed parts.given.chosen;
+      chose = parts.choices ∙ ap (λ cs. cs ++ listed parts.given.chosen) earlier.chose ∙ append_assoc first.choices earlier.others (listed parts.given.chosen);
+      counted = parts.steps ∙ omega (arith, earlier.counted);
+      ran =
+          ap (option_and_then (next items second.choices))
+          (ap (λ cs. run items cs first.state n) parts.choices ∙ run_chosen items mid.choices (listed parts.given.chosen) first.state mid.state n earlier.ran)
+          ∙ last;
+      used = serves_used limits items env mid second earlier.used parts;
+    })
+
+-- a run from the start of which all answers of malloc are those of its environments
+pub served_is_run : (limits : Limits) (image : Image) (items : List Item) (plan : List Override) (path : Path) (n : ℕ) → serve limits items plan (origin image) n ≡ Some path → Run image items path.choices n path.state
+unfolding start start_machine
+served_is_run limits image items plan path n ran =
+    let follows = served_follows limits items plan (origin image) path n refl ran in
+    record { ran = follows.ran; used = follows.used }
+
+-- what is served is unchanged by more items behind
+serves_more : (limits : Limits) (env : Env) (item other : Option Item) (guest : Guest) (e : Effect) → Extends item other → serves limits env item guest ≡ e → IsSettled e → serves limits env other guest ≡ e
+unfolding serves
+serves_more limits env item other guest e more was settled = of_late (leb limits.budget guest.machine.since) (is_refused limits guest.heap (touched guest.machine)) (grant env guest) was
+  where
+    of_late : (late refused : Bool) (given : Option Grant)
+        → cond late (Fails Hang) (cond refused (Fails BadAccess) (does_with given item guest.machine)) ≡ e
+        → cond late (Fails Hang) (cond refused (Fails BadAccess) (does_with given other guest.machine)) ≡ e
+    of_late true refused given h = h
+    of_late false true given h = h
+    of_late false false None h = h
+    of_late false false (Some given) h = does_more guest.machine item other given.chosen given.chosen e more (extends_same given.chosen) h settled
+
+-- one instruction of a served run
+pub served_next_more : (limits : Limits) (items more : List Item) (env : Env) (path to : Path) → served_next limits items env path ≡ Some to → served_next limits (items ++ more) env path ≡ Some to
+unfolding served_next
+served_next_more limits items more env path to goes = of_ended path.state.ended refl
+  where
+    of_ended : (ended : Option ℕ) → path.state.ended ≡ ended → served_next limits (items ++ more) env path ≡ Some to
+    of_ended (Some code) is = absurd (none-some to (rw is at goes))
+    of_ended None is =
+        let before : Option Path = option_map (longer path (grant env (guest_of path))) (after path.state (serves limits env (slice_get items path.state.machine.taken) (guest_of path))) in
+        let behind : Option Path = option_map (longer path (grant env (guest_of path))) (after path.state (serves limits env (slice_get (items ++ more) path.state.machine.taken) (guest_of path))) in
+        let h : before ≡ Some to = sym (ap (λ (ended : Option ℕ). cond (is_some ended) None before) is) ∙ goes in
+        let p = map_some _ _ to h in
+        let same = serves_more limits env _ _ (guest_of path) _ (extends_longer items more path.state.machine.taken) refl (settled_after path.state p.0 _ p.1) in
+        ap (λ (ended : Option ℕ). cond (is_some ended) None behind) is
+        ∙ ap (λ e. option_map (longer path (grant env (guest_of path))) (after path.state e)) same
+        ∙ h
+
+-- a served run
+pub served_more : (limits : Limits) (items more : List Item) (plan : List Override) (first second : Path) (n : ℕ) → serve limits items plan first n ≡ Some second → serve limits (items ++ more) plan first n ≡ Some second
+served_more limits items more plan first second n ran =
+    repeated_as (planned_next limits items plan) (planned_next limits (items ++ more) plan)
+    (λ x y goes. served_next_more limits items more (env_at plan x.state.machine.taken) x y goes) n first second ran
