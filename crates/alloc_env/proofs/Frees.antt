@@ -1,12 +1,12 @@
 -- What a free leaves.
-use Rattle.std.proofs.Common.{◌≡◌, ℕ, ◌<◌, Bool, true, false, not, cond, ◌||◌, ◌&&◌, List, [], ◌∷◌, filter, Option, Some, None, arith, sym, ◌∙◌, subst, ap, refl, inl, inr, eqb, if◌then◌else◌}
+use Rattle.std.proofs.Common.{◌≡◌, ℕ, Bool, true, false, not, cond, ◌||◌, ◌&&◌, List, [], ◌∷◌, Option, Some, None, sym, ◌∙◌, subst, ap, refl, inl, inr, eqb, if◌then◌else◌}
 use Rattle.std.specs.List.{find, list_any}
-use Rattle.std.proofs.lemmas.Bool.{cases_Bool, and_parts, or_parts, and_cases, both_ways, eqb-true, eq-eqb, ne_eqb}
+use Rattle.std.proofs.lemmas.Bool.{cases_Bool, and_parts, or_parts, eqb-true, eq-eqb, ne_eqb}
 use Rattle.std.proofs.lemmas.Option.{same_Some}
 use Rattle.block_book.specs.declared.block.Block.{Block}
 use Rattle.block_book.specs.declared.standing.Standing.{Standing}
 use Rattle.block_book.specs.declared.standing.Standing.TheVariants.{Nothing, Live, Delayed}
-use Rattle.block_book.specs.Block.{extent_start, extent_end}
+use Rattle.block_book.specs.Block.{extent_end}
 use Rattle.block_book.specs.Heap.{Heap, IsHeap, StandWithin, with_delayed, without_block, standing_of, standing_at, is_live_at}
 use Rattle.block_book.specs.Answer.{live_blocks, without_live}
 use Rattle.block_book.proofs.Sound.{sound-filter, sound-delayed}
@@ -84,6 +84,7 @@ live-standing heap at size is = by-found (find (λ block. eqb block.at at) heap.
     by-delayed : (block : Block) (d : Bool) → block.delayed ≡ d → find (λ block. eqb block.at at) heap.blocks ≡ Some block → (if d then Delayed block.size else Live block.size) ≡ Live size → is_live_at heap at ≡ true
     by-delayed block true d e h = absurd (cc h)
     by-delayed block false d e h = found-live at heap.blocks block e d
+
     by-found : (o : Option Block) → find (λ block. eqb block.at at) heap.blocks ≡ o → standing_of o ≡ Live size → is_live_at heap at ≡ true
     by-found None e h = absurd (cc h)
     by-found (Some block) e h = by-delayed block block.delayed refl e h
@@ -94,6 +95,7 @@ delayed-standing heap at size sound is = by-found (find (λ block. eqb block.at 
     by-delayed : (block : Block) (d : Bool) → block.delayed ≡ d → find (λ block. eqb block.at at) heap.blocks ≡ Some block → (if d then Delayed block.size else Live block.size) ≡ Delayed size → is_live_at heap at ≡ false
     by-delayed block true d e h = delayed-alone at heap.start heap.blocks heap.end block sound.standing e d
     by-delayed block false d e h = absurd (cc h)
+
     by-found : (o : Option Block) → find (λ block. eqb block.at at) heap.blocks ≡ o → standing_of o ≡ Delayed size → is_live_at heap at ≡ false
     by-found None e h = absurd (cc h)
     by-found (Some block) e h = by-delayed block block.delayed refl e h
@@ -122,10 +124,12 @@ free-follows env heap after at sound = by-null (eqb at 0) refl
     by-delays : (size : ℕ) → standing_at heap at ≡ Delayed size → (b : Bool) → (if b then Some heap else None) ≡ Some after → Follows heap at after
     by-delays size e true h = subst (Follows heap at) (same_Some heap after h) (delayed-follows heap at size sound e)
     by-delays size e false h = absurd (cc h)
+
     by-standing : (s : Standing) → standing_at heap at ≡ s → freed_by env heap at s ≡ Some after → Follows heap at after
     by-standing Nothing e h = absurd (cc h)
     by-standing (Live size) e h = subst (Follows heap at) (same_Some (freed env heap at) after h) (freed-follows env heap at sound)
     by-standing (Delayed size) e h = by-delays size e (treatment_of env).delays h
+
     by-null : (b : Bool) → eqb at 0 ≡ b → (if b then Some heap else freed_by env heap at (standing_at heap at)) ≡ Some after → Follows heap at after
     by-null true e h = subst (Follows heap at) (same_Some heap after h) (subst (λ n. Follows heap n heap) (sym (eqb-true at 0 e)) (null-follows heap sound))
     by-null false e h = by-standing (standing_at heap at) refl h

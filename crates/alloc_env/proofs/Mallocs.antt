@@ -1,5 +1,5 @@
 -- The answers of malloc.
-use Rattle.std.proofs.Common.{◌≡◌, ℕ, ◌+◌, ◌%◌, ◌<◌, ◌≤◌, Bool, true, false, not, cond, ◌&&◌, ◌||◌, List, Option, Some, None, arith, sym, ◌∙◌, subst, ap, refl, eqb, if◌then◌else◌}
+use Rattle.std.proofs.Common.{◌≡◌, ℕ, ◌%◌, ◌≤◌, Bool, true, false, not, ◌&&◌, Option, Some, None, arith, sym, ◌∙◌, subst, ap, refl, eqb, if◌then◌else◌}
 use Rattle.std.specs.Option.{option_or, option_map_or}
 use Rattle.std.proofs.lemmas.Bool.{ne_eqb, or_right}
 use Rattle.block_book.specs.declared.choice.Choice.{Choice}
@@ -51,9 +51,11 @@ spot-placed env heap size at = by-isolates (treatment_of env).isolates
   where
     side : ℕ
     side = (treatment_of env).side
+
     by-or : (o : Option ℕ) → placement heap size side (middle heap) ≡ o → option_or o (placement heap size side 0) ≡ Some at → (from : ℕ) × (placement heap size side from ≡ Some at)
     by-or None e h = (0, h)
     by-or (Some above) e h = (middle heap, e ∙ h)
+
     by-isolates : (b : Bool) → (if b then option_or (placement heap size side (middle heap)) (placement heap size side 0) else placement heap size side 0) ≡ Some at → (from : ℕ) × (placement heap size side from ≡ Some at)
     by-isolates true h = by-or (placement heap size side (middle heap)) refl h
     by-isolates false h = (0, h)
@@ -165,8 +167,8 @@ pub answers-again : (env : Env) (heap left after : Heap) (size at : ℕ) (zeroed
 answers-again env heap left after size at zeroed sound zeroes none emptied is new =
     subst (λ b. Answers env heap size (record { at = at; zeroed = b }) after) (sym zeroes)
     (subst (Answers env heap size (served_at env (recycled heap) size at).choice)
-      (sym (new ∙ ap (λ h. with_block h (live_block at size (treatment_of env).side)) emptied))
-      (answers-as env heap size (served_at env (recycled heap) size at) sound (malloc-again env heap size at none (is ∙ ap (λ h. spot env h size) emptied))))
+    (sym (new ∙ ap (λ h. with_block h (live_block at size (treatment_of env).side)) emptied))
+    (answers-as env heap size (served_at env (recycled heap) size at) sound (malloc-again env heap size at none (is ∙ ap (λ h. spot env h size) emptied))))
 
 pub answers-null : (env : Env) (heap left after : Heap) (size : ℕ) → IsHeap heap → None ≡ spot env heap size → left ≡ recycled heap → None ≡ spot env left size → after ≡ left → Answers env heap size (record { at = 0; zeroed = false }) after
 answers-null env heap left after size sound none emptied again new =

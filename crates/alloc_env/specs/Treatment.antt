@@ -1,4 +1,4 @@
--- What each environment does to the blocks of a heap (Qin, Tucek, Sundaresan and Zhou, "Rx: Treating Bugs as Allergies", SOSP 2005, 3.2).
+-- What each environment does to the blocks of a heap (Qin, Tucek, Sundaresan and Zhou, "Rx: Treating Bugs as Allergies", SOSP 2005).
 use Rattle.std.specs.Prelude.{true, false}
 use Rattle.alloc_env.specs.declared.env.Env.{Env}
 use Rattle.alloc_env.specs.declared.env.Env.TheVariants.{Plain, Pad, Zero, Isolate, Delay, All}

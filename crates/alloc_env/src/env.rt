@@ -23,7 +23,7 @@ pub enum Env {
 
 impl Env {
     // What the environment does to blocks.
-    pub fn treatment(self) -> Treatment
+    pub(crate) fn treatment(self) -> Treatment
         ensures value { result ≡ treatment_of self }
         ensures multiple { result.side % 16 ≡ 0 }
         ensures small { result.side ≤ 256 }

@@ -10,8 +10,8 @@ use crate::bad_free::BadFree;
 use crate::env::Env;
 use block_book::{Book, Choice, Standing};
 
-/// The answer of malloc to a size, in an environment. Where the block goes nowhere all delayed blocks are recycled first, and where it goes
-/// nowhere then either the answer is null.
+/// The answer of malloc to a size, in an environment. Where the block goes nowhere all delayed blocks are recycled, and it is tried
+/// once more; where it goes nowhere then either, the answer is null.
 pub fn serve_malloc(env: Env, book: &mut Book, size: u32) -> Choice
     ensures choice { result ≡ (served_malloc env book.old size).choice }
     ensures heap { book.new ≡ (served_malloc env book.old size).heap }
@@ -36,8 +36,8 @@ pub fn serve_malloc(env: Env, book: &mut Book, size: u32) -> Choice
     }
 }
 
-/// Frees the block at an address, in an environment. Free of null, and of a delayed block where the environment delays, does nothing. Every other free of an
-/// address at which no live block stands is bad, and nothing changed.
+/// Frees the block at an address, in an environment. Free of null does nothing, and so does free of a delayed block where the
+/// environment delays. Every other free of an address at which no live block stands is bad, and nothing changed.
 pub fn serve_free(env: Env, book: &mut Book, at: u32) -> Result<(), BadFree>
     ensures freed { Frees env at book.old book.new result }
     ensures live { OnOk result (live_blocks book.new.blocks ≡ without_live at (live_blocks book.old.blocks)) }

@@ -1,7 +1,7 @@
 -- What a search says of the whole heap.
 use Rattle.std.proofs.Common.{◌≡◌, ℕ, zero, suc, ◌+◌, ◌^◌, ◌<◌, ◌≤◌, true, false, not, ◌&&◌, List, [], ◌∷◌, length, slice_get, Some, None, arith, sym, ◌∙◌, subst, ap, eqb, nat_le, leb}
 use Rattle.std.specs.List.{AllWithin}
-use Rattle.std.proofs.lemmas.Bool.{eqb-true, leb-true, lt-leb, eq-eqb, ne_eqb, and_parts, and_from, and_left, and_right, not_from_false, not_from_true}
+use Rattle.std.proofs.lemmas.Bool.{eqb-true, leb-true, lt-leb, eq-eqb, ne_eqb, and_parts, and_right}
 use Rattle.std.proofs.lemmas.Option.{slice_get_within}
 use Rattle.std.proofs.lemmas.List.Sums.{prefix_len_is}
 use Rattle.block_book.specs.declared.block.Block.{Block}

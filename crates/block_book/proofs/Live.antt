@@ -13,7 +13,7 @@ use Rattle.block_book.proofs.Sizes.{reserved-least, reserved-touched}
 use Rattle.block_book.proofs.Rising.{extent-rises}
 use Rattle.block_book.proofs.Fitting.{FitsAt, fit-fits}
 use Rattle.block_book.proofs.Sound.{sound-with}
-use Rattle.block_book.proofs.Rooms.{leaves, clear-is, place-room, placement-full, placement-fit}
+use Rattle.block_book.proofs.Rooms.{clear_of, clear-is, place-room, placement-full, placement-fit}
 
 -- what a placement says: its extent begins at e
 pub record PlacedAt (heap : Heap) (size side from at : ℕ) : Type 0 where
@@ -42,12 +42,12 @@ placed-at heap size side from at is =
     }
 
 -- bytes inside of a range that is apart from all extents meet those of no live block
-fitting-leaves : (extent count at size : ℕ) (blocks : List Block) → extent ≤ at → at + touched size ≤ extent + count → list_all (λ block. is_apart extent count (extent_start block) (extent_end block)) blocks ≡ true → list_all (leaves at size) blocks ≡ true
-fitting-leaves extent count at size [] starts ends h = refl
-fitting-leaves extent count at size (block ∷ blocks) starts ends h =
+fitting-clear_of : (extent count at size : ℕ) (blocks : List Block) → extent ≤ at → at + touched size ≤ extent + count → list_all (λ block. is_apart extent count (extent_start block) (extent_end block)) blocks ≡ true → list_all (clear_of at size) blocks ≡ true
+fitting-clear_of extent count at size [] starts ends h = refl
+fitting-clear_of extent count at size (block ∷ blocks) starts ends h =
     let p = and_parts (is_apart extent count (extent_start block) (extent_end block)) (list_all (λ block. is_apart extent count (extent_start block) (extent_end block)) blocks) h in
     let holds = reserved-touched block.size in
-    and_from (leaves at size block) (list_all (leaves at size) blocks)
+    and_from (clear_of at size block) (list_all (clear_of at size) blocks)
     (or_right block.delayed (is_apart at (touched size) block.at (block.at + touched block.size))
     (elim (or_cases (nat_le (extent + count) (extent_start block)) (nat_le (extent_end block) extent) p.0) [
       | inl l ↦
@@ -57,7 +57,7 @@ fitting-leaves extent count at size (block ∷ blocks) starts ends h =
           let le = leb-true (extent_end block) extent r in
           or_right (nat_le (at + touched size) block.at) (nat_le (block.at + touched block.size) at) (le-leb (block.at + touched block.size) at (omega arith))
     ]))
-    (fitting-leaves extent count at size blocks starts ends p.1)
+    (fitting-clear_of extent count at size blocks starts ends p.1)
 
 pub placement-clear : (heap : Heap) (size side from at : ℕ) → side % 16 ≡ 0 → placement heap size side from ≡ Some at → is_clear heap.start heap.end (live_blocks heap.blocks) at size ≡ true
 placement-clear heap size side from at even is =
@@ -69,10 +69,10 @@ placement-clear heap size side from at even is =
     let begins = p.begins in
     let holds = reserved-touched size in
     clear-is heap.start heap.end heap.blocks at size
-    ∙ and_from ((eqb (at % 16) 0) && lies_in at (touched size) heap.start heap.end) (list_all (leaves at size) heap.blocks)
+    ∙ and_from ((eqb (at % 16) 0) && lies_in at (touched size) heap.start heap.end) (list_all (clear_of at size) heap.blocks)
     (and_from (eqb (at % 16) 0) (lies_in at (touched size) heap.start heap.end) (eq-eqb (at % 16) 0 (omega arith))
     (and_from (nat_le heap.start at) (nat_le (at + touched size) heap.end) (le-leb heap.start at (omega arith)) (le-leb (at + touched size) heap.end (omega arith))))
-    (fitting-leaves p.extent (reserved_size size + 2 * side) at size heap.blocks (omega arith) (omega arith) f.apart)
+    (fitting-clear_of p.extent (reserved_size size + 2 * side) at size heap.blocks (omega arith) (omega arith) f.apart)
 
 pub placement-sound : (heap : Heap) (size side from at : ℕ) → IsHeap heap → side % 16 ≡ 0 → side ≤ 256 → placement heap size side from ≡ Some at → IsHeap (with_block heap (live_block at size side))
 placement-sound heap size side from at sound even small is =

@@ -21,25 +21,25 @@ live-all test (block ∷ blocks) =
       | false ↦ ap (λ b. test (block.at, block.size) && b) (live-all test blocks)
     ]
 
-abbrev pub leaves : ℕ → ℕ → Block → Bool
-leaves at size block = block.delayed || is_apart at (touched size) block.at (block.at + touched block.size)
+abbrev pub clear_of : ℕ → ℕ → Block → Bool
+clear_of at size block = block.delayed || is_apart at (touched size) block.at (block.at + touched block.size)
 
-pub clear-is : (start end : ℕ) (blocks : List Block) (at size : ℕ) → is_clear start end (live_blocks blocks) at size ≡ (((eqb (at % 16) 0) && lies_in at (touched size) start end) && list_all (leaves at size) blocks)
+pub clear-is : (start end : ℕ) (blocks : List Block) (at size : ℕ) → is_clear start end (live_blocks blocks) at size ≡ (((eqb (at % 16) 0) && lies_in at (touched size) start end) && list_all (clear_of at size) blocks)
 unfolding is_clear
 clear-is start end blocks at size =
     ap (λ b. ((eqb (at % 16) 0) && lies_in at (touched size) start end) && b) (sym (live-all (λ block. is_apart at (touched size) block.0 (block.0 + touched block.1)) blocks))
 
 -- where no block is padded or delayed, bytes that no live block may touch are apart from all extents
-bare-apart : (at size from : ℕ) (blocks : List Block) (to : ℕ) → at % 16 ≡ 0 → StandWithin from blocks to → list_all (λ block. (eqb block.side 0) && not block.delayed) blocks ≡ true → list_all (leaves at size) blocks ≡ true → list_all (λ other. is_apart at (reserved_size size) (extent_start other) (extent_end other)) blocks ≡ true
+bare-apart : (at size from : ℕ) (blocks : List Block) (to : ℕ) → at % 16 ≡ 0 → StandWithin from blocks to → list_all (λ block. (eqb block.side 0) && not block.delayed) blocks ≡ true → list_all (clear_of at size) blocks ≡ true → list_all (λ other. is_apart at (reserved_size size) (extent_start other) (extent_end other)) blocks ≡ true
 bare-apart at size from [] to even h bare clear = refl
 bare-apart at size from (block ∷ blocks) to even h bare clear =
     let b = and_parts ((eqb block.side 0) && not block.delayed) (list_all (λ block. (eqb block.side 0) && not block.delayed) blocks) bare in
-    let c = and_parts (leaves at size block) (list_all (leaves at size) blocks) clear in
+    let c = and_parts (clear_of at size block) (list_all (clear_of at size) blocks) clear in
     let d = and_parts (eqb block.side 0) (not block.delayed) b.0 in
     let flat = eqb-true block.side 0 d.0 in
     let even' = h.0.at_multiple in
     and_from (is_apart at (reserved_size size) (extent_start block) (extent_end block)) (list_all (λ other. is_apart at (reserved_size size) (extent_start other) (extent_end other)) blocks)
-    (elim (or_cases (nat_le (at + touched size) block.at) (nat_le (block.at + touched block.size) at) (live-leaves block.delayed (is_apart at (touched size) block.at (block.at + touched block.size)) d.1 c.0)) [
+    (elim (or_cases (nat_le (at + touched size) block.at) (nat_le (block.at + touched block.size) at) (live-clear_of block.delayed (is_apart at (touched size) block.at (block.at + touched block.size)) d.1 c.0)) [
       | inl below ↦
           let le = reserved-within at size block.at even even' (leb-true (at + touched size) block.at below) in
           or_left (nat_le (at + reserved_size size) (extent_start block)) (nat_le (extent_end block) at) (le-leb (at + reserved_size size) (extent_start block) (omega arith))
@@ -49,9 +49,9 @@ bare-apart at size from (block ∷ blocks) to even h bare clear =
     ])
     (bare-apart at size (extent_end block) blocks to even h.2 b.1 c.1)
   where
-    live-leaves : (d : Bool) (t : Bool) → not d ≡ true → (d || t) ≡ true → t ≡ true
-    live-leaves true t p q = absurd (cc p)
-    live-leaves false t p q = q
+    live-clear_of : (d : Bool) (t : Bool) → not d ≡ true → (d || t) ≡ true → t ≡ true
+    live-clear_of true t p q = absurd (cc p)
+    live-clear_of false t p q = q
 
 -- the same range written otherwise
 same-apart : (blocks : List Block) (at count at' count' : ℕ) → at ≡ at' → count ≡ count' → list_all (λ other. is_apart at count (extent_start other) (extent_end other)) blocks ≡ true → list_all (λ other. is_apart at' count' (extent_start other) (extent_end other)) blocks ≡ true
@@ -61,7 +61,7 @@ same-apart blocks at count at' count' a c h =
 
 pub put-room : (heap : Heap) (at size : ℕ) → IsHeap heap → is_bare heap ≡ true → length heap.blocks < most_blocks → is_clear heap.start heap.end (live_blocks heap.blocks) at size ≡ true → HasRoom heap (live_block at size 0)
 put-room heap at size sound bare few clear =
-    let p = and_parts ((eqb (at % 16) 0) && lies_in at (touched size) heap.start heap.end) (list_all (leaves at size) heap.blocks) (sym (clear-is heap.start heap.end heap.blocks at size) ∙ clear) in
+    let p = and_parts ((eqb (at % 16) 0) && lies_in at (touched size) heap.start heap.end) (list_all (clear_of at size) heap.blocks) (sym (clear-is heap.start heap.end heap.blocks at size) ∙ clear) in
     let q = and_parts (eqb (at % 16) 0) (lies_in at (touched size) heap.start heap.end) p.0 in
     let r = and_parts (nat_le heap.start at) (nat_le (at + touched size) heap.end) q.1 in
     let even = eqb-true (at % 16) 0 q.0 in

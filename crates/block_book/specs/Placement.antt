@@ -15,7 +15,8 @@ fits heap count from at =
 unfoldable pub fit : Heap → ℕ → ℕ → Option ℕ
 fit heap count from = find (fits heap count from) (range_with_len 0 (heap.end + 1))
 
--- the address of a new block of a size, with so many bytes of padding on each side and an extent that begins at `from` or above
+-- The address of a new block of a size, with so many bytes of padding on each side and an extent that begins at `from` or above.
+-- There is none where it fits nowhere, or where no more blocks may stand.
 unfoldable pub placement : Heap → ℕ → ℕ → ℕ → Option ℕ
 placement heap size side from =
     if nat_lt (length heap.blocks) most_blocks

@@ -83,9 +83,10 @@ impl Block {
             && u64::from(at) + u64::from(len) <= u64::from(self.at) + reserved_size(self.size)
     }
 
-    /// Whether the block is delayed, or shares no byte with a block of a size at an address. A block of size 0 has one byte here.
+    /// Whether the block is delayed, or shares no byte with a block of a size at an address. A block of size 0 has one byte
+    /// here.
     #[inline]
-    pub fn leaves(&self, at: u32, size: u32) -> bool
+    pub fn is_clear_of(&self, at: u32, size: u32) -> bool
         ensures { result ≡ (self.now.delayed || is_apart at (touched size) self.now.at (self.now.at + touched self.now.size)) }
     {
         self.delayed

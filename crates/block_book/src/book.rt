@@ -36,8 +36,8 @@ impl Model for Book {
 }
 
 impl Book {
-    /// The book of a heap in which no block stands, from an address up to another, which isn't part of it. It takes room for all blocks
-    /// that may ever stand.
+    /// The book of a heap in which no block stands, from an address up to another, which isn't part of it. It takes room for all
+    /// blocks that may ever stand, and no other call takes memory.
     pub fn make(alloc: Global, start: u32, end: u32) -> Result<Book, AllocError>
         requires start_multiple { start % 16 ≡ 0 }
         requires end_multiple { end % 16 ≡ 0 }
@@ -74,8 +74,9 @@ impl Book {
         self.end
     }
 
-    /// Adds a live block of a size at the lowest address of all where it fits with so many bytes of padding on each side, and its extent
-    /// begins at `from` or above; its address. None, and nothing changed, where it fits nowhere or 4096 blocks stand.
+    /// Adds a live block of a size at the lowest address of all at which it fits, with so many bytes of padding on each side and an
+    /// extent that begins at `from` or above. Answers its address, or None, and nothing changed, where it fits nowhere or 4096
+    /// blocks stand.
     pub fn place(&mut self, size: u32, side: u32, from: u32) -> Option<u32>
         requires multiple { side % 16 ≡ 0 }
         requires small { side ≤ 256 }
@@ -97,8 +98,8 @@ impl Book {
         Some(at)
     }
 
-    /// Adds a live block of a size, without padding, at an address. false, and nothing changed, where 4096 blocks stand or its bytes aren't clear
-    /// of the live blocks.
+    /// Adds a live block of a size at an address, without padding. false, and nothing changed, where 4096 blocks stand or its bytes
+    /// aren't clear of the live blocks.
     pub fn put(&mut self, at: u32, size: u32) -> bool
         requires { is_bare self.old ≡ true }
         ensures answer { result ≡ (nat_lt (length self.old.blocks) most_blocks && is_clear self.old.start self.old.end (live_blocks self.old.blocks) at size) }
@@ -135,7 +136,8 @@ impl Book {
         true
     }
 
-    /// Delays the live block at an address: it is freed, and keeps its place and its extent. false, and nothing changed, where none stands there.
+    /// Delays the live block at an address: it is freed, and keeps its place and its extent. false, and nothing changed, where none
+    /// stands there.
     pub fn delay(&mut self, at: u32) -> bool
         ensures found { result ≡ is_live_at self.old at }
         ensures delayed { MatchBool result (self.new ≡ with_delayed self.old at) (self.new ≡ self.old) }
@@ -178,7 +180,7 @@ impl Book {
         }
     }
 
-    /// Whether so many bytes from an address on are among those that one live block reserves, which has no padding here.
+    /// Whether so many bytes from an address on are among those that one live block reserves, its padding not included.
     pub fn reserves(&self, at: u32, len: u32) -> bool
         requires { 1 ≤ len }
         ensures value { result ≡ is_reserved self.now at len }
@@ -190,12 +192,12 @@ impl Book {
         }
     }
 
-    /// Whether an address is a multiple of 16, and the bytes of a block of a size there lie in the heap and meet those of no live block. A
-    /// block of size 0 has one byte here.
+    /// Whether an address is a multiple of 16, and the bytes of a block of a size there lie in the heap and meet those of no live
+    /// block. A block of size 0 has one byte here.
     pub fn clear_of_live(&self, at: u32, size: u32) -> bool
         ensures { result ≡ is_clear self.now.start self.now.end (live_blocks self.now.blocks) at size }
     {
-        self.spans(at, size) && all_leave(&self.blocks, at, size)
+        self.spans(at, size) && all_clear_of(&self.blocks, at, size)
     }
 
     /// Makes this book what another one of the same heap is.
@@ -292,8 +294,8 @@ impl Book {
 }
 
 // Whether each block is delayed, or shares no byte with a block of a size at an address.
-fn all_leave(blocks: &[Block], at: u32, size: u32) -> bool
+fn all_clear_of(blocks: &[Block], at: u32, size: u32) -> bool
     ensures { result ≡ list_all (λ block. block.delayed || is_apart at (touched size) block.at (block.at + touched block.size)) blocks.now }
 {
-    blocks.iter().all(|block| block.leaves(at, size))
+    blocks.iter().all(|block| block.is_clear_of(at, size))
 }

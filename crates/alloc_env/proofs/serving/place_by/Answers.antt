@@ -1,11 +1,10 @@
-use Rattle.std.proofs.Common.{◌≡◌, true, false, not, sym, ◌∙◌, ap}
+use Rattle.std.proofs.Common.{sym, ◌∙◌, ap}
 use Rattle.std.specs.Option.{option_or}
 use Rattle.std.proofs.lemmas.Bool.{not-true, not-false}
 use Rattle.block_book.specs.Heap.{Heap}
 use Rattle.block_book.specs.Placement.{placement}
 use Rattle.alloc_env.specs.declared.treatment.Treatment.{Treatment}
 use Rattle.alloc_env.specs.Treatment.{treatment_of}
-use Rattle.alloc_env.specs.Serving.{middle}
 use Rattle.alloc_env.proofs.Mallocs.{spot-anywhere, spot-above}
 use Rattle.alloc_env.proofs.serving.place_by.Goals as goal
 
@@ -24,8 +23,8 @@ returns-in-Some-clause-answer c =
     let value = c.treatment-treatment.ensures.value in
     let high = ap (λ (t : Treatment). t.isolates) (sym value) ∙ not-false c.treatment-treatment.result.isolates c.if-not-treatment.false in
     let above = c.in-Some.ensures.answer
-        ∙ ap (λ (t : Treatment). placement heap c.args.size t.side c.middle-from.result) value
-        ∙ ap (placement heap c.args.size (treatment_of c.args.env).side) c.middle-from.ensures in
+    ∙ ap (λ (t : Treatment). placement heap c.args.size t.side c.middle-from.result) value
+    ∙ ap (placement heap c.args.size (treatment_of c.args.env).side) c.middle-from.ensures in
     ap (λ o. option_or o (placement heap c.args.size (treatment_of c.args.env).side 0)) above ∙ sym (spot-above c.args.env heap c.args.size high)
 
 pub returns-in-None-clause-answer : goal.returns-in-None-clause-answer
@@ -34,8 +33,8 @@ returns-in-None-clause-answer c =
     let value = c.treatment-treatment.ensures.value in
     let high = ap (λ (t : Treatment). t.isolates) (sym value) ∙ not-false c.treatment-treatment.result.isolates c.if-not-treatment.false in
     let above = c.in-None.ensures.answer
-        ∙ ap (λ (t : Treatment). placement heap c.args.size t.side c.middle-from.result) value
-        ∙ ap (placement heap c.args.size (treatment_of c.args.env).side) c.middle-from.ensures in
+    ∙ ap (λ (t : Treatment). placement heap c.args.size t.side c.middle-from.result) value
+    ∙ ap (placement heap c.args.size (treatment_of c.args.env).side) c.middle-from.ensures in
     c.place-in-None.ensures.answer
     ∙ ap (λ (h : Heap). placement h c.args.size c.treatment-treatment.result.side 0) c.in-None.ensures.placed
     ∙ ap (λ (t : Treatment). placement heap c.args.size t.side 0) value

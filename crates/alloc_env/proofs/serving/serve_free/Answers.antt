@@ -1,6 +1,6 @@
 use Rattle.std.proofs.Common.{◌≡◌, true, false, sym, ◌∙◌, ap, subst, Some, refl}
 use Rattle.block_book.specs.Heap.{Heap}
-use Rattle.block_book.specs.Answer.{live_blocks, without_live}
+use Rattle.block_book.specs.Answer.{live_blocks}
 use Rattle.alloc_env.specs.declared.treatment.Treatment.{Treatment}
 use Rattle.alloc_env.specs.Treatment.{treatment_of}
 use Rattle.alloc_env.specs.Laws.{Follows}

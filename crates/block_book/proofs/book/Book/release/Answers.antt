@@ -1,6 +1,6 @@
 use Rattle.std.proofs.Common.{◌≡◌, true, Some, sym, ◌∙◌, ap, subst, not, eqb, arith}
 use Rattle.block_book.specs.declared.block.Block.{Block}
-use Rattle.block_book.specs.Heap.{Heap, is_bare, IsHeap, heap_of, without_block}
+use Rattle.block_book.specs.Heap.{is_bare, IsHeap, heap_of, without_block}
 use Rattle.block_book.specs.Search.{FindsLive}
 use Rattle.block_book.proofs.Sound.{sound-filter, removed}
 use Rattle.block_book.proofs.Rooms.{bare-filter}
