@@ -1,3 +1,5 @@
 pub mod Composing
 mod Plans
 mod Places
+mod Tables
+pub mod Journaled

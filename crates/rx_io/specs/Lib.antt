@@ -14,3 +14,7 @@ pub mod Laws
 pub mod Prefix
 pub mod Sends
 pub mod Links
+pub mod ConnectionTables
+pub mod Journals
+pub mod MemoryLinks
+pub mod MemoryLaws

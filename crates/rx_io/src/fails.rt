@@ -45,6 +45,13 @@ impl Fails {
         fails
     }
 
+    /// How many calls were made.
+    pub fn calls(&self) -> u64
+        ensures { result ≡ self.now.calls }
+    {
+        self.calls
+    }
+
     /// Counts a fault that isn't one of the list.
     pub fn fault(&mut self)
         ensures { self.new ≡ after_fault self.old }

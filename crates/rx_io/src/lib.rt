@@ -4,6 +4,7 @@
 
 mod attempts;
 mod bytes;
+mod connection_table;
 mod fails;
 mod fault;
 mod files;
@@ -13,6 +14,7 @@ mod link;
 mod listener;
 mod listener_calls;
 mod memory_files;
+mod memory_link;
 mod memory_sink;
 mod memory_source;
 mod shelf;
@@ -28,6 +30,7 @@ mod tame_sink;
 mod tame_source;
 
 pub use bytes::{Bytes, Item};
+pub use connection_table::{CONNECTIONS, ConnectionTable};
 pub use fault::{IoFault, LoadFault};
 pub use files::Files;
 pub use journal::{Entry, Given, LinkEvent, LinkFault};
@@ -35,6 +38,7 @@ pub use link::Link;
 pub use listener::Listener;
 pub use listener_calls::{ListenCall, ListenEntry};
 pub use memory_files::MemoryFiles;
+pub use memory_link::MemoryLink;
 pub use memory_sink::MemorySink;
 pub use memory_source::MemorySource;
 pub use sink::Sink;
