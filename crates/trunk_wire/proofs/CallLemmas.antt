@@ -1,0 +1,106 @@
+-- Bytes that are taken and written in parts.
+use Rattle.std.proofs.Common.{◌≡◌, ℕ, ◌+◌, ◌<◌, ◌≤◌, Result, Ok, Err, inl, inr, subst, List, [], ◌∷◌, ◌++◌, length, take, drop, Option, None, Some, sym, ◌∙◌, ap, append_assoc, append-nil, length-append, refl, arith}
+use Rattle.std.proofs.lemmas.List.{take-append-le, length-take-le, take-append-drop}
+use Rattle.std.proofs.Math.Seq.{take-append-add}
+use borrow.Rule.Slice.PartMut.{put_mid, post_of}
+use Rattle.rx_io.proofs.Composing.{took_nothing, took_more, took_same, gave_nothing, gave_more, gave_same}
+use Rattle.rx_io.specs.Outside.{Stream, Took}
+use Rattle.rx_io.specs.Prefix.{Prefix}
+use Rattle.rx_io.specs.Links.{Phases}
+use Rattle.rx_io.specs.declared.fault.IoFault.{IoFault}
+use Rattle.rx_io.specs.declared.fault.IoFault.TheVariants as io
+use Rattle.rx_io.specs.declared.journal.LinkEvent.{LinkEvent}
+use Rattle.rx_io.specs.declared.journal.LinkEvent.TheVariants as event
+use Rattle.rx_io.specs.declared.journal.LinkFault.{LinkFault}
+use Rattle.rx_io.specs.declared.journal.LinkFault.TheVariants.{Refused, ReadFault, WriteFault, Memory}
+use Rattle.trunk_wire.specs.Calls.{Reads, Writes, count_after, Brings, IsRefused, TakesBy, Behind, read_fault}
+use Rattle.trunk_wire.specs.Frames.{header_bytes, IsFrameOf}
+use Rattle.trunk_wire.specs.Grammar.{Part, front, header_refusal, event_of}
+use Rattle.trunk_wire.specs.declared.header.Header.{Header}
+use Rattle.trunk_wire.proofs.GrammarLemmas.{front-refused, front-cut, frame-passes, passes_all}
+
+-- what stands in a buffer once its part from a on was filled up to n
+pub take-put_mid_front : (a k n : ℕ) (xs ys : List ℕ) → a ≤ length xs → n ≤ length ys → take (a + n) (put_mid a k xs ys) ≡ take a xs ++ take n ys
+take-put_mid_front a k n xs ys within short =
+    ap (λ m. take (m + n) (put_mid a k xs ys)) (sym (length-take-le a xs within))
+    ∙ take-append-add (take a xs) (ys ++ post_of a k xs) n
+    ∙ ap (λ bytes. take a xs ++ bytes) (take-append-le n ys (post_of a k xs) short)
+
+-- a buffer has room for what was put into it
+pub put_mid_room : (a k n : ℕ) (xs ys : List ℕ) → a ≤ length xs → n ≤ length ys → a + n ≤ length (put_mid a k xs ys)
+put_mid_room a k n xs ys within short =
+    omega (arith, length-append (take a xs) (ys ++ post_of a k xs), length-append ys (post_of a k xs), length-take-le a xs within)
+
+pub split_whole : (n : ℕ) (front rest whole : List ℕ) → front ++ rest ≡ whole → (front ++ take n rest) ++ drop n rest ≡ whole
+split_whole n front rest whole e = append_assoc front (take n rest) (drop n rest) ∙ ap (λ l. front ++ l) (take-append-drop n rest) ∙ e
+
+count_nothing : (count : ℕ) → count ≡ count_after count 0
+count_nothing count = omega arith
+
+count_more : (before mid now m n : ℕ) → mid ≡ count_after before m → now ≡ count_after mid n → now ≡ count_after before (m + n)
+count_more before mid now m n first second = omega arith
+
+pub reads_nothing : (source : Option Stream) (count : ℕ) → Reads source source count count []
+reads_nothing source count = record { took = took_nothing source; count = count_nothing count }
+
+pub reads_more : (old mid new : Option Stream) (before between now : ℕ) (bytes more : List ℕ) → Reads old mid before between bytes → Reads mid new between now more → Reads old new before now (bytes ++ more)
+reads_more old mid new before between now bytes more first second = record {
+  took = took_more old mid new bytes more first.took second.took;
+  count = count_more before between now (length bytes) (length more) first.count second.count ∙ ap (count_after before) (sym (length-append bytes more));
+}
+
+-- a call took none
+pub reads_same : (old mid new : Option Stream) (before now : ℕ) (bytes : List ℕ) → Reads old mid before now bytes → Took mid new [] → Reads old new before now bytes
+reads_same old mid new before now bytes first second = record { took = took_same old mid new bytes first.took second; count = first.count }
+
+-- the last byte of those that fill a part was taken and counted
+pub reads_counted : (old new : Option Stream) (before now : ℕ) (bytes : List ℕ) (n : ℕ) → Took old new bytes → length bytes ≡ n → now ≡ count_after before n → Reads old new before now bytes
+reads_counted old new before now bytes n took counted count = record { took = took; count = count ∙ ap (count_after before) (sym counted) }
+
+-- what was taken behind a header, by what it is with the header before it
+brings_frame : (drained : Type 0) (event : LinkEvent) (bytes : List ℕ) → IsFrameOf event bytes → Brings drained event bytes
+brings_frame drained (event.Opens conn) bytes is = is
+brings_frame drained (event.Piece conn payload) bytes is = is
+brings_frame drained (event.Closes conn) bytes is = is
+brings_frame drained event.Settles bytes is = is
+brings_frame drained event.Ends bytes is = absurd is
+
+pub rest_refused : (phases : Phases) (header : Header) (Taken : List ℕ → Type 0) (drained : Type 0) (kind : ℕ) → header.conn < 65536 → header.length < 65536 → header_refusal phases header ≡ Some kind
+    → Taken [] → (bytes : List ℕ) × Behind (header_bytes header) Taken bytes × IsRefused phases drained kind bytes
+rest_refused phases header Taken drained kind conn_few few refused taken =
+    (header_bytes header ++ [], ([], refl, taken), inl (front-refused phases header kind conn_few few refused, refl))
+
+pub rest_cut : (phases : Phases) (header : Header) (Taken : List ℕ → Type 0) (payload : List ℕ) → header.conn < 65536 → header.length < 65536 → header_refusal phases header ≡ None
+    → Taken payload → length payload < header.length → (bytes : List ℕ) × Behind (header_bytes header) Taken bytes × (front phases bytes ≡ Part)
+rest_cut phases header Taken payload conn_few few passes taken short =
+    (header_bytes header ++ payload, (payload, refl, taken), front-cut phases header payload conn_few few passes short)
+
+pub rest_truncated : (phases : Phases) (header : Header) (Taken : List ℕ → Type 0) (drained : Type 0) (payload : List ℕ) → header.conn < 65536 → header.length < 65536 → header_refusal phases header ≡ None
+    → Taken payload → length payload < header.length → drained → (bytes : List ℕ) × Behind (header_bytes header) Taken bytes × IsRefused phases drained 5 bytes
+rest_truncated phases header Taken drained payload conn_few few passes taken short end =
+    (header_bytes header ++ payload, (payload, refl, taken), inr (refl, front-cut phases header payload conn_few few passes short, omega arith, end))
+
+pub rest_whole : (phases : Phases) (header : Header) (Taken : List ℕ → Type 0) (drained : Type 0) (payload : List ℕ) → header.length < 65536 → header_refusal phases header ≡ None
+    → Taken payload → length payload ≡ header.length → (bytes : List ℕ) × Behind (header_bytes header) Taken bytes × Brings drained (event_of header payload) bytes
+rest_whole phases header Taken drained payload few passes taken counted =
+    (header_bytes header ++ payload, (payload, refl, taken),
+      brings_frame drained (event_of header payload) (header_bytes header ++ payload) (frame-passes phases header payload (passes_all phases header passes) few counted))
+
+-- after a fault of the source a part was taken
+pub takes_fault : (phases : Phases) (Taken : List ℕ → Type 0) (drained : Type 0) (fault : IoFault) → (bytes : List ℕ) × Taken bytes × (front phases bytes ≡ Part) → TakesBy phases Taken drained (Err (read_fault fault))
+takes_fault phases Taken drained io.Failed part = part
+takes_fault phases Taken drained io.Memory part = part
+
+-- what was taken is told in another way
+pub takes_as : (phases : Phases) (Taken Other : List ℕ → Type 0) (drained : Type 0) (result : Result LinkEvent LinkFault) → ((bytes : List ℕ) → Taken bytes → Other bytes)
+    → TakesBy phases Taken drained result → TakesBy phases Other drained result
+takes_as phases Taken Other drained (Ok event) as_other taken = (taken.0, as_other taken.0 taken.1, taken.2)
+takes_as phases Taken Other drained (Err (Refused kind offset)) as_other taken = (taken.0, as_other taken.0 taken.1, taken.2)
+takes_as phases Taken Other drained (Err ReadFault) as_other taken = (taken.0, as_other taken.0 taken.1, taken.2)
+takes_as phases Taken Other drained (Err Memory) as_other taken = (taken.0, as_other taken.0 taken.1, taken.2)
+takes_as phases Taken Other drained (Err WriteFault) as_other taken = absurd taken
+
+-- a header was read, and then what is behind it
+pub reads_behind : (old mid new : Option Stream) (before between now : ℕ) (first bytes : List ℕ) → Reads old mid before between first → Behind first (Reads mid new between now) bytes → Reads old new before now bytes
+reads_behind old mid new before between now first bytes read (rest, is, taken) =
+    subst (Reads old new before now) (sym is) (reads_more old mid new before between now first rest read taken)

@@ -1,0 +1,3 @@
+pub mod ProgressLemmas
+pub mod GrammarLemmas
+pub mod CallLemmas

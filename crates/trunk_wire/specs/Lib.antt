@@ -1,0 +1,5 @@
+pub mod Frames
+pub mod Grammar
+pub mod Parts
+pub mod Pieces
+pub mod Calls
