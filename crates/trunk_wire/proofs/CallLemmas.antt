@@ -1,10 +1,11 @@
 -- Bytes that are taken and written in parts.
-use Rattle.std.proofs.Common.{◌≡◌, ℕ, ◌+◌, ◌<◌, ◌≤◌, Result, Ok, Err, inl, inr, subst, List, [], ◌∷◌, ◌++◌, length, take, drop, Option, None, Some, sym, ◌∙◌, ap, append_assoc, append-nil, length-append, refl, arith}
+use Rattle.std.proofs.Common.{◌≡◌, ℕ, ◌+◌, ◌<◌, ◌≤◌, Result, Ok, Err, inl, inr, subst, List, [], ◌++◌, length, take, drop, Option, None, Some, sym, ◌∙◌, ap, append_assoc, length-append, refl, arith}
 use Rattle.std.proofs.lemmas.List.{take-append-le, length-take-le, take-append-drop}
 use Rattle.std.proofs.Math.Seq.{take-append-add}
 use borrow.Rule.Slice.PartMut.{put_mid, post_of}
 use Rattle.rx_io.proofs.Composing.{took_nothing, took_more, took_same, gave_nothing, gave_more, gave_same}
 use Rattle.rx_io.specs.Outside.{Stream, Took}
+use Rattle.std.specs.Io.KnownBytes.{Appends, Keeps}
 use Rattle.rx_io.specs.Prefix.{Prefix}
 use Rattle.rx_io.specs.Links.{Phases}
 use Rattle.rx_io.specs.declared.fault.IoFault.{IoFault}
@@ -13,8 +14,8 @@ use Rattle.rx_io.specs.declared.journal.LinkEvent.{LinkEvent}
 use Rattle.rx_io.specs.declared.journal.LinkEvent.TheVariants as event
 use Rattle.rx_io.specs.declared.journal.LinkFault.{LinkFault}
 use Rattle.rx_io.specs.declared.journal.LinkFault.TheVariants.{Refused, ReadFault, WriteFault, Memory}
-use Rattle.trunk_wire.specs.Calls.{Reads, Writes, count_after, Brings, IsRefused, TakesBy, Behind, read_fault}
-use Rattle.trunk_wire.specs.Frames.{header_bytes, IsFrameOf}
+use Rattle.trunk_wire.specs.Calls.{Reads, Writes, count_after, Brings, IsRefused, TakesBy, WritesBy, Behind, read_fault, write_fault}
+use Rattle.trunk_wire.specs.Frames.{header_bytes, IsFrameOf, piece_frame}
 use Rattle.trunk_wire.specs.Grammar.{Part, front, header_refusal, event_of}
 use Rattle.trunk_wire.specs.declared.header.Header.{Header}
 use Rattle.trunk_wire.proofs.GrammarLemmas.{front-refused, front-cut, frame-passes, passes_all}
@@ -82,9 +83,11 @@ rest_truncated phases header Taken drained payload conn_few few passes taken sho
 
 pub rest_whole : (phases : Phases) (header : Header) (Taken : List ℕ → Type 0) (drained : Type 0) (payload : List ℕ) → header.length < 65536 → header_refusal phases header ≡ None
     → Taken payload → length payload ≡ header.length → (bytes : List ℕ) × Behind (header_bytes header) Taken bytes × Brings drained (event_of header payload) bytes
-rest_whole phases header Taken drained payload few passes taken counted =
-    (header_bytes header ++ payload, (payload, refl, taken),
-      brings_frame drained (event_of header payload) (header_bytes header ++ payload) (frame-passes phases header payload (passes_all phases header passes) few counted))
+rest_whole phases header Taken drained payload few passes taken counted = (
+  header_bytes header ++ payload,
+  (payload, refl, taken),
+  brings_frame drained (event_of header payload) (header_bytes header ++ payload) (frame-passes phases header payload (passes_all phases header passes) few counted),
+)
 
 -- after a fault of the source a part was taken
 pub takes_fault : (phases : Phases) (Taken : List ℕ → Type 0) (drained : Type 0) (fault : IoFault) → (bytes : List ℕ) × Taken bytes × (front phases bytes ≡ Part) → TakesBy phases Taken drained (Err (read_fault fault))
@@ -104,3 +107,31 @@ takes_as phases Taken Other drained (Err WriteFault) as_other taken = absurd tak
 pub reads_behind : (old mid new : Option Stream) (before between now : ℕ) (first bytes : List ℕ) → Reads old mid before between first → Behind first (Reads mid new between now) bytes → Reads old new before now bytes
 reads_behind old mid new before between now first bytes read (rest, is, taken) =
     subst (Reads old new before now) (sym is) (reads_more old mid new before between now first rest read taken)
+
+pub writes_nothing : (sink : Option (List ℕ)) (count : ℕ) → Writes sink sink count count []
+writes_nothing sink count = record { wrote = gave_nothing sink; count = count_nothing count }
+
+pub writes_more : (old mid new : Option (List ℕ)) (before between now : ℕ) (bytes more : List ℕ) → Writes old mid before between bytes → Writes mid new between now more → Writes old new before now (bytes ++ more)
+writes_more old mid new before between now bytes more first second = record {
+  wrote = gave_more old mid new bytes more first.wrote second.wrote;
+  count = count_more before between now (length bytes) (length more) first.count second.count ∙ ap (count_after before) (sym (length-append bytes more));
+}
+
+-- a call gave none
+pub writes_same : (old mid new : Option (List ℕ)) (before now : ℕ) (bytes : List ℕ) → Writes old mid before now bytes → Keeps mid new → Writes old new before now bytes
+writes_same old mid new before now bytes first second = record { wrote = gave_same old mid new bytes first.wrote second; count = first.count }
+
+pub writes_counted : (old new : Option (List ℕ)) (before now : ℕ) (bytes : List ℕ) (n : ℕ) → Appends old new bytes → length bytes ≡ n → now ≡ count_after before n → Writes old new before now bytes
+writes_counted old new before now bytes n wrote counted count = record { wrote = wrote; count = count ∙ ap (count_after before) (sym counted) }
+
+-- a front of a front is a front, and one that goes on behind it is one too
+pub Prefix-append : (front first second : List ℕ) → Prefix front first → Prefix front (first ++ second)
+Prefix-append front first second (rest, e) = (rest ++ second, sym (append_assoc front rest second) ∙ ap (λ l. l ++ second) e)
+
+pub Prefix-behind : (first front second : List ℕ) → Prefix front second → Prefix (first ++ front) (first ++ second)
+Prefix-behind first front second (rest, e) = (rest, append_assoc first front rest ∙ ap (λ l. first ++ l) e)
+
+-- after a fault of the sink a front of the frame was written
+pub writes_fault : (Written : List ℕ → Type 0) (conn : ℕ) (bytes : List ℕ) (fault : IoFault) → (front : List ℕ) × Prefix front (piece_frame conn bytes) × Written front → WritesBy Written conn bytes (Err (write_fault fault))
+writes_fault Written conn bytes io.Failed front = front
+writes_fault Written conn bytes io.Memory front = front

@@ -1,16 +1,16 @@
 -- The grammar of the trunk: whole frames, cut ones and refused ones.
-use Rattle.std.proofs.Common.{◌≡◌, ◌≢◌, ℕ, ◌+◌, ◌*◌, ◌/◌, ◌%◌, ◌^◌, ◌<◌, ◌≤◌, nat_lt, ◌==◌, not, ◌&&◌, ◌||◌, Bool, true, false, List, [], ◌∷◌, ◌++◌, length, take, Option, None, Some, if◌then◌else◌, arith, append_assoc, append-nil, length-append, refl, sym, ap, ◌∙◌, subst}
+use Rattle.std.proofs.Common.{◌≡◌, ℕ, ◌+◌, ◌*◌, ◌/◌, ◌%◌, ◌<◌, nat_lt, ◌==◌, not, ◌&&◌, ◌||◌, Bool, true, false, List, [], ◌∷◌, ◌++◌, length, take, Option, None, Some, if◌then◌else◌, arith, append-nil, length-append, refl, sym, ap, ◌∙◌, subst}
 use Rattle.std.proofs.lemmas.Bool.{ltb-true, lt-ltb, eqb-true}
 use Rattle.std.proofs.lemmas.Bool.Decides.{nat_tests}
 use Rattle.std.proofs.lemmas.List.{nil_from_length}
 use Rattle.std.proofs.Math.Seq.{take-append_seam}
 use Rattle.rx_io.specs.ConnectionTables.{is_unopened, is_open, is_in_order}
-use Rattle.rx_io.specs.Links.{Phases, Phase, Unopened, Open, Closed, IsInOrder, phases_after, Coming, Comes, Refuses}
+use Rattle.rx_io.specs.Links.{Phases, Unopened, Open, IsInOrder, phases_after}
 use Rattle.rx_io.specs.declared.journal.LinkEvent.{LinkEvent}
 use Rattle.rx_io.specs.declared.journal.LinkEvent.TheVariants as event
-use Rattle.trunk_wire.specs.Frames.{header_of, header_bytes, from_two_bytes, frame, IsFrame, IsFrameOf}
-use Rattle.trunk_wire.specs.Grammar.{Front, Whole, Part, Bad, front, front_by, front_accepted, front_behind, header_refusal, event_of, is_known, is_extra, is_reopened, is_not_open}
-use Rattle.trunk_wire.specs.Parts.{Progress, put_bytes}
+use Rattle.trunk_wire.specs.Frames.{header_of, header_bytes, frame, IsFrame, IsFrameOf}
+use Rattle.trunk_wire.specs.Grammar.{Whole, Part, Bad, front, front_by, front_accepted, front_behind, header_refusal, event_of, is_known, is_extra, is_reopened, is_not_open}
+use Rattle.trunk_wire.specs.Parts.{put_bytes}
 use Rattle.trunk_wire.specs.Pieces.{whole_event, event_reader}
 use Rattle.trunk_wire.specs.declared.header.Header.{Header}
 use Rattle.trunk_wire.specs.declared.header.TheConstants.{OPEN, BYTES, CLOSE, SETTLE}
@@ -229,6 +229,7 @@ whole_behind phases header payload more passes counted =
   where
     taken : take header.length (payload ++ more) ≡ payload
     taken = ap (λ n. take n (payload ++ more)) (sym counted) ∙ take-append_seam payload more
+
     long_enough : (short : Bool) → nat_lt (length (payload ++ more)) header.length ≡ short
         → (if short then Part else Whole (event_of header (take header.length (payload ++ more)))) ≡ Whole (event_of header payload)
     long_enough true is =
@@ -280,12 +281,12 @@ read_accepted phases header (byte ∷ bytes) before conn_few few passes counted 
     let end = ended byte bytes in
     let all : length end.first < header.length = omega (arith, ap length end.is, length-append end.first (end.last ∷ []), counted) in
     let whole_end : front phases ((header_bytes header ++ end.first) ++ end.last ∷ []) ≡ Whole (event_of header (byte ∷ bytes)) =
-      ap (λ l. front phases (header_bytes header ++ l)) (sym end.is)
-      ∙ ap (λ l. front phases (header_bytes header ++ l)) (sym (append-nil (byte ∷ bytes)))
-      ∙ front-header phases header ((byte ∷ bytes) ++ []) conn_few few ∙ whole_behind phases header (byte ∷ bytes) [] passes counted in
+    ap (λ l. front phases (header_bytes header ++ l)) (sym end.is)
+    ∙ ap (λ l. front phases (header_bytes header ++ l)) (sym (append-nil (byte ∷ bytes)))
+    ∙ front-header phases header ((byte ∷ bytes) ++ []) conn_few few ∙ whole_behind phases header (byte ∷ bytes) [] passes counted in
     ap (λ l. put_bytes event_reader (record { whole = before; state = phases; part = [] }) (header_bytes header ++ l)) end.is
     ∙ put_bytes-whole event_reader events_steady before phases (header_bytes header ++ end.first) end.last (event_of header (byte ∷ bytes))
-      (ap whole_event (front-cut phases header end.first conn_few few passes all)) (ap whole_event whole_end)
+    (ap whole_event (front-cut phases header end.first conn_few few passes all)) (ap whole_event whole_end)
 
 pub put_bytes-frame : (phases : Phases) (event : LinkEvent) (bytes : List ℕ) (before : List LinkEvent) → IsAccepted phases event bytes
     → put_bytes event_reader (record { whole = before; state = phases; part = [] }) bytes ≡ record { whole = before ++ event ∷ []; state = phases_after event phases; part = [] }

@@ -1,5 +1,5 @@
 -- Bytes that are read one after another.
-use Rattle.std.proofs.Common.{◌≡◌, ℕ, List, [], ◌∷◌, ◌++◌, Option, None, Some, append_assoc, append-nil, refl, sym, ap, ◌∙◌, subst}
+use Rattle.std.proofs.Common.{◌≡◌, ℕ, List, [], ◌∷◌, ◌++◌, None, Some, append_assoc, append-nil, refl, sym, ap, ◌∙◌}
 use Rattle.trunk_wire.specs.Parts.{Progress, Reader, put_part, put_byte, put_bytes}
 
 -- what isn't whole with more bytes behind it isn't whole without them

@@ -1,5 +1,5 @@
 -- What a call on the trunk takes from its source and writes to its sink.
-use Rattle.std.specs.Prelude.{◌≡◌, ◌⊎◌, ℕ, ◌+◌, ◌-◌, ◌^◌, ◌<◌, min, max, List, [], ◌∷◌, ◌++◌, length, take, Option, None, Some, Result, Ok, Err, Vec}
+use Rattle.std.specs.Prelude.{◌≡◌, ◌⊎◌, ℕ, ◌+◌, ◌-◌, ◌^◌, ◌<◌, min, max, List, [], ◌++◌, length, take, Option, None, Some, Result, Ok, Err, Vec}
 use Rattle.std.specs.declared.alloc.Global.{Global}
 use Rattle.std.specs.Io.KnownBytes.{Appends}
 use Rattle.rx_io.specs.Links.{Phases}
@@ -48,19 +48,23 @@ TakesBy phases Taken drained (Err ReadFault) = (bytes : List ℕ) × Taken bytes
 TakesBy phases Taken drained (Err Memory) = (bytes : List ℕ) × Taken bytes × (front phases bytes ≡ Part)
 TakesBy phases Taken drained (Err WriteFault) = ⊥
 
--- the same of a source, by what it tells
-abbrev pub TakesFrame : Phases → Option Stream → Option Stream → Result LinkEvent LinkFault → Type 0
-TakesFrame phases old new result = TakesBy phases (Took old new) (IsDrained new) result
+-- the same of a source, by what it tells, and of the count of bytes taken
+abbrev pub TakesFrame : Phases → Option Stream → Option Stream → ℕ → ℕ → Result LinkEvent LinkFault → Type 0
+TakesFrame phases old new before now result = TakesBy phases (Reads old new before now) (IsDrained new) result
 
 -- What `give` wrote, by its answer: the piece's frame, or after a fault a first part of it, perhaps none or all. No connection
 -- is ever gone.
 abbrev pub WritesBy : (List ℕ → Type 0) → ℕ → List ℕ → Result Given LinkFault → Type 0
 WritesBy Written conn bytes (Ok All) = Written (piece_frame conn bytes)
 WritesBy Written conn bytes (Ok (Gone count)) = ⊥
-WritesBy Written conn bytes (Err fault) = (front : List ℕ) × Prefix front (piece_frame conn bytes) × Written front
+WritesBy Written conn bytes (Err WriteFault) = (front : List ℕ) × Prefix front (piece_frame conn bytes) × Written front
+WritesBy Written conn bytes (Err Memory) = (front : List ℕ) × Prefix front (piece_frame conn bytes) × Written front
+WritesBy Written conn bytes (Err ReadFault) = ⊥
+WritesBy Written conn bytes (Err (Refused kind offset)) = ⊥
 
-abbrev pub WritesFrame : Option (List ℕ) → Option (List ℕ) → ℕ → List ℕ → Result Given LinkFault → Type 0
-WritesFrame old new conn bytes result = WritesBy (Appends old new) conn bytes result
+-- the same of a sink, by what it tells, and of the count of bytes written
+abbrev pub WritesFrame : Option (List ℕ) → Option (List ℕ) → ℕ → ℕ → ℕ → List ℕ → Result Given LinkFault → Type 0
+WritesFrame old new before now conn bytes result = WritesBy (Writes old new before now) conn bytes result
 
 -- a refusal stands at the first byte of its frame, by the count of bytes before it
 abbrev pub HasOffset : ℕ → Result LinkEvent LinkFault → Type 0

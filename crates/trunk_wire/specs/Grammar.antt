@@ -1,5 +1,5 @@
 -- The grammar of the trunk: what comes at the first byte of a frame.
-use Rattle.std.specs.Prelude.{ℕ, nat_lt, ◌==◌, Bool, true, false, not, ◌&&◌, ◌||◌, List, [], ◌∷◌, length, take, Option, None, Some, if◌then◌else◌}
+use Rattle.std.specs.Prelude.{ℕ, nat_lt, ◌==◌, Bool, not, ◌&&◌, ◌||◌, List, [], ◌∷◌, length, take, Option, None, Some, if◌then◌else◌}
 use Rattle.rx_io.specs.ConnectionTables.{is_unopened, is_open}
 use Rattle.rx_io.specs.Links.{Phases, Coming, Comes, Refuses}
 use Rattle.rx_io.specs.declared.journal.LinkEvent.{LinkEvent}

@@ -3,3 +3,6 @@ pub mod Grammar
 pub mod Parts
 pub mod Pieces
 pub mod Calls
+pub mod Tellings
+pub mod TrunkLinks
+pub mod TrunkLaws

@@ -3,3 +3,7 @@
 
 mod header;
 mod reading;
+mod trunk_link;
+mod writing;
+
+pub use trunk_link::TrunkLink;

@@ -1,4 +1,4 @@
-use Rattle.std.proofs.Common.{◌-◌, ◌≡◌, ◌≤◌, length, take, arith, subst, sym}
+use Rattle.std.proofs.Common.{◌-◌, ◌≡◌, ◌≤◌, length, arith, subst, sym}
 use Rattle.std.proofs.lemmas.List.{length-take-le}
 use Rattle.trunk_wire.specs.Calls.{Reads, count_after}
 use Rattle.trunk_wire.proofs.CallLemmas.{take-put_mid_front, put_mid_room, reads_more, reads_counted}

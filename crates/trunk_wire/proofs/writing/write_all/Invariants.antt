@@ -1,0 +1,14 @@
+use Rattle.std.proofs.Common.{◌≡◌, ◌≤◌, ◌++◌, List, ℕ, length}
+use Rattle.trunk_wire.specs.Calls.{Writes}
+use Rattle.trunk_wire.proofs.writing.write_all.Given as goal
+
+abbrev pub invariant-give : goal.invariant-give
+invariant-give g l = record {
+  front : List ℕ;
+  whole : front ++ l.rest ≡ l.bytes;
+  written : Writes (g.K.Sink.told l.fn.sink) (g.K.Sink.told l.sink) l.fn.wrote l.wrote front;
+  later : g.K.Sink.faults l.fn.sink ≤ g.K.Sink.faults l.sink;
+}
+
+abbrev pub decreases-give : goal.decreases-give
+decreases-give g l = length l.rest
