@@ -1,6 +1,6 @@
 -- Entries at the end of a journal, as what a link tells.
 use Rattle.std.proofs.Common.{◌≡◌, ℕ, ◌≤◌, min, Bool, true, false, List, [], ◌∷◌, ◌++◌, length, Option, None, Some, Result, Ok, Err, if◌then◌else◌, arith, append-nil, ap, sym, ◌∙◌, refl}
-use Rattle.rx_io.specs.Journals.{told_by}
+use Rattle.rx_io.specs.LinkForms.{told_by}
 use Rattle.rx_io.specs.Links.{Tells, Nexts, Gives, events_in, pieces_in}
 use Rattle.rx_io.specs.MemoryLinks.{AnswersAs, after_taking, after_giving, given_of, planned_give, Script}
 use Rattle.rx_io.specs.Planned.{fails_next}

@@ -15,6 +15,6 @@ pub mod Prefix
 pub mod Sends
 pub mod Links
 pub mod ConnectionTables
-pub mod Journals
+pub mod LinkForms
+pub mod TableLaws
 pub mod MemoryLinks
-pub mod MemoryLaws

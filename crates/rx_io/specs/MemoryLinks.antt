@@ -2,6 +2,7 @@
 -- connection gone.
 use Rattle.std.specs.Prelude.{ℕ, ◌+◌, ◌≤◌, min, nat_lt, ◌==◌, Bool, true, false, List, [], ◌∷◌, ◌++◌, length, take, drop, Option, None, Some, Result, Ok, Err, IsOk, if◌then◌else◌, ◌≡◌}
 use Rattle.rx_io.specs.ConnectionTables.{phases_in, is_in_order}
+use Rattle.rx_io.specs.LinkForms.{handed_by}
 use Rattle.rx_io.specs.Links.{Phases, Coming, Comes, Refuses, Counts, Handed}
 use Rattle.rx_io.specs.Planned.{Plan, first_plan, fails_next, after_call, one_more}
 use Rattle.rx_io.specs.declared.journal.Entry.{Entry}
@@ -133,11 +134,6 @@ counts_in counts = record { takes = counts.takes; gives = counts.gives; gones = 
 abbrev pub link_counts : MemoryLink → Counts
 link_counts link = counts_in link.counts
 
--- the piece that was handed last, by its connection and its length
-abbrev pub handed_by : Option (ℕ × ℕ) → Option Handed
-handed_by None = None
-handed_by (Some piece) = Some (record { conn = piece.0; length = piece.1 })
-
 abbrev pub link_handed : MemoryLink → Option Handed
 link_handed link = handed_by link.handed
 
@@ -146,7 +142,3 @@ link_takes link = link.takes
 
 abbrev pub link_gives : MemoryLink → Bool
 link_gives link = link.gives
-
--- it gives to each connection below 4096 at all times
-abbrev pub gives_below_4096 : ℕ → Bool
-gives_below_4096 conn = nat_lt conn 4096

@@ -255,10 +255,10 @@ impl MemoryLink {
 
 impl Link for MemoryLink {
     ghost use Rattle.std.specs.Prelude.{◌≡◌, ◌<◌, ◌^◌, ℕ, Some, true, length, is_ok};
-    ghost use Rattle.rx_io.specs.Journals.{told_by};
+    ghost use Rattle.rx_io.specs.LinkForms.{told_by, gives_below_4096};
     ghost use Rattle.rx_io.specs.Links.{Nexts, Enters, GoesBy, HasTakeCause, GivesAtClose, Gives, TellsHanded, HasGiveCause};
-    ghost use Rattle.rx_io.specs.MemoryLinks.{link_script, link_journal, link_phases, link_coming, link_counts, link_handed, link_takes, link_gives, gives_below_4096, planned_next, planned_give, AnswersAs, after_next, after_script_call, after_taking, after_giving, counts_after_next, counts_after_give};
-    ghost use Rattle.rx_io.specs.MemoryLaws.{link_gives_open, link_below};
+    ghost use Rattle.rx_io.specs.MemoryLinks.{link_script, link_journal, link_phases, link_coming, link_counts, link_handed, link_takes, link_gives, planned_next, planned_give, AnswersAs, after_next, after_script_call, after_taking, after_giving, counts_after_next, counts_after_give};
+    ghost use Rattle.rx_io.specs.TableLaws.{open_gives, open_below};
 
     ghost told = { λ link. told_by (link_journal link) };
 
@@ -276,9 +276,9 @@ impl Link for MemoryLink {
 
     ghost counts = { link_counts };
 
-    ghost gives_open = { link_gives_open };
+    ghost gives_open = { λ link. open_gives link.table };
 
-    ghost below = { link_below };
+    ghost below = { λ link. open_below link.table };
 
     /// Takes the next event of the list, or `Ends` behind its last. An event that isn't in order for its connection, or whose
     /// connection is 4096 or above, is refused by kind 4 with its place in the list, counted from 0.

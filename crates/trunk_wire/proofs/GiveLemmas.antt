@@ -1,6 +1,8 @@
 -- What a trunk tells after a piece was given.
-use Rattle.std.proofs.Common.{◌≡◌, ℕ, ◌+◌, ◌-◌, ◌^◌, ◌<◌, ◌≤◌, nat_le, Bool, true, false, List, [], ◌∷◌, ◌++◌, length, drop, Option, None, Some, IfSome, Result, Ok, Err, is_ok, if◌then◌else◌, arith, append-nil, length-append, refl, sym, ap, ◌∙◌, subst}
-use Rattle.rx_io.specs.Links.{Grew, Tells, Gives, Cuts, events_in, pieces_in, cut_entries, Piece}
+use Rattle.std.proofs.Common.{◌≡◌, ℕ, ◌+◌, ◌-◌, ◌^◌, ◌<◌, ◌≤◌, nat_le, Bool, true, false, List, [], ◌∷◌, ◌++◌, length, drop, Option, None, Some, option_map, IfSome, Result, Ok, Err, is_ok, if◌then◌else◌, arith, append-nil, length-append, refl, sym, ap, ◌∙◌, subst}
+use Rattle.std.proofs.Math.Seq.{drop-length}
+use Rattle.rx_io.specs.Links.{Phases, IsFresh, Grew, Tells, Gives, Cuts, events_in, pieces_in, cut_entries, Piece}
+use Rattle.rx_io.specs.Outside.{Stream}
 use Rattle.rx_io.specs.Prefix.{Prefix}
 use Rattle.rx_io.specs.declared.journal.Entry.{Entry}
 use Rattle.rx_io.specs.declared.journal.Entry.TheVariants as entry
@@ -12,12 +14,12 @@ use Rattle.rx_io.specs.declared.journal.LinkFault.TheVariants.{Refused, ReadFaul
 use Rattle.trunk_wire.specs.Calls.{Writes, WritesBy, count_after}
 use Rattle.trunk_wire.specs.Frames.{piece_frame}
 use Rattle.trunk_wire.specs.Parts.{put_bytes, last_bytes}
-use Rattle.trunk_wire.specs.Pieces.{cut_piece, piece_reader, written, pieces}
-use Rattle.trunk_wire.specs.Tellings.{is_empty, is_whole, told_pieces, trunk_told}
+use Rattle.trunk_wire.specs.Pieces.{read_from, events, fresh, cut_piece, piece_reader, written, pieces}
+use Rattle.trunk_wire.specs.Tellings.{is_empty, is_whole, told_events, told_pieces, trunk_told, told_nothing}
 use Rattle.trunk_wire.proofs.LinkLemmas.{grew_nothing}
 use Rattle.trunk_wire.proofs.PieceLemmas.{WritesCut, put_bytes-piece, put_bytes-cut}
 use Rattle.trunk_wire.proofs.ProgressLemmas.{put_bytes-append}
-use Rattle.trunk_wire.proofs.TellingLemmas.{last_bytes-append, empty_list, le_from, le_to, both_true}
+use Rattle.trunk_wire.proofs.TellingLemmas.{InStep, in_step_to, last_bytes-append, empty_list, le_from, le_to, both_true}
 
 -- a link is in step with its sink
 pub record IsWhole (wrote : ℕ) (bytes : List ℕ) : Type 0 where
@@ -129,3 +131,27 @@ give_told events old new wrote now conn piece (Err WriteFault) few conn_few some
 give_told events old new wrote now conn piece (Err Memory) few conn_few some piece_few wrote_it = cuts_told events old new wrote now conn piece few conn_few (omega arith) some wrote_it
 give_told events old new wrote now conn piece (Err ReadFault) few conn_few some piece_few wrote_it = absurd wrote_it
 give_told events old new wrote now conn piece (Err (Refused kind offset)) few conn_few some piece_few wrote_it = absurd wrote_it
+
+no_bytes : (bytes : List ℕ) → last_bytes 0 bytes ≡ []
+no_bytes bytes = let all : length bytes - 0 ≡ length bytes = omega arith in rw all (drop-length bytes)
+
+-- where nothing was taken and nothing written, nothing is told
+start_events : (source : Option Stream) (phases : Phases) → IsFresh phases → told_events source 0 phases true ≡ option_map (λ _. []) source
+start_events None phases new = refl
+start_events (Some stream) phases new =
+    let step : InStep 0 phases stream.taken = record {
+      within = omega arith;
+      between = ap (λ l. (read_from fresh l).part) (no_bytes stream.taken);
+      agree = record { same = λ conn below. ap (λ l. (read_from fresh l).state conn) (no_bytes stream.taken) ∙ sym (new conn) };
+    } in
+    rw (in_step_to 0 phases stream.taken step) (ap (λ l. Some (events fresh l)) (no_bytes stream.taken))
+
+start_pieces : (sink : Option (List ℕ)) → told_pieces sink 0 true ≡ option_map (λ _. []) sink
+start_pieces None = refl
+start_pieces (Some bytes) =
+    let whole : is_whole 0 true bytes ≡ true = rw (le_to 0 (length bytes) (omega arith), no_bytes bytes) refl in
+    rw whole (ap (λ l. Some (pieces l)) (no_bytes bytes))
+
+pub start_told : (source : Option Stream) (sink : Option (List ℕ)) (phases : Phases) → IsFresh phases
+    → trunk_told (told_events source 0 phases true) (told_pieces sink 0 true) ≡ told_nothing source sink
+start_told source sink phases new = ap (λ events. trunk_told events (told_pieces sink 0 true)) (start_events source phases new) ∙ ap (λ pieces. trunk_told (option_map (λ _. []) source) pieces) (start_pieces sink)

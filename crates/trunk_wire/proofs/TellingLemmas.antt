@@ -121,7 +121,7 @@ in_step_from took phases taken is =
       agree = record { same = same_phases_to 4096 (read_from fresh (last_bytes took taken)).state phases second.1 };
     }
 
-in_step_to : (took : ℕ) (phases : Phases) (taken : List ℕ) → InStep took phases taken → is_in_step took phases true taken ≡ true
+pub in_step_to : (took : ℕ) (phases : Phases) (taken : List ℕ) → InStep took phases taken → is_in_step took phases true taken ≡ true
 in_step_to took phases taken step =
     rw (le_to took (length taken) step.within, step.between) (same_phases_from 4096 (read_from fresh (last_bytes took taken)).state phases step.agree.same)
 

@@ -5,4 +5,3 @@ pub mod Pieces
 pub mod Calls
 pub mod Tellings
 pub mod TrunkLinks
-pub mod TrunkLaws

@@ -1,5 +1,5 @@
 -- What a trunk tells of the bytes that it took and wrote.
-use Rattle.std.specs.Prelude.{ℕ, zero, suc, nat_le, Bool, true, false, ◌&&◌, List, [], ◌∷◌, length, Option, None, Some, if◌then◌else◌}
+use Rattle.std.specs.Prelude.{ℕ, zero, suc, nat_le, Bool, true, false, ◌&&◌, List, [], ◌∷◌, length, Option, None, Some, option_map, if◌then◌else◌}
 use Rattle.rx_io.specs.Links.{Phase, Unopened, Open, Closed, Phases, Told, Coming, Piece}
 use Rattle.rx_io.specs.Outside.{Stream}
 use Rattle.rx_io.specs.declared.journal.LinkEvent.{LinkEvent}
@@ -51,3 +51,7 @@ told_coming (Some stream) took phases takes = if takes then Some (event_at phase
 -- events and pieces are told where source and sink tell their bytes, and no order of both
 abbrev pub trunk_told : Option (List LinkEvent) → Option (List Piece) → Told
 trunk_told events pieces = record { events = events; pieces = pieces; journal = None }
+
+-- nothing was taken yet, and nothing written
+abbrev pub told_nothing : Option Stream → Option (List ℕ) → Told
+told_nothing source sink = trunk_told (option_map (λ _. []) source) (option_map (λ _. []) sink)

@@ -22,7 +22,8 @@ pub struct TrunkLink<S, K> {
 impl<S: Source, K: Sink> TrunkLink<S, K> {
     ghost use Rattle.std.specs.Prelude.{◌≡◌, None, true};
     ghost use Rattle.rx_io.specs.Links.{IsFresh};
-    ghost use Rattle.trunk_wire.specs.TrunkLinks.{source_of, sink_of, took_of, wrote_of, trunk_phases, trunk_handed, trunk_takes, trunk_gives};
+    ghost use Rattle.trunk_wire.specs.TrunkLinks.{source_of, sink_of, took_of, wrote_of, trunk_phases, trunk_handed, trunk_takes, trunk_gives, told_of};
+    ghost use Rattle.trunk_wire.specs.Tellings.{told_nothing};
 
     /// No byte was taken and none was written. It takes no memory; `alloc` is for the payloads to come.
     pub fn make(alloc: Global, source: S, sink: K) -> TrunkLink<S, K>
@@ -34,6 +35,7 @@ impl<S: Source, K: Sink> TrunkLink<S, K> {
         ensures handed { trunk_handed result ≡ None }
         ensures takes { trunk_takes result ≡ true }
         ensures gives { trunk_gives result ≡ true }
+        ensures told { told_of S.told K.told result ≡ told_nothing (S.told source) (K.told sink) }
     {
         TrunkLink {
             alloc,
@@ -61,10 +63,10 @@ impl<S: Source, K: Sink> TrunkLink<S, K> {
 impl<S: Source, K: Sink> Link for TrunkLink<S, K> {
     ghost use Rattle.std.specs.Prelude.{◌≡◌, ◌<◌, ◌^◌, ℕ, Some, true, length, is_ok};
     ghost use Rattle.rx_io.specs.Links.{Nexts, Enters, GoesBy, HasTakeCause, GivesAtClose, Gives, TellsHanded, HasGiveCause};
-    ghost use Rattle.rx_io.specs.MemoryLinks.{gives_below_4096, handed_by};
+    ghost use Rattle.rx_io.specs.LinkForms.{gives_below_4096, handed_by};
+    ghost use Rattle.rx_io.specs.TableLaws.{open_gives, open_below};
     ghost use Rattle.trunk_wire.specs.Calls.{TakesFrame, WritesFrame, HasOffset};
     ghost use Rattle.trunk_wire.specs.TrunkLinks.{source_of, sink_of, took_of, wrote_of, trunk_phases, trunk_handed, trunk_takes, trunk_gives, told_of, coming_of, counts_of};
-    ghost use Rattle.trunk_wire.specs.TrunkLaws.{trunk_gives_open, trunk_below};
 
     ghost told = { told_of S.told K.told };
 
@@ -82,9 +84,9 @@ impl<S: Source, K: Sink> Link for TrunkLink<S, K> {
 
     ghost counts = { counts_of S.faults K.faults };
 
-    ghost gives_open = { trunk_gives_open };
+    ghost gives_open = { λ link. open_gives link.table };
 
-    ghost below = { trunk_below };
+    ghost below = { λ link. open_below link.table };
 
     /// Takes the next frame, and no byte behind it: at an event the whole frame, at a refused header its five bytes, at a frame
     /// that is cut short all that is left. After a fault of the source or want of memory a part of one frame was taken.
