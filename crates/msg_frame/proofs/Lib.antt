@@ -1,0 +1,6 @@
+pub mod Cutting
+pub mod Short
+pub mod Lines
+pub mod Lengths
+pub mod Parting
+pub mod Walking

@@ -1,0 +1,24 @@
+use Rattle.std.proofs.Common.{◌≡◌, ◌++◌, length, arith, length-append}
+use Rattle.msg_frame.specs.Messages.{cut, announced}
+use Rattle.msg_frame.proofs.Lengths.{length_missing, length_refused, length_within}
+use Rattle.msg_frame.proofs.ends.length_end.Goals as goal
+
+pub returns-then-len-lt-NUMBER : goal.returns-then-len-lt-NUMBER
+unfolding cut
+returns-then-len-lt-NUMBER c =
+    let all = length-append c.args.rest.now c.args.bytes.now in
+    length_missing c.args.rest.now c.args.bytes.now (λ number. absurd (omega arith))
+
+pub returns-then-size-gt-MAX_MESSAGE : goal.returns-then-size-gt-MAX_MESSAGE
+unfolding cut
+returns-then-size-gt-MAX_MESSAGE c = length_refused c.args.rest.now c.args.bytes.now c.requires (omega arith) (omega arith)
+
+pub returns-then-len-size : goal.returns-then-len-size
+unfolding cut
+returns-then-len-size c =
+    let all = length-append c.args.rest.now c.args.bytes.now in
+    length_missing c.args.rest.now c.args.bytes.now (λ number. (omega arith, omega arith))
+
+pub returns : goal.returns
+unfolding cut
+returns c = length_within c.args.rest.now c.args.bytes.now _ c.requires (omega arith) (omega arith) (omega arith)
