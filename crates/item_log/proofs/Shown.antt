@@ -1,0 +1,87 @@
+-- The events that a log shows.
+use Rattle.std.proofs.Common.{◌≡◌, ℕ, ◌+◌, ◌-◌, ◌<◌, ◌≤◌, max, List, [], ◌∷◌, ◌++◌, Option, Some, None, option_map, Result, Ok, Err, length, drop, arith, length-append, length-drop, refl, sym, ◌∙◌, ap, subst, zero, suc, zero-add, inl, inr, true}
+use Rattle.std.specs.List.{slice_get}
+use Rattle.std.specs.Option.{unwrap_or}
+use Rattle.std.proofs.lemmas.List.{drop-append-le, drop-drop}
+use Rattle.rx_io.specs.declared.bytes.Item.{Item}
+use Rattle.rx_io.specs.declared.journal.LinkEvent.{LinkEvent}
+use Rattle.msg_frame.specs.declared.framing.Framing.{Framing}
+use Rattle.item_log.specs.Connections.{none_open, in_order}
+use Rattle.item_log.specs.Heard.{Heard, brought, hear, heard, heard_from, behind_items, items_of}
+use Rattle.item_log.specs.Log.{Log, received, item_at, with_heard, logged, trimmed, Shows, ShowsMore, ShowsStill, IsItemOf}
+use Rattle.item_log.specs.Laws.{LogsShow}
+use Rattle.item_log.proofs.Hearing.{one_more_event, heard_items, hear-in_order}
+
+-- a log with an event in order
+pub logged-in_order : (log : Log) (event : LinkEvent) → in_order log.rests event ≡ true → logged log event ≡ option_map (with_heard log) (brought log.framing log.rests event)
+logged-in_order log event h = ap (option_map (with_heard log)) (hear-in_order log.framing log.rests event h)
+
+-- at its start a log shows no event
+pub shows_none : (framing : Framing) (log : Log) → log.framing ≡ framing → log.first ≡ 0 → log.kept ≡ [] → log.rests ≡ none_open → Shows framing [] log
+unfolding heard_from
+shows_none framing log cut_so first kept rests = record {
+  items = [];
+  is_heard = rw rests refl;
+  cut_so = cut_so;
+  kept = rw (kept, first) refl;
+  given_up = rw first (omega arith);
+}
+
+-- one event more
+shows_heard : (framing : Framing) (events : List LinkEvent) (event : LinkEvent) (old : Log) (more : Heard) → hear old.framing old.rests event ≡ Some more → Shows framing events old → Shows framing (events ++ event ∷ []) (with_heard old more)
+shows_heard framing events event old more is shows =
+    let here : hear framing old.rests event ≡ Some more = ap (λ so. hear so old.rests event) (sym shows.cut_so) ∙ is in
+    record {
+      items = shows.items ++ more.items;
+      is_heard = (one_more_event framing events event (record { items = shows.items; rests = old.rests }) shows.is_heard).1 ∙ ap (behind_items shows.items) here;
+      cut_so = shows.cut_so;
+      kept = ap (λ kept. kept ++ more.items) shows.kept ∙ sym (drop-append-le old.first shows.items more.items shows.given_up);
+      given_up = omega (arith, length-append shows.items more.items, shows.given_up);
+    }
+
+shows_more_by : (found : Option Heard) (old new : Log) (event : LinkEvent) → hear old.framing old.rests event ≡ found → option_map (with_heard old) found ≡ Some new → ShowsMore old event new
+shows_more_by None old new event is same = absurd (cc)
+shows_more_by (Some more) old new event is same =
+    let last : with_heard old more ≡ new = ap (λ log. unwrap_or log new) same in
+    λ framing events shows. subst (λ log. Shows framing (events ++ event ∷ []) log) last (shows_heard framing events event old more is shows)
+
+pub logs_show : LogsShow
+logs_show old new event is = shows_more_by (hear old.framing old.rests event) old new event refl is
+
+-- a log that was trimmed
+pub shows_trimmed : (old : Log) (before : ℕ) → before ≤ received old → ShowsStill old (trimmed old before)
+shows_trimmed old before h framing events shows =
+    let kept : length old.kept ≡ length shows.items - old.first = ap length shows.kept ∙ length-drop old.first shows.items in
+    let place : old.first + (before - old.first) ≡ max old.first before = omega arith in
+    record {
+      items = shows.items;
+      is_heard = shows.is_heard;
+      cut_so = shows.cut_so;
+      kept = ap (drop (before - old.first)) shows.kept ∙ drop-drop (before - old.first) old.first shows.items ∙ ap (λ n. drop n shows.items) place;
+      given_up = omega (arith, shows.given_up);
+    }
+
+-- the element of a list at a place behind its front
+slice_get-drop : {X : Type 0} (xs : List X) (n i : ℕ) → slice_get (drop n xs) i ≡ slice_get xs (n + i)
+slice_get-drop xs zero i = rw zero-add
+slice_get-drop [] (suc n) i = refl
+slice_get-drop (x ∷ xs) (suc n) i = slice_get-drop xs n i ∙ ap (slice_get (x ∷ xs)) (let next : suc (n + i) ≡ suc n + i = omega arith in next)
+
+pub later_item : (old : Log) (before number : ℕ) → before ≤ received old → max old.first before ≤ number → item_at (trimmed old before) number ≡ item_at old number
+later_item old before number h from =
+    let place : before - old.first + (number - max old.first before) ≡ number - old.first = omega arith in
+    slice_get-drop old.kept (before - old.first) (number - max old.first before) ∙ ap (slice_get old.kept) place
+
+pub received-trimmed : (old : Log) (before : ℕ) → before ≤ received old → received (trimmed old before) ≡ received old
+received-trimmed old before h = omega (arith, length-drop (before - old.first) old.kept)
+
+-- the item of a number is that of the events
+pub is_item_of : (log : Log) (number : ℕ) (item : Item) → log.first ≤ number → item_at log number ≡ Some item → IsItemOf log number item
+is_item_of log number item from is framing events shows =
+    let all = (heard_items framing events (record { items = shows.items; rests = log.rests }) shows.is_heard).0 in
+    let place : log.first + (number - log.first) ≡ number = omega arith in
+    ap (λ items. slice_get items number) all
+    ∙ ap (slice_get shows.items) (sym place)
+    ∙ sym (slice_get-drop shows.items log.first (number - log.first))
+    ∙ ap (λ kept. slice_get kept (number - log.first)) (sym shows.kept)
+    ∙ is

@@ -1,0 +1,9 @@
+use Rattle.std.proofs.Common.{◌≡◌, arith, replicate, None}
+use Rattle.item_log.specs.declared.kinds.TheConstants.{CONNECTIONS}
+use Rattle.item_log.proofs.Watch.{rests_of-none}
+use Rattle.item_log.proofs.connections.Connections.make.Goals as goal
+
+pub returns-clause-rests : goal.returns-clause-rests
+returns-clause-rests c =
+    let all : c.loop-i._i ≡ CONNECTIONS = omega arith in
+    rw (c.loop-i.invariant, all) rests_of-none

@@ -1,0 +1,46 @@
+// Items in a queue.
+ghost use Rattle.std.specs.Prelude.{◌≡◌, ◌+◌, ◌≤◌, ◌∷◌, [], ◌++◌, map, drop, length, OnOk, OnErr};
+ghost use Rattle.std.specs.VecDeque.{deque_len, deque_capacity};
+ghost use Rattle.item_log.specs.Heard.{bare_item, message_item};
+
+use crate::kinds::MESSAGE;
+use rx_io::{Bytes, Item};
+use std::alloc::{AllocError, Global};
+use std::collections::VecDeque;
+
+/// Puts an item without bytes at the end.
+pub fn push_bare(alloc: Global, items: &mut VecDeque<Item>, kind: u8, conn: u16) -> Result<(), AllocError>
+    ensures ok { OnOk result (items.new.items ≡ items.old.items ++ bare_item kind conn ∷ []) }
+    ensures err { OnErr result (items.new.items ≡ items.old.items) }
+{
+    let item = Item {
+        kind,
+        conn,
+        bytes: Bytes::from_vec(Vec::new(alloc)),
+    };
+    items.push_back(item)?;
+    Ok(())
+}
+
+/// Puts messages of a connection at the end, where room was made for them.
+pub fn push_messages(items: &mut VecDeque<Item>, conn: u16, messages: Vec<Bytes>)
+    requires { deque_len items.old + length messages.items ≤ deque_capacity items.old }
+    ensures { items.new.items ≡ items.old.items ++ map (message_item conn) messages.items }
+{
+    for bytes in messages {
+        items.push_back_reserved(Item {
+            kind: MESSAGE,
+            conn,
+            bytes,
+        });
+    }
+}
+
+/// Gives so many of the first items up.
+pub fn drop_front(items: &mut VecDeque<Item>, count: usize)
+    ensures { items.new.items ≡ drop count items.old.items }
+{
+    for _i in 0..count {
+        let _given_up = items.pop_front();
+    }
+}
