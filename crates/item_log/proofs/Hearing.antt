@@ -81,9 +81,10 @@ later_on : (first : Heard) (found : Option Heard) (items whole : List Item) (beh
 later_on first None items whole behind all h is = absurd (cc)
 later_on first (Some found) items whole behind all h is =
     let later = h found refl in
-    let parts = items_before first.items found all is in
-    (ap (λ items. first.items ++ items) later.0 ∙ sym (append_assoc first.items items (behind found.rests)) ∙ ap (λ rests. first.items ++ items ++ behind rests) parts.1,
-     ap (λ items. first.items ++ items) later.1 ∙ parts.0)
+    let parts = items_before first.items found all is in (
+      ap (λ items. first.items ++ items) later.0 ∙ sym (append_assoc first.items items (behind found.rests)) ∙ ap (λ rests. first.items ++ items ++ behind rests) parts.1,
+      ap (λ items. first.items ++ items) later.1 ∙ parts.0,
+    )
 
 step_on : (now : Option Heard) (next : List (Option (List ℕ)) → Option Heard) (items whole : List (Option (List ℕ)) → List Item) (behind : List (Option (List ℕ)) → List Item) (all : Heard) →
     ((rests : List (Option (List ℕ))) (later : Heard) → next rests ≡ Some later → (whole rests ≡ items rests ++ behind later.rests) × (items rests ≡ later.items)) →
@@ -102,11 +103,12 @@ items_from-append framing rests (event ∷ events) more all is =
     (λ after later h. items_from-append framing after events more later h) is
 
 pub one_more_event : OneMoreEvent
-one_more_event framing events event before is =
-    (ap (items_of framing) refl ∙ (items_from-append framing none_open events (event ∷ []) before is).0 ∙ ap (λ items. items_of framing events ++ items) (items_from-one framing before.rests event),
-     heard_from-append framing none_open events (event ∷ [])
-     ∙ ap (λ heard. then_hear heard (λ after. heard_from framing after (event ∷ []))) is
-     ∙ ap (behind_items before.items) (heard_from-one framing before.rests event))
+one_more_event framing events event before is = (
+  ap (items_of framing) refl ∙ (items_from-append framing none_open events (event ∷ []) before is).0 ∙ ap (λ items. items_of framing events ++ items) (items_from-one framing before.rests event),
+  heard_from-append framing none_open events (event ∷ [])
+      ∙ ap (λ heard. then_hear heard (λ after. heard_from framing after (event ∷ []))) is
+      ∙ ap (behind_items before.items) (heard_from-one framing before.rests event),
+)
 
 -- events of which one is refused
 later_refused : (first : Heard) (found : Option Heard) (items whole : List Item) → (found ≡ None → whole ≡ items) → behind_items first.items found ≡ None → first.items ++ whole ≡ first.items ++ items

@@ -9,7 +9,7 @@ use Rattle.msg_frame.specs.declared.framing.Framing.{Framing}
 use Rattle.item_log.specs.Connections.{none_open, in_order}
 use Rattle.item_log.specs.Heard.{Heard, brought, hear, heard, heard_from, behind_items, items_of}
 use Rattle.item_log.specs.Log.{Log, received, item_at, with_heard, logged, trimmed, Shows, ShowsMore, ShowsStill, IsItemOf}
-use Rattle.item_log.specs.Laws.{LogsShow}
+use Rattle.item_log.specs.Laws.{LogsShow, ShownItems}
 use Rattle.item_log.proofs.Hearing.{one_more_event, heard_items, hear-in_order}
 
 -- a log with an event in order
@@ -85,3 +85,8 @@ is_item_of log number item from is framing events shows =
     ∙ sym (slice_get-drop shows.items log.first (number - log.first))
     ∙ ap (λ kept. slice_get kept (number - log.first)) (sym shows.kept)
     ∙ is
+
+pub shown_items : ShownItems
+shown_items framing events log shows =
+    let all : items_of framing events ≡ shows.items = (heard_items framing events (record { items = shows.items; rests = log.rests }) shows.is_heard).0 in
+    (omega (arith, ap length shows.kept, length-drop log.first shows.items, ap length all, shows.given_up), shows.kept ∙ ap (drop log.first) (sym all))

@@ -34,7 +34,7 @@ none_are_framers framing = record {
 pub open_below : (framers : List (Option Unfinished)) (conn : ℕ) → is_open (rests_of framers) conn ≡ true → conn < length framers
 open_below framers conn h =
     elim (cases_lt conn (length framers)) [
-      inl below ↦ below
+      | inl below ↦ below
       | inr past ↦ absurd (let none : rest_of (rests_of framers) conn ≡ None = get_or_past (rests_of framers) conn None (rw (length-map framers rest_in) past) in let shut : is_some {T = List ℕ} None ≡ true = ap is_some (sym none) ∙ h in cc)
     ]
 

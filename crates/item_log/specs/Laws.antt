@@ -1,10 +1,10 @@
 -- What holds of the items of every list of events.
-use Rattle.std.specs.Prelude.{◌≡◌, ℕ, List, [], ◌∷◌, ◌++◌, length, Some, None}
+use Rattle.std.specs.Prelude.{◌≡◌, ℕ, List, [], ◌∷◌, ◌++◌, drop, length, Some, None}
 use Rattle.rx_io.specs.declared.journal.LinkEvent.{LinkEvent}
 use Rattle.msg_frame.specs.declared.framing.Framing.{Framing}
 use Rattle.item_log.specs.declared.kinds.TheConstants.{CONNECTIONS}
 use Rattle.item_log.specs.Heard.{Heard, hear, heard, behind_items, items_by, items_of}
-use Rattle.item_log.specs.Log.{Log, logged, ShowsMore}
+use Rattle.item_log.specs.Log.{Log, received, logged, Shows, ShowsMore}
 
 -- the items of one more event come behind those of the events before it
 abbrev pub OneMoreEvent : Type 0
@@ -28,3 +28,9 @@ RefusedGiveNone =
 -- a log that shows events shows one more where it logs one more
 abbrev pub LogsShow : Type 0
 LogsShow = (old new : Log) (event : LinkEvent) → logged old event ≡ Some new → ShowsMore old event new
+
+-- the items of the events that a log shows are as many as it received, and it keeps those from the first on
+abbrev pub ShownItems : Type 0
+ShownItems =
+    (framing : Framing) (events : List LinkEvent) (log : Log) → Shows framing events log →
+    (received log ≡ length (items_of framing events)) × (log.kept ≡ drop log.first (items_of framing events))

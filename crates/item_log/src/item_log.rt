@@ -113,7 +113,10 @@ impl ItemLog {
     {
         match e {
             LinkEvent::Opens(_) | LinkEvent::Closes(_) => Ok(1),
-            LinkEvent::Piece(conn, piece) => match self.connections.completes(*conn, piece.as_slice()) {
+            LinkEvent::Piece(conn, piece) => match self
+                .connections
+                .completes(*conn, piece.as_slice())
+            {
                 Some(count) => Ok(count),
                 None => Err(ItemRefusal::TooLong(*conn)),
             },

@@ -9,7 +9,12 @@ use std::alloc::{AllocError, Global};
 use std::collections::VecDeque;
 
 /// Puts an item without bytes at the end.
-pub fn push_bare(alloc: Global, items: &mut VecDeque<Item>, kind: u8, conn: u16) -> Result<(), AllocError>
+pub fn push_bare(
+    alloc: Global,
+    items: &mut VecDeque<Item>,
+    kind: u8,
+    conn: u16,
+) -> Result<(), AllocError>
     ensures ok { OnOk result (items.new.items ≡ items.old.items ++ bare_item kind conn ∷ []) }
     ensures err { OnErr result (items.new.items ≡ items.old.items) }
 {

@@ -1,5 +1,5 @@
 //! Laws of the items of events, each as the contract of a function that does nothing.
-ghost use Rattle.item_log.specs.Laws.{OneMoreEvent, HeardItems, RefusedGiveNone, LogsShow};
+ghost use Rattle.item_log.specs.Laws.{OneMoreEvent, HeardItems, RefusedGiveNone, LogsShow, ShownItems};
 
 /// The items of one more event come behind those of the events before it.
 pub fn one_more_event()
@@ -19,4 +19,9 @@ pub fn refused_give_none()
 /// A log that shows some events shows one more where it logs one more.
 pub fn logs_show()
     ensures { LogsShow }
+{}
+
+/// The items of the events that a log shows are as many as it received, and it keeps those from the first on.
+pub fn shown_items()
+    ensures { ShownItems }
 {}

@@ -1,5 +1,5 @@
 // Where the first message of some bytes ends.
-ghost use Rattle.std.specs.Prelude.{◌≡◌, ◌+◌, ◌<◌, ◌≤◌, ◌++◌, ◌==◌, length, IfSome, slice_index};
+ghost use Rattle.std.specs.Prelude.{◌≡◌, ◌+◌, ◌<◌, ◌≤◌, ◌++◌, ◌==◌, length, MatchBool, IfSome, slice_index};
 ghost use Rattle.std.specs.List.{position};
 ghost use Rattle.msg_frame.specs.Messages.{announced};
 ghost use Rattle.msg_frame.specs.Feeding.{IsRest};
@@ -16,6 +16,13 @@ pub enum End {
     Within(usize),
 }
 
+// Whether a message may have so many bytes.
+fn fits(len: usize) -> bool
+    ensures { MatchBool result (len ≤ MAX_MESSAGE) (MAX_MESSAGE < len) }
+{
+    len <= MAX_MESSAGE
+}
+
 // The place of the first line feed.
 fn line_feed(bytes: &[u8]) -> Option<usize>
     ensures place { result ≡ position (λ byte. byte == LINE_FEED) bytes.now }
@@ -30,14 +37,14 @@ fn line_end(rest: &[u8], bytes: &[u8]) -> End
 {
     match line_feed(bytes) {
         None => {
-            if rest.len() + bytes.len() <= MAX_MESSAGE {
+            if fits(rest.len() + bytes.len()) {
                 End::Missing
             } else {
                 End::Refused
             }
         }
         Some(i) => {
-            if rest.len() + i < MAX_MESSAGE {
+            if fits(rest.len() + i + 1) {
                 End::Within(i + 1)
             } else {
                 End::Refused
@@ -79,7 +86,7 @@ fn length_end(rest: &[u8], bytes: &[u8]) -> End
         return End::Missing;
     }
     let size = announced(rest, bytes);
-    if size > MAX_MESSAGE {
+    if !fits(size) {
         return End::Refused;
     }
     if len < NUMBER + size {
@@ -94,7 +101,7 @@ fn whole_end(rest: &[u8], bytes: &[u8]) -> End
 {
     if bytes.is_empty() {
         End::Missing
-    } else if bytes.len() <= MAX_MESSAGE {
+    } else if fits(bytes.len()) {
         End::Within(bytes.len())
     } else {
         End::Refused

@@ -9,16 +9,16 @@ returns-then-len-lt-NUMBER c =
     let all = length-append c.args.rest.now c.args.bytes.now in
     length_missing c.args.rest.now c.args.bytes.now (λ number. absurd (omega arith))
 
-pub returns-then-size-gt-MAX_MESSAGE : goal.returns-then-size-gt-MAX_MESSAGE
+pub returns-then-not-fits : goal.returns-then-not-fits
 unfolding cut
-returns-then-size-gt-MAX_MESSAGE c = length_refused c.args.rest.now c.args.bytes.now c.requires (omega arith) (omega arith)
+returns-then-not-fits c = length_refused c.args.rest.now c.args.bytes.now c.requires (omega arith) (omega (arith, c.announced-size.ensures, c.if-not-fits.ensures))
 
 pub returns-then-len-size : goal.returns-then-len-size
 unfolding cut
 returns-then-len-size c =
     let all = length-append c.args.rest.now c.args.bytes.now in
-    length_missing c.args.rest.now c.args.bytes.now (λ number. (omega arith, omega arith))
+    length_missing c.args.rest.now c.args.bytes.now (λ number. (omega (arith, c.announced-size.ensures, c.if-not-fits.ensures), omega (arith, c.announced-size.ensures)))
 
 pub returns : goal.returns
 unfolding cut
-returns c = length_within c.args.rest.now c.args.bytes.now _ c.requires (omega arith) (omega arith) (omega arith)
+returns c = length_within c.args.rest.now c.args.bytes.now _ c.requires (omega (arith, c.announced-size.ensures, c.if-not-fits.ensures)) (omega (arith, c.announced-size.ensures)) (omega (arith, c.announced-size.ensures))
