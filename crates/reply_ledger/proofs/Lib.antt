@@ -1,0 +1,3 @@
+pub mod RunLemmas
+pub mod StreamLemmas
+pub mod AgreeLemmas

@@ -1,0 +1,17 @@
+use Rattle.std.proofs.Common.{◌≡◌, ◌-◌, ◌≤◌, length, refl, sym, ◌∙◌, ap, arith, drop, ℕ}
+use Rattle.std.proofs.lemmas.Bool.{le-leb}
+use Rattle.reply_ledger.specs.Trials.{agree}
+use Rattle.reply_ledger.proofs.RunLemmas.{bytes_of-passed_in}
+use Rattle.reply_ledger.proofs.AgreeLemmas.{agree-past}
+use Rattle.reply_ledger.proofs.account.Account.agrees.Goals as goal
+
+pub returns-then-behind-len : goal.returns-then-behind-len
+returns-then-behind-len c =
+    let bytes = bytes_of-passed_in c.self.inside.runs.items c.self.inside.earlier _ c.self.inside.bytes.items c.self.invariant.0 refl in
+    let past : length c.self.inside.bytes.items ≤ c.self.inside.tried - c.self.inside.earlier = omega (arith, c.if-behind-len.true, c.len.ensures, c.saturating_sub-behind.ensures, c.self.inside.bytes.ok) in
+    rw (← c.self.view_is) (rw bytes (le-leb _ _ c.if-behind-len.true ∙ sym (agree-past c.args.bytes.now c.self.inside.bytes.items _ past)))
+
+pub returns-else-behind-len : goal.returns-else-behind-len
+returns-else-behind-len c =
+    let bytes = bytes_of-passed_in c.self.inside.runs.items c.self.inside.earlier _ c.self.inside.bytes.items c.self.invariant.0 refl in
+    rw (← c.self.view_is) (rw bytes (c.agree_from.ensures ∙ ap (λ (n : ℕ). agree c.args.bytes.now (drop n c.self.inside.bytes.items)) c.saturating_sub-behind.ensures))

@@ -1,0 +1,11 @@
+use Rattle.std.proofs.Common.{refl, arith}
+use Rattle.reply_ledger.proofs.RunLemmas.{length-passed_in}
+use Rattle.reply_ledger.proofs.account.Account.passed.Goals as goal
+
+pub overflow_add-result : goal.overflow_add-result
+overflow_add-result c = omega (arith, c.self.invariant.1, c.self.invariant.2, c.len.ensures)
+
+pub returns : goal.returns
+returns c =
+    let long = length-passed_in c.self.inside.runs.items c.self.inside.earlier _ c.self.inside.bytes.items c.self.invariant.0 refl in
+    rw (← c.self.view_is) (omega (arith, long, c.len.ensures))

@@ -1,0 +1,6 @@
+pub mod Ledger
+pub mod Parts
+pub mod Trials
+pub mod Trimming
+pub mod Tallies
+pub mod Entries

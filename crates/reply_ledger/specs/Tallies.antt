@@ -1,0 +1,61 @@
+-- What the code keeps of each connection.
+use Rattle.std.specs.Prelude.{◌≡◌, ℕ, ◌+◌, ◌-◌, ◌<◌, ◌≤◌, Bool, false, ◌⊎◌, nat_le, List, [], ◌∷◌, ◌++◌, length, map, replicate, take, drop, nat_eq, Option, if◌then◌else◌, ◌==◌}
+use Rattle.std.specs.Option.{option_map_or}
+use Rattle.std.specs.Map.{lookup}
+use Rattle.reply_ledger.specs.Ledger.{Passed, Connection, stamped}
+use Rattle.reply_ledger.specs.declared.account.Run.{Run}
+
+-- a connection without its number, and where the streams of the survivor and of the trial end on it, counted from the first byte that was
+-- ever sent to it
+pub record Tally : Type 0 where
+  pub closed : Bool
+  pub gone : Bool
+  pub earlier : ℕ
+  pub passed : List Passed
+  pub sent : ℕ
+  pub tried : ℕ
+
+abbrev pub new_tally : Tally
+new_tally = record { closed = false; gone = false; earlier = 0; passed = []; sent = 0; tried = 0 }
+
+-- bytes that begin at a place of the stream, each with the stamp of the run in which it lies
+unfoldable pub passed_in : ℕ → List ℕ → List Run → List Passed
+passed_in at bytes [] = []
+passed_in at bytes (run ∷ runs) =
+    stamped run.stamp (take (run.end - at) bytes) ++ passed_in run.end (drop (run.end - at) bytes) runs
+
+-- the runs aren't empty, begin at this place of the stream and end at that one
+unfoldable pub RunsFrom : ℕ → ℕ → List Run → Type 0
+RunsFrom at end [] = at ≡ end
+RunsFrom at end (run ∷ runs) = (at < run.end) × RunsFrom run.end end runs
+
+-- what the code keeps of a connection, as contracts see it
+abbrev pub seen : ℕ × Tally → Connection
+seen entry = record { conn = entry.0; closed = entry.1.closed; gone = entry.1.gone; earlier = entry.1.earlier; passed = entry.1.passed }
+
+unfoldable pub connections_of : List (ℕ × Tally) → List Connection
+connections_of tallies = map seen tallies
+
+-- what a reading of a connection's tally gives, and 0 where it wasn't opened
+unfoldable pub number_at : (Tally → ℕ) → List (ℕ × Tally) → ℕ → ℕ
+number_at reading tallies conn = option_map_or reading (lookup (nat_eq conn) tallies) 0
+
+-- the tallies, one of them changed
+unfoldable pub retallied : ℕ → (Tally → Tally) → List (ℕ × Tally) → List (ℕ × Tally)
+retallied conn change tallies = map (λ (e : ℕ × Tally). if conn == e.0 then (e.0, change e.1) else e) tallies
+
+-- the tallies, all of them changed
+unfoldable pub all_retallied : (Tally → Tally) → List (ℕ × Tally) → List (ℕ × Tally)
+all_retallied change tallies = map (λ (e : ℕ × Tally). (e.0, change e.1)) tallies
+
+-- the runs that don't end at or before a place
+unfoldable pub runs_past : ℕ → List Run → List Run
+runs_past at [] = []
+runs_past at (run ∷ runs) = if nat_le run.end at then runs_past at runs else run ∷ runs
+
+-- the stamp of the bytes from one place up to another is noted behind the runs: in the last of them where it has that stamp
+abbrev pub NotesInLast : ℕ → ℕ → List Run → List Run → Type 0
+NotesInLast end stamp old new = (front : List Run) × (last : Run) × (old ≡ front ++ last ∷ []) × (last.stamp ≡ stamp) × (new ≡ front ++ record { end = end; stamp = stamp } ∷ [])
+
+abbrev pub Notes : ℕ → ℕ → ℕ → List Run → List Run → Type 0
+Notes at end stamp old new = ((at ≡ end) × (new ≡ old)) ⊎ ((at < end) × ((new ≡ old ++ record { end = end; stamp = stamp } ∷ []) ⊎ NotesInLast end stamp old new))

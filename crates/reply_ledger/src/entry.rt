@@ -1,0 +1,77 @@
+// One send, with its place.
+ghost use Rattle.std.specs.Prelude.{◌≡◌, ℕ, ◌+◌, ◌-◌, List, [], ◌++◌, length, take, drop, OnOk, if◌then◌else◌, ◌==◌};
+ghost use Rattle.rx_io.specs.Prefix.{Prefix};
+ghost use Rattle.reply_ledger.specs.Entries.{rest_of, stream_behind};
+
+use rx_io::Bytes;
+use std::alloc::AllocError;
+use std::collections::VecDeque;
+
+/// A send, and where it begins in its connection's stream, counted from the first byte that was ever sent to it.
+#[derive(Debug, Drop)]
+pub struct Entry {
+    pub conn: u16,
+    pub bytes: Bytes,
+    pub taken: u64,
+    pub start: u64,
+}
+
+/// What of a send lies at or past a place of its connection's stream.
+pub fn rest_of(entry: &Entry, at: u64) -> &[u8]
+    ensures { result.now ≡ rest_of at entry.now }
+{
+    let bytes = entry.bytes.as_slice();
+    let skipped = at.saturating_sub(entry.start);
+    if skipped < bytes.len() as u64 {
+        &bytes[skipped as usize..]
+    } else {
+        &[]
+    }
+}
+
+// What of a send lies at or past a place of this connection's stream: nothing where it went to another one.
+fn part_of(entry: &Entry, conn: u16, at: u64) -> &[u8]
+    ensures { result.now ≡ (if conn == entry.now.conn then rest_of at entry.now else []) }
+{
+    if conn == entry.conn {
+        rest_of(entry, at)
+    } else {
+        &[]
+    }
+}
+
+// Puts bytes behind others.
+fn append(queue: &mut VecDeque<u8>, bytes: &[u8]) -> Result<(), AllocError>
+    ensures ok { OnOk result (queue.new.items ≡ queue.old.items ++ bytes.now) }
+    ensures front { Prefix queue.old.items queue.new.items }
+{
+    for byte in bytes {
+        queue.push_back(*byte)?;
+    }
+    Ok(())
+}
+
+/// Puts the next bytes of a connection's stream from a place on behind others. The sends before `from` have none of them.
+pub fn gather(
+    sends: &VecDeque<Entry>,
+    from: usize,
+    conn: u16,
+    at: u64,
+    count: usize,
+    queue: &mut VecDeque<u8>,
+) -> Result<(), AllocError>
+    ensures ok { OnOk result (queue.new.items ≡ queue.old.items ++ take count (stream_behind conn at (drop from sends.now.items))) }
+    ensures front { Prefix queue.old.items queue.new.items }
+{
+    let mut left = count;
+    for i in from..sends.len() {
+        if left == 0 {
+            return Ok(());
+        }
+        let part = part_of(&sends[i], conn, at);
+        let length = left.min(part.len());
+        append(queue, &part[..length])?;
+        left -= length;
+    }
+    Ok(())
+}

@@ -1,0 +1,5 @@
+//! The sends of a survivor and of a trial, and what was passed of them to each connection.
+#![tactic(auto)]
+
+mod account;
+mod entry;
