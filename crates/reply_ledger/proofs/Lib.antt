@@ -1,3 +1,4 @@
 pub mod RunLemmas
 pub mod StreamLemmas
 pub mod AgreeLemmas
+pub mod TallyLemmas

@@ -6,12 +6,12 @@ use Rattle.reply_ledger.specs.Entries.{rest_of, stream_behind}
 
 -- the stream of the sends from one on begins with that one's part
 pub stream-here : (conn at i : ℕ) (entries : List Entry) (e : Entry) → i < length entries → e ≡ get_or entries i e
-    → stream_behind conn at (drop i entries) ≡ (if conn == e.conn then rest_of at e else []) ++ stream_behind conn at (drop (i + 1) entries)
+    → stream_behind conn at (drop i entries) ≡ (if e.conn == conn then rest_of at e else []) ++ stream_behind conn at (drop (i + 1) entries)
 unfolding stream_behind
 stream-here conn at i entries e lt is =
     let at_i = drop-cons entries i e lt in
     let here : drop i entries ≡ e ∷ drop (suc i) entries = at_i ∙ ap (λ x. x ∷ drop (suc i) entries) (sym is) in
-    ap (λ l. stream_behind conn at l) here ∙ ap (λ n. (if conn == e.conn then rest_of at e else []) ++ stream_behind conn at (drop n entries)) (sym (add-one i))
+    ap (λ l. stream_behind conn at l) here ∙ ap (λ n. (if e.conn == conn then rest_of at e else []) ++ stream_behind conn at (drop n entries)) (sym (add-one i))
 
 pub stream-end : (conn at i : ℕ) (entries : List Entry) → length entries ≤ i → stream_behind conn at (drop i entries) ≡ []
 unfolding stream_behind
@@ -32,7 +32,7 @@ gather-more left done rest more = append_assoc done _ _ ∙ ap (λ (l : List ℕ
 
 -- one turn of `gather`
 pub gather-turn : (conn at i left count size : ℕ) (entries : List Entry) (e : Entry) (part done all : List ℕ) → i < length entries → e ≡ get_or entries i e
-    → part ≡ (if conn == e.conn then rest_of at e else []) → size ≡ min left (length part) → done ++ take left (stream_behind conn at (drop i entries)) ≡ all
+    → part ≡ (if e.conn == conn then rest_of at e else []) → size ≡ min left (length part) → done ++ take left (stream_behind conn at (drop i entries)) ≡ all
     → (done ++ take size part) ++ take (left - size) (stream_behind conn at (drop (i + 1) entries)) ≡ all
 gather-turn conn at i left count size entries e part done all lt is p s h =
     let here = stream-here conn at i entries e lt is in

@@ -18,4 +18,4 @@ rest_of at e = drop (at - e.start) e.bytes
 
 -- what of one connection's stream lies at or past a place, among these sends
 unfoldable pub stream_behind : ℕ → ℕ → List Entry → List ℕ
-stream_behind conn at entries = flat_map (λ (e : Entry). if conn == e.conn then rest_of at e else []) entries
+stream_behind conn at entries = flat_map (λ (e : Entry). if e.conn == conn then rest_of at e else []) entries

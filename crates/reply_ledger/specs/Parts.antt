@@ -32,7 +32,7 @@ next_part ledger until = find (λ part. waits ledger.connections part && nat_le 
 
 -- the first part of one connection, open or not
 unfoldable pub rest_part : Ledger → ℕ → Option Send
-rest_part ledger conn = find (λ part. conn == part.conn && is_left part) (parts ledger)
+rest_part ledger conn = find (λ part. part.conn == conn && is_left part) (parts ledger)
 
 -- how many of the kept sends stand before the first that may still be passed
 unfoldable pub settled : Ledger → ℕ

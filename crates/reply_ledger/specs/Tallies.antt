@@ -1,8 +1,9 @@
 -- What the code keeps of each connection.
-use Rattle.std.specs.Prelude.{◌≡◌, ℕ, ◌+◌, ◌-◌, ◌<◌, ◌≤◌, Bool, false, ◌⊎◌, nat_le, List, [], ◌∷◌, ◌++◌, length, map, replicate, take, drop, nat_eq, Option, if◌then◌else◌, ◌==◌}
+use Rattle.std.specs.Prelude.{◌≡◌, ℕ, ◌+◌, ◌-◌, ◌<◌, ◌≤◌, Bool, false, true, ◌⊎◌, ◌&&◌, not, nat_le, is_some, List, [], ◌∷◌, ◌++◌, length, map, replicate, take, drop, nat_eq, Option, if◌then◌else◌, ◌==◌}
 use Rattle.std.specs.Option.{option_map_or}
 use Rattle.std.specs.Map.{lookup}
 use Rattle.reply_ledger.specs.Ledger.{Passed, Connection, stamped}
+use Rattle.reply_ledger.specs.Trials.{until}
 use Rattle.reply_ledger.specs.declared.account.Run.{Run}
 
 -- a connection without its number, and where the streams of the survivor and of the trial end on it, counted from the first byte that was
@@ -40,6 +41,47 @@ connections_of tallies = map seen tallies
 unfoldable pub number_at : (Tally → ℕ) → List (ℕ × Tally) → ℕ → ℕ
 number_at reading tallies conn = option_map_or reading (lookup (nat_eq conn) tallies) 0
 
+-- where the bytes end that were passed
+abbrev pub passed_end : Tally → ℕ
+passed_end t = t.earlier + length t.passed
+
+abbrev pub open_tally : Tally → Bool
+open_tally t = not t.closed && not t.gone
+
+unfoldable pub is_open_in : List (ℕ × Tally) → ℕ → Bool
+is_open_in tallies conn = option_map_or open_tally (lookup (nat_eq conn) tallies) false
+
+abbrev pub is_known : List (ℕ × Tally) → ℕ → Bool
+is_known tallies conn = is_some (lookup (nat_eq conn) tallies)
+
+-- what was passed to a connection
+unfoldable pub passed_at : List (ℕ × Tally) → ℕ → List Passed
+passed_at tallies conn = option_map_or (λ t. t.passed) (lookup (nat_eq conn) tallies) []
+
+abbrev pub closed_tally : Tally → Tally
+closed_tally t = record t { closed = true }
+
+abbrev pub gone_tally : Tally → Tally
+gone_tally t = record t { gone = true }
+
+abbrev pub sent_tally : ℕ → Tally → Tally
+sent_tally end t = record t { sent = end }
+
+abbrev pub tried_tally : ℕ → Tally → Tally
+tried_tally end t = record t { tried = end }
+
+abbrev pub begun_tally : Tally → Tally
+begun_tally t = record t { tried = t.sent }
+
+abbrev pub adopted_tally : Tally → Tally
+adopted_tally t = record t { sent = t.tried }
+
+abbrev pub passed_tally : List Passed → Tally → Tally
+passed_tally more t = record t { passed = t.passed ++ more }
+
+abbrev pub given_up_tally : ℕ → Tally → Tally
+given_up_tally count t = record t { earlier = t.earlier + count; passed = drop count t.passed }
+
 -- the tallies, one of them changed
 unfoldable pub retallied : ℕ → (Tally → Tally) → List (ℕ × Tally) → List (ℕ × Tally)
 retallied conn change tallies = map (λ (e : ℕ × Tally). if conn == e.0 then (e.0, change e.1) else e) tallies
@@ -59,3 +101,14 @@ NotesInLast end stamp old new = (front : List Run) × (last : Run) × (old ≡ f
 
 abbrev pub Notes : ℕ → ℕ → ℕ → List Run → List Run → Type 0
 Notes at end stamp old new = ((at ≡ end) × (new ≡ old)) ⊎ ((at < end) × ((new ≡ old ++ record { end = end; stamp = stamp } ∷ []) ⊎ NotesInLast end stamp old new))
+
+-- where the bytes end that were passed with so many items received, or fewer
+abbrev pub passed_until : ℕ → Tally → ℕ
+passed_until item t = t.earlier + length (until item t.passed)
+
+-- the trial's stream is at least as long as what was passed, or as what was passed with so many items received or fewer
+abbrev pub tries_all : Tally → Bool
+tries_all t = nat_le (passed_end t) t.tried
+
+abbrev pub tries_until : ℕ → Tally → Bool
+tries_until item t = nat_le (passed_until item t) t.tried

@@ -31,9 +31,9 @@ pub fn rest_of(entry: &Entry, at: u64) -> &[u8]
 
 // What of a send lies at or past a place of this connection's stream: nothing where it went to another one.
 fn part_of(entry: &Entry, conn: u16, at: u64) -> &[u8]
-    ensures { result.now ≡ (if conn == entry.now.conn then rest_of at entry.now else []) }
+    ensures { result.now ≡ (if entry.now.conn == conn then rest_of at entry.now else []) }
 {
-    if conn == entry.conn {
+    if entry.conn == conn {
         rest_of(entry, at)
     } else {
         &[]

@@ -2,4 +2,5 @@
 #![tactic(auto)]
 
 mod account;
+mod accounts;
 mod entry;

@@ -1,0 +1,20 @@
+use Rattle.std.proofs.Common.{◌≡◌, ◌-◌, ℕ, List, [], refl, sym, ◌∙◌, ap, drop, arith, length}
+use Rattle.reply_ledger.specs.Ledger.{Passed, bytes_of}
+use Rattle.reply_ledger.specs.Trials.{agree}
+use Rattle.reply_ledger.specs.Tallies.{Tally, number_at, passed_at}
+use Rattle.reply_ledger.proofs.AgreeLemmas.{agree-past}
+use Rattle.reply_ledger.proofs.TallyLemmas.{number_at-some, passed_at-some, passed_at-none}
+use Rattle.reply_ledger.proofs.accounts.agrees.Goals as goal
+
+pub returns-in-Some : goal.returns-in-Some
+returns-in-Some c =
+    let tried = number_at-some (λ (t : Tally). t.tried) c.args.accounts.now.entries c.args.conn c.in-Some.account.now c.in-Some.ensures.value in
+    let earlier = number_at-some (λ (t : Tally). t.earlier) c.args.accounts.now.entries c.args.conn c.in-Some.account.now c.in-Some.ensures.value in
+    let passed = passed_at-some c.args.accounts.now.entries c.args.conn c.in-Some.account.now c.in-Some.ensures.value in
+    rw (tried, earlier, passed) c.agrees.ensures
+
+pub returns-in-None : goal.returns-in-None
+unfolding bytes_of
+returns-in-None c =
+    let passed = passed_at-none c.args.accounts.now.entries c.args.conn c.in-None.ensures.value in
+    rw passed (sym (agree-past c.args.bytes.now [] _ (omega arith)))

@@ -1,0 +1,10 @@
+use Rattle.std.proofs.Common.{◌++◌, ◌∷◌, [], ◌∙◌, ap, List, ℕ}
+use Rattle.std.specs.Prelude.{nat_eq}
+use Rattle.indexmap.proofs.CallerLemmas.{insert_entry-new}
+use Rattle.reply_ledger.specs.Tallies.{Tally}
+use Rattle.reply_ledger.proofs.accounts.open.Goals as goal
+
+pub returns-clause-ok : goal.returns-clause-ok
+returns-clause-ok c =
+    c.in_ok-insert.ensures.entries ∙ insert_entry-new nat_eq c.args.accounts.now c.args.conn c.new.result c.requires
+    ∙ ap (λ (t : Tally). c.args.accounts.now.entries ++ (c.args.conn, t) ∷ []) c.new.ensures
