@@ -91,7 +91,14 @@ times_of sends = map (λ (send : Send). send.taken) sends
 unfoldable pub stamps_of : List Passed → List ℕ
 stamps_of passed = map (λ (p : Passed). p.stamp) passed
 
--- the ledger with one more send of the survivor, and with one more of the trial
+-- the ledger with one more connection, and with one changed
+abbrev pub with_connection : Ledger → ℕ → Ledger
+with_connection ledger conn = record ledger { connections = ledger.connections ++ new_connection conn ∷ [] }
+
+abbrev pub with_change : Ledger → ℕ → (Connection → Connection) → Ledger
+with_change ledger conn change = record ledger { connections = changed conn change ledger.connections }
+
+-- the ledger with one more send of the survivor
 abbrev pub with_send : Ledger → Send → Ledger
 with_send ledger send = record ledger { kept = ledger.kept ++ send ∷ [] }
 
@@ -99,4 +106,4 @@ with_send ledger send = record ledger { kept = ledger.kept ++ send ∷ [] }
 abbrev pub with_passed : Ledger → ℕ → ℕ → ℕ → Ledger
 with_passed ledger conn count stamp =
     let next = take count (drop (length (passed_to ledger conn)) (sent_to conn ledger.kept)) in
-    record ledger { connections = changed conn (passed_connection (stamped stamp next)) ledger.connections }
+    with_change ledger conn (passed_connection (stamped stamp next))

@@ -4,3 +4,4 @@ pub mod Trials
 pub mod Trimming
 pub mod Tallies
 pub mod Entries
+pub mod Inside

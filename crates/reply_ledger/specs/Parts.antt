@@ -34,6 +34,10 @@ next_part ledger until = find (λ part. waits ledger.connections part && nat_le 
 unfoldable pub rest_part : Ledger → ℕ → Option Send
 rest_part ledger conn = find (λ part. part.conn == conn && is_left part) (parts ledger)
 
+-- a part as its connection and its bytes
+abbrev pub shown_part : Send → ℕ × List ℕ
+shown_part part = (part.conn, part.bytes)
+
 -- how many of the kept sends stand before the first that may still be passed
 unfoldable pub settled : Ledger → ℕ
 settled ledger = position_or_len (waits ledger.connections) (parts ledger)

@@ -1,5 +1,5 @@
 -- What a trial's sends say of what was passed.
-use Rattle.std.specs.Prelude.{◌≡◌, ℕ, Bool, true, ◌&&◌, List, [], ◌∷◌, ◌++◌, filter, Option, None, Some, unwrap_or, IsTrue, nat_le, ◌==◌}
+use Rattle.std.specs.Prelude.{◌≡◌, ℕ, Bool, true, ◌&&◌, ◌-◌, List, [], ◌∷◌, ◌++◌, take, filter, Option, None, Some, unwrap_or, IsTrue, nat_le, ◌==◌}
 use Rattle.rx_io.specs.Sends.{Send, sent_to}
 use Rattle.rx_io.specs.Prefix.{Prefix}
 use Rattle.reply_ledger.specs.Ledger.{Passed, Ledger, bytes_of, stamped_to, passed_to}
@@ -17,6 +17,17 @@ until item passed = filter (λ (p : Passed). nat_le p.stamp item) passed
 -- the trial's sends, from the oldest kept number on
 abbrev pub trial_sends : Ledger → List Send
 trial_sends ledger = unwrap_or ledger.trial []
+
+-- the ledger with a trial whose sends are the survivor's before this number
+abbrev pub begun : Ledger → ℕ → Ledger
+begun ledger sends = record ledger { trial = Some (take (sends - ledger.first) ledger.kept) }
+
+-- the ledger with the trial as its survivor, and without it
+abbrev pub adopted : Ledger → Ledger
+adopted ledger = record ledger { kept = trial_sends ledger; trial = None }
+
+abbrev pub discarded : Ledger → Ledger
+discarded ledger = record ledger { trial = None }
 
 -- the ledger with one more send of the trial
 abbrev pub with_trial_send : Ledger → Send → Ledger

@@ -29,8 +29,8 @@ pub fn rest_of(entry: &Entry, at: u64) -> &[u8]
     }
 }
 
-// What of a send lies at or past a place of this connection's stream: nothing where it went to another one.
-fn part_of(entry: &Entry, conn: u16, at: u64) -> &[u8]
+/// The same for this connection: nothing where the send went to another one.
+pub fn part_of(entry: &Entry, conn: u16, at: u64) -> &[u8]
     ensures { result.now ≡ (if entry.now.conn == conn then rest_of at entry.now else []) }
 {
     if entry.conn == conn {

@@ -4,3 +4,7 @@
 mod account;
 mod accounts;
 mod entry;
+mod replies;
+mod sends;
+
+pub use replies::Replies;

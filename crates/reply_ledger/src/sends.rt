@@ -1,0 +1,98 @@
+// The survivor's sends beside what is kept of their connections.
+ghost use Rattle.std.specs.Prelude.{◌≡◌, ℕ, ◌+◌, ◌-◌, ◌<◌, ◌≤◌, List, length, take, drop, if◌then◌else◌, OnOk, OnErr};
+ghost use Rattle.std.specs.List.{position_or_len};
+ghost use Rattle.std.specs.Map.{keys_of};
+ghost use Rattle.std.specs.VecDeque.{deque_capacity, deque_len};
+ghost use Rattle.rx_io.specs.Sends.{sent_to};
+ghost use Rattle.reply_ledger.specs.Ledger.{is_open};
+ghost use Rattle.reply_ledger.specs.Trimming.{trimmed_connections};
+ghost use Rattle.reply_ledger.specs.Tallies.{connections_of};
+ghost use Rattle.reply_ledger.specs.Entries.{sends_of};
+ghost use Rattle.reply_ledger.specs.Inside.{Laid, earlier_at, sent_ends, tried_ends, waits_in};
+
+use crate::accounts;
+use crate::accounts::Accounts;
+use crate::entry::{Entry, rest_of};
+use std::alloc::AllocError;
+use std::collections::VecDeque;
+
+/// Whether a send may still be passed: something is left of it, and its connection is open.
+fn waits(accounts: &Accounts, entry: &Entry) -> bool
+    ensures { result ≡ waits_in (connections_of accounts.now.entries) entry.now }
+{
+    match accounts.get(&entry.conn) {
+        Some(account) => account.is_open() && !rest_of(entry, account.passed()).is_empty(),
+        None => false,
+    }
+}
+
+/// The place of the first send that may still be passed, or the number of sends. It is `from` or stands behind it.
+pub fn first_waiting(sends: &VecDeque<Entry>, accounts: &Accounts, from: usize) -> usize
+    requires { from ≤ position_or_len (waits_in (connections_of accounts.now.entries)) sends.now.items }
+    ensures { result ≡ position_or_len (waits_in (connections_of accounts.now.entries)) sends.now.items }
+{
+    for i in from..sends.len() {
+        if waits(accounts, &sends[i]) {
+            return i;
+        }
+    }
+    sends.len()
+}
+
+/// A place before which no send has anything of a connection that wasn't passed: the place of the first that may still be passed, where the
+/// connection is open.
+pub fn first_with_rest(accounts: &Accounts, conn: u16, next: usize) -> usize
+    ensures { result ≡ (if is_open (connections_of accounts.now.entries) conn then next else 0) }
+{
+    if accounts::is_open(accounts, conn) {
+        next
+    } else {
+        0
+    }
+}
+
+/// A trial's streams begin as the survivor's first so many sends.
+pub fn rewind(accounts: &mut Accounts, sends: &VecDeque<Entry>, shared: usize)
+    requires laid { Laid (earlier_at (connections_of accounts.old.entries)) (sent_ends accounts.old.entries) sends.now.items }
+    requires within { shared ≤ length sends.now.items }
+    ensures connections { connections_of accounts.new.entries ≡ connections_of accounts.old.entries }
+    ensures sent { (conn : ℕ) → sent_ends accounts.new.entries conn ≡ sent_ends accounts.old.entries conn }
+    ensures tried { (conn : ℕ) → tried_ends accounts.new.entries conn ≡ earlier_at (connections_of accounts.old.entries) conn + length (sent_to conn (sends_of (take shared sends.now.items))) }
+{
+    accounts::begin_trial(accounts);
+    let mut i = sends.len();
+    'back: while i > shared {
+        i -= 1;
+        let entry = &sends[i];
+        accounts::try_send(accounts, entry.conn, entry.start);
+    }
+}
+
+/// Makes room for so many more sends, and for as many again where there was none.
+pub fn reserve(sends: &mut VecDeque<Entry>, more: usize) -> Result<(), AllocError>
+    ensures items { sends.new.items ≡ sends.old.items }
+    ensures len { deque_len sends.new ≡ deque_len sends.old }
+    ensures capacity { deque_capacity sends.old ≤ deque_capacity sends.new }
+    ensures ok { OnOk result (deque_len sends.new + more ≤ deque_capacity sends.new) }
+{
+    if sends.capacity() - sends.len() < more {
+        sends.reserve(more.saturating_mul(2))?;
+    }
+    Ok(())
+}
+
+/// Gives up so many of the oldest sends, and what was passed of them.
+pub fn drop_oldest(sends: &mut VecDeque<Entry>, accounts: &mut Accounts, count: u64)
+    requires laid { Laid (earlier_at (connections_of accounts.old.entries)) (sent_ends accounts.old.entries) sends.old.items }
+    requires within { count ≤ length sends.old.items }
+    ensures items { sends.new.items ≡ drop count sends.old.items }
+    ensures connections { connections_of accounts.new.entries ≡ trimmed_connections (sends_of (take count sends.old.items)) (connections_of accounts.old.entries) }
+    ensures sent { (conn : ℕ) → sent_ends accounts.new.entries conn ≡ sent_ends accounts.old.entries conn }
+{
+    for _ in 0..count {
+        let Some(entry) = sends.pop_front() else {
+            return;
+        };
+        accounts::give_up(accounts, entry.conn, entry.bytes.as_slice().len() as u64);
+    }
+}
