@@ -57,6 +57,10 @@ pub of_one : (conn : ℕ) (e : Entry) → sent_to conn (sends_of (e ∷ [])) ≡
 unfolding sends_of
 of_one conn e = append-nil _
 
+pub sends_of-one : (e : Entry) → sends_of (e ∷ []) ≡ send_of e ∷ []
+unfolding sends_of
+sends_of-one e = refl
+
 pub length_parts : (conn : ℕ) (xs ys : List Entry) → length (sent_to conn (sends_of (xs ++ ys))) ≡ length (sent_to conn (sends_of xs)) + length (sent_to conn (sends_of ys))
 length_parts conn xs ys = ap length (of_parts conn xs ys) ∙ length-append (sent_to conn (sends_of xs)) (sent_to conn (sends_of ys))
 

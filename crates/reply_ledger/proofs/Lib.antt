@@ -6,3 +6,4 @@ pub mod ConnectionLemmas
 pub mod PositionLemmas
 pub mod WaitingLemmas
 pub mod EntryLemmas
+pub mod StandsLemmas

@@ -1,7 +1,7 @@
 // What is kept of all connections, in the order in which they were opened.
 ghost use Rattle.std.specs.Prelude.{◌≡◌, ℕ, ◌+◌, ◌-◌, ◌≤◌, Bool, false, None, List, [], ◌∷◌, ◌++◌, length, take, drop, nat_eq, nat_le, nat_lt, ◌&&◌, true, All, OnOk, OnErr};
-ghost use Rattle.std.specs.Map.{lookup, values_of};
-ghost use Rattle.std.specs.List.{list_all};
+ghost use Rattle.std.specs.Map.{lookup, keys_of, values_of};
+ghost use Rattle.std.specs.List.{list_all, IsDistinct};
 ghost use Rattle.reply_ledger.specs.Ledger.{bytes_of, stamped, stamps_of, IsInOrder};
 ghost use Rattle.reply_ledger.specs.Trials.{agree, until};
 ghost use Rattle.reply_ledger.specs.Tallies.{new_tally, number_at, passed_at, passed_end, is_open_in, is_known, retallied, all_retallied, closed_tally, gone_tally, sent_tally, tried_tally, begun_tally, adopted_tally, passed_tally, given_up_tally, passed_until, tries_all, tries_until};
@@ -20,6 +20,7 @@ pub fn open(accounts: &mut Accounts, alloc: Global, conn: u16) -> Result<(), All
     requires { lookup (nat_eq conn) accounts.old.entries ≡ None }
     ensures ok { OnOk result (accounts.new.entries ≡ accounts.old.entries ++ (conn, new_tally) ∷ []) }
     ensures err { OnErr result (accounts.new.entries ≡ accounts.old.entries) }
+    ensures unique { IsDistinct nat_eq (keys_of accounts.new.entries) }
 {
     accounts.insert(conn, Account::new(alloc))?;
     Ok(())

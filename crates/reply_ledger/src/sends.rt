@@ -87,6 +87,7 @@ pub fn drop_oldest(sends: &mut VecDeque<Entry>, accounts: &mut Accounts, count: 
     requires within { count ≤ length sends.old.items }
     ensures items { sends.new.items ≡ drop count sends.old.items }
     ensures connections { connections_of accounts.new.entries ≡ trimmed_connections (sends_of (take count sends.old.items)) (connections_of accounts.old.entries) }
+    ensures laid { Laid (earlier_at (connections_of accounts.new.entries)) (sent_ends accounts.new.entries) sends.new.items }
     ensures sent { (conn : ℕ) → sent_ends accounts.new.entries conn ≡ sent_ends accounts.old.entries conn }
 {
     for _ in 0..count {

@@ -1,0 +1,7 @@
+use Rattle.std.proofs.Common.{◌≡◌, refl, sym, ap, subst}
+use Rattle.reply_ledger.specs.Trimming.{IsLawful}
+use Rattle.reply_ledger.proofs.StandsLemmas.{stands-change}
+use Rattle.reply_ledger.proofs.replies.Replies.first_send.Goals as goal
+
+pub returns-clause-lawful : goal.returns-clause-lawful
+returns-clause-lawful c = subst IsLawful c.self.view_is (record { passed = c.self.invariant.0.passed; times = c.self.invariant.0.laid.times; stamps = c.self.invariant.0.stamps })

@@ -1,0 +1,36 @@
+use Rattle.std.proofs.Common.{◌≡◌, ◌+◌, ◌-◌, ◌<◌, ◌≤◌, ◌++◌, ◌∷◌, [], ℕ, List, Bool, Option, None, Some, length, map, take, drop, min, refl, sym, ◌∙◌, ap, subst, arith, if◌then◌else◌, length-append}
+use Rattle.std.specs.Prelude.{nat_eq, ◌==◌, IsSome}
+use Rattle.std.specs.List.{position_or_len, IsDistinct}
+use Rattle.rx_io.specs.Sends.{Send, sent_to}
+use Rattle.reply_ledger.specs.declared.entry.Entry.{Entry}
+use Rattle.reply_ledger.specs.Ledger.{Ledger, Connection, Passed, connection_of, closed_connection, gone_connection, new_connection, passed_connection, stamped, stamped_to, changed, bytes_of, times_of, NotBefore}
+use Rattle.reply_ledger.specs.Tallies.{Tally, new_tally, closed_tally, gone_tally, sent_tally, tried_tally, adopted_tally, passed_tally, passed_end, connections_of, number_at, retallied, seen}
+use Rattle.reply_ledger.specs.Entries.{sends_of, send_of, stream_behind}
+use Rattle.reply_ledger.specs.Inside.{Stands, TriesIfAny, Tries, Laid, sent_ends, tried_ends, earlier_at, waits_in, trial_of}
+use Rattle.reply_ledger.proofs.ConnectionLemmas.{connections_of-retallied, connections_of-hidden, connections_of-all_hidden, connections_of-push, number_at-same, number_at-set, number_at-all, number_at-push, unknown-of, known-of, keys-of, keys-changed, earlier_at-of, passed_end-of, stamped_to-of, earlier_at-changed, stamped_to-changed, earlier_at-push, closed-falls, gone-falls}
+use Rattle.reply_ledger.proofs.TallyLemmas.{number_at-none}
+use Rattle.reply_ledger.proofs.StandsLemmas.{stands-change, stands-opened, stands-none, stands-sent, stands-adopted, stands-passed, tries_any-change, tries-change, tries-begun, tries-sent, tries-none, own-none, shared-none, cursor-marked, cursor-passed, stream-is}
+use Rattle.reply_ledger.proofs.replies.Replies.gone.Goals as goal
+
+pub first_waiting-self-inside-requires : goal.first_waiting-self-inside-requires
+first_waiting-self-inside-requires c =
+    let shown : connections_of c.leave.new.accounts.entries ≡ changed c.args.conn gone_connection (connections_of c.self.inside.accounts.entries) = ap connections_of c.leave.ensures ∙ connections_of-retallied c.args.conn gone_tally gone_connection (λ e. refl) c.self.inside.accounts.entries in
+    let later = cursor-marked (connections_of c.self.inside.accounts.entries) c.self.inside.sends.items c.args.conn gone_connection (λ x. refl) (λ x. refl) (λ x. refl) gone-falls in
+    subst (λ (l : List Connection). c.self.inside.next ≤ position_or_len (waits_in l) c.self.inside.sends.items) (sym shown) (omega (arith, later, c.self.invariant.0.cursor))
+
+pub invariant_of-self : goal.invariant_of-self
+invariant_of-self c =
+    let shown : connections_of c.leave.new.accounts.entries ≡ changed c.args.conn gone_connection (connections_of c.self.inside.accounts.entries) = ap connections_of c.leave.ensures ∙ connections_of-retallied c.args.conn gone_tally gone_connection (λ e. refl) c.self.inside.accounts.entries in
+    let earlier : (q : ℕ) → earlier_at (connections_of c.leave.new.accounts.entries) q ≡ earlier_at (connections_of c.self.inside.accounts.entries) q =
+        λ (q : ℕ). ap (λ (l : List Connection). earlier_at l q) shown ∙ earlier_at-changed c.args.conn gone_connection (λ x. refl) (λ x. refl) (connections_of c.self.inside.accounts.entries) q in
+    (stands-change (ap (map (λ (x : Connection). x.conn)) shown ∙ keys-changed c.args.conn gone_connection (λ x. refl) (connections_of c.self.inside.accounts.entries)) earlier
+       (λ q. ap (λ (l : List Connection). stamped_to l q) shown ∙ stamped_to-changed c.args.conn gone_connection (λ x. refl) (λ x. refl) (connections_of c.self.inside.accounts.entries) q)
+       (λ q. ap (λ (t : List (ℕ × Tally)). sent_ends t q) c.leave.ensures ∙ number_at-same (λ (t : Tally). t.sent) c.args.conn gone_tally (λ t. refl) c.self.inside.accounts.entries q)
+       c.first_waiting-self-inside.ensures c.self.invariant.0,
+     tries_any-change (connections_of c.self.inside.accounts.entries) _ (tried_ends c.self.inside.accounts.entries) _ c.self.inside.sends.items c.self.inside.own.items _ _ c.self.inside.shared earlier
+       (λ q. ap (λ (t : List (ℕ × Tally)). tried_ends t q) c.leave.ensures ∙ number_at-same (λ (t : Tally). t.tried) c.args.conn gone_tally (λ t. refl) c.self.inside.accounts.entries q) (omega arith) c.self.invariant.1)
+
+pub returns : goal.returns
+returns c =
+    rw (← c.self.view_is) (ap (λ (l : List Connection). record { first = c.self.inside.first; kept = sends_of c.self.inside.sends.items; trial = trial_of c.self.inside.sends.items c.self.inside.own.items c.self.inside.shared; connections = l })
+      (ap connections_of c.leave.ensures ∙ connections_of-retallied c.args.conn gone_tally gone_connection (λ e. refl) c.self.inside.accounts.entries))
