@@ -600,3 +600,24 @@ rests-part C conn at e part place is = by (e.conn == conn) refl is
 pub until-none : (item : ℕ) → until item [] ≡ []
 unfolding until
 until-none item = refl
+
+-- there is room for a trial's own sends behind those that it shares
+pub adopt-room : {C : List Connection} {t : ℕ → ℕ} {E own : List Entry} {room shared len new_len own_len new_room : ℕ} → Tries C t E own room shared → len ≡ length E → own_len ≡ length own → new_len ≡ min shared len → new_room ≡ room → new_len + own_len ≤ new_room
+adopt-room h a b m r = let w = h.within in let x = h.room in omega (arith, w, x, a, b, m, r)
+
+pub rests-more : (C : List Connection) (conn i : ℕ) (E : List Entry) (e : Entry) → i < length E → e ≡ get_or E i e → rests C conn e ≡ false → ((k : ℕ) (d : Entry) → k < i → rests C conn (get_or E k d) ≡ false)
+    → (k : ℕ) (d : Entry) → k < i + 1 → rests C conn (get_or E k d) ≡ false
+rests-more C conn i E e lt is f h k d below = by (cases_lt k i)
+  where
+    by : (k < i) ⊎ (i ≤ k) → rests C conn (get_or E k d) ≡ false
+    by (inl before) = h k d before
+    by (inr behind) =
+        let at : k ≡ i = omega (arith, below, behind) in
+        let same : get_or E k d ≡ e = ap (λ (n : ℕ). get_or E n d) at ∙ get_or_default E i d e lt ∙ sym is in
+        ap (rests C conn) same ∙ f
+
+pub rests-bytes : (C : List Connection) (conn at : ℕ) (e : Entry) (part : List ℕ) → at ≡ earlier_at C conn + length (stamped_to C conn) → part ≡ (if e.conn == conn then rest_of at e else []) → rests C conn e ≡ true
+    → part ≡ rest_of (earlier_at C e.conn + length (stamped_to C e.conn)) e
+rests-bytes C conn at e part place is t =
+    let same = (and_parts (e.conn == conn) _ t).0 in
+    is ∙ ap (λ (b : Bool). if b then rest_of at e else []) same ∙ ap (λ (m : ℕ). rest_of m e) (place ∙ ap (λ (c : ℕ). earlier_at C c + length (stamped_to C c)) (sym (eqb-true e.conn conn same)))
