@@ -121,6 +121,7 @@ lookup-retallied conn change q (e ∷ tallies) = by (conn == e.0) refl (nat_eq q
   where
     rest : Option Tally
     rest = lookup (nat_eq q) tallies
+
     by : (a : Bool) → conn == e.0 ≡ a → (b : Bool) → nat_eq q e.0 ≡ b → (r : Bool) → conn == q ≡ r → lookup (nat_eq q) (retallied conn change tallies) ≡ (if r then option_map change (lookup (nat_eq q) tallies) else lookup (nat_eq q) tallies)
         → lookup (nat_eq q) ((if a then (e.0, change e.1) else e) ∷ retallied conn change tallies) ≡ (if r then option_map change (cond b (Some e.1) (lookup (nat_eq q) tallies)) else cond b (Some e.1) (lookup (nat_eq q) tallies))
     by true pa true pb true pr ih = ap (λ (x : Bool). cond x (Some (change e.1)) (lookup (nat_eq q) (retallied conn change tallies))) pb
@@ -372,8 +373,10 @@ trimmed-append xs ys (c ∷ connections) = (λ i. record c { earlier = more i; p
   where
     long : length (sent_to c.conn (xs ++ ys)) ≡ length (sent_to c.conn xs) + length (sent_to c.conn ys)
     long = ap length (flat_map-append (λ (send : Send). if send.conn == c.conn then send.bytes else []) xs ys) ∙ length-append (sent_to c.conn xs) (sent_to c.conn ys)
+
     more : c.earlier + length (sent_to c.conn (xs ++ ys)) ≡ c.earlier + length (sent_to c.conn xs) + length (sent_to c.conn ys)
     more = omega (arith, long)
+
     left : drop (length (sent_to c.conn (xs ++ ys))) c.passed ≡ drop (length (sent_to c.conn ys)) (drop (length (sent_to c.conn xs)) c.passed)
     left = ap (λ (n : ℕ). drop n c.passed) long ∙ sym (drop-drop (length (sent_to c.conn ys)) (length (sent_to c.conn xs)) c.passed)
 

@@ -122,7 +122,7 @@ pub laid-same : {earlier finish earlier' finish' : ℕ → ℕ} {entries : List 
 laid-same {entries = entries} e f h = record {
   places = λ k d lt. h.places k d lt ∙ ap (λ (n : ℕ). n + length (sent_to (get_or entries k d).conn (sends_of (take k entries)))) (sym (e (get_or entries k d).conn));
   ends = λ c. f c ∙ h.ends c ∙ ap (λ (n : ℕ). n + length (sent_to c (sends_of entries))) (sym (e c));
-  times = h.times
+  times = h.times;
 }
 
 pub laid-none : (earlier finish : ℕ → ℕ) → ((c : ℕ) → finish c ≡ earlier c) → Laid earlier finish []
@@ -135,7 +135,7 @@ pub laid-push : {earlier finish finish' : ℕ → ℕ} (entries : List Entry) (e
 laid-push {earlier = earlier} {finish = finish} {finish' = finish'} entries e h s n f = record {
   places = λ k d lt. place k d (cases_lt k (length entries)) lt;
   ends = λ c. ends c (e.conn == c) refl;
-  times = subst IsInOrder (sym (times-parts entries (e ∷ []) ∙ ap (λ (l : List ℕ). times_of (sends_of entries) ++ l) (times-one e))) (order-push (times_of (sends_of entries)) e.taken h.times n)
+  times = subst IsInOrder (sym (times-parts entries (e ∷ []) ∙ ap (λ (l : List ℕ). times_of (sends_of entries) ++ l) (times-one e))) (order-push (times_of (sends_of entries)) e.taken h.times n);
 }
   where
     place : (k : ℕ) (d : Entry) → (k < length entries) ⊎ (length entries ≤ k) → k < length (entries ++ e ∷ [])
@@ -151,6 +151,7 @@ laid-push {earlier = earlier} {finish = finish} {finish' = finish'} entries e h 
         let front : take k (entries ++ e ∷ []) ≡ entries = take-append-le k entries (e ∷ []) (omega (arith, at)) ∙ take_all k entries (omega (arith, at)) in
         subst (λ (x : Entry). x.start ≡ earlier x.conn + length (sent_to x.conn (sends_of (take k (entries ++ e ∷ []))))) (sym same)
         (s ∙ h.ends e.conn ∙ ap (λ (l : List Entry). earlier e.conn + length (sent_to e.conn (sends_of l))) (sym front))
+
     ends : (c : ℕ) (b : Bool) → e.conn == c ≡ b → finish' c ≡ earlier c + length (sent_to c (sends_of (entries ++ e ∷ [])))
     ends c true p =
         let one : length (sent_to c (sends_of (e ∷ []))) ≡ length e.bytes = length_one c e ∙ ap (λ (b : Bool). if b then length e.bytes else 0) p in
@@ -167,11 +168,12 @@ pub laid-take : {earlier finish finish' : ℕ → ℕ} (entries : List Entry) (n
 laid-take {earlier = earlier} entries n h f = record {
   places = λ k d lt. place k d lt;
   ends = f;
-  times = order-front (times_of (sends_of (take n entries))) (times_of (sends_of (drop n entries))) (subst IsInOrder (ap (λ (l : List Entry). times_of (sends_of l)) (sym (take-append-drop n entries)) ∙ times-parts (take n entries) (drop n entries)) h.times)
+  times = order-front (times_of (sends_of (take n entries))) (times_of (sends_of (drop n entries))) (subst IsInOrder (ap (λ (l : List Entry). times_of (sends_of l)) (sym (take-append-drop n entries)) ∙ times-parts (take n entries) (drop n entries)) h.times);
 }
   where
     whole : take n entries ++ drop n entries ≡ entries
     whole = take-append-drop n entries
+
     place : (k : ℕ) (d : Entry) → k < length (take n entries)
         → (get_or (take n entries) k d).start ≡ earlier (get_or (take n entries) k d).conn + length (sent_to (get_or (take n entries) k d).conn (sends_of (take k (take n entries))))
     place k d lt =
@@ -187,17 +189,21 @@ pub laid-drop : {earlier finish earlier' : ℕ → ℕ} (entries : List Entry) (
 laid-drop {earlier = earlier} {finish = finish} {earlier' = earlier'} entries n h le f = record {
   places = λ k d lt. place k d lt;
   ends = λ c. omega (arith, h.ends c, f c, total c);
-  times = order-behind (times_of (sends_of (take n entries))) (times_of (sends_of (drop n entries))) (subst IsInOrder (ap (λ (l : List Entry). times_of (sends_of l)) (sym (take-append-drop n entries)) ∙ times-parts (take n entries) (drop n entries)) h.times)
+  times = order-behind (times_of (sends_of (take n entries))) (times_of (sends_of (drop n entries))) (subst IsInOrder (ap (λ (l : List Entry). times_of (sends_of l)) (sym (take-append-drop n entries)) ∙ times-parts (take n entries) (drop n entries)) h.times);
 }
   where
     whole : take n entries ++ drop n entries ≡ entries
     whole = take-append-drop n entries
+
     total : (c : ℕ) → length (sent_to c (sends_of (take n entries))) + length (sent_to c (sends_of (drop n entries))) ≡ length (sent_to c (sends_of entries))
     total c = sym (length_parts c (take n entries) (drop n entries)) ∙ ap (λ (l : List Entry). length (sent_to c (sends_of l))) whole
+
     long : length (take n entries) + length (drop n entries) ≡ length entries
     long = sym (length-append (take n entries) (drop n entries)) ∙ ap length whole
+
     front_long : length (take n entries) ≡ n
     front_long = length-take-le n entries le
+
     place : (k : ℕ) (d : Entry) → k < length (drop n entries)
         → (get_or (drop n entries) k d).start ≡ earlier' (get_or (drop n entries) k d).conn + length (sent_to (get_or (drop n entries) k d).conn (sends_of (take k (drop n entries))))
     place k d lt =
@@ -205,7 +211,7 @@ laid-drop {earlier = earlier} {finish = finish} {earlier' = earlier'} entries n 
         let at = h.places (n + k) d (omega (arith, lt, long, front_long)) in
         let x : Entry = get_or (drop n entries) k d in
         let moved : (get_or (drop n entries) k d).start ≡ earlier (get_or (drop n entries) k d).conn + length (sent_to (get_or (drop n entries) k d).conn (sends_of (take (n + k) entries))) =
-            subst (λ (x : Entry). x.start ≡ earlier x.conn + length (sent_to x.conn (sends_of (take (n + k) entries)))) same at in
+        subst (λ (x : Entry). x.start ≡ earlier x.conn + length (sent_to x.conn (sends_of (take (n + k) entries)))) same at in
         let parts = ap (λ (l : List Entry). length (sent_to (get_or (drop n entries) k d).conn (sends_of l))) (take-add n k entries) ∙ length_parts (get_or (drop n entries) k d).conn (take n entries) (take k (drop n entries)) in
         omega (arith, moved, parts, f (get_or (drop n entries) k d).conn)
 
@@ -219,9 +225,9 @@ parts-laid connections front (e ∷ entries) h =
     let none = ap (λ (l : List Entry). length (sent_to e.conn (sends_of l))) (append-nil front) in
     let at : e.start ≡ earlier_at connections e.conn + length (sent_to e.conn (sends_of front)) = h 0 e (omega arith) ∙ ap (λ (n : ℕ). earlier_at connections e.conn + n) none in
     let place : length (bytes_of (stamped_to connections e.conn)) - length (sent_to e.conn (sends_of front)) ≡ earlier_at connections e.conn + length (stamped_to connections e.conn) - e.start =
-        omega (arith, at, length-bytes_of (stamped_to connections e.conn)) in
+    omega (arith, at, length-bytes_of (stamped_to connections e.conn)) in
     let rest : (k : ℕ) (d : Entry) → k < length entries → (get_or entries k d).start ≡ earlier_at connections (get_or entries k d).conn + length (sent_to (get_or entries k d).conn (sends_of ((front ++ e ∷ []) ++ take k entries))) =
-        λ (k : ℕ) (d : Entry) (lt : k < length entries). h (suc k) d (omega arith) ∙ ap (λ (l : List Entry). earlier_at connections (get_or entries k d).conn + length (sent_to (get_or entries k d).conn (sends_of l))) (sym (append_assoc front (e ∷ []) (take k entries))) in
+    λ (k : ℕ) (d : Entry) (lt : k < length entries). h (suc k) d (omega arith) ∙ ap (λ (l : List Entry). earlier_at connections (get_or entries k d).conn + length (sent_to (get_or entries k d).conn (sends_of l))) (sym (append_assoc front (e ∷ []) (take k entries))) in
     (λ i. (record { conn = e.conn; bytes = drop (place i) e.bytes; taken = e.taken }) ∷ (ap (λ (l : List Send). parts_behind connections l (sends_of entries)) (sym (sends_of-append front (e ∷ []))) ∙ parts-laid connections (front ++ e ∷ []) entries rest) i)
 
 -- the rest of a connection's stream
@@ -240,8 +246,10 @@ stream-laid earlier conn at front (e ∷ entries) h = by (e.conn == conn) refl (
   where
     rest : (k : ℕ) (d : Entry) → k < length entries → (get_or entries k d).start ≡ earlier (get_or entries k d).conn + length (sent_to (get_or entries k d).conn (sends_of ((front ++ e ∷ []) ++ take k entries)))
     rest k d lt = h (suc k) d (omega arith) ∙ ap (λ (l : List Entry). earlier (get_or entries k d).conn + length (sent_to (get_or entries k d).conn (sends_of l))) (sym (append_assoc front (e ∷ []) (take k entries)))
+
     start : e.start ≡ earlier e.conn + length (sent_to e.conn (sends_of front))
     start = h 0 e (omega arith) ∙ ap (λ (l : List Entry). earlier e.conn + length (sent_to e.conn (sends_of l))) (append-nil front)
+
     by : (b : Bool) → e.conn == conn ≡ b → stream_behind conn at entries ≡ drop (at - earlier conn - length (sent_to conn (sends_of (front ++ e ∷ [])))) (sent_to conn (sends_of entries))
         → (if b then rest_of at e else []) ++ stream_behind conn at entries ≡ drop (at - earlier conn - length (sent_to conn (sends_of front))) ((if b then e.bytes else []) ++ sent_to conn (sends_of entries))
     by true p ih =
@@ -288,8 +296,10 @@ rewound tallies earlier entries i e le is start h c = by (lookup (nat_eq e.conn)
   where
     front : take (suc i) entries ≡ take i entries ++ e ∷ []
     front = take-suc entries i e le ∙ ap (λ (x : Entry). take i entries ++ x ∷ []) (sym is)
+
     long : length (sent_to c (sends_of (take (suc i) entries))) ≡ length (sent_to c (sends_of (take i entries))) + length (sent_to c (sends_of (e ∷ [])))
     long = ap (λ (l : List Entry). length (sent_to c (sends_of l))) front ∙ length_parts c (take i entries) (e ∷ [])
+
     by : (o : Option Tally) → lookup (nat_eq e.conn) tallies ≡ o → (b : Bool) → e.conn == c ≡ b
         → tried_ends (retallied e.conn (tried_tally e.start) tallies) c ≡ earlier c + length (sent_to c (sends_of (take i entries)))
     by None k true p =
@@ -326,7 +336,7 @@ pub oldest-laid : (tallies : List (ℕ × Tally)) (e : Entry) (entries : List En
     → Laid (earlier_at (connections_of (retallied e.conn (given_up_tally (length e.bytes)) tallies))) (sent_ends (retallied e.conn (given_up_tally (length e.bytes)) tallies)) entries
 oldest-laid tallies e entries h =
     let moved : (c : ℕ) → earlier_at (connections_of (retallied e.conn (given_up_tally (length e.bytes)) tallies)) c ≡ earlier_at (connections_of tallies) c + length (sent_to c (sends_of (take 1 (e ∷ entries)))) =
-        λ (c : ℕ). ap (λ (l : List Connection). earlier_at l c) (oldest-gone tallies e) ∙ earlier_at-trimmed (sends_of (e ∷ [])) (connections_of tallies) c (unknown c) in
+    λ (c : ℕ). ap (λ (l : List Connection). earlier_at l c) (oldest-gone tallies e) ∙ earlier_at-trimmed (sends_of (e ∷ [])) (connections_of tallies) c (unknown c) in
     laid-same (λ c. refl) (λ c. number_at-same (λ (t : Tally). t.sent) e.conn (given_up_tally (length e.bytes)) (λ t. refl) tallies c) (laid-drop (e ∷ entries) 1 h (omega arith) moved)
   where
     unknown : (c : ℕ) → connection_of (connections_of tallies) c ≡ None → length (sent_to c (sends_of (e ∷ []))) ≡ 0

@@ -44,10 +44,10 @@ position-later p q less [] = omega arith
 position-later p q less (x ∷ xs) = tested (p x)
     (λ h. let at : position_or_len p (x ∷ xs) ≡ 0 = ap (λ (b : Bool). cond (not b) (1 + position_or_len p xs) 0) h in omega (arith, at))
     (λ h.
-      let fails : q x ≡ false = tested (q x) (λ k. absurd (true≢false (sym (less x k) ∙ h))) (λ k. k) in
-      let at : position_or_len p (x ∷ xs) ≡ 1 + position_or_len p xs = ap (λ (b : Bool). cond (not b) (1 + position_or_len p xs) 0) h in
-      let bt : position_or_len q (x ∷ xs) ≡ 1 + position_or_len q xs = ap (λ (b : Bool). cond (not b) (1 + position_or_len q xs) 0) fails in
-      omega (arith, at, bt, position-later p q less xs))
+    let fails : q x ≡ false = tested (q x) (λ k. absurd (true≢false (sym (less x k) ∙ h))) (λ k. k) in
+    let at : position_or_len p (x ∷ xs) ≡ 1 + position_or_len p xs = ap (λ (b : Bool). cond (not b) (1 + position_or_len p xs) 0) h in
+    let bt : position_or_len q (x ∷ xs) ≡ 1 + position_or_len q xs = ap (λ (b : Bool). cond (not b) (1 + position_or_len q xs) 0) fails in
+    omega (arith, at, bt, position-later p q less xs))
 
 -- tests that agree on the elements
 pub position-same : {X : Type 0} (p q : X → Bool) (xs : List X) → ((k : ℕ) (d : X) → k < length xs → p (get_or xs k d) ≡ q (get_or xs k d)) → position_or_len p xs ≡ position_or_len q xs

@@ -83,12 +83,13 @@ passed_in-push (run ∷ runs) at end after stamp bytes more h e a lt =
     let rise = runs_rise runs run.end end h.1 in
     let within : run.end - at ≤ length bytes = omega (arith, e, rise) in
     let long : end ≡ run.end + length (drop (run.end - at) bytes) = omega (arith, h.0, e, length-drop (run.end - at) bytes) in
-    let rest = passed_in-push runs run.end end after stamp (drop (run.end - at) bytes) more h.1 long a lt in
-    (ap (λ l. stamped run.stamp l ++ passed_in run.end (drop (run.end - at) (bytes ++ more)) (runs ++ record { end = after; stamp = stamp } ∷ [])) (take-append-le (run.end - at) bytes more within)
-     ∙ ap (λ l. stamped run.stamp (take (run.end - at) bytes) ++ passed_in run.end l (runs ++ record { end = after; stamp = stamp } ∷ [])) (drop-append-le (run.end - at) bytes more within)
-     ∙ ap (λ l. stamped run.stamp (take (run.end - at) bytes) ++ l) rest.0
-     ∙ sym (append_assoc (stamped run.stamp (take (run.end - at) bytes)) _ _),
-     (h.0, rest.1))
+    let rest = passed_in-push runs run.end end after stamp (drop (run.end - at) bytes) more h.1 long a lt in (
+      ap (λ l. stamped run.stamp l ++ passed_in run.end (drop (run.end - at) (bytes ++ more)) (runs ++ record { end = after; stamp = stamp } ∷ [])) (take-append-le (run.end - at) bytes more within)
+          ∙ ap (λ l. stamped run.stamp (take (run.end - at) bytes) ++ passed_in run.end l (runs ++ record { end = after; stamp = stamp } ∷ [])) (drop-append-le (run.end - at) bytes more within)
+          ∙ ap (λ l. stamped run.stamp (take (run.end - at) bytes) ++ l) rest.0
+          ∙ sym (append_assoc (stamped run.stamp (take (run.end - at) bytes)) _ _),
+      (h.0, rest.1),
+    )
 
 -- the last run goes on
 pub passed_in-grow : (front : List Run) (last : Run) (at end after : ℕ) (bytes more : List ℕ) → RunsFrom at end (front ++ last ∷ []) → end ≡ at + length bytes → after ≡ end + length more
@@ -96,43 +97,47 @@ pub passed_in-grow : (front : List Run) (last : Run) (at end after : ℕ) (bytes
 unfolding RunsFrom passed_in
 passed_in-grow [] last at end after bytes more h e a =
     let all : length (bytes ++ more) ≤ after - at = omega (arith, h.0, h.1, length-append bytes more) in
-    let old : length bytes ≤ last.end - at = omega (arith, h.0, h.1, e) in
-    (append-nil _ ∙ ap (stamped last.stamp) (take_all (after - at) (bytes ++ more) all) ∙ stamped-append last.stamp bytes more
-     ∙ ap (λ l. stamped last.stamp l ++ stamped last.stamp more) (sym (take_all (last.end - at) bytes old))
-     ∙ ap (λ l. l ++ stamped last.stamp more) (sym (append-nil _)),
-     (omega (arith, h.0, h.1, a), refl))
+    let old : length bytes ≤ last.end - at = omega (arith, h.0, h.1, e) in (
+      append-nil _ ∙ ap (stamped last.stamp) (take_all (after - at) (bytes ++ more) all) ∙ stamped-append last.stamp bytes more
+          ∙ ap (λ l. stamped last.stamp l ++ stamped last.stamp more) (sym (take_all (last.end - at) bytes old))
+          ∙ ap (λ l. l ++ stamped last.stamp more) (sym (append-nil _)),
+      (omega (arith, h.0, h.1, a), refl),
+    )
 passed_in-grow (run ∷ front) last at end after bytes more h e a =
     let rise = runs_rise (front ++ last ∷ []) run.end end h.1 in
     let within : run.end - at ≤ length bytes = omega (arith, e, rise) in
     let long : end ≡ run.end + length (drop (run.end - at) bytes) = omega (arith, h.0, e, length-drop (run.end - at) bytes) in
-    let rest = passed_in-grow front last run.end end after (drop (run.end - at) bytes) more h.1 long a in
-    (ap (λ l. stamped run.stamp l ++ passed_in run.end (drop (run.end - at) (bytes ++ more)) (front ++ record { end = after; stamp = last.stamp } ∷ [])) (take-append-le (run.end - at) bytes more within)
-     ∙ ap (λ l. stamped run.stamp (take (run.end - at) bytes) ++ passed_in run.end l (front ++ record { end = after; stamp = last.stamp } ∷ [])) (drop-append-le (run.end - at) bytes more within)
-     ∙ ap (λ l. stamped run.stamp (take (run.end - at) bytes) ++ l) rest.0
-     ∙ sym (append_assoc (stamped run.stamp (take (run.end - at) bytes)) _ _),
-     (h.0, rest.1))
+    let rest = passed_in-grow front last run.end end after (drop (run.end - at) bytes) more h.1 long a in (
+      ap (λ l. stamped run.stamp l ++ passed_in run.end (drop (run.end - at) (bytes ++ more)) (front ++ record { end = after; stamp = last.stamp } ∷ [])) (take-append-le (run.end - at) bytes more within)
+          ∙ ap (λ l. stamped run.stamp (take (run.end - at) bytes) ++ passed_in run.end l (front ++ record { end = after; stamp = last.stamp } ∷ [])) (drop-append-le (run.end - at) bytes more within)
+          ∙ ap (λ l. stamped run.stamp (take (run.end - at) bytes) ++ l) rest.0
+          ∙ sym (append_assoc (stamped run.stamp (take (run.end - at) bytes)) _ _),
+      (h.0, rest.1),
+    )
 
 -- what `note` and the new bytes make of what was passed
 pub passed_in-Notes : (old new : List Run) (at end after stamp : ℕ) (bytes more : List ℕ) → RunsFrom at end old → end ≡ at + length bytes → after ≡ end + length more → Notes end after stamp old new
     → (passed_in at (bytes ++ more) new ≡ passed_in at bytes old ++ stamped stamp more) × RunsFrom at after new
 unfolding RunsFrom passed_in stamped
 passed_in-Notes old new at end after stamp bytes more h e a notes = elim notes [
-    inl same ↦
+  | inl same ↦
       let none = empty_of_length more (omega (arith, same.0, a)) in
       let P : List ℕ → Type 0 = λ m. (passed_in at (bytes ++ m) old ≡ passed_in at bytes old ++ stamped stamp m) in
       let here : P [] = ap (λ l. passed_in at l old) (append-nil bytes) ∙ sym (append-nil _) in
       let kept : P more = subst P (sym none) here in
       (ap (passed_in at (bytes ++ more)) same.1 ∙ kept, subst (λ (r : List Run). RunsFrom at after r) (sym same.1) (subst (λ (n : ℕ). RunsFrom at n old) same.0 h))
-    | inr moved ↦ elim moved.1 [
-        inl push ↦
-          let p = passed_in-push old at end after stamp bytes more h e a moved.0 in
-          subst (λ (r : List Run). (passed_in at (bytes ++ more) r ≡ passed_in at bytes old ++ stamped stamp more) × RunsFrom at after r) (sym push) p
-        | inr grown ↦
-          let old_is : RunsFrom at end (grown.0 ++ grown.1 ∷ []) = subst (λ (r : List Run). RunsFrom at end r) grown.2 h in
-          let p = passed_in-grow grown.0 grown.1 at end after bytes more old_is e a in
-          let q = subst (λ (s : ℕ). (passed_in at (bytes ++ more) (grown.0 ++ record { end = after; stamp = s } ∷ []) ≡ passed_in at bytes (grown.0 ++ grown.1 ∷ []) ++ stamped s more) × RunsFrom at after (grown.0 ++ record { end = after; stamp = s } ∷ [])) grown.3 p in
-          let r = subst (λ (r : List Run). (passed_in at (bytes ++ more) (grown.0 ++ record { end = after; stamp = stamp } ∷ []) ≡ passed_in at bytes r ++ stamped stamp more) × RunsFrom at after (grown.0 ++ record { end = after; stamp = stamp } ∷ [])) (sym grown.2) q in
-          subst (λ (r : List Run). (passed_in at (bytes ++ more) r ≡ passed_in at bytes old ++ stamped stamp more) × RunsFrom at after r) (sym grown.4) r ] ]
+  | inr moved ↦ elim moved.1 [
+    | inl push ↦
+        let p = passed_in-push old at end after stamp bytes more h e a moved.0 in
+        subst (λ (r : List Run). (passed_in at (bytes ++ more) r ≡ passed_in at bytes old ++ stamped stamp more) × RunsFrom at after r) (sym push) p
+    | inr grown ↦
+        let old_is : RunsFrom at end (grown.0 ++ grown.1 ∷ []) = subst (λ (r : List Run). RunsFrom at end r) grown.2 h in
+        let p = passed_in-grow grown.0 grown.1 at end after bytes more old_is e a in
+        let q = subst (λ (s : ℕ). (passed_in at (bytes ++ more) (grown.0 ++ record { end = after; stamp = s } ∷ []) ≡ passed_in at bytes (grown.0 ++ grown.1 ∷ []) ++ stamped s more) × RunsFrom at after (grown.0 ++ record { end = after; stamp = s } ∷ [])) grown.3 p in
+        let r = subst (λ (r : List Run). (passed_in at (bytes ++ more) (grown.0 ++ record { end = after; stamp = stamp } ∷ []) ≡ passed_in at bytes r ++ stamped stamp more) × RunsFrom at after (grown.0 ++ record { end = after; stamp = stamp } ∷ [])) (sym grown.2) q in
+        subst (λ (r : List Run). (passed_in at (bytes ++ more) r ≡ passed_in at bytes old ++ stamped stamp more) × RunsFrom at after r) (sym grown.4) r
+  ]
+]
 
 -- what is left of passed bytes when the oldest are given up
 pub passed_in-drop : (runs : List Run) (at end n : ℕ) (bytes : List ℕ) → RunsFrom at end runs → end ≡ at + length bytes
@@ -147,16 +152,22 @@ passed_in-drop (run ∷ runs) at end n bytes h e =
   where
     rise : run.end ≤ end
     rise = runs_rise runs run.end end h.1
+
     first : List Passed
     first = stamped run.stamp (take (run.end - at) bytes)
+
     rest : List Passed
     rest = passed_in run.end (drop (run.end - at) bytes) runs
+
     long : length first ≡ run.end - at
     long = omega (arith, length-stamped run.stamp (take (run.end - at) bytes), length-take (run.end - at) bytes, rise, e)
+
     Goal : List Run → Type 0
     Goal past = (passed_in (at + n) (drop n bytes) past ≡ drop n (first ++ rest)) × RunsFrom (at + n) (at + n + length (drop n bytes)) past
+
     Later : Type 0
     Later = (passed_in (run.end + (n - (run.end - at))) (drop (n - (run.end - at)) (drop (run.end - at) bytes)) (runs_past (run.end + (n - (run.end - at))) runs) ≡ drop (n - (run.end - at)) rest) × RunsFrom (run.end + (n - (run.end - at))) (run.end + (n - (run.end - at)) + length (drop (n - (run.end - at)) (drop (run.end - at) bytes))) (runs_past (run.end + (n - (run.end - at))) runs)
+
     by : Later → (b : Bool) → nat_le run.end (at + n) ≡ b → Goal (if b then runs_past (at + n) runs else run ∷ runs)
     by ih true t =
         let le : run.end ≤ at + n = leb-true run.end (at + n) t in
@@ -176,9 +187,10 @@ passed_in-drop (run ∷ runs) at end n bytes h e =
         let head : drop n (take (run.end - at) bytes) ≡ take (run.end - (at + n)) (drop n bytes) = ap (λ (j : ℕ). drop n (take j bytes)) (sym sum) ∙ drop-take n (run.end - (at + n)) bytes in
         let left : drop n first ≡ stamped run.stamp (take (run.end - (at + n)) (drop n bytes)) = drop-stamped n run.stamp (take (run.end - at) bytes) ∙ ap (stamped run.stamp) head in
         let tail : drop (run.end - (at + n)) (drop n bytes) ≡ drop (run.end - at) bytes = drop-drop (run.end - (at + n)) n bytes ∙ ap (λ (j : ℕ). drop j bytes) sum in
-        let ends : end ≡ at + n + length (drop n bytes) = omega (arith, len, e, gt, rise) in
-        (ap (λ (l : List ℕ). stamped run.stamp (take (run.end - (at + n)) (drop n bytes)) ++ passed_in run.end l runs) tail ∙ ap (λ (l : List Passed). l ++ rest) (sym left) ∙ sym old,
-         (gt, subst (λ (j : ℕ). RunsFrom run.end j runs) ends h.1))
+        let ends : end ≡ at + n + length (drop n bytes) = omega (arith, len, e, gt, rise) in (
+          ap (λ (l : List ℕ). stamped run.stamp (take (run.end - (at + n)) (drop n bytes)) ++ passed_in run.end l runs) tail ∙ ap (λ (l : List Passed). l ++ rest) (sym left) ∙ sym old,
+          (gt, subst (λ (j : ℕ). RunsFrom run.end j runs) ends h.1),
+        )
 
 -- the runs' stamps don't fall, where those of the bytes don't
 pub AreInOrder : List Run → Type 0
@@ -213,9 +225,10 @@ all_runs P (run ∷ runs) at end bytes h e all =
     let rise = runs_rise runs run.end end h.1 in
     let some : 0 < run.end - at = omega (arith, h.0) in
     let within : run.end - at ≤ length bytes = omega (arith, e, rise) in
-    let long : end ≡ run.end + length (drop (run.end - at) bytes) = omega (arith, h.0, e, length-drop (run.end - at) bytes) in
-    (shows_stamp run.stamp (run.end - at) bytes (passed_in run.end (drop (run.end - at) bytes) runs) P some within all,
-     all_runs P runs run.end end (drop (run.end - at) bytes) h.1 long (rest_stamps run.stamp (take (run.end - at) bytes) (passed_in run.end (drop (run.end - at) bytes) runs) P all))
+    let long : end ≡ run.end + length (drop (run.end - at) bytes) = omega (arith, h.0, e, length-drop (run.end - at) bytes) in (
+      shows_stamp run.stamp (run.end - at) bytes (passed_in run.end (drop (run.end - at) bytes) runs) P some within all,
+      all_runs P runs run.end end (drop (run.end - at) bytes) h.1 long (rest_stamps run.stamp (take (run.end - at) bytes) (passed_in run.end (drop (run.end - at) bytes) runs) P all),
+    )
 
 order_rest : (s m : ℕ) (bytes : List ℕ) (rest : List Passed) → 0 < m → m ≤ length bytes → IsInOrder (stamps_of (stamped s (take m bytes) ++ rest)) → AllByRecursion (λ y. s ≤ y) (stamps_of rest) × IsInOrder (stamps_of rest)
 unfolding stamps_of stamped
@@ -235,9 +248,10 @@ runs_in_order (run ∷ runs) at end bytes h e order =
     let some : 0 < run.end - at = omega (arith, h.0) in
     let within : run.end - at ≤ length bytes = omega (arith, e, rise) in
     let long : end ≡ run.end + length (drop (run.end - at) bytes) = omega (arith, h.0, e, length-drop (run.end - at) bytes) in
-    let parts = order_rest run.stamp (run.end - at) bytes (passed_in run.end (drop (run.end - at) bytes) runs) some within order in
-    (all_runs (λ y. run.stamp ≤ y) runs run.end end (drop (run.end - at) bytes) h.1 long parts.0,
-     runs_in_order runs run.end end (drop (run.end - at) bytes) h.1 long parts.1)
+    let parts = order_rest run.stamp (run.end - at) bytes (passed_in run.end (drop (run.end - at) bytes) runs) some within order in (
+      all_runs (λ y. run.stamp ≤ y) runs run.end end (drop (run.end - at) bytes) h.1 long parts.0,
+      runs_in_order runs run.end end (drop (run.end - at) bytes) h.1 long parts.1,
+    )
 
 all_at : {X : Type 0} (P : X → Type 0) (xs : List X) (j : ℕ) (d : X) → AllByRecursion P xs → j < length xs → P (get_or xs j d)
 all_at P [] j d h lt = absurd (omega arith)
@@ -271,9 +285,10 @@ end_at-last (run ∷ runs) at (suc p) d lt = end_at-last runs run.end p d (omega
 until-stamped : (item s : ℕ) (bytes : List ℕ) → (nat_le s item ≡ true → until item (stamped s bytes) ≡ stamped s bytes) × (nat_le s item ≡ false → until item (stamped s bytes) ≡ [])
 unfolding until stamped
 until-stamped item s [] = ((λ _. refl), (λ _. refl))
-until-stamped item s (b ∷ bytes) =
-    ((λ t. ap (λ (c : Bool). cond c (record { byte = b; stamp = s } ∷ until item (stamped s bytes)) (until item (stamped s bytes))) t ∙ ap (λ l. record { byte = b; stamp = s } ∷ l) ((until-stamped item s bytes).0 t)),
-     (λ f. ap (λ (c : Bool). cond c (record { byte = b; stamp = s } ∷ until item (stamped s bytes)) (until item (stamped s bytes))) f ∙ (until-stamped item s bytes).1 f))
+until-stamped item s (b ∷ bytes) = (
+  (λ t. ap (λ (c : Bool). cond c (record { byte = b; stamp = s } ∷ until item (stamped s bytes)) (until item (stamped s bytes))) t ∙ ap (λ l. record { byte = b; stamp = s } ∷ l) ((until-stamped item s bytes).0 t)),
+  (λ f. ap (λ (c : Bool). cond c (record { byte = b; stamp = s } ∷ until item (stamped s bytes)) (until item (stamped s bytes))) f ∙ (until-stamped item s bytes).1 f),
+)
 
 until-append : (item : ℕ) (xs ys : List Passed) → until item (xs ++ ys) ≡ until item xs ++ until item ys
 unfolding until
@@ -328,7 +343,7 @@ NotesInLast-set end stamp runs last lt is same =
     let whole : runs ≡ take (length runs - 1) runs ++ last ∷ [] = sym (take_all (suc (length runs - 1)) runs (omega arith)) ∙ take-suc runs (length runs - 1) last below ∙ ap (λ (r : Run). take (length runs - 1) runs ++ r ∷ []) (sym is) in
     let long : length (set runs (length runs - 1) (record { end = end; stamp = last.stamp })) ≤ suc (length runs - 1) = omega (arith, length-set runs (length runs - 1) (record { end = end; stamp = last.stamp })) in
     let after : set runs (length runs - 1) (record { end = end; stamp = last.stamp }) ≡ take (length runs - 1) runs ++ record { end = end; stamp = last.stamp } ∷ [] =
-        sym (take_all (suc (length runs - 1)) _ long) ∙ take-suc-set runs (length runs - 1) (record { end = end; stamp = last.stamp }) below in
+    sym (take_all (suc (length runs - 1)) _ long) ∙ take-suc-set runs (length runs - 1) (record { end = end; stamp = last.stamp }) below in
     (take (length runs - 1) runs, last, whole, same, after ∙ ap (λ (s : ℕ). take (length runs - 1) runs ++ record { end = end; stamp = s } ∷ []) same)
 
 pub Notes-set : (at end stamp : ℕ) (runs : List Run) (last : Run) (n : ℕ) → n ≡ length runs → at < end → 0 < n → last ≡ get_or runs (n - 1) last → last.stamp ≡ stamp

@@ -74,7 +74,7 @@ stands-change {E = E} keys e p f cursor h = record {
   laid = laid-same e f h.laid;
   passed = λ c. subst (λ (l : List Passed). Prefix (bytes_of l) (sent_to c (sends_of E))) (sym (p c)) (h.passed c);
   stamps = λ c. subst (λ (l : List Passed). IsInOrder (stamps_of l)) (sym (p c)) (h.stamps c);
-  cursor = cursor
+  cursor = cursor;
 }
 
 pub tries-change : {C C' : List Connection} {t t' : ℕ → ℕ} {E own : List Entry} {room room' shared : ℕ} → ((c : ℕ) → earlier_at C' c ≡ earlier_at C c) → ((c : ℕ) → t' c ≡ t c) → room ≤ room'
@@ -111,7 +111,7 @@ stands-opened {C = C} {s = s} {E = E} conn none zero_end f keys h = record {
   laid = laid-same (λ c. earlier_at-push C conn c none) f h.laid;
   passed = λ c. subst (λ (l : List Passed). Prefix (bytes_of l) (sent_to c (sends_of E))) (sym (stamped_to-push C conn c none)) (h.passed c);
   stamps = λ c. subst (λ (l : List Passed). IsInOrder (stamps_of l)) (sym (stamped_to-push C conn c none)) (h.stamps c);
-  cursor = h.cursor ∙ position-same (waits_in C) (waits_in (C ++ new_connection conn ∷ [])) E (λ k d lt. same (get_or E k d) k d lt refl ((get_or E k d).conn == conn) refl)
+  cursor = h.cursor ∙ position-same (waits_in C) (waits_in (C ++ new_connection conn ∷ [])) E (λ k d lt. same (get_or E k d) k d lt refl ((get_or E k d).conn == conn) refl);
 }
   where
     same : (e : Entry) (k : ℕ) (d : Entry) → k < length E → get_or E k d ≡ e → (b : Bool) → e.conn == conn ≡ b → waits_in C e ≡ waits_in (C ++ new_connection conn ∷ []) e
@@ -129,7 +129,7 @@ stands-sent {C = C} {C' = C'} {s' = s'} {E = E} e same start later f cursor h = 
   laid = subst (λ (l : List Connection). Laid (earlier_at l) s' (E ++ e ∷ [])) (sym same) (laid-push E e h.laid start later f);
   passed = λ c. subst (λ (l : List Connection). Prefix (bytes_of (stamped_to l c)) (sent_to c (sends_of (E ++ e ∷ [])))) (sym same) (longer c);
   stamps = λ c. subst (λ (l : List Connection). IsInOrder (stamps_of (stamped_to l c))) (sym same) (h.stamps c);
-  cursor = cursor
+  cursor = cursor;
 }
   where
     longer : (c : ℕ) → Prefix (bytes_of (stamped_to C c)) (sent_to c (sends_of (E ++ e ∷ [])))
@@ -143,7 +143,7 @@ pub tries-begun : {C C' : List Connection} {s t : ℕ → ℕ} {E : List Entry} 
 tries-begun {C = C} {t = t} {E = E} n room same le long h f = record {
   within = le;
   room = omega (arith, le, long);
-  laid = subst (λ (l : List Connection). Laid (earlier_at l) t (take n E ++ [])) (sym same) (subst (Laid (earlier_at C) t) (sym (append-nil (take n E))) (laid-take E n h f))
+  laid = subst (λ (l : List Connection). Laid (earlier_at l) t (take n E ++ [])) (sym same) (subst (Laid (earlier_at C) t) (sym (append-nil (take n E))) (laid-take E n h f));
 }
 
 pub tries-sent : {C C' : List Connection} {t t' : ℕ → ℕ} {E own : List Entry} {room room' n : ℕ} (e : Entry) → C' ≡ C → e.start ≡ t e.conn → NotBefore e.taken (times_of (sends_of (take n E ++ own)))
@@ -152,7 +152,7 @@ tries-sent {C = C} {t' = t'} {E = E} {own = own} {n = n} e same start later f ro
   within = h.within;
   room = omega (arith, room, length-append own (e ∷ []));
   laid = subst (λ (l : List Connection). Laid (earlier_at l) t' (take n E ++ (own ++ e ∷ []))) (sym same)
-      (subst (Laid (earlier_at C) t') (append_assoc (take n E) own (e ∷ [])) (laid-push (take n E ++ own) e h.laid start later f))
+      (subst (Laid (earlier_at C) t') (append_assoc (take n E) own (e ∷ [])) (laid-push (take n E ++ own) e h.laid start later f));
 }
 
 -- the trial is adopted
@@ -163,7 +163,7 @@ stands-adopted {C = C} {s' = s'} {E = E} {own = own} {k = k} same f covers curso
   laid = subst (λ (l : List Connection). Laid (earlier_at l) s' (take k E ++ own)) (sym same) (laid-same (λ c. refl) f tried.laid);
   passed = λ c. subst (λ (l : List Connection). Prefix (bytes_of (stamped_to l c)) (sent_to c (sends_of (take k E ++ own)))) (sym same) (covers c);
   stamps = λ c. subst (λ (l : List Connection). IsInOrder (stamps_of (stamped_to l c))) (sym same) (h.stamps c);
-  cursor = cursor
+  cursor = cursor;
 }
 
 -- more was passed
@@ -196,24 +196,28 @@ stands-passed {C = C} {C' = C'} {E = E} conn count stamp known later is f cursor
   laid = laid-same (λ c. ap (λ (l : List Connection). earlier_at l c) is ∙ earlier_at-changed conn (passed_connection more) (λ c. refl) (λ c. refl) C c) f h.laid;
   passed = λ c. subst (λ (l : List Passed). Prefix (bytes_of l) (sent_to c (sends_of E))) (sym (new c)) (longer c (conn == c) refl);
   stamps = λ c. subst (λ (l : List Passed). IsInOrder (stamps_of l)) (sym (new c)) (ordered c (conn == c) refl);
-  cursor = cursor
+  cursor = cursor;
 }
   where
     bytes : List ℕ
     bytes = take count (drop (length (bytes_of (stamped_to C conn))) (sent_to conn (sends_of E)))
+
     more : List Passed
     more = stamped stamp (take count (drop (length (bytes_of (stamped_to C conn))) (sent_to conn (sends_of E))))
+
     new : (c : ℕ) → stamped_to C' c ≡ (if conn == c then stamped_to C c ++ stamped stamp (take count (drop (length (bytes_of (stamped_to C conn))) (sent_to conn (sends_of E)))) else stamped_to C c)
     new c = ap (λ (l : List Connection). stamped_to l c) is ∙ stamped_to-passed conn (stamped stamp (take count (drop (length (bytes_of (stamped_to C conn))) (sent_to conn (sends_of E))))) C c known
+
     longer : (c : ℕ) (b : Bool) → conn == c ≡ b → Prefix (bytes_of (if b then stamped_to C c ++ stamped stamp (take count (drop (length (bytes_of (stamped_to C conn))) (sent_to conn (sends_of E)))) else stamped_to C c)) (sent_to c (sends_of E))
     longer c true p =
         let same : conn ≡ c = eqb-true conn c p in
         let here = next_bytes (bytes_of (stamped_to C conn)) (sent_to conn (sends_of E)) count (h.passed conn) in
         let shown : bytes_of (stamped_to C c ++ stamped stamp (take count (drop (length (bytes_of (stamped_to C conn))) (sent_to conn (sends_of E))))) ≡ bytes_of (stamped_to C conn) ++ take count (drop (length (bytes_of (stamped_to C conn))) (sent_to conn (sends_of E))) =
-            ap (λ (q : ℕ). bytes_of (stamped_to C q ++ stamped stamp (take count (drop (length (bytes_of (stamped_to C conn))) (sent_to conn (sends_of E)))))) (sym same)
-            ∙ bytes_of-append (stamped_to C conn) _ ∙ ap (λ (l : List ℕ). bytes_of (stamped_to C conn) ++ l) (bytes_of-stamped stamp _) in
+        ap (λ (q : ℕ). bytes_of (stamped_to C q ++ stamped stamp (take count (drop (length (bytes_of (stamped_to C conn))) (sent_to conn (sends_of E)))))) (sym same)
+        ∙ bytes_of-append (stamped_to C conn) _ ∙ ap (λ (l : List ℕ). bytes_of (stamped_to C conn) ++ l) (bytes_of-stamped stamp _) in
         subst (λ (l : List ℕ). Prefix l (sent_to c (sends_of E))) (sym shown) (subst (λ (q : ℕ). Prefix (bytes_of (stamped_to C conn) ++ take count (drop (length (bytes_of (stamped_to C conn))) (sent_to conn (sends_of E)))) (sent_to q (sends_of E))) same here)
     longer c false p = h.passed c
+
     ordered : (c : ℕ) (b : Bool) → conn == c ≡ b → IsInOrder (stamps_of (if b then stamped_to C c ++ stamped stamp (take count (drop (length (bytes_of (stamped_to C conn))) (sent_to conn (sends_of E)))) else stamped_to C c))
     ordered c true p =
         let same : conn ≡ c = eqb-true conn c p in
@@ -337,7 +341,7 @@ unfolding until stamps_of bytes_of
 until-front item [] h = ([], refl)
 until-front item (x ∷ xs) h = tested (nat_le x.stamp item)
     (λ t. let rest = until-front item xs h.1 in
-        (rest.0, ap (λ (b : Bool). bytes_of (cond b (x ∷ until item xs) (until item xs)) ++ rest.0) t ∙ ap (λ (l : List ℕ). x.byte ∷ l) rest.1))
+    (rest.0, ap (λ (b : Bool). bytes_of (cond b (x ∷ until item xs) (until item xs)) ++ rest.0) t ∙ ap (λ (l : List ℕ). x.byte ∷ l) rest.1))
     (λ f. (bytes_of (x ∷ xs), ap (λ (b : Bool). bytes_of (cond b (x ∷ until item xs) (until item xs)) ++ bytes_of (x ∷ xs)) f ∙ ap (λ (l : List Passed). bytes_of l ++ bytes_of (x ∷ xs)) (none xs h.0 (leb-false x.stamp item f))))
   where
     none : (ys : List Passed) → AllByRecursion (λ y. x.stamp ≤ y) (stamps_of ys) → item < x.stamp → until item ys ≡ []
@@ -354,9 +358,10 @@ later_key conn k (e ∷ es) v a h = tested (nat_eq conn e.0)
 pub each_tally : (P : Tally → Type 0) (es : List (ℕ × Tally)) → IsDistinct nat_eq (keys_of es) → ((conn : ℕ) (v : Tally) → lookup (nat_eq conn) es ≡ Some v → P v) → AllByRecursion P (values_of es)
 unfolding IsDistinct
 each_tally P [] d h = tt
-each_tally P (e ∷ es) d h =
-    (h e.0 e.1 (ap (λ (b : Bool). cond b (Some e.1) (lookup (nat_eq e.0) es)) (eq-eqb e.0 e.0 refl)),
-     each_tally P es d.1 (λ conn v k. h conn v (ap (λ (b : Bool). cond b (Some e.1) (lookup (nat_eq conn) es)) (later_key conn e.0 es v d.0 k) ∙ k)))
+each_tally P (e ∷ es) d h = (
+  h e.0 e.1 (ap (λ (b : Bool). cond b (Some e.1) (lookup (nat_eq e.0) es)) (eq-eqb e.0 e.0 refl)),
+  each_tally P es d.1 (λ conn v k. h conn v (ap (λ (b : Bool). cond b (Some e.1) (lookup (nat_eq conn) es)) (later_key conn e.0 es v d.0 k) ∙ k)),
+)
 
 pub tally_of_each : (P : Tally → Type 0) (es : List (ℕ × Tally)) → AllByRecursion P (values_of es) → (conn : ℕ) (v : Tally) → lookup (nat_eq conn) es ≡ Some v → P v
 tally_of_each P [] h conn v k = absurd (let no : ⊥ = cc in no)
@@ -385,15 +390,18 @@ bytes_of-none = refl
 pub covers-says : (T : List (ℕ × Tally)) (s : ℕ → ℕ) (E : List Entry) (F : List Send) (n : ℕ) (part : List Passed → List Passed) → Stands (connections_of T) s E n → ((c : ℕ) → tried_ends T c ≡ earlier_at (connections_of T) c + length (sent_to c F))
     → part [] ≡ [] → ((c : ℕ) → agree (sent_to c F) (bytes_of (part (stamped_to (connections_of T) c))) ≡ true)
     → ((list_all (λ (t : Tally). nat_le (t.earlier + length (part t.passed)) t.tried) (values_of T) ≡ true) → (c : ℕ) → Prefix (bytes_of (part (stamped_to (connections_of T) c))) (sent_to c F))
-      × (((c : ℕ) → Prefix (bytes_of (part (stamped_to (connections_of T) c))) (sent_to c F)) → list_all (λ (t : Tally). nat_le (t.earlier + length (part t.passed)) t.tried) (values_of T) ≡ true)
+    × (((c : ℕ) → Prefix (bytes_of (part (stamped_to (connections_of T) c))) (sent_to c F)) → list_all (λ (t : Tally). nat_le (t.earlier + length (part t.passed)) t.tried) (values_of T) ≡ true)
 covers-says T s E F n part h laid none agrees = (forth, back)
   where
     test : Tally → Bool
     test t = nat_le (t.earlier + length (part t.passed)) t.tried
+
     ends : (c : ℕ) (v : Tally) → lookup (nat_eq c) T ≡ Some v → v.tried ≡ v.earlier + length (sent_to c F)
     ends c v k = sym (number_at-some (λ (t : Tally). t.tried) T c v (sym k)) ∙ laid c ∙ ap (λ (m : ℕ). m + length (sent_to c F)) (earlier_at-of T c ∙ number_at-some (λ (t : Tally). t.earlier) T c v (sym k))
+
     shown : (c : ℕ) (v : Tally) → lookup (nat_eq c) T ≡ Some v → stamped_to (connections_of T) c ≡ v.passed
     shown c v k = stamped_to-of T c ∙ passed_at-some T c v (sym k)
+
     forth : list_all (λ (t : Tally). nat_le (t.earlier + length (part t.passed)) t.tried) (values_of T) ≡ true → (c : ℕ) → Prefix (bytes_of (part (stamped_to (connections_of T) c))) (sent_to c F)
     forth all c = by (lookup (nat_eq c) T) refl
       where
@@ -405,6 +413,7 @@ covers-says T s E F n part h laid none agrees = (forth, back)
             let le : v.earlier + length (part v.passed) ≤ v.tried = leb-true _ _ (tally_of_each (λ (t : Tally). nat_le (t.earlier + length (part t.passed)) t.tried ≡ true) T (each-list_all _ (values_of T) all) c v k) in
             let long : length (bytes_of (part (stamped_to (connections_of T) c))) ≡ length (part v.passed) = length-bytes_of (part (stamped_to (connections_of T) c)) ∙ ap (λ (l : List Passed). length (part l)) (shown c v k) in
             agree-prefix (sent_to c F) (bytes_of (part (stamped_to (connections_of T) c))) (agrees c) (omega (arith, le, long, ends c v k))
+
     back : ((c : ℕ) → Prefix (bytes_of (part (stamped_to (connections_of T) c))) (sent_to c F)) → list_all (λ (t : Tally). nat_le (t.earlier + length (part t.passed)) t.tried) (values_of T) ≡ true
     back covers = list_all-each _ (values_of T) (each_tally (λ (t : Tally). nat_le (t.earlier + length (part t.passed)) t.tried ≡ true) T (subst (IsDistinct nat_eq) (keys-of T) h.distinct) (λ c v k.
         let long : length (bytes_of (part (stamped_to (connections_of T) c))) ≡ length (part v.passed) = length-bytes_of (part (stamped_to (connections_of T) c)) ∙ ap (λ (l : List Passed). length (part l)) (shown c v k) in
@@ -459,11 +468,11 @@ settled-passed {C = C} {s = s} {E = E} {n = n} count q h le o =
     let later = laid-drop {earlier' = λ (c : ℕ). earlier_at C c + length (sent_to c (sends_of (take count E)))} E count h.laid within (λ c. refl) in
     let rest = stream-laid (λ (c : ℕ). earlier_at C c + length (sent_to c (sends_of (take count E)))) q (earlier_at C q + length (stamped_to C q)) [] (drop count E) later.places in
     let same = stream-from q (earlier_at C q + length (stamped_to C q)) count E (λ k d lt in_range at_q.
-        let opened : is_open C (get_or E k d).conn ≡ true = ap (is_open C) at_q ∙ o in
-        let before : k < position_or_len (waits_in C) E = omega (arith, lt, le, h.cursor) in
-        let none = waits-not C (get_or E k d) opened (position-before (waits_in C) E k d before) in
-        let here : earlier_at C (get_or E k d).conn + length (stamped_to C (get_or E k d).conn) ≡ earlier_at C q + length (stamped_to C q) = ap (λ (c : ℕ). earlier_at C c + length (stamped_to C c)) at_q in
-        empty_of_length (rest_of (earlier_at C q + length (stamped_to C q)) (get_or E k d)) (ap (λ (m : ℕ). length (rest_of m (get_or E k d))) (sym here) ∙ none)) in
+    let opened : is_open C (get_or E k d).conn ≡ true = ap (is_open C) at_q ∙ o in
+    let before : k < position_or_len (waits_in C) E = omega (arith, lt, le, h.cursor) in
+    let none = waits-not C (get_or E k d) opened (position-before (waits_in C) E k d before) in
+    let here : earlier_at C (get_or E k d).conn + length (stamped_to C (get_or E k d).conn) ≡ earlier_at C q + length (stamped_to C q) = ap (λ (c : ℕ). earlier_at C c + length (stamped_to C c)) at_q in
+    empty_of_length (rest_of (earlier_at C q + length (stamped_to C q)) (get_or E k d)) (ap (λ (m : ℕ). length (rest_of m (get_or E k d))) (sym here) ∙ none)) in
     let long = ap length (sym rest ∙ same ∙ all) in
     let whole : length (sent_to q (sends_of (take count E))) + length (sent_to q (sends_of (drop count E))) ≡ length (sent_to q (sends_of E)) = sym (length_parts q (take count E) (drop count E)) ∙ ap (λ (l : List Entry). length (sent_to q (sends_of l))) (take-append-drop count E) in
     let left = length-drop (earlier_at C q + length (stamped_to C q) - earlier_at C q - 0) (sent_to q (sends_of E)) in
@@ -477,8 +486,13 @@ unfolding waits
 waits-trimmed {C = C} {E = E} count e h le true o =
     let settled_le = settled-passed count e.conn h le o in
     let place : earlier_at (trimmed_connections (sends_of (take count E)) C) e.conn + length (stamped_to (trimmed_connections (sends_of (take count E)) C) e.conn) ≡ earlier_at C e.conn + length (stamped_to C e.conn) =
-        omega (arith, settled_le, earlier_at-trimmed (sends_of (take count E)) C e.conn (λ k. absurd (true≢false (sym o ∙ is_open-none C e.conn k))),
-          ap length (stamped_to-trimmed (sends_of (take count E)) C e.conn), length-drop (length (sent_to e.conn (sends_of (take count E)))) (stamped_to C e.conn)) in
+    omega (
+      arith,
+      settled_le,
+      earlier_at-trimmed (sends_of (take count E)) C e.conn (λ k. absurd (true≢false (sym o ∙ is_open-none C e.conn k))),
+      ap length (stamped_to-trimmed (sends_of (take count E)) C e.conn),
+      length-drop (length (sent_to e.conn (sends_of (take count E)))) (stamped_to C e.conn),
+    ) in
     (λ i. is_open-trimmed (sends_of (take count E)) C e.conn i && nat_lt 0 (length (rest_of (place i) e)))
 waits-trimmed {C = C} {E = E} count e h le false o =
     let shut : is_open (trimmed_connections (sends_of (take count E)) C) e.conn ≡ false = is_open-trimmed (sends_of (take count E)) C e.conn ∙ o in
@@ -510,17 +524,19 @@ stands-trimmed {C = C} {C' = C'} {s = s} {s' = s'} {E = E} {E' = E'} {n = n} cou
   passed = λ c. subst (λ (l : List Passed). Prefix (bytes_of l) (sent_to c (sends_of E'))) (sym (new c)) (front c);
   stamps = λ c. subst (λ (l : List Passed). IsInOrder (stamps_of l)) (sym (new c)) (subst IsInOrder (sym (stamps_of-drop (length (sent_to c (sends_of (take count E)))) (stamped_to C c)))
       (order-behind (take (length (sent_to c (sends_of (take count E)))) (stamps_of (stamped_to C c))) _ (subst IsInOrder (sym (take-append-drop (length (sent_to c (sends_of (take count E)))) (stamps_of (stamped_to C c)))) (h.stamps c))));
-  cursor = cursor ∙ place ∙ (λ i. position_or_len (waits_in (sym is i)) (sym left i))
+  cursor = cursor ∙ place ∙ (λ i. position_or_len (waits_in (sym is i)) (sym left i));
 }
   where
     new : (c : ℕ) → stamped_to C' c ≡ drop (length (sent_to c (sends_of (take count E)))) (stamped_to C c)
     new c = ap (λ (l : List Connection). stamped_to l c) is ∙ stamped_to-trimmed (sends_of (take count E)) C c
+
     front : (c : ℕ) → Prefix (bytes_of (drop (length (sent_to c (sends_of (take count E)))) (stamped_to C c))) (sent_to c (sends_of E'))
     front c =
         let whole : sent_to c (sends_of E) ≡ sent_to c (sends_of (take count E)) ++ sent_to c (sends_of (drop count E)) = ap (λ (l : List Entry). sent_to c (sends_of l)) (sym (take-append-drop count E)) ∙ of_parts c (take count E) (drop count E) in
         let p = prefix-drop (sent_to c (sends_of (take count E))) (sent_to c (sends_of (drop count E))) (bytes_of (stamped_to C c)) (subst (Prefix (bytes_of (stamped_to C c))) whole (h.passed c)) in
         subst (λ (l : List Entry). Prefix (bytes_of (drop (length (sent_to c (sends_of (take count E)))) (stamped_to C c))) (sent_to c (sends_of l))) (sym left)
         (subst (λ (l : List ℕ). Prefix l (sent_to c (sends_of (drop count E)))) (sym (bytes_of-drop (length (sent_to c (sends_of (take count E)))) (stamped_to C c))) p)
+
     place : n - count ≡ position_or_len (waits_in (trimmed_connections (sends_of (take count E)) C)) (drop count E)
     place =
         let moved = position-drop (waits_in C) E count (omega (arith, le, h.cursor)) in
@@ -537,14 +553,14 @@ next-found {C = C} {E = E} {n = n} until e h lt is le =
     let here : waits_in C e ≡ true = ap (waits_in C) is ∙ position-at (waits_in C) E n e h.cursor lt in
     ap (find (λ (p : Send). waits C p && nat_le p.taken until)) (parts-are h) ∙ find-map (λ (p : Send). waits C p && nat_le p.taken until) (part_of C) E
     ∙ ap (option_map (part_of C)) (find-at (λ (x : Entry). waits_in C x && nat_le x.taken until) E n e lt is (and_from (waits_in C e) (nat_le e.taken until) here (le-leb e.taken until le))
-        (λ k d before. and_left (waits_in C (get_or E k d)) (nat_le (get_or E k d).taken until) (position-before (waits_in C) E k d (omega (arith, before, h.cursor)))))
+    (λ k d before. and_left (waits_in C (get_or E k d)) (nat_le (get_or E k d).taken until) (position-before (waits_in C) E k d (omega (arith, before, h.cursor)))))
 
 pub next-none : {C : List Connection} {s : ℕ → ℕ} {E : List Entry} {n : ℕ} (until : ℕ) → Stands C s E n → length E ≤ n
     → find (λ (p : Send). waits C p && nat_le p.taken until) (parts_behind C [] (sends_of E)) ≡ None
 next-none {C = C} {E = E} {n = n} until h le =
     ap (find (λ (p : Send). waits C p && nat_le p.taken until)) (parts-are h) ∙ find-map (λ (p : Send). waits C p && nat_le p.taken until) (part_of C) E
     ∙ ap (option_map (part_of C)) (find-none (λ (x : Entry). waits_in C x && nat_le x.taken until) E
-        (λ k d lt. and_left (waits_in C (get_or E k d)) (nat_le (get_or E k d).taken until) (position-before (waits_in C) E k d (omega (arith, lt, le, h.cursor)))))
+    (λ k d lt. and_left (waits_in C (get_or E k d)) (nat_le (get_or E k d).taken until) (position-before (waits_in C) E k d (omega (arith, lt, le, h.cursor)))))
 
 pub next-late : {C : List Connection} {s : ℕ → ℕ} {E : List Entry} {n : ℕ} (until : ℕ) (e : Entry) → Stands C s E n → n < length E → e ≡ get_or E n e → until < e.taken
     → find (λ (p : Send). waits C p && nat_le p.taken until) (parts_behind C [] (sends_of E)) ≡ None
@@ -581,9 +597,9 @@ rests-before {C = C} {E = E} {n = n} conn from h is k d lt = by (is_open C conn)
     by : (b : Bool) → is_open C conn ≡ b → from ≡ (if b then n else 0) → rests C conn (get_or E k d) ≡ false
     by true o e = tested ((get_or E k d).conn == conn)
         (λ p.
-          let opened : is_open C (get_or E k d).conn ≡ true = ap (is_open C) (eqb-true (get_or E k d).conn conn p) ∙ o in
-          let none = waits-not C (get_or E k d) opened (position-before (waits_in C) E k d (omega (arith, lt, e, h.cursor))) in
-          and_right ((get_or E k d).conn == conn) _ (ap (nat_lt 0) none))
+        let opened : is_open C (get_or E k d).conn ≡ true = ap (is_open C) (eqb-true (get_or E k d).conn conn p) ∙ o in
+        let none = waits-not C (get_or E k d) opened (position-before (waits_in C) E k d (omega (arith, lt, e, h.cursor))) in
+        and_right ((get_or E k d).conn == conn) _ (ap (nat_lt 0) none))
         (λ p. and_left ((get_or E k d).conn == conn) _ p)
     by false o e = absurd (omega (arith, lt, e))
 

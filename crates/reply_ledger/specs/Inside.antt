@@ -19,7 +19,7 @@ abbrev pub part_of : List Connection → Entry → Send
 part_of connections e = record {
   conn = e.conn;
   bytes = rest_of (earlier_at connections e.conn + length (stamped_to connections e.conn)) e;
-  taken = e.taken
+  taken = e.taken;
 }
 
 abbrev pub waits_in : List Connection → Entry → Bool

@@ -19,7 +19,7 @@ abbrev pub without : ℕ → Ledger → Ledger
 without count ledger = record ledger {
   first = ledger.first + count;
   kept = drop count ledger.kept;
-  connections = trimmed_connections (take count ledger.kept) ledger.connections
+  connections = trimmed_connections (take count ledger.kept) ledger.connections;
 }
 
 -- the ledger without the sends before this number, up to the first that may still be passed

@@ -18,7 +18,7 @@ loop-byte-preserved c =
     let within : c.loop-byte.at < length c.args.passed.now.items = omega (arith, c.if-at-len.false, c.len.ensures, c.args.passed.now.ok) in
     record {
       place = omega (arith, c.loop-byte.invariant.place);
-      rest = c.loop-byte.invariant.rest ∙ agree-same c.args.bytes.now c.args.passed.now.items c.loop-byte.byte-index c.loop-byte.at c.index.result.now c.loop-byte-test.true within c.index.ensures c.if-index-byte.false
+      rest = c.loop-byte.invariant.rest ∙ agree-same c.args.bytes.now c.args.passed.now.items c.loop-byte.byte-index c.loop-byte.at c.index.result.now c.loop-byte-test.true within c.index.ensures c.if-index-byte.false;
     }
 
 pub returns : goal.returns

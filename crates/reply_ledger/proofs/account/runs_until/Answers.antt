@@ -12,7 +12,7 @@ half-preserved-then-index-item c =
       between = omega (arith, c.half-test.true);
       within = c.half.invariant.within;
       below = λ k d ge lt. parted-low (λ (r : Run). nat_le r.stamp c.args.item) c.args.runs.now.items _ c.index.result.now c.requires within c.index.ensures (le-leb _ _ c.if-index-item.true) k d (omega arith);
-      above = c.half.invariant.above
+      above = c.half.invariant.above;
     }
 
 pub half-preserved : goal.half-preserved
@@ -22,5 +22,5 @@ half-preserved c =
       between = omega arith;
       within = omega (arith, within);
       below = c.half.invariant.below;
-      above = λ k d ge lt. parted-high (λ (r : Run). nat_le r.stamp c.args.item) c.args.runs.now.items _ c.index.result.now c.requires within c.index.ensures (lt-leb _ _ c.if-index-item.false) k d ge lt
+      above = λ k d ge lt. parted-high (λ (r : Run). nat_le r.stamp c.args.item) c.args.runs.now.items _ c.index.result.now c.requires within c.index.ensures (lt-leb _ _ c.if-index-item.false) k d ge lt;
     }

@@ -15,8 +15,8 @@ pub returns-in-Some-clause-ok : goal.returns-in-Some-clause-ok
 returns-in-Some-clause-ok c =
     let passed = number_at-some passed_end c.args.accounts.now.entries c.args.conn c.in-Some.account.now c.in-Some.ensures.value in
     rw passed (on_ok c.pass.result (written c.args.accounts.now.entries _ c.args.conn
-        (passed_tally (stamped c.args.stamp (take c.args.count (stream_behind c.args.conn (c.in-Some.account.now.earlier + length c.in-Some.account.now.passed) (drop c.args.from c.args.sends.now.items)))))
-        c.in-Some.account.now c.pass.new.self c.in-Some.ensures.unique c.in-Some.ensures.value (c.get_mut.follows.holds c.pass.new.self).0) c.pass.ensures.ok)
+    (passed_tally (stamped c.args.stamp (take c.args.count (stream_behind c.args.conn (c.in-Some.account.now.earlier + length c.in-Some.account.now.passed) (drop c.args.from c.args.sends.now.items)))))
+    c.in-Some.account.now c.pass.new.self c.in-Some.ensures.unique c.in-Some.ensures.value (c.get_mut.follows.holds c.pass.new.self).0) c.pass.ensures.ok)
 
 pub returns-in-Some-clause-err : goal.returns-in-Some-clause-err
 returns-in-Some-clause-err c =

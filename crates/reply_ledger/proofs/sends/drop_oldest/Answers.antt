@@ -25,12 +25,12 @@ pub loop-preserved : goal.loop-preserved
 loop-preserved c =
     let laid = subst (Laid (earlier_at (connections_of c.loop.accounts.entries)) (sent_ends c.loop.accounts.entries)) c.in-Some.ensures.items c.loop.invariant.laid in
     let change : c.give_up.new.accounts.entries ≡ retallied c.in-Some.entry.conn (given_up_tally (length c.in-Some.entry.bytes)) c.loop.accounts.entries =
-        c.give_up.ensures ∙ ap (λ (l : List ℕ). retallied c.in-Some.entry.conn (given_up_tally (length l)) c.loop.accounts.entries) c.as_slice.ensures in
+    c.give_up.ensures ∙ ap (λ (l : List ℕ). retallied c.in-Some.entry.conn (given_up_tally (length l)) c.loop.accounts.entries) c.as_slice.ensures in
     let sent = number_at-same (λ (t : Tally). t.sent) c.in-Some.entry.conn (given_up_tally (length c.in-Some.entry.bytes)) (λ t. refl) c.loop.accounts.entries in
     record {
       items = c.pop_front.ensures.rest ∙ ap (drop 1) c.loop.invariant.items ∙ drop-drop 1 c.loop.counter c.args.sends.now.items;
       connections = ap connections_of change ∙ oldest-gone c.loop.accounts.entries c.in-Some.entry
           ∙ trimmed-more c.args.sends.now.items c.pop_front.new.self.items c.loop.counter c.in-Some.entry (connections_of c.args.accounts.now.entries) (connections_of c.loop.accounts.entries) (sym c.loop.invariant.items ∙ c.in-Some.ensures.items) c.loop.invariant.connections;
       sent = λ conn. ap (λ (t : List (ℕ × Tally)). sent_ends t conn) change ∙ sent conn ∙ c.loop.invariant.sent conn;
-      laid = subst (λ (t : List (ℕ × Tally)). Laid (earlier_at (connections_of t)) (sent_ends t) c.pop_front.new.self.items) (sym change) (oldest-laid c.loop.accounts.entries c.in-Some.entry c.pop_front.new.self.items laid)
+      laid = subst (λ (t : List (ℕ × Tally)). Laid (earlier_at (connections_of t)) (sent_ends t) c.pop_front.new.self.items) (sym change) (oldest-laid c.loop.accounts.entries c.in-Some.entry c.pop_front.new.self.items laid);
     }

@@ -20,7 +20,7 @@ back-init c =
       connections = ap connections_of c.begin_trial.ensures ∙ connections_of-all_hidden begun_tally (λ e. refl) c.args.accounts.now.entries;
       sent = λ conn. ap (λ (t : List (ℕ × Tally)). sent_ends t conn) c.begin_trial.ensures ∙ number_at-all (λ (t : Tally). t.sent) begun_tally c.args.accounts.now.entries conn;
       tried = λ conn. ap (λ (t : List (ℕ × Tally)). tried_ends t conn) c.begin_trial.ensures ∙ number_at-all (λ (t : Tally). t.tried) begun_tally c.args.accounts.now.entries conn
-          ∙ c.requires.laid.ends conn ∙ ap (λ (l : List Entry). earlier_at (connections_of c.args.accounts.now.entries) conn + length (sent_to conn (sends_of l))) (sym all)
+          ∙ c.requires.laid.ends conn ∙ ap (λ (l : List Entry). earlier_at (connections_of c.args.accounts.now.entries) conn + length (sent_to conn (sends_of l))) (sym all);
     }
 
 pub back-preserved : goal.back-preserved
@@ -37,7 +37,7 @@ back-preserved c =
       sent = λ conn. ap (λ (t : List (ℕ × Tally)). sent_ends t conn) c.try_send.ensures ∙ number_at-same (λ (t : Tally). t.sent) c.index-entry.result.now.conn (tried_tally c.index-entry.result.now.start) (λ t. refl) c.back.accounts.entries conn ∙ c.back.invariant.sent conn;
       tried = λ conn. ap (λ (t : List (ℕ × Tally)). tried_ends t conn) c.try_send.ensures
           ∙ rewound c.back.accounts.entries (earlier_at (connections_of c.args.accounts.now.entries)) c.args.sends.now.items (c.back.i - 1) c.index-entry.result.now within c.index-entry.ensures start
-              (λ q. c.back.invariant.tried q ∙ ap (λ (n : ℕ). earlier_at (connections_of c.args.accounts.now.entries) q + length (sent_to q (sends_of (take n c.args.sends.now.items)))) one) conn
+          (λ q. c.back.invariant.tried q ∙ ap (λ (n : ℕ). earlier_at (connections_of c.args.accounts.now.entries) q + length (sent_to q (sends_of (take n c.args.sends.now.items)))) one) conn;
     }
 
 pub returns-clause-tried : goal.returns-clause-tried

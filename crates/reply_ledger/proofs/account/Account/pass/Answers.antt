@@ -38,7 +38,10 @@ returns-in-Ok-note-clause-ok c =
     let noted = passed_in-Notes c.self.inside.runs.items c.note.new.runs.items c.self.inside.earlier _ _ c.args.stamp c.self.inside.bytes.items more start at (omega (arith, at, after, all)) c.in-Ok-note.ensures.ok in
     let place : c.self.inside.earlier + c.len-before.result ≡ c.self.inside.earlier + length (passed_in c.self.inside.earlier c.self.inside.bytes.items c.self.inside.runs.items) = omega (arith, at, long) in
     rw (← c.self.view_is) (rw (c.in-Ok.ensures.ok, noted.0) (ap (λ (n : ℕ). record {
-      closed = c.self.inside.closed; gone = c.self.inside.gone; earlier = c.self.inside.earlier;
+      closed = c.self.inside.closed;
+      gone = c.self.inside.gone;
+      earlier = c.self.inside.earlier;
       passed = passed_in c.self.inside.earlier c.self.inside.bytes.items c.self.inside.runs.items ++ stamped c.args.stamp (take c.args.count (stream_behind c.args.conn n (drop c.args.from c.args.sends.now.items)));
-      sent = c.self.inside.sent; tried = c.self.inside.tried
+      sent = c.self.inside.sent;
+      tried = c.self.inside.tried;
     }) place))

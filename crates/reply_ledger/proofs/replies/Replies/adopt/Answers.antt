@@ -45,10 +45,11 @@ invariant_of-self c =
     let shown : connections_of c.adopt.new.accounts.entries ≡ connections_of c.self.inside.accounts.entries = ap connections_of c.adopt.ensures ∙ connections_of-all_hidden adopted_tally (λ e. refl) c.self.inside.accounts.entries in
     let covers = rw (← c.self.view_is) at c.requires.covers in
     let here : (q : ℕ) → Prefix (bytes_of (stamped_to (connections_of c.self.inside.accounts.entries) q)) (sent_to q (sends_of (take c.in-Some.shared c.self.inside.sends.items ++ c.self.inside.own.items))) = λ (q : ℕ). subst (λ (o : Option ℕ). Prefix (bytes_of (stamped_to (connections_of c.self.inside.accounts.entries) q)) (sent_to q (unwrap_or (trial_of c.self.inside.sends.items c.self.inside.own.items o) []))) c.in-Some.is (covers q) in
-    let ends : (q : ℕ) → sent_ends c.adopt.new.accounts.entries q ≡ tried_ends c.self.inside.accounts.entries q = λ (q : ℕ). ap (λ (t : List (ℕ × Tally)). sent_ends t q) c.adopt.ensures ∙ number_at-all (λ (t : Tally). t.sent) adopted_tally c.self.inside.accounts.entries q in
-    (subst (λ (l : List Entry). Stands (connections_of c.adopt.new.accounts.entries) (sent_ends c.adopt.new.accounts.entries) l c.first_waiting-self-inside.result) (sym items)
-       (stands-adopted shown ends here (c.first_waiting-self-inside.ensures ∙ ap (position_or_len (waits_in (connections_of c.adopt.new.accounts.entries))) items) c.self.invariant.0 tried),
-     empty)
+    let ends : (q : ℕ) → sent_ends c.adopt.new.accounts.entries q ≡ tried_ends c.self.inside.accounts.entries q = λ (q : ℕ). ap (λ (t : List (ℕ × Tally)). sent_ends t q) c.adopt.ensures ∙ number_at-all (λ (t : Tally). t.sent) adopted_tally c.self.inside.accounts.entries q in (
+      subst (λ (l : List Entry). Stands (connections_of c.adopt.new.accounts.entries) (sent_ends c.adopt.new.accounts.entries) l c.first_waiting-self-inside.result) (sym items)
+          (stands-adopted shown ends here (c.first_waiting-self-inside.ensures ∙ ap (position_or_len (waits_in (connections_of c.adopt.new.accounts.entries))) items) c.self.invariant.0 tried),
+      empty,
+    )
 
 pub returns : goal.returns
 returns c =

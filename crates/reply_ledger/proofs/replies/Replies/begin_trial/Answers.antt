@@ -35,18 +35,19 @@ invariant_of-self c =
     let none = (shared-none c.self.inside.sends.items c.self.inside.own.items c.self.inside.shared (ap (λ (l : Ledger). l.trial) c.self.view_is ∙ c.requires.survivor)) in
     let empty = own-none (connections_of c.self.inside.accounts.entries) (tried_ends c.self.inside.accounts.entries) c.self.inside.sends.items c.self.inside.own.items _ c.self.inside.shared none c.self.invariant.1 in
     let asked = rw (← c.self.view_is) at c.requires.within in
-    let shown = c.rewind.ensures.connections in
-    (stands-change (ap (map (λ (x : Connection). x.conn)) shown) (λ q. ap (λ (l : List Connection). earlier_at l q) shown) (λ q. ap (λ (l : List Connection). stamped_to l q) shown) c.rewind.ensures.sent
-       (c.self.invariant.0.cursor ∙ ap (λ (l : List Connection). position_or_len (waits_in l) c.self.inside.sends.items) (sym shown)) c.self.invariant.0,
-     subst (λ (l : List Entry). Tries (connections_of c.rewind.new.accounts.entries) (tried_ends c.rewind.new.accounts.entries) c.self.inside.sends.items l c.self.inside.sends.cap (c.args.sends - c.self.inside.first)) (sym empty)
-       (tries-begun (c.args.sends - c.self.inside.first) c.self.inside.sends.cap shown (omega (arith, asked, length-sends_of c.self.inside.sends.items)) (omega (arith, c.self.inside.sends.ok)) c.self.invariant.0.laid c.rewind.ensures.tried))
+    let shown = c.rewind.ensures.connections in (
+      stands-change (ap (map (λ (x : Connection). x.conn)) shown) (λ q. ap (λ (l : List Connection). earlier_at l q) shown) (λ q. ap (λ (l : List Connection). stamped_to l q) shown) c.rewind.ensures.sent
+          (c.self.invariant.0.cursor ∙ ap (λ (l : List Connection). position_or_len (waits_in l) c.self.inside.sends.items) (sym shown)) c.self.invariant.0,
+      subst (λ (l : List Entry). Tries (connections_of c.rewind.new.accounts.entries) (tried_ends c.rewind.new.accounts.entries) c.self.inside.sends.items l c.self.inside.sends.cap (c.args.sends - c.self.inside.first)) (sym empty)
+          (tries-begun (c.args.sends - c.self.inside.first) c.self.inside.sends.cap shown (omega (arith, asked, length-sends_of c.self.inside.sends.items)) (omega (arith, c.self.inside.sends.ok)) c.self.invariant.0.laid c.rewind.ensures.tried),
+    )
 
 pub returns-clause-begun : goal.returns-clause-begun
 returns-clause-begun c =
     let none = (shared-none c.self.inside.sends.items c.self.inside.own.items c.self.inside.shared (ap (λ (l : Ledger). l.trial) c.self.view_is ∙ c.requires.survivor)) in
     let empty = own-none (connections_of c.self.inside.accounts.entries) (tried_ends c.self.inside.accounts.entries) c.self.inside.sends.items c.self.inside.own.items _ c.self.inside.shared none c.self.invariant.1 in
     let trial : sends_of (take (c.args.sends - c.self.inside.first) c.self.inside.sends.items ++ c.self.inside.own.items) ≡ take (c.args.sends - c.self.inside.first) (sends_of c.self.inside.sends.items) =
-        ap (λ (l : List Entry). sends_of (take (c.args.sends - c.self.inside.first) c.self.inside.sends.items ++ l)) empty ∙ ap sends_of (append-nil (take (c.args.sends - c.self.inside.first) c.self.inside.sends.items)) ∙ sends_of-take (c.args.sends - c.self.inside.first) c.self.inside.sends.items in
+    ap (λ (l : List Entry). sends_of (take (c.args.sends - c.self.inside.first) c.self.inside.sends.items ++ l)) empty ∙ ap sends_of (append-nil (take (c.args.sends - c.self.inside.first) c.self.inside.sends.items)) ∙ sends_of-take (c.args.sends - c.self.inside.first) c.self.inside.sends.items in
     rw (← c.self.view_is) (λ i. record { first = c.self.inside.first; kept = sends_of c.self.inside.sends.items; trial = Some (trial i); connections = c.rewind.ensures.connections i })
 
 pub returns-clause-agrees : goal.returns-clause-agrees

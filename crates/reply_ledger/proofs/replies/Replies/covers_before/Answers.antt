@@ -38,7 +38,7 @@ returns c =
     let some : IsSome (trial_of c.self.inside.sends.items c.self.inside.own.items c.self.inside.shared) = rw (← c.self.view_is) at c.requires.trial in
     let agrees = rw (← c.self.view_is) at c.requires.agrees in
     let fronts : (q : ℕ) → agree (sent_to q (unwrap_or (trial_of c.self.inside.sends.items c.self.inside.own.items c.self.inside.shared) [])) (bytes_of (until c.args.item (stamped_to (connections_of c.self.inside.accounts.entries) q))) ≡ true = λ (q : ℕ).
-        let p = until-front c.args.item (stamped_to (connections_of c.self.inside.accounts.entries) q) (c.self.invariant.0.stamps q) in
-        agree-front (sent_to q (unwrap_or (trial_of c.self.inside.sends.items c.self.inside.own.items c.self.inside.shared) [])) (bytes_of (until c.args.item (stamped_to (connections_of c.self.inside.accounts.entries) q))) p.0 (ap (agree (sent_to q (unwrap_or (trial_of c.self.inside.sends.items c.self.inside.own.items c.self.inside.shared) []))) p.1 ∙ agrees q) in
+    let p = until-front c.args.item (stamped_to (connections_of c.self.inside.accounts.entries) q) (c.self.invariant.0.stamps q) in
+    agree-front (sent_to q (unwrap_or (trial_of c.self.inside.sends.items c.self.inside.own.items c.self.inside.shared) [])) (bytes_of (until c.args.item (stamped_to (connections_of c.self.inside.accounts.entries) q))) p.0 (ap (agree (sent_to q (unwrap_or (trial_of c.self.inside.sends.items c.self.inside.own.items c.self.inside.shared) []))) p.1 ∙ agrees q) in
     let says = covers-says c.self.inside.accounts.entries (sent_ends c.self.inside.accounts.entries) c.self.inside.sends.items (unwrap_or (trial_of c.self.inside.sends.items c.self.inside.own.items c.self.inside.shared) []) c.self.inside.next (until c.args.item) c.self.invariant.0 (trial-ends (connections_of c.self.inside.accounts.entries) (tried_ends c.self.inside.accounts.entries) c.self.inside.sends.items c.self.inside.own.items _ c.self.inside.shared c.self.invariant.1 some) (until-none c.args.item) fronts in
     rw (← c.self.view_is) ((λ h. says.0 (sym c.covers_until.ensures ∙ h)), (λ h. c.covers_until.ensures ∙ says.1 h))

@@ -22,15 +22,16 @@ pub invariant_of-self : goal.invariant_of-self
 invariant_of-self c =
     let shown : connections_of c.leave.new.accounts.entries ≡ changed c.args.conn gone_connection (connections_of c.self.inside.accounts.entries) = ap connections_of c.leave.ensures ∙ connections_of-retallied c.args.conn gone_tally gone_connection (λ e. refl) c.self.inside.accounts.entries in
     let earlier : (q : ℕ) → earlier_at (connections_of c.leave.new.accounts.entries) q ≡ earlier_at (connections_of c.self.inside.accounts.entries) q =
-        λ (q : ℕ). ap (λ (l : List Connection). earlier_at l q) shown ∙ earlier_at-changed c.args.conn gone_connection (λ x. refl) (λ x. refl) (connections_of c.self.inside.accounts.entries) q in
-    (stands-change (ap (map (λ (x : Connection). x.conn)) shown ∙ keys-changed c.args.conn gone_connection (λ x. refl) (connections_of c.self.inside.accounts.entries)) earlier
-       (λ q. ap (λ (l : List Connection). stamped_to l q) shown ∙ stamped_to-changed c.args.conn gone_connection (λ x. refl) (λ x. refl) (connections_of c.self.inside.accounts.entries) q)
-       (λ q. ap (λ (t : List (ℕ × Tally)). sent_ends t q) c.leave.ensures ∙ number_at-same (λ (t : Tally). t.sent) c.args.conn gone_tally (λ t. refl) c.self.inside.accounts.entries q)
-       c.first_waiting-self-inside.ensures c.self.invariant.0,
-     tries_any-change (connections_of c.self.inside.accounts.entries) _ (tried_ends c.self.inside.accounts.entries) _ c.self.inside.sends.items c.self.inside.own.items _ _ c.self.inside.shared earlier
-       (λ q. ap (λ (t : List (ℕ × Tally)). tried_ends t q) c.leave.ensures ∙ number_at-same (λ (t : Tally). t.tried) c.args.conn gone_tally (λ t. refl) c.self.inside.accounts.entries q) (omega arith) c.self.invariant.1)
+    λ (q : ℕ). ap (λ (l : List Connection). earlier_at l q) shown ∙ earlier_at-changed c.args.conn gone_connection (λ x. refl) (λ x. refl) (connections_of c.self.inside.accounts.entries) q in (
+      stands-change (ap (map (λ (x : Connection). x.conn)) shown ∙ keys-changed c.args.conn gone_connection (λ x. refl) (connections_of c.self.inside.accounts.entries)) earlier
+          (λ q. ap (λ (l : List Connection). stamped_to l q) shown ∙ stamped_to-changed c.args.conn gone_connection (λ x. refl) (λ x. refl) (connections_of c.self.inside.accounts.entries) q)
+          (λ q. ap (λ (t : List (ℕ × Tally)). sent_ends t q) c.leave.ensures ∙ number_at-same (λ (t : Tally). t.sent) c.args.conn gone_tally (λ t. refl) c.self.inside.accounts.entries q)
+          c.first_waiting-self-inside.ensures c.self.invariant.0,
+      tries_any-change (connections_of c.self.inside.accounts.entries) _ (tried_ends c.self.inside.accounts.entries) _ c.self.inside.sends.items c.self.inside.own.items _ _ c.self.inside.shared earlier
+          (λ q. ap (λ (t : List (ℕ × Tally)). tried_ends t q) c.leave.ensures ∙ number_at-same (λ (t : Tally). t.tried) c.args.conn gone_tally (λ t. refl) c.self.inside.accounts.entries q) (omega arith) c.self.invariant.1,
+    )
 
 pub returns : goal.returns
 returns c =
     rw (← c.self.view_is) (ap (λ (l : List Connection). record { first = c.self.inside.first; kept = sends_of c.self.inside.sends.items; trial = trial_of c.self.inside.sends.items c.self.inside.own.items c.self.inside.shared; connections = l })
-      (ap connections_of c.leave.ensures ∙ connections_of-retallied c.args.conn gone_tally gone_connection (λ e. refl) c.self.inside.accounts.entries))
+    (ap connections_of c.leave.ensures ∙ connections_of-retallied c.args.conn gone_tally gone_connection (λ e. refl) c.self.inside.accounts.entries))

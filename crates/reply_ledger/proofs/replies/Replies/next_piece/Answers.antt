@@ -39,4 +39,4 @@ returns c =
     let place = c.passed.ensures ∙ passed_end-of c.self.inside.accounts.entries c.index-entry.result.now.conn in
     let bytes : c.rest_of.result.now ≡ rest_of (earlier_at (connections_of c.self.inside.accounts.entries) c.index-entry.result.now.conn + length (stamped_to (connections_of c.self.inside.accounts.entries) c.index-entry.result.now.conn)) c.index-entry.result.now = c.rest_of.ensures ∙ ap (λ (n : ℕ). rest_of n c.index-entry.result.now) place in
     rw (← c.self.view_is) (ap (λ (l : List ℕ). Some (c.index-entry.result.now.conn, l)) bytes
-      ∙ sym (ap (option_map shown_part) (next-found c.args.until c.index-entry.result.now c.self.invariant.0 (omega (arith, c.if-self-len.false, c.len.ensures, c.self.inside.sends.ok)) c.index-entry.ensures c.if-entry-until.false)))
+    ∙ sym (ap (option_map shown_part) (next-found c.args.until c.index-entry.result.now c.self.invariant.0 (omega (arith, c.if-self-len.false, c.len.ensures, c.self.inside.sends.ok)) c.index-entry.ensures c.if-entry-until.false)))

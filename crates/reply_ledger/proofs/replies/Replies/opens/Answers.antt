@@ -22,16 +22,17 @@ invariant_of-self-2 c =
     let shown : connections_of c.open.new.accounts.entries ≡ connections_of c.self.inside.accounts.entries ++ new_connection c.args.conn ∷ [] = ap connections_of c.in_ok-open.ensures.ok ∙ connections_of-push c.self.inside.accounts.entries (c.args.conn, new_tally) in
     let end : sent_ends c.self.inside.accounts.entries c.args.conn ≡ 0 = number_at-none (λ (t : Tally). t.sent) c.self.inside.accounts.entries c.args.conn (sym (unknown-of c.self.inside.accounts.entries c.args.conn none)) in
     let sent : (q : ℕ) → sent_ends c.open.new.accounts.entries q ≡ sent_ends c.self.inside.accounts.entries q =
-        λ (q : ℕ). ap (λ (t : List (ℕ × Tally)). sent_ends t q) c.in_ok-open.ensures.ok ∙ number_at-push (λ (t : Tally). t.sent) c.args.conn new_tally refl c.self.inside.accounts.entries q in
+    λ (q : ℕ). ap (λ (t : List (ℕ × Tally)). sent_ends t q) c.in_ok-open.ensures.ok ∙ number_at-push (λ (t : Tally). t.sent) c.args.conn new_tally refl c.self.inside.accounts.entries q in
     let tried : (q : ℕ) → tried_ends c.open.new.accounts.entries q ≡ tried_ends c.self.inside.accounts.entries q =
-        λ (q : ℕ). ap (λ (t : List (ℕ × Tally)). tried_ends t q) c.in_ok-open.ensures.ok ∙ number_at-push (λ (t : Tally). t.tried) c.args.conn new_tally refl c.self.inside.accounts.entries q in
+    λ (q : ℕ). ap (λ (t : List (ℕ × Tally)). tried_ends t q) c.in_ok-open.ensures.ok ∙ number_at-push (λ (t : Tally). t.tried) c.args.conn new_tally refl c.self.inside.accounts.entries q in
     let keys : IsDistinct nat_eq (map (λ (x : Connection). x.conn) (connections_of c.self.inside.accounts.entries ++ new_connection c.args.conn ∷ [])) =
-        subst (λ (l : List Connection). IsDistinct nat_eq (map (λ (x : Connection). x.conn) l)) shown (subst (IsDistinct nat_eq) (sym (keys-of c.open.new.accounts.entries)) c.in_ok-open.ensures.unique) in
-    (subst (λ (l : List Connection). Stands l (sent_ends c.open.new.accounts.entries) c.self.inside.sends.items c.self.inside.next) (sym shown) (stands-opened c.args.conn none end sent keys c.self.invariant.0),
-     tries_any-change (connections_of c.self.inside.accounts.entries) _ (tried_ends c.self.inside.accounts.entries) _ c.self.inside.sends.items c.self.inside.own.items _ _ c.self.inside.shared
-       (λ q. ap (λ (l : List Connection). earlier_at l q) shown ∙ earlier_at-push (connections_of c.self.inside.accounts.entries) c.args.conn q none) tried (omega arith) c.self.invariant.1)
+    subst (λ (l : List Connection). IsDistinct nat_eq (map (λ (x : Connection). x.conn) l)) shown (subst (IsDistinct nat_eq) (sym (keys-of c.open.new.accounts.entries)) c.in_ok-open.ensures.unique) in (
+      subst (λ (l : List Connection). Stands l (sent_ends c.open.new.accounts.entries) c.self.inside.sends.items c.self.inside.next) (sym shown) (stands-opened c.args.conn none end sent keys c.self.invariant.0),
+      tries_any-change (connections_of c.self.inside.accounts.entries) _ (tried_ends c.self.inside.accounts.entries) _ c.self.inside.sends.items c.self.inside.own.items _ _ c.self.inside.shared
+          (λ q. ap (λ (l : List Connection). earlier_at l q) shown ∙ earlier_at-push (connections_of c.self.inside.accounts.entries) c.args.conn q none) tried (omega arith) c.self.invariant.1,
+    )
 
 pub returns-clause-ok : goal.returns-clause-ok
 returns-clause-ok c =
     rw (← c.self.view_is) (ap (λ (l : List Connection). record { first = c.self.inside.first; kept = sends_of c.self.inside.sends.items; trial = trial_of c.self.inside.sends.items c.self.inside.own.items c.self.inside.shared; connections = l })
-      (ap connections_of c.in_ok-open.ensures.ok ∙ connections_of-push c.self.inside.accounts.entries (c.args.conn, new_tally)))
+    (ap connections_of c.in_ok-open.ensures.ok ∙ connections_of-push c.self.inside.accounts.entries (c.args.conn, new_tally)))

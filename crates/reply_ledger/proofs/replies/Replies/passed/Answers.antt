@@ -48,15 +48,16 @@ invariant_of-self-2 c =
     let more : List Passed = stamped c.args.stamp (take c.args.count (stream_behind c.args.conn (number_at passed_end c.self.inside.accounts.entries c.args.conn) (drop c.first_with_rest-from.result c.self.inside.sends.items))) in
     let rest = stream-is c.args.conn c.first_with_rest-from.result (number_at passed_end c.self.inside.accounts.entries c.args.conn) c.self.invariant.0 c.first_with_rest-from.ensures (passed_end-of c.self.inside.accounts.entries c.args.conn) in
     let shown = ap connections_of c.in_ok-pass.ensures.ok ∙ connections_of-retallied c.args.conn (passed_tally more) (passed_connection more) (λ e. refl) c.self.inside.accounts.entries
-        ∙ ap (λ (l : List ℕ). changed c.args.conn (passed_connection (stamped c.args.stamp (take c.args.count l))) (connections_of c.self.inside.accounts.entries)) rest in
-    (stands-passed c.args.conn c.args.count c.args.stamp known after shown
-       (λ q. ap (λ (t : List (ℕ × Tally)). sent_ends t q) c.in_ok-pass.ensures.ok ∙ number_at-same (λ (t : Tally). t.sent) c.args.conn (passed_tally more) (λ t. refl) c.self.inside.accounts.entries q) c.first_waiting-self-inside.ensures c.self.invariant.0,
-     tries-none (connections_of c.pass.new.accounts.entries) (tried_ends c.pass.new.accounts.entries) c.self.inside.sends.items c.self.inside.own.items _ c.self.inside.shared none (own-none (connections_of c.self.inside.accounts.entries) (tried_ends c.self.inside.accounts.entries) c.self.inside.sends.items c.self.inside.own.items _ c.self.inside.shared none c.self.invariant.1))
+    ∙ ap (λ (l : List ℕ). changed c.args.conn (passed_connection (stamped c.args.stamp (take c.args.count l))) (connections_of c.self.inside.accounts.entries)) rest in (
+      stands-passed c.args.conn c.args.count c.args.stamp known after shown
+          (λ q. ap (λ (t : List (ℕ × Tally)). sent_ends t q) c.in_ok-pass.ensures.ok ∙ number_at-same (λ (t : Tally). t.sent) c.args.conn (passed_tally more) (λ t. refl) c.self.inside.accounts.entries q) c.first_waiting-self-inside.ensures c.self.invariant.0,
+      tries-none (connections_of c.pass.new.accounts.entries) (tried_ends c.pass.new.accounts.entries) c.self.inside.sends.items c.self.inside.own.items _ c.self.inside.shared none (own-none (connections_of c.self.inside.accounts.entries) (tried_ends c.self.inside.accounts.entries) c.self.inside.sends.items c.self.inside.own.items _ c.self.inside.shared none c.self.invariant.1),
+    )
 
 pub returns-clause-ok : goal.returns-clause-ok
 returns-clause-ok c =
     let more : List Passed = stamped c.args.stamp (take c.args.count (stream_behind c.args.conn (number_at passed_end c.self.inside.accounts.entries c.args.conn) (drop c.first_with_rest-from.result c.self.inside.sends.items))) in
     let rest = stream-is c.args.conn c.first_with_rest-from.result (number_at passed_end c.self.inside.accounts.entries c.args.conn) c.self.invariant.0 c.first_with_rest-from.ensures (passed_end-of c.self.inside.accounts.entries c.args.conn) in
     let shown = ap connections_of c.in_ok-pass.ensures.ok ∙ connections_of-retallied c.args.conn (passed_tally more) (passed_connection more) (λ e. refl) c.self.inside.accounts.entries
-        ∙ ap (λ (l : List ℕ). changed c.args.conn (passed_connection (stamped c.args.stamp (take c.args.count l))) (connections_of c.self.inside.accounts.entries)) rest in
+    ∙ ap (λ (l : List ℕ). changed c.args.conn (passed_connection (stamped c.args.stamp (take c.args.count l))) (connections_of c.self.inside.accounts.entries)) rest in
     rw (← c.self.view_is) (λ i. record { first = c.self.inside.first; kept = sends_of c.self.inside.sends.items; trial = trial_of c.self.inside.sends.items c.self.inside.own.items c.self.inside.shared; connections = shown i })
