@@ -67,10 +67,7 @@ impl Area {
             return false;
         }
         // Most ranges lie whole in the area, and `range` asks for no more than this.
-        if 0 < size
-            && self.start <= at
-            && (at - self.start) as usize + size <= self.bytes.len()
-        {
+        if 0 < size && self.start <= at && (at - self.start) as usize + size <= self.bytes.len() {
             return true;
         }
         (self.start as usize) < at as usize + size
