@@ -3,3 +3,10 @@
 
 #[cfg(test)]
 mod reply_ledger_tests;
+//! Tests of the wire: links in memory, and links over a source and a sink.
+#![tactic(auto)]
+
+#[cfg(test)]
+mod memory_link_tests;
+#[cfg(test)]
+mod trunk_wire_tests;
