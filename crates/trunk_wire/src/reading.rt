@@ -11,9 +11,6 @@ use crate::header::{Header, event_of, header_from, header_refusal};
 use rx_io::{Bytes, ConnectionTable, IoFault, LinkEvent, LinkFault, Source};
 use std::alloc::Global;
 
-/// The kind by which a frame that is cut short is refused.
-const TRUNCATED: u8 = 5;
-
 // The fault of a source, as that of a link.
 fn read_fault(fault: IoFault) -> LinkFault
     ensures { result ≡ read_fault fault }
@@ -22,6 +19,13 @@ fn read_fault(fault: IoFault) -> LinkFault
         IoFault::Failed => LinkFault::ReadFault,
         IoFault::Memory => LinkFault::Memory,
     }
+}
+
+// A frame is cut short: its first byte stands at this offset.
+fn truncated(offset: u64) -> LinkFault
+    ensures { result ≡ LinkFault.Refused 5 offset }
+{
+    LinkFault::Refused { kind: 5, offset }
 }
 
 // Takes bytes until the buffer is full or the source is at its end, and answers how many.
@@ -94,12 +98,7 @@ fn take_rest<S: Source>(
     }
     let payload = match read_payload(alloc, source, took, header.length as usize) {
         Ok(Some(payload)) => payload,
-        Ok(None) => {
-            return Err(LinkFault::Refused {
-                kind: TRUNCATED,
-                offset,
-            });
-        }
+        Ok(None) => return Err(truncated(offset)),
         Err(fault) => return Err(read_fault(fault)),
     };
     let event = event_of(header, Bytes::from_vec(payload));
@@ -130,10 +129,7 @@ pub fn take_event<S: Source>(
         return Ok(LinkEvent::Ends);
     }
     if count < 5 {
-        return Err(LinkFault::Refused {
-            kind: TRUNCATED,
-            offset,
-        });
+        return Err(truncated(offset));
     }
     take_rest(alloc, source, took, table, header_from(bytes), offset)
 }

@@ -15,9 +15,9 @@ returns-in-Some-clause-frame g c =
 pub returns-in-Ok-None-clause-frame : goal.returns-in-Ok-None-clause-frame
 returns-in-Ok-None-clause-frame g c =
     let read = rw c.in-Ok-None.field-0-is at c.in-Ok-None.ensures.read in
-    rest_truncated (phases_in c.args.table.now) c.args.header
+    rw c.truncated.ensures (rest_truncated (phases_in c.args.table.now) c.args.header
     (Reads (g.S.Source.told c.args.source.now) (g.S.Source.told c.read_payload.new.source) c.args.took.now c.read_payload.new.took) (IsDrained (g.S.Source.told c.read_payload.new.source)) read.0
-    (omega arith) (omega arith) (sym c.in_default.ensures) read.1 read.2 read.3
+    (omega arith) (omega arith) (sym c.in_default.ensures) read.1 read.2 read.3)
 
 pub returns-in-Err-clause-frame : goal.returns-in-Err-clause-frame
 returns-in-Err-clause-frame g c =
