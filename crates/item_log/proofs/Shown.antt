@@ -1,5 +1,5 @@
 -- The events that a log shows.
-use Rattle.std.proofs.Common.{◌≡◌, ℕ, ◌+◌, ◌-◌, ◌<◌, ◌≤◌, max, List, [], ◌∷◌, ◌++◌, Option, Some, None, option_map, Result, Ok, Err, length, drop, arith, length-append, length-drop, refl, sym, ◌∙◌, ap, subst, zero, suc, zero-add, inl, inr, true}
+use Rattle.std.proofs.Common.{◌≡◌, ℕ, ◌+◌, ◌-◌, ◌≤◌, max, List, [], ◌∷◌, ◌++◌, Option, Some, None, option_map, length, drop, arith, length-append, length-drop, refl, sym, ◌∙◌, ap, subst, zero, suc, zero-add, true}
 use Rattle.std.specs.List.{slice_get}
 use Rattle.std.specs.Option.{unwrap_or}
 use Rattle.std.proofs.lemmas.List.{drop-append-le, drop-drop}
@@ -7,7 +7,7 @@ use Rattle.rx_io.specs.declared.bytes.Item.{Item}
 use Rattle.rx_io.specs.declared.journal.LinkEvent.{LinkEvent}
 use Rattle.msg_frame.specs.declared.framing.Framing.{Framing}
 use Rattle.item_log.specs.Connections.{none_open, in_order}
-use Rattle.item_log.specs.Heard.{Heard, brought, hear, heard, heard_from, behind_items, items_of}
+use Rattle.item_log.specs.Heard.{Heard, brought, hear, heard_from, behind_items, items_of}
 use Rattle.item_log.specs.Log.{Log, received, item_at, with_heard, logged, trimmed, Shows, ShowsMore, ShowsStill, IsItemOf}
 use Rattle.item_log.specs.Laws.{LogsShow, ShownItems}
 use Rattle.item_log.proofs.Hearing.{one_more_event, heard_items, hear-in_order}

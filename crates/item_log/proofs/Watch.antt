@@ -1,8 +1,7 @@
 -- What a change of one framer is seen as.
-use Rattle.std.proofs.Common.{◌≡◌, ℕ, ◌<◌, ◌≤◌, List, [], ◌∷◌, Option, Some, None, Result, Ok, Err, Vec, length, get_or, set, replicate, refl, sym, ◌∙◌, ap, inl, inr, arith, zero, suc, true}
+use Rattle.std.proofs.Common.{◌≡◌, ℕ, ◌<◌, List, [], ◌∷◌, Option, Some, None, Result, Ok, Err, Vec, length, get_or, set, replicate, refl, sym, ◌∙◌, ap, inl, inr, zero, suc, true}
 use Rattle.std.specs.Option.{is_some, unwrap_or}
-use Rattle.std.specs.List.{All}
-use Rattle.std.proofs.lemmas.List.{map-set, get_or-map, set-get_or, get_or_past, length-map, length-replicate, get_or-replicate, get_or_default}
+use Rattle.std.proofs.lemmas.List.{map-set, get_or-map, set-get_or, get_or_past, length-map, length-replicate, get_or-replicate}
 use Rattle.std.proofs.lemmas.Bool.{cases_lt}
 use Rattle.std.specs.declared.alloc.Global.{Global}
 use Rattle.msg_frame.specs.declared.framing.Framing.{Framing}
@@ -12,7 +11,7 @@ use Rattle.msg_frame.specs.Messages.{cut}
 use Rattle.msg_frame.specs.Feeding.{Unfinished, Feeds}
 use Rattle.item_log.specs.declared.kinds.TheConstants.{CONNECTIONS}
 use Rattle.item_log.specs.Connections.{none_open, rest_of, is_open}
-use Rattle.item_log.specs.Watched.{Watched, rest_in, rests_of, CutsSo, AreFramers}
+use Rattle.item_log.specs.Watched.{Watched, rest_in, rests_of, AreFramers}
 use Rattle.item_log.specs.Watching.{FeedsOne}
 
 -- no framer at all

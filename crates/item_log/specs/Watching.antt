@@ -1,5 +1,5 @@
 -- What connections do with a piece of one of them.
-use Rattle.std.specs.Prelude.{◌≡◌, ℕ, List, [], Vec, Some, None, unwrap_or, slice_set, Result, Ok, Err}
+use Rattle.std.specs.Prelude.{◌≡◌, ℕ, List, [], Vec, Some, unwrap_or, slice_set, Result, Ok, Err}
 use Rattle.std.specs.declared.alloc.Global.{Global}
 use Rattle.msg_frame.specs.declared.framing.FrameRefusal.{FrameRefusal}
 use Rattle.msg_frame.specs.Messages.{Parts, cut}

@@ -46,6 +46,14 @@ impl Connections {
         })
     }
 
+    /// Whether a connection is open.
+    pub fn is_open(&self, conn: u16) -> bool
+        ensures { result ≡ is_open self.now.rests conn }
+    {
+        let place = conn as usize;
+        place < CONNECTIONS && self.framers[place].is_some()
+    }
+
     /// A connection opens.
     pub fn open(&mut self, conn: u16)
         requires { conn < CONNECTIONS }

@@ -1,6 +1,6 @@
 // The items of a link.
 ghost use Rattle.std.specs.Prelude.{◌≡◌, ◌≢◌, ℕ, ◌+◌, ◌≤◌, ◌<◌, [], Some, IsTrue, IfOk, OnOk, ◌↔◌, slice_get};
-ghost use Rattle.item_log.specs.Connections.{in_order};
+ghost use Rattle.item_log.specs.Connections.{is_open, in_order};
 ghost use Rattle.item_log.specs.Log.{empty_log, received, item_at, trimmed, logged, Logs, Shows, ShowsMore, ShowsStill, IsItemOf};
 ghost use Rattle.item_log.specs.Taking.{Brings, HasReceived, Takes};
 
@@ -64,6 +64,13 @@ impl ItemLog {
         ensures { result ≡ self.now.first }
     {
         self.first
+    }
+
+    /// Whether a connection is open by the events so far.
+    pub fn is_open(&self, conn: u16) -> bool
+        ensures { result ≡ is_open self.now.rests conn }
+    {
+        self.connections.is_open(conn)
     }
 
     /// The item of a number that was received and not given up.

@@ -1,9 +1,9 @@
 -- Where a message behind its number ends.
-use Rattle.std.proofs.Common.{◌≡◌, ℕ, ◌+◌, ◌-◌, ◌<◌, ◌≤◌, List, [], ◌∷◌, ◌++◌, Option, Some, None, length, take, drop, get_or, ltb, arith, length-append, length-take-le, append_assoc, refl, sym, ◌∙◌, ap, subst, inl, inr}
+use Rattle.std.proofs.Common.{◌≡◌, ℕ, ◌+◌, ◌-◌, ◌<◌, ◌≤◌, List, [], ◌∷◌, ◌++◌, Option, None, length, take, drop, get_or, ltb, arith, length-append, length-take-le, append_assoc, refl, sym, ◌∙◌, ap, inl, inr}
 use Rattle.std.proofs.lemmas.List.{append-nil, take_more, drop_more, take-append-drop}
 use Rattle.std.proofs.lemmas.Bool.{cases_lt, lt-ltb, le-ltb, cond-true, cond-false}
 use Rattle.msg_frame.specs.declared.framing.Framing.TheVariants.{Length}
-use Rattle.msg_frame.specs.declared.framing.TheConstants.{MAX_MESSAGE, NUMBER}
+use Rattle.msg_frame.specs.declared.framing.TheConstants.{MAX_MESSAGE, NUMBER_BYTES}
 use Rattle.msg_frame.specs.Messages.{Parts, no_message, one_message, behind, then_cut, announced, announced_parts, length_byte, cut_bytes}
 use Rattle.msg_frame.specs.Feeding.{IsRest}
 use Rattle.msg_frame.proofs.Cutting.{behind-nothing, cut_bytes-append}
@@ -13,26 +13,26 @@ use Rattle.msg_frame.proofs.Short.{announced-append}
 announced_parts-missing : (bytes : List ℕ) → IsRest Length bytes → announced_parts bytes ≡ no_message bytes
 unfolding announced_parts
 announced_parts-missing bytes h =
-    elim (cases_lt (length bytes) NUMBER) [
-      | inl few ↦ cond-true (ltb (length bytes) NUMBER) _ _ (lt-ltb _ _ few)
+    elim (cases_lt (length bytes) NUMBER_BYTES) [
+      | inl few ↦ cond-true (ltb (length bytes) NUMBER_BYTES) _ _ (lt-ltb _ _ few)
       | inr number ↦
           let fits = h number in
-          cond-false (ltb (length bytes) NUMBER) _ _ (le-ltb _ _ number)
+          cond-false (ltb (length bytes) NUMBER_BYTES) _ _ (le-ltb _ _ number)
           ∙ cond-false (ltb MAX_MESSAGE (announced bytes)) _ _ (le-ltb _ _ fits.0)
-          ∙ cond-true (ltb (length bytes) (NUMBER + announced bytes)) _ _ (lt-ltb _ _ fits.1)
+          ∙ cond-true (ltb (length bytes) (NUMBER_BYTES + announced bytes)) _ _ (lt-ltb _ _ fits.1)
     ]
 
-announced_parts-whole : (bytes : List ℕ) → announced bytes ≤ MAX_MESSAGE → length bytes ≡ NUMBER + announced bytes → announced_parts bytes ≡ one_message (drop NUMBER bytes)
+announced_parts-whole : (bytes : List ℕ) → announced bytes ≤ MAX_MESSAGE → length bytes ≡ NUMBER_BYTES + announced bytes → announced_parts bytes ≡ one_message (drop NUMBER_BYTES bytes)
 unfolding announced_parts
 announced_parts-whole bytes small whole =
-    cond-false (ltb (length bytes) NUMBER) _ _ (le-ltb _ _ (omega arith))
+    cond-false (ltb (length bytes) NUMBER_BYTES) _ _ (le-ltb _ _ (omega arith))
     ∙ cond-false (ltb MAX_MESSAGE (announced bytes)) _ _ (le-ltb _ _ small)
-    ∙ cond-false (ltb (length bytes) (NUMBER + announced bytes)) _ _ (le-ltb _ _ (omega arith))
+    ∙ cond-false (ltb (length bytes) (NUMBER_BYTES + announced bytes)) _ _ (le-ltb _ _ (omega arith))
 
-announced_parts-refused : (bytes : List ℕ) → NUMBER ≤ length bytes → MAX_MESSAGE < announced bytes → announced_parts bytes ≡ None
+announced_parts-refused : (bytes : List ℕ) → NUMBER_BYTES ≤ length bytes → MAX_MESSAGE < announced bytes → announced_parts bytes ≡ None
 unfolding announced_parts
 announced_parts-refused bytes number large =
-    cond-false (ltb (length bytes) NUMBER) _ _ (le-ltb _ _ number)
+    cond-false (ltb (length bytes) NUMBER_BYTES) _ _ (le-ltb _ _ number)
     ∙ cond-true (ltb MAX_MESSAGE (announced bytes)) _ _ (lt-ltb _ _ large)
 
 cut_more : (rest : List ℕ) (byte : ℕ) (bytes : List ℕ) (parts : Option Parts) → announced_parts (rest ++ byte ∷ []) ≡ parts → cut_bytes length_byte rest (byte ∷ bytes) ≡ then_cut parts (λ more. cut_bytes length_byte more bytes)
@@ -79,7 +79,7 @@ up_to_byte : (rest bytes : List ℕ) (i : ℕ) → i < length bytes → rest ++ 
 up_to_byte rest bytes i h = append_assoc rest (take i bytes) (get_or bytes i 0 ∷ []) ∙ ap (λ more. rest ++ more) (sym (take_more bytes i 0 h))
 
 -- the number of all bytes stands in a front of them
-announced-take : (rest bytes : List ℕ) (i : ℕ) → i ≤ length bytes → NUMBER ≤ length rest + i → announced (rest ++ bytes) ≡ announced (rest ++ take i bytes)
+announced-take : (rest bytes : List ℕ) (i : ℕ) → i ≤ length bytes → NUMBER_BYTES ≤ length rest + i → announced (rest ++ bytes) ≡ announced (rest ++ take i bytes)
 announced-take rest bytes i within number =
     let len : length (rest ++ take i bytes) ≡ length rest + i = omega (arith, length-append rest (take i bytes), length-take-le i bytes within) in
     ap (λ back. announced (rest ++ back)) (sym (take-append-drop i bytes))
@@ -87,11 +87,11 @@ announced-take rest bytes i within number =
     ∙ announced-append (rest ++ take i bytes) (drop i bytes) (omega arith)
 
 -- a number that is too large
-pub length_refused : (rest bytes : List ℕ) → IsRest Length rest → NUMBER ≤ length rest + length bytes → MAX_MESSAGE < announced (rest ++ bytes) → cut_bytes length_byte rest bytes ≡ None
+pub length_refused : (rest bytes : List ℕ) → IsRest Length rest → NUMBER_BYTES ≤ length rest + length bytes → MAX_MESSAGE < announced (rest ++ bytes) → cut_bytes length_byte rest bytes ≡ None
 length_refused rest bytes h number large =
-    elim (cases_lt (length rest) NUMBER) [
+    elim (cases_lt (length rest) NUMBER_BYTES) [
       | inl few ↦
-          let i : ℕ = NUMBER - 1 - length rest in
+          let i : ℕ = NUMBER_BYTES - 1 - length rest in
           let inside : i < length bytes = omega arith in
           let len : length (rest ++ take i bytes) ≡ length rest + i = omega (arith, length-append rest (take i bytes), length-take-le i bytes (omega arith)) in
           let next : length (rest ++ take (i + 1) bytes) ≡ length rest + (i + 1) = omega (arith, length-append rest (take (i + 1) bytes), length-take-le (i + 1) bytes (omega arith)) in
@@ -103,22 +103,22 @@ length_refused rest bytes h number large =
     ]
 
 -- a message that ends within the bytes
-length_last : (rest bytes : List ℕ) (i : ℕ) → IsRest Length rest → announced (rest ++ bytes) ≤ MAX_MESSAGE → i < length bytes → length rest + (i + 1) ≡ NUMBER + announced (rest ++ bytes) →
-    cut_bytes length_byte rest bytes ≡ behind (drop NUMBER (rest ++ take (i + 1) bytes) ∷ []) (cut_bytes length_byte [] (drop (i + 1) bytes))
+length_last : (rest bytes : List ℕ) (i : ℕ) → IsRest Length rest → announced (rest ++ bytes) ≤ MAX_MESSAGE → i < length bytes → length rest + (i + 1) ≡ NUMBER_BYTES + announced (rest ++ bytes) →
+    cut_bytes length_byte rest bytes ≡ behind (drop NUMBER_BYTES (rest ++ take (i + 1) bytes) ∷ []) (cut_bytes length_byte [] (drop (i + 1) bytes))
 length_last rest bytes i h small inside place =
     let len : length (rest ++ take i bytes) ≡ length rest + i = omega (arith, length-append rest (take i bytes), length-take-le i bytes (omega arith)) in
     let next : length (rest ++ take (i + 1) bytes) ≡ length rest + (i + 1) = omega (arith, length-append rest (take (i + 1) bytes), length-take-le (i + 1) bytes (omega arith)) in
     let same : announced (rest ++ bytes) ≡ announced (rest ++ take (i + 1) bytes) = announced-take rest bytes (i + 1) (omega arith) (omega arith) in
-    let whole : announced_parts (rest ++ take (i + 1) bytes) ≡ one_message (drop NUMBER (rest ++ take (i + 1) bytes)) = announced_parts-whole (rest ++ take (i + 1) bytes) (omega arith) (omega arith) in
+    let whole : announced_parts (rest ++ take (i + 1) bytes) ≡ one_message (drop NUMBER_BYTES (rest ++ take (i + 1) bytes)) = announced_parts-whole (rest ++ take (i + 1) bytes) (omega arith) (omega arith) in
     let missing : IsRest Length (rest ++ take i bytes) = λ number. (let front : announced (rest ++ bytes) ≡ announced (rest ++ take i bytes) = announced-take rest bytes i (omega arith) (omega arith) in (omega arith, omega arith)) in
     ap (cut_bytes length_byte rest) (split_at_byte bytes i inside)
-    ∙ cut_last rest (take i bytes) (get_or bytes i 0) (drop (i + 1) bytes) (one_message (drop NUMBER (rest ++ take (i + 1) bytes))) missing (ap announced_parts (up_to_byte rest bytes i inside) ∙ whole)
+    ∙ cut_last rest (take i bytes) (get_or bytes i 0) (drop (i + 1) bytes) (one_message (drop NUMBER_BYTES (rest ++ take (i + 1) bytes))) missing (ap announced_parts (up_to_byte rest bytes i inside) ∙ whole)
 
-pub length_within : (rest bytes : List ℕ) (n : ℕ) → IsRest Length rest → announced (rest ++ bytes) ≤ MAX_MESSAGE → NUMBER + announced (rest ++ bytes) ≤ length rest + length bytes → n ≡ NUMBER + announced (rest ++ bytes) - length rest →
-    (0 < n) × (n ≤ length bytes) × (NUMBER ≤ length rest + n) × (cut_bytes length_byte rest bytes ≡ behind (drop NUMBER (rest ++ take n bytes) ∷ []) (cut_bytes length_byte [] (drop n bytes)))
+pub length_within : (rest bytes : List ℕ) (n : ℕ) → IsRest Length rest → announced (rest ++ bytes) ≤ MAX_MESSAGE → NUMBER_BYTES + announced (rest ++ bytes) ≤ length rest + length bytes → n ≡ NUMBER_BYTES + announced (rest ++ bytes) - length rest →
+    (0 < n) × (n ≤ length bytes) × (NUMBER_BYTES ≤ length rest + n) × (cut_bytes length_byte rest bytes ≡ behind (drop NUMBER_BYTES (rest ++ take n bytes) ∷ []) (cut_bytes length_byte [] (drop n bytes)))
 length_within rest bytes n h small whole is =
-    let missing : length rest < NUMBER + announced (rest ++ bytes) =
-    elim (cases_lt (length rest) NUMBER) [
+    let missing : length rest < NUMBER_BYTES + announced (rest ++ bytes) =
+    elim (cases_lt (length rest) NUMBER_BYTES) [
       | inl few ↦ omega arith
       | inr all ↦ let same : announced (rest ++ bytes) ≡ announced rest = announced-append rest bytes all in let fits = h all in omega (arith, fits.1)
     ]

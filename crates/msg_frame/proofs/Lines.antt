@@ -1,12 +1,12 @@
 -- Where a line ends.
-use Rattle.std.proofs.Common.{◌≡◌, ℕ, suc, ◌+◌, ◌-◌, ◌<◌, ◌≤◌, Bool, true, false, not, cond, List, [], ◌∷◌, ◌++◌, Option, Some, None, length, take, drop, get_or, leb, eqb, ltb, ◌==◌, arith, length-append, length-take-le, append_assoc, refl, sym, ◌∙◌, ap, subst, inl, inr}
+use Rattle.std.proofs.Common.{◌≡◌, ℕ, suc, ◌+◌, ◌<◌, ◌≤◌, Bool, true, false, not, List, [], ◌∷◌, ◌++◌, Some, None, length, take, drop, get_or, leb, eqb, ltb, ◌==◌, arith, length-append, length-take-le, append_assoc, refl, sym, ◌∙◌, ap, inl, inr}
 use Rattle.std.specs.List.{position, position_or_len, prefix_len}
 use Rattle.std.proofs.lemmas.List.{append-nil, take_more, drop_more, take_all, drop_all}
 use Rattle.std.proofs.lemmas.List.Quantifiers.{position-Some}
-use Rattle.std.proofs.lemmas.Bool.{cases_lt, cases_Bool, lt-leb, le-leb, eq-eqb, cond-true, cond-false, ltb-false}
+use Rattle.std.proofs.lemmas.Bool.{cases_lt, cases_Bool, lt-leb, le-leb, cond-true, cond-false, ltb-false}
 use Rattle.msg_frame.specs.declared.framing.TheConstants.{MAX_MESSAGE, LINE_FEED}
-use Rattle.msg_frame.specs.Messages.{Parts, no_message, one_message, behind, then_cut, line_byte, cut_bytes}
-use Rattle.msg_frame.proofs.Cutting.{behind-nothing, cut_bytes-append}
+use Rattle.msg_frame.specs.Messages.{no_message, one_message, behind, then_cut, line_byte, cut_bytes}
+use Rattle.msg_frame.proofs.Cutting.{behind-nothing}
 
 -- how many bytes stand before the first line feed
 abbrev pub before_feed : List ℕ → ℕ

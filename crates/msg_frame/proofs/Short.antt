@@ -1,12 +1,12 @@
 -- How long messages and rests are.
-use Rattle.std.proofs.Common.{◌≡◌, ℕ, ◌+◌, ◌-◌, ◌<◌, ◌≤◌, List, [], ◌∷◌, ◌++◌, Option, Some, None, length, take, drop, get_or, leb, ltb, eqb, arith, rules, length-append, length-drop, refl, sym, ap, inl, inr}
+use Rattle.std.proofs.Common.{◌≡◌, ℕ, ◌+◌, ◌-◌, ◌<◌, ◌≤◌, List, [], ◌∷◌, ◌++◌, Option, Some, None, length, drop, leb, ltb, eqb, arith, rules, length-append, length-drop, refl, ap, inl, inr}
 use Rattle.std.specs.List.{All}
 use Rattle.std.proofs.lemmas.List.{take-append-le}
 use Rattle.std.proofs.lemmas.List.Elements.{All-append}
 use Rattle.std.proofs.lemmas.Bool.{cases_lt, cond_both, leb-false, ltb-true, ltb-false}
 use Rattle.msg_frame.specs.declared.framing.Framing.{Framing}
 use Rattle.msg_frame.specs.declared.framing.Framing.TheVariants.{Line, Length, Whole}
-use Rattle.msg_frame.specs.declared.framing.TheConstants.{MAX_MESSAGE, LINE_FEED, NUMBER}
+use Rattle.msg_frame.specs.declared.framing.TheConstants.{MAX_MESSAGE, LINE_FEED, NUMBER_BYTES}
 use Rattle.msg_frame.specs.Messages.{Parts, no_message, one_message, behind, then_cut, little_number, announced, line_byte, announced_parts, length_byte, cut_bytes, cut_whole, cut, cut_all}
 use Rattle.msg_frame.specs.Feeding.{IsRest}
 use Rattle.msg_frame.specs.Laws.{MessagesAreShort}
@@ -51,16 +51,16 @@ line_byte_keeps rest byte h =
     (λ _. (none_short, omega arith)))
 
 -- the number before a message stays when bytes come behind it
-pub announced-append : (rest bytes : List ℕ) → NUMBER ≤ length rest → announced (rest ++ bytes) ≡ announced rest
-announced-append rest bytes h = ap little_number (take-append-le NUMBER rest bytes h)
+pub announced-append : (rest bytes : List ℕ) → NUMBER_BYTES ≤ length rest → announced (rest ++ bytes) ≡ announced rest
+announced-append rest bytes h = ap little_number (take-append-le NUMBER_BYTES rest bytes h)
 
 -- a message behind its number has at most as many bytes as are missing
-last_byte_fits : (rest : List ℕ) (byte : ℕ) → IsRest Length rest → announced (rest ++ byte ∷ []) ≤ MAX_MESSAGE → length (drop NUMBER (rest ++ byte ∷ [])) ≤ MAX_MESSAGE
+last_byte_fits : (rest : List ℕ) (byte : ℕ) → IsRest Length rest → announced (rest ++ byte ∷ []) ≤ MAX_MESSAGE → length (drop NUMBER_BYTES (rest ++ byte ∷ [])) ≤ MAX_MESSAGE
 last_byte_fits rest byte h small =
     let bytes : List ℕ = rest ++ byte ∷ [] in
     let longer : length bytes ≡ length rest + 1 = length-append rest (byte ∷ []) in
-    let left : length (drop NUMBER bytes) ≡ length bytes - NUMBER = length-drop NUMBER bytes in
-    elim (cases_lt (length rest) NUMBER) [
+    let left : length (drop NUMBER_BYTES bytes) ≡ length bytes - NUMBER_BYTES = length-drop NUMBER_BYTES bytes in
+    elim (cases_lt (length rest) NUMBER_BYTES) [
       | inl few ↦ omega arith
       | inr number ↦ let same : announced bytes ≡ announced rest = announced-append rest (byte ∷ []) number in omega (arith, h number)
     ]
@@ -70,14 +70,14 @@ unfolding announced_parts
 announced_parts_keeps rest byte h =
     let bytes : List ℕ = rest ++ byte ∷ [] in
     let longer : length bytes ≡ length rest + 1 = length-append rest (byte ∷ []) in
-    cond_both (ltb (length bytes) NUMBER) (no_message bytes) _ (Keeps (IsRest Length))
-    (λ few. let less : length bytes < NUMBER = ltb-true _ _ few in (none_short, λ g. absurd (omega arith)))
-    (λ enough. let number : NUMBER ≤ length bytes = ltb-false _ _ enough in
+    cond_both (ltb (length bytes) NUMBER_BYTES) (no_message bytes) _ (Keeps (IsRest Length))
+    (λ few. let less : length bytes < NUMBER_BYTES = ltb-true _ _ few in (none_short, λ g. absurd (omega arith)))
+    (λ enough. let number : NUMBER_BYTES ≤ length bytes = ltb-false _ _ enough in
     cond_both (ltb MAX_MESSAGE (announced bytes)) None _ (Keeps (IsRest Length)) (λ _. tt)
     (λ low. let small : announced bytes ≤ MAX_MESSAGE = ltb-false _ _ low in
-    cond_both (ltb (length bytes) (NUMBER + announced bytes)) (no_message bytes) (one_message (drop NUMBER bytes)) (Keeps (IsRest Length))
-    (λ some. let missing : length bytes < NUMBER + announced bytes = ltb-true _ _ some in (none_short, λ g. (small, missing)))
-    (λ _. (one_short (drop NUMBER bytes) (last_byte_fits rest byte h small), λ g. absurd (omega arith)))))
+    cond_both (ltb (length bytes) (NUMBER_BYTES + announced bytes)) (no_message bytes) (one_message (drop NUMBER_BYTES bytes)) (Keeps (IsRest Length))
+    (λ some. let missing : length bytes < NUMBER_BYTES + announced bytes = ltb-true _ _ some in (none_short, λ g. (small, missing)))
+    (λ _. (one_short (drop NUMBER_BYTES bytes) (last_byte_fits rest byte h small), λ g. absurd (omega arith)))))
 
 cut_whole_keeps : (piece : List ℕ) → Keeps (IsRest Whole) (cut_whole piece)
 unfolding cut_whole
@@ -98,9 +98,9 @@ cut_all_keeps framing rest [] h = (none_short, h)
 cut_all_keeps framing rest (piece ∷ pieces) h =
     keeps_then (IsRest framing) (cut framing rest piece) (λ more. cut_all framing more pieces) (cut_keeps framing rest piece h) (λ more g. cut_all_keeps framing more pieces g)
 
-pub rest_is_short : (framing : Framing) (rest : List ℕ) → IsRest framing rest → length rest ≤ MAX_MESSAGE + NUMBER
+pub rest_is_short : (framing : Framing) (rest : List ℕ) → IsRest framing rest → length rest ≤ MAX_MESSAGE + NUMBER_BYTES
 rest_is_short Line rest h = omega (arith, h)
-rest_is_short Length rest h = elim (cases_lt (length rest) NUMBER) [ inl few ↦ omega arith | inr number ↦ omega (arith, h number) ]
+rest_is_short Length rest h = elim (cases_lt (length rest) NUMBER_BYTES) [ inl few ↦ omega arith | inr number ↦ omega (arith, h number) ]
 rest_is_short Whole rest h = rw h (omega arith)
 
 pub no_rest : (framing : Framing) → IsRest framing []

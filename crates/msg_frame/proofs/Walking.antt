@@ -1,5 +1,5 @@
 -- A walk over a piece, message by message.
-use Rattle.std.proofs.Common.{◌≡◌, ◌≢◌, ℕ, ◌+◌, List, [], ◌∷◌, ◌++◌, Option, Some, length, take, drop, arith, refl, sym, ◌∙◌, ap}
+use Rattle.std.proofs.Common.{◌≡◌, ◌≢◌, ℕ, List, [], ◌∷◌, ◌++◌, Option, Some, length, take, drop, arith, refl, sym, ◌∙◌, ap}
 use Rattle.std.specs.List.{All}
 use Rattle.msg_frame.specs.declared.framing.Framing.{Framing}
 use Rattle.msg_frame.specs.declared.ends.End.TheVariants.{Within}

@@ -5,7 +5,7 @@ use Rattle.msg_frame.specs.declared.framing.Framing.{Framing}
 use Rattle.msg_frame.specs.declared.framing.Framing.TheVariants.{Line, Length, Whole}
 use Rattle.msg_frame.specs.declared.framing.FrameRefusal.{FrameRefusal}
 use Rattle.msg_frame.specs.declared.framing.FrameRefusal.TheVariants.{TooLong, Memory}
-use Rattle.msg_frame.specs.declared.framing.TheConstants.{MAX_MESSAGE, NUMBER}
+use Rattle.msg_frame.specs.declared.framing.TheConstants.{MAX_MESSAGE, NUMBER_BYTES}
 use Rattle.msg_frame.specs.Messages.{Parts, announced, cut}
 
 -- how a stream is cut, and the bytes of its message that isn't whole yet
@@ -16,7 +16,7 @@ pub record Unfinished : Type 0 where
 -- the bytes of a message that isn't whole yet: none of a refused one
 abbrev pub IsRest : Framing → List ℕ → Type 0
 IsRest Line rest = length rest ≤ MAX_MESSAGE
-IsRest Length rest = NUMBER ≤ length rest → (announced rest ≤ MAX_MESSAGE) × (length rest < NUMBER + announced rest)
+IsRest Length rest = NUMBER_BYTES ≤ length rest → (announced rest ≤ MAX_MESSAGE) × (length rest < NUMBER_BYTES + announced rest)
 IsRest Whole rest = rest ≡ []
 
 -- how many messages a piece makes whole

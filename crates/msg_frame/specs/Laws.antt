@@ -1,9 +1,9 @@
 -- What holds of every stream.
-use Rattle.std.specs.Prelude.{◌≡◌, ◌≢◌, ℕ, ◌+◌, ◌≤◌, List, [], ◌++◌, length, Some, All}
+use Rattle.std.specs.Prelude.{◌≡◌, ◌≢◌, ℕ, ◌+◌, ◌≤◌, List, ◌++◌, length, Some, All}
 use Rattle.std.specs.List.{concat}
 use Rattle.msg_frame.specs.declared.framing.Framing.{Framing}
 use Rattle.msg_frame.specs.declared.framing.Framing.TheVariants.{Whole}
-use Rattle.msg_frame.specs.declared.framing.TheConstants.{MAX_MESSAGE, NUMBER}
+use Rattle.msg_frame.specs.declared.framing.TheConstants.{MAX_MESSAGE, NUMBER_BYTES}
 use Rattle.msg_frame.specs.Messages.{Parts, then_cut, cut, cut_all, messages}
 
 -- by lines and by length, two pieces are cut as one: refused is the one exactly where the other is
@@ -28,4 +28,4 @@ CutsAgree =
 abbrev pub MessagesAreShort : Type 0
 MessagesAreShort =
     (framing : Framing) (pieces : List (List ℕ)) (parts : Parts) → messages framing pieces ≡ Some parts →
-    All (λ message. length message ≤ MAX_MESSAGE) parts.messages × (length parts.rest ≤ MAX_MESSAGE + NUMBER)
+    All (λ message. length message ≤ MAX_MESSAGE) parts.messages × (length parts.rest ≤ MAX_MESSAGE + NUMBER_BYTES)

@@ -2,7 +2,7 @@
 use Rattle.std.specs.Prelude.{ℕ, ◌+◌, ◌*◌, List, [], ◌∷◌, ◌++◌, length, take, drop, Option, Some, None, if◌then◌else◌, ◌==◌, nat_lt, nat_le}
 use Rattle.msg_frame.specs.declared.framing.Framing.{Framing}
 use Rattle.msg_frame.specs.declared.framing.Framing.TheVariants.{Line, Length, Whole}
-use Rattle.msg_frame.specs.declared.framing.TheConstants.{MAX_MESSAGE, LINE_FEED, NUMBER}
+use Rattle.msg_frame.specs.declared.framing.TheConstants.{MAX_MESSAGE, LINE_FEED, NUMBER_BYTES}
 
 -- whole messages, and the bytes behind the last one, of a message that isn't whole yet
 pub record Parts : Type 0 where
@@ -34,7 +34,7 @@ little_number (byte ∷ bytes) = byte + 256 * little_number bytes
 
 -- how many bytes a message has, by the number before it
 abbrev pub announced : List ℕ → ℕ
-announced bytes = little_number (take NUMBER bytes)
+announced bytes = little_number (take NUMBER_BYTES bytes)
 
 -- one more byte of a line: refused behind the most bytes that a message may have; the line feed makes it whole
 unfoldable pub line_byte : List ℕ → ℕ → Option Parts
@@ -46,10 +46,10 @@ line_byte rest byte =
 -- a number and what is there of its message: refused where the number is too large; whole where no byte is missing
 unfoldable pub announced_parts : List ℕ → Option Parts
 announced_parts bytes =
-    if nat_lt (length bytes) NUMBER then no_message bytes else
+    if nat_lt (length bytes) NUMBER_BYTES then no_message bytes else
     if nat_lt MAX_MESSAGE (announced bytes) then None else
-    if nat_lt (length bytes) (NUMBER + announced bytes) then no_message bytes else
-    one_message (drop NUMBER bytes)
+    if nat_lt (length bytes) (NUMBER_BYTES + announced bytes) then no_message bytes else
+    one_message (drop NUMBER_BYTES bytes)
 
 -- one more byte of a number or of the message behind it
 abbrev pub length_byte : List ℕ → ℕ → Option Parts

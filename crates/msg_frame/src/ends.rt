@@ -6,7 +6,7 @@ ghost use Rattle.msg_frame.specs.Feeding.{IsRest};
 ghost use Rattle.msg_frame.specs.Ends.{Ends};
 
 use crate::Framing;
-use crate::framing::{LINE_FEED, MAX_MESSAGE, NUMBER};
+use crate::framing::{LINE_FEED, MAX_MESSAGE, NUMBER_BYTES};
 
 /// What bytes behind a rest are: refused, no whole message yet, or a message that ends within them, behind so many.
 #[derive(Clone, Copy)]
@@ -67,7 +67,7 @@ fn byte_at(rest: &[u8], bytes: &[u8], i: usize) -> u8
 
 // How many bytes the message has whose number stands first.
 fn announced(rest: &[u8], bytes: &[u8]) -> usize
-    requires { NUMBER ≤ length rest.now + length bytes.now }
+    requires { NUMBER_BYTES ≤ length rest.now + length bytes.now }
     ensures { result ≡ announced (rest.now ++ bytes.now) }
 {
     let first = byte_at(rest, bytes, 0) as usize;
@@ -82,17 +82,17 @@ fn length_end(rest: &[u8], bytes: &[u8]) -> End
     ensures { Ends Framing.Length rest.now bytes.now result }
 {
     let len = rest.len() + bytes.len();
-    if len < NUMBER {
+    if len < NUMBER_BYTES {
         return End::Missing;
     }
     let size = announced(rest, bytes);
     if !fits(size) {
         return End::Refused;
     }
-    if len < NUMBER + size {
+    if len < NUMBER_BYTES + size {
         return End::Missing;
     }
-    End::Within(NUMBER + size - rest.len())
+    End::Within(NUMBER_BYTES + size - rest.len())
 }
 
 fn whole_end(rest: &[u8], bytes: &[u8]) -> End

@@ -6,7 +6,7 @@ ghost use Rattle.msg_frame.specs.Takes.{Takes, left_of};
 
 use crate::build::push_joined;
 use crate::ends::{End, end_of};
-use crate::framing::{MAX_MESSAGE, NUMBER};
+use crate::framing::{MAX_MESSAGE, NUMBER_BYTES};
 use crate::{FrameRefusal, Framing};
 use rx_io::Bytes;
 use std::alloc::{AllocError, Global};
@@ -79,7 +79,7 @@ impl Framer {
     pub fn feed(&mut self, piece: &[u8]) -> Result<Vec<Bytes>, FrameRefusal>
         ensures fed { Feeds self.old piece.now self.new result }
         ensures short { IfOk result (λ messages. All (λ message. length message ≤ MAX_MESSAGE) messages.items) }
-        ensures rest { length self.new.rest ≤ MAX_MESSAGE + NUMBER }
+        ensures rest { length self.new.rest ≤ MAX_MESSAGE + NUMBER_BYTES }
     {
         let Some(count) = self.completes(piece) else {
             return Err(FrameRefusal::TooLong);

@@ -12,7 +12,7 @@ pub const MAX_MESSAGE: usize = 4096;
 pub const LINE_FEED: u8 = 10;
 
 /// How many bytes the number before a message has.
-pub const NUMBER: usize = 4;
+pub const NUMBER_BYTES: usize = 4;
 
 /// What a message of a stream is.
 #[derive(Clone, Copy, Debug, PartialEq, Eq)]
@@ -31,7 +31,7 @@ impl Framing {
         ensures { result ≡ skipped self }
     {
         match self {
-            Framing::Length => NUMBER,
+            Framing::Length => NUMBER_BYTES,
             Framing::Line | Framing::Whole => 0,
         }
     }

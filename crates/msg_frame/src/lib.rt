@@ -8,4 +8,4 @@ mod framing;
 pub mod laws;
 
 pub use framer::Framer;
-pub use framing::{FrameRefusal, Framing, LINE_FEED, MAX_MESSAGE, NUMBER};
+pub use framing::{FrameRefusal, Framing, LINE_FEED, MAX_MESSAGE, NUMBER_BYTES};

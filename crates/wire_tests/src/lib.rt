@@ -10,3 +10,10 @@ mod reply_ledger_tests;
 mod memory_link_tests;
 #[cfg(test)]
 mod trunk_wire_tests;
+//! Tests of the wire: messages of pieces, and items of events.
+#![tactic(auto)]
+
+#[cfg(test)]
+mod item_log_tests;
+#[cfg(test)]
+mod msg_frame_tests;

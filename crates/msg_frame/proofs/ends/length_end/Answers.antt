@@ -1,11 +1,11 @@
-use Rattle.std.proofs.Common.{◌≡◌, ◌++◌, length, arith, length-append}
-use Rattle.msg_frame.specs.Messages.{cut, announced}
+use Rattle.std.proofs.Common.{arith, length-append}
+use Rattle.msg_frame.specs.Messages.{cut}
 use Rattle.msg_frame.proofs.Lengths.{length_missing, length_refused, length_within}
 use Rattle.msg_frame.proofs.ends.length_end.Goals as goal
 
-pub returns-then-len-lt-NUMBER : goal.returns-then-len-lt-NUMBER
+pub returns-then-len-lt-NUMBER_BYTES : goal.returns-then-len-lt-NUMBER_BYTES
 unfolding cut
-returns-then-len-lt-NUMBER c =
+returns-then-len-lt-NUMBER_BYTES c =
     let all = length-append c.args.rest.now c.args.bytes.now in
     length_missing c.args.rest.now c.args.bytes.now (λ number. absurd (omega arith))
 

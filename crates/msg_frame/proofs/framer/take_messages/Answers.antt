@@ -1,7 +1,6 @@
-use Rattle.std.proofs.Common.{◌≡◌, ◌∷◌, [], ◌++◌, take, drop, arith}
+use Rattle.std.proofs.Common.{rules, ◌≡◌, ◌∷◌, [], ◌++◌, take, drop, arith}
 use Rattle.msg_frame.specs.Messages.{cut}
 use Rattle.msg_frame.specs.Skipped.{skipped}
-use Rattle.msg_frame.specs.Takes.{left_of}
 use Rattle.msg_frame.proofs.Short.{no_rest}
 use Rattle.msg_frame.proofs.Walking.{walk_on, left_of-push}
 use Rattle.msg_frame.proofs.framer.take_messages.Goals as goal
@@ -15,3 +14,6 @@ messages-preserved c =
       left = rw more (left_of-push c.messages.messages.items message c.args.old.now c.split_at.result.1.now);
       so_far = rw more (walk_on c.args.framing (cut c.args.framing c.args.old.now c.args.piece.now) c.messages.rest.now c.messages.bytes.now c.split_at.result.1.now c.in-Within.n c.messages.messages.items c.in-Within.ensures c.split_at.ensures.back c.messages.invariant.so_far);
     }
+
+pub returns-in-Refused : goal.returns-in-Refused
+returns-in-Refused c = search rules

@@ -1,4 +1,4 @@
-use Rattle.std.proofs.Common.{◌∷◌, [], ◌++◌, take, drop, arith, length-append, ◌∙◌, ap, sym}
+use Rattle.std.proofs.Common.{rules, ◌∷◌, [], ◌++◌, take, drop, arith, length-append}
 use Rattle.msg_frame.specs.Messages.{cut}
 use Rattle.msg_frame.specs.Skipped.{skipped}
 use Rattle.msg_frame.proofs.Short.{no_rest}
@@ -16,3 +16,6 @@ messages-preserved c =
       is_rest = no_rest c.self.inside.framing;
       so_far = walk_on c.self.inside.framing (cut c.args.self.now.framing c.args.self.now.rest c.args.piece.now) c.messages.rest.now c.messages.bytes.now c.split_at.result.1.now c.in-Within.n c.messages.invariant.found ends c.split_at.ensures.back c.messages.invariant.so_far;
     }
+
+pub returns-in-Missing : goal.returns-in-Missing
+returns-in-Missing c = search rules

@@ -1,0 +1,5 @@
+use Rattle.std.proofs.Common.{rules}
+use Rattle.item_log.proofs.item_log.ItemLog.close.Goals as goal
+
+pub returns : goal.returns
+returns c = search rules
