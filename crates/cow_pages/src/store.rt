@@ -15,7 +15,8 @@ use std::marker::Model;
 const PAGE: u32 = 4096;
 
 /// A live space of pages, and slots that it is saved in. A page stands in a frame of 4096 bytes. The live space and the
-/// slots share a frame until the live space is written there.
+/// slots share a frame until the live space is written there, so that saving, releasing and restoring cost a table of the
+/// pages and not their bytes. Addresses are of the live space, from 0.
 #[derive(Debug, Drop)]
 pub struct PageStore {
     pages: u32,
@@ -46,8 +47,8 @@ impl Model for PageStore {
 }
 
 impl PageStore {
-    /// A store with all bytes 0 and nothing saved. So many pages, at most 64 MiB, so many slots, and so many frames for
-    /// them, at least twice the pages. It takes memory for all of them, and no other call takes any.
+    /// A store with all bytes 0 and nothing saved: 1 to 16384 pages, 1 to 16 slots, and 2 to 16 frames for each page. All
+    /// memory is taken here, 4096 bytes for each frame. No other call takes any, and none can fail.
     pub fn make(alloc: Global, pages: u32, slots: u32, frames: u32) -> Result<PageStore, AllocError>
         requires few { (1 ≤ pages) × (pages ≤ 16384) }
         requires numbered { (1 ≤ slots) × (slots ≤ 16) }
