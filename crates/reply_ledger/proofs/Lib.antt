@@ -7,3 +7,4 @@ pub mod PositionLemmas
 pub mod WaitingLemmas
 pub mod EntryLemmas
 pub mod StandsLemmas
+pub mod ShowsLemmas

@@ -5,3 +5,4 @@ pub mod Trimming
 pub mod Tallies
 pub mod Entries
 pub mod Inside
+pub mod Shows
