@@ -43,7 +43,7 @@ shows-opens ledger sends passed conn none h = record {
   kept = h.kept;
   opened = λ q k. h.opened q (by (q == conn) (sym (connection_of-push ledger.connections (new_connection conn) q none) ∙ k));
   earlier = λ q. earlier_at-push ledger.connections conn q none ∙ h.earlier q;
-  passed = λ q. stamped_to-push ledger.connections conn q none ∙ h.passed q ∙ ap (λ (n : ℕ). drop n (stamped_of q passed)) (sym (earlier_at-push ledger.connections conn q none))
+  passed = λ q. stamped_to-push ledger.connections conn q none ∙ h.passed q ∙ ap (λ (n : ℕ). drop n (stamped_of q passed)) (sym (earlier_at-push ledger.connections conn q none));
 }
   where
     by : {o : Option Connection} (b : Bool) → (if b then Some (new_connection conn) else o) ≡ None → o ≡ None
@@ -58,7 +58,7 @@ shows-marked ledger sends passed conn change keeps p e h = record {
   kept = h.kept;
   opened = λ q k. h.opened q (by (conn == q) (connection_of ledger.connections q) (sym (connection_of-changed conn change keeps q ledger.connections) ∙ k));
   earlier = λ q. earlier_at-changed conn change keeps e ledger.connections q ∙ h.earlier q;
-  passed = λ q. stamped_to-changed conn change keeps p ledger.connections q ∙ h.passed q ∙ ap (λ (n : ℕ). drop n (stamped_of q passed)) (sym (earlier_at-changed conn change keeps e ledger.connections q))
+  passed = λ q. stamped_to-changed conn change keeps p ledger.connections q ∙ h.passed q ∙ ap (λ (n : ℕ). drop n (stamped_of q passed)) (sym (earlier_at-changed conn change keeps e ledger.connections q));
 }
   where
     by : (b : Bool) (o : Option Connection) → (if b then Rattle.std.specs.Option.option_map change o else o) ≡ None → o ≡ None
@@ -72,7 +72,7 @@ shows-sent ledger sends passed send known h = record {
   kept = ap (λ (l : List Send). l ++ send ∷ []) h.kept ∙ sym (drop-append-le ledger.first sends (send ∷ []) h.counted);
   opened = λ q k. sent_to-append q sends (send ∷ []) ∙ (λ i. h.opened q k i ++ none q k i);
   earlier = λ q. h.earlier q ∙ ap (λ (l : List Send). length (sent_to q l)) (sym (take-append-le ledger.first sends (send ∷ []) h.counted));
-  passed = h.passed
+  passed = h.passed;
 }
   where
     none : (q : ℕ) → connection_of ledger.connections q ≡ None → sent_to q (send ∷ []) ≡ []
@@ -90,19 +90,23 @@ shows-passed ledger sends passed conn count stamp known long h = record {
   kept = h.kept;
   opened = λ q k. h.opened q (by (conn == q) (connection_of ledger.connections q) (sym (connection_of-changed conn (passed_connection more) (λ c. refl) q ledger.connections) ∙ k));
   earlier = λ q. earlier_at-changed conn (passed_connection more) (λ c. refl) (λ c. refl) ledger.connections q ∙ h.earlier q;
-  passed = λ q. stamped_to-passed conn more ledger.connections q known ∙ new q (conn == q) refl ∙ ap (λ (n : ℕ). drop n (stamped_of q (passed ++ piece ∷ []))) (sym (earlier_at-changed conn (passed_connection more) (λ c. refl) (λ c. refl) ledger.connections q))
+  passed = λ q. stamped_to-passed conn more ledger.connections q known ∙ new q (conn == q) refl ∙ ap (λ (n : ℕ). drop n (stamped_of q (passed ++ piece ∷ []))) (sym (earlier_at-changed conn (passed_connection more) (λ c. refl) (λ c. refl) ledger.connections q));
 }
   where
     bytes : List ℕ
     bytes = take count (drop (length (passed_to ledger conn)) (sent_to conn ledger.kept))
+
     more : List Passed
     more = stamped stamp (take count (drop (length (passed_to ledger conn)) (sent_to conn ledger.kept)))
+
     piece : Send
     piece = record { conn = conn; bytes = take count (drop (length (passed_to ledger conn)) (sent_to conn ledger.kept)); taken = stamp }
+
     by : (b : Bool) (o : Option Connection) → (if b then Rattle.std.specs.Option.option_map (passed_connection more) o else o) ≡ None → o ≡ None
     by true None k = refl
     by true (Some c) k = absurd (let no : ⊥ = cc in no)
     by false o k = k
+
     new : (q : ℕ) (b : Bool) → conn == q ≡ b → (if b then stamped_to ledger.connections q ++ more else stamped_to ledger.connections q) ≡ drop (earlier_at ledger.connections q) (stamped_of q (passed ++ piece ∷ []))
     new q true p =
         let one : stamped_of q (piece ∷ []) ≡ more = stamped_of-one q piece ∙ ap (λ (b : Bool). if b then more else []) p in
@@ -122,11 +126,12 @@ shows-adopted ledger sends passed none h = record {
   kept = sym (ap (λ (n : ℕ). drop n (take ledger.first sends ++ trial_sends ledger)) (sym front) ∙ drop-append_seam (take ledger.first sends) (trial_sends ledger));
   opened = λ q k. sent_to-append q (take ledger.first sends) (trial_sends ledger) ∙ (λ i. early q k i ++ none q k i);
   earlier = λ q. h.earlier q ∙ ap (λ (l : List Send). length (sent_to q l)) (sym (ap (λ (n : ℕ). take n (take ledger.first sends ++ trial_sends ledger)) (sym front) ∙ take-append_seam (take ledger.first sends) (trial_sends ledger)));
-  passed = h.passed
+  passed = h.passed;
 }
   where
     front : length (take ledger.first sends) ≡ ledger.first
     front = length-take-le ledger.first sends h.counted
+
     early : (q : ℕ) → connection_of ledger.connections q ≡ None → sent_to q (take ledger.first sends) ≡ []
     early q k =
         let whole : sent_to q (take ledger.first sends) ++ sent_to q (drop ledger.first sends) ≡ [] = sym (sent_to-append q (take ledger.first sends) (drop ledger.first sends)) ∙ ap (sent_to q) (take-append-drop ledger.first sends) ∙ h.opened q k in
@@ -144,22 +149,26 @@ shows-trimmed ledger sends passed count le h = record {
   opened = λ q k. h.opened q (by (connection_of ledger.connections q) (sym (connection_of-trimmed (take count ledger.kept) ledger.connections q) ∙ k));
   earlier = earlier;
   passed = λ q. stamped_to-trimmed (take count ledger.kept) ledger.connections q ∙ ap (drop (length (sent_to q (take count ledger.kept)))) (h.passed q)
-      ∙ drop-drop (length (sent_to q (take count ledger.kept))) (earlier_at ledger.connections q) (stamped_of q passed) ∙ ap (λ (n : ℕ). drop n (stamped_of q passed)) (sym (moved q))
+      ∙ drop-drop (length (sent_to q (take count ledger.kept))) (earlier_at ledger.connections q) (stamped_of q passed) ∙ ap (λ (n : ℕ). drop n (stamped_of q passed)) (sym (moved q));
 }
   where
     by : (o : Option Connection) → Rattle.std.specs.Option.option_map (Rattle.reply_ledger.specs.Trimming.trimmed_connection (take count ledger.kept)) o ≡ None → o ≡ None
     by None k = refl
     by (Some c) k = absurd (let no : ⊥ = cc in no)
+
     whole : (q : ℕ) → length (sent_to q (take (ledger.first + count) sends)) ≡ length (sent_to q (take ledger.first sends)) + length (sent_to q (take count ledger.kept))
     whole q = ap (λ (l : List Send). length (sent_to q l)) (take-add ledger.first count sends) ∙ ap length (sent_to-append q (take ledger.first sends) (take count (drop ledger.first sends)))
         ∙ length-append (sent_to q (take ledger.first sends)) (sent_to q (take count (drop ledger.first sends))) ∙ ap (λ (l : List Send). length (sent_to q (take ledger.first sends)) + length (sent_to q (take count l))) (sym h.kept)
+
     unknown : (q : ℕ) → connection_of ledger.connections q ≡ None → length (sent_to q (take count ledger.kept)) ≡ 0
     unknown q k =
         let all : length (sent_to q (take (ledger.first + count) sends)) + length (sent_to q (drop (ledger.first + count) sends)) ≡ 0 =
-            sym (length-append (sent_to q (take (ledger.first + count) sends)) (sent_to q (drop (ledger.first + count) sends))) ∙ ap length (sym (sent_to-append q (take (ledger.first + count) sends) (drop (ledger.first + count) sends)) ∙ ap (sent_to q) (take-append-drop (ledger.first + count) sends) ∙ h.opened q k) in
+        sym (length-append (sent_to q (take (ledger.first + count) sends)) (sent_to q (drop (ledger.first + count) sends))) ∙ ap length (sym (sent_to-append q (take (ledger.first + count) sends) (drop (ledger.first + count) sends)) ∙ ap (sent_to q) (take-append-drop (ledger.first + count) sends) ∙ h.opened q k) in
         omega (arith, all, whole q)
+
     moved : (q : ℕ) → earlier_at (trimmed_connections (take count ledger.kept) ledger.connections) q ≡ earlier_at ledger.connections q + length (sent_to q (take count ledger.kept))
     moved q = earlier_at-trimmed (take count ledger.kept) ledger.connections q (unknown q)
+
     earlier : (q : ℕ) → earlier_at (trimmed_connections (take count ledger.kept) ledger.connections) q ≡ length (sent_to q (take (ledger.first + count) sends))
     earlier q = omega (arith, moved q, h.earlier q, whole q)
 
@@ -196,7 +205,7 @@ shows-covers ledger sends passed h survivor covers conn =
     let split : sent_to conn sends ≡ sent_to conn (take ledger.first sends) ++ sent_to conn (drop ledger.first sends) = ap (sent_to conn) (sym (take-append-drop ledger.first sends)) ∙ sent_to-append conn (take ledger.first sends) (drop ledger.first sends) in
     subst (Prefix (sent_to conn passed)) (sym (sent_to-append conn (take ledger.first sends) (trial_sends ledger)))
     (fronts-agree (sent_to conn (take ledger.first sends)) (sent_to conn (drop ledger.first sends)) (sent_to conn (trial_sends ledger)) (sent_to conn passed)
-      (subst (Prefix (sent_to conn passed)) split (survivor conn)) (subst (λ (l : List ℕ). Prefix l (sent_to conn (trial_sends ledger))) (shown_passed ledger sends passed h conn) (covers conn)))
+    (subst (Prefix (sent_to conn passed)) split (survivor conn)) (subst (λ (l : List ℕ). Prefix l (sent_to conn (trial_sends ledger))) (shown_passed ledger sends passed h conn) (covers conn)))
 
 pub covers-shows : (ledger : Ledger) (sends passed : List Send) → Shows ledger sends passed → ((conn : ℕ) → Prefix (sent_to conn passed) (sent_to conn (take ledger.first sends ++ trial_sends ledger))) → Covers ledger
 covers-shows ledger sends passed h all conn =
