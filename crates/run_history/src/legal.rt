@@ -13,6 +13,6 @@ pub fn legal_choice(choice: Choice, book: &Book, size: u32) -> bool
     requires { is_bare book.now ≡ true }
     ensures { result ≡ is_allowed book.now.start book.now.end (live_blocks book.now.blocks) size choice }
 {
-    book.is_sound();
+    book.sound();
     (choice.at == 0 && !choice.zeroed) || book.clear_of_live(choice.at, size)
 }
