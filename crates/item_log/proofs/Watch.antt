@@ -60,5 +60,8 @@ feeds_one framing framers conn piece old new (Ok messages) are below is fed =
     let here : rest_of (rests_of framers) conn ≡ Some old.rest = rest_of-rests_of framers conn (Some old) below is in
     let alike : old.framing ≡ framing = rw (sym is) at (are.alike conn (Some old) below) in
     (record { messages = messages.items; rest = new.rest }, ap (λ rest. cut framing (unwrap_or rest []) piece) here ∙ ap (λ so. cut so old.rest piece) (sym alike) ∙ fed.0, refl, watched-set framing framers conn (Some new) (Some new.rest) refl)
-feeds_one framing framers conn piece old new (Err TooLong) are below is fed = rw fed.1 (watched-same framing framers conn old is)
+feeds_one framing framers conn piece old new (Err TooLong) are below is fed =
+    let here : rest_of (rests_of framers) conn ≡ Some old.rest = rest_of-rests_of framers conn (Some old) below is in
+    let alike : old.framing ≡ framing = rw (sym is) at (are.alike conn (Some old) below) in
+    (ap (λ rest. cut framing (unwrap_or rest []) piece) here ∙ ap (λ so. cut so old.rest piece) (sym alike) ∙ fed.0, rw fed.1 (watched-same framing framers conn old is))
 feeds_one framing framers conn piece old new (Err Memory) are below is fed = rw fed.1 (watched-same framing framers conn old is)
