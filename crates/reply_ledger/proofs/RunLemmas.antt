@@ -282,7 +282,7 @@ end_at-last [] at p d lt = absurd (omega arith)
 end_at-last (run ∷ runs) at zero d lt = refl
 end_at-last (run ∷ runs) at (suc p) d lt = end_at-last runs run.end p d (omega arith)
 
-until-stamped : (item s : ℕ) (bytes : List ℕ) → (nat_le s item ≡ true → until item (stamped s bytes) ≡ stamped s bytes) × (nat_le s item ≡ false → until item (stamped s bytes) ≡ [])
+pub until-stamped : (item s : ℕ) (bytes : List ℕ) → (nat_le s item ≡ true → until item (stamped s bytes) ≡ stamped s bytes) × (nat_le s item ≡ false → until item (stamped s bytes) ≡ [])
 unfolding until stamped
 until-stamped item s [] = ((λ _. refl), (λ _. refl))
 until-stamped item s (b ∷ bytes) = (
@@ -290,7 +290,7 @@ until-stamped item s (b ∷ bytes) = (
   (λ f. ap (λ (c : Bool). cond c (record { byte = b; stamp = s } ∷ until item (stamped s bytes)) (until item (stamped s bytes))) f ∙ (until-stamped item s bytes).1 f),
 )
 
-until-append : (item : ℕ) (xs ys : List Passed) → until item (xs ++ ys) ≡ until item xs ++ until item ys
+pub until-append : (item : ℕ) (xs ys : List Passed) → until item (xs ++ ys) ≡ until item xs ++ until item ys
 unfolding until
 until-append item xs ys = filter-append _ xs ys
 

@@ -2,18 +2,20 @@
 use Rattle.std.proofs.Common.{◌≡◌, ℕ, zero, suc, ◌+◌, ◌-◌, ◌<◌, ◌≤◌, Bool, true, false, ◌&&◌, not, List, [], ◌∷◌, ◌++◌, length, map, take, drop, filter, Option, None, Some, is_some, refl, sym, ◌∙◌, ap, subst, arith, cond, if◌then◌else◌, append-nil, append_assoc, length-append, length-drop, length-take}
 use Rattle.std.specs.Prelude.{IsSome, nat_le, ◌==◌}
 use Rattle.std.specs.List.{flat_map}
-use Rattle.std.proofs.lemmas.Bool.{eqb-true, true≢false}
+use Rattle.std.specs.List.{AllByRecursion}
+use Rattle.std.proofs.lemmas.Bool.{eqb-true, true≢false, leb-false, lt-leb}
 use Rattle.std.proofs.lemmas.List.{drop-append-le, take-append-le, drop-drop, take-append-drop, length-take-le, drop_all}
 use Rattle.std.proofs.lemmas.List.Concat.{flat_map-append}
 use Rattle.std.proofs.Math.Seq.{take-add, drop-append_seam, take-append_seam}
 use Rattle.rx_io.specs.Sends.{Send, sent_to}
 use Rattle.rx_io.specs.Prefix.{Prefix}
-use Rattle.reply_ledger.specs.Ledger.{Passed, Connection, Ledger, connection_of, stamped, stamped_to, bytes_of, passed_to, changed, new_connection, passed_connection, with_connection, with_change, with_send, with_passed}
-use Rattle.reply_ledger.specs.Trials.{trial_sends, adopted, Covers}
+use Rattle.reply_ledger.specs.Ledger.{Passed, Connection, Ledger, connection_of, stamped, stamped_to, bytes_of, stamps_of, IsInOrder, passed_to, changed, new_connection, passed_connection, with_connection, with_change, with_send, with_passed}
+use Rattle.reply_ledger.specs.Trials.{until, trial_sends, adopted, Covers, CoversBefore}
 use Rattle.reply_ledger.specs.Trimming.{trimmed_connections, without}
 use Rattle.reply_ledger.specs.Inside.{earlier_at}
 use Rattle.reply_ledger.specs.Shows.{Shows, stamped_of, pieces_until}
-use Rattle.reply_ledger.proofs.RunLemmas.{bytes_of-append, bytes_of-stamped}
+use Rattle.reply_ledger.proofs.RunLemmas.{bytes_of-append, bytes_of-stamped, until-stamped, until-append}
+use Rattle.reply_ledger.proofs.StandsLemmas.{until-front}
 use Rattle.reply_ledger.proofs.ConnectionLemmas.{connection_of-changed, connection_of-push, connection_of-trimmed, stamped_to-changed, earlier_at-changed, stamped_to-passed, stamped_to-push, earlier_at-push, stamped_to-trimmed, earlier_at-trimmed}
 use Rattle.reply_ledger.proofs.EntryLemmas.{sent_to-append}
 
@@ -211,3 +213,74 @@ pub covers-shows : (ledger : Ledger) (sends passed : List Send) → Shows ledger
 covers-shows ledger sends passed h all conn =
     subst (λ (l : List ℕ). Prefix l (sent_to conn (trial_sends ledger))) (sym (shown_passed ledger sends passed h conn))
     (fronts-drop (sent_to conn (take ledger.first sends)) (sent_to conn (trial_sends ledger)) (sent_to conn passed) (subst (Prefix (sent_to conn passed)) (sent_to-append conn (take ledger.first sends) (trial_sends ledger)) (all conn)))
+
+-- the pieces in time are what was passed in time
+until-one : (item stamp : ℕ) (bytes : List ℕ) (b : Bool) → nat_le stamp item ≡ b → until item (stamped stamp bytes) ≡ (if b then stamped stamp bytes else [])
+until-one item stamp bytes true t = (until-stamped item stamp bytes).0 t
+until-one item stamp bytes false f = (until-stamped item stamp bytes).1 f
+
+pub until-pieces : (item conn : ℕ) (pieces : List Send) → stamped_of conn (pieces_until item pieces) ≡ until item (stamped_of conn pieces)
+unfolding stamped_of pieces_until until
+until-pieces item conn [] = refl
+until-pieces item conn (piece ∷ pieces) = by (nat_le piece.taken item) refl (piece.conn == conn) refl (until-pieces item conn pieces)
+  where
+    by : (b : Bool) → nat_le piece.taken item ≡ b → (a : Bool) → piece.conn == conn ≡ a → stamped_of conn (pieces_until item pieces) ≡ until item (stamped_of conn pieces)
+        → stamped_of conn (cond b (piece ∷ pieces_until item pieces) (pieces_until item pieces)) ≡ until item ((if a then stamped piece.taken piece.bytes else []) ++ stamped_of conn pieces)
+    by true t true a ih =
+        ap (λ (x : Bool). (if x then stamped piece.taken piece.bytes else []) ++ stamped_of conn (pieces_until item pieces)) a ∙ ap (λ (l : List Passed). stamped piece.taken piece.bytes ++ l) ih
+        ∙ ap (λ (l : List Passed). l ++ until item (stamped_of conn pieces)) (sym (until-one item piece.taken piece.bytes true t)) ∙ sym (until-append item (stamped piece.taken piece.bytes) (stamped_of conn pieces))
+    by true t false a ih = ap (λ (x : Bool). (if x then stamped piece.taken piece.bytes else []) ++ stamped_of conn (pieces_until item pieces)) a ∙ ih
+    by false t true a ih =
+        ih ∙ ap (λ (l : List Passed). l ++ until item (stamped_of conn pieces)) (sym (until-one item piece.taken piece.bytes false t)) ∙ sym (until-append item (stamped piece.taken piece.bytes) (stamped_of conn pieces))
+    by false t false a ih = ih
+
+none-in-time : (item stamp : ℕ) (ys : List Passed) → AllByRecursion (λ y. stamp ≤ y) (stamps_of ys) → item < stamp → until item ys ≡ []
+unfolding until stamps_of
+none-in-time item stamp [] h lt = refl
+none-in-time item stamp (y ∷ ys) h lt = ap (λ (b : Bool). cond b (y ∷ until item ys) (until item ys)) (lt-leb y.stamp item (omega (arith, h.0, lt))) ∙ none-in-time item stamp ys h.1 lt
+
+all-drop : (P : ℕ → Type 0) (n : ℕ) (ys : List Passed) → AllByRecursion P (stamps_of ys) → AllByRecursion P (stamps_of (drop n ys))
+unfolding stamps_of
+all-drop P zero ys h = h
+all-drop P (suc n) [] h = h
+all-drop P (suc n) (y ∷ ys) h = all-drop P n ys h.1
+
+-- giving up the oldest bytes first, or those that came too late, is the same
+pub until-drop : (item n : ℕ) (xs : List Passed) → IsInOrder (stamps_of xs) → until item (drop n xs) ≡ drop n (until item xs)
+unfolding until stamps_of
+until-drop item zero xs h = refl
+until-drop item (suc n) [] h = refl
+until-drop item (suc n) (x ∷ xs) h = by (nat_le x.stamp item) refl (until-drop item n xs h.1)
+  where
+    by : (b : Bool) → nat_le x.stamp item ≡ b → until item (drop n xs) ≡ drop n (until item xs) → until item (drop n xs) ≡ drop (suc n) (cond b (x ∷ until item xs) (until item xs))
+    by true t ih = ih
+    by false f ih =
+        let lt : item < x.stamp = leb-false x.stamp item f in
+        none-in-time item x.stamp (drop n xs) (all-drop (λ y. x.stamp ≤ y) n xs h.0) lt ∙ sym (ap (drop (suc n)) (none-in-time item x.stamp xs h.0 lt) ∙ drop_all (suc n) [] (omega arith))
+
+-- what the ledger has of the bytes that were passed in time
+shown_until : (ledger : Ledger) (sends passed : List Send) (item : ℕ) → Shows ledger sends passed → (conn : ℕ) → IsInOrder (stamps_of (stamped_of conn passed))
+    → bytes_of (until item (stamped_to ledger.connections conn)) ≡ drop (length (sent_to conn (take ledger.first sends))) (sent_to conn (pieces_until item passed))
+shown_until ledger sends passed item h conn order =
+    ap (λ (l : List Passed). bytes_of (until item l)) (h.passed conn) ∙ ap bytes_of (until-drop item (earlier_at ledger.connections conn) (stamped_of conn passed) order)
+    ∙ bytes_of-drop (earlier_at ledger.connections conn) (until item (stamped_of conn passed))
+    ∙ (λ i. drop (h.earlier conn i) ((ap bytes_of (sym (until-pieces item conn passed)) ∙ bytes_of-stamped_of conn (pieces_until item passed)) i))
+
+pub shows-covers_before : (ledger : Ledger) (sends passed : List Send) (item : ℕ) → Shows ledger sends passed → ((conn : ℕ) → IsInOrder (stamps_of (stamped_of conn passed))) → ((conn : ℕ) → Prefix (sent_to conn passed) (sent_to conn sends))
+    → CoversBefore ledger item → (conn : ℕ) → Prefix (sent_to conn (pieces_until item passed)) (sent_to conn (take ledger.first sends ++ trial_sends ledger))
+shows-covers_before ledger sends passed item h order survivor covers conn =
+    let split : sent_to conn sends ≡ sent_to conn (take ledger.first sends) ++ sent_to conn (drop ledger.first sends) = ap (sent_to conn) (sym (take-append-drop ledger.first sends)) ∙ sent_to-append conn (take ledger.first sends) (drop ledger.first sends) in
+    let early : sent_to conn (pieces_until item passed) ≡ bytes_of (until item (stamped_of conn passed)) = sym (bytes_of-stamped_of conn (pieces_until item passed)) ∙ ap bytes_of (until-pieces item conn passed) in
+    let first = until-front item (stamped_of conn passed) (order conn) in
+    let whole = survivor conn in
+    let front : Prefix (sent_to conn (pieces_until item passed)) (sent_to conn sends) =
+        (first.0 ++ whole.0, ap (λ (l : List ℕ). l ++ (first.0 ++ whole.0)) early ∙ sym (append_assoc (bytes_of (until item (stamped_of conn passed))) first.0 whole.0) ∙ ap (λ (l : List ℕ). l ++ whole.0) (first.1 ∙ bytes_of-stamped_of conn passed) ∙ whole.1) in
+    subst (Prefix (sent_to conn (pieces_until item passed))) (sym (sent_to-append conn (take ledger.first sends) (trial_sends ledger)))
+    (fronts-agree (sent_to conn (take ledger.first sends)) (sent_to conn (drop ledger.first sends)) (sent_to conn (trial_sends ledger)) (sent_to conn (pieces_until item passed))
+      (subst (Prefix (sent_to conn (pieces_until item passed))) split front) (subst (λ (l : List ℕ). Prefix l (sent_to conn (trial_sends ledger))) (shown_until ledger sends passed item h conn (order conn)) (covers conn)))
+
+pub covers_before-shows : (ledger : Ledger) (sends passed : List Send) (item : ℕ) → Shows ledger sends passed → ((conn : ℕ) → IsInOrder (stamps_of (stamped_of conn passed)))
+    → ((conn : ℕ) → Prefix (sent_to conn (pieces_until item passed)) (sent_to conn (take ledger.first sends ++ trial_sends ledger))) → CoversBefore ledger item
+covers_before-shows ledger sends passed item h order all conn =
+    subst (λ (l : List ℕ). Prefix l (sent_to conn (trial_sends ledger))) (sym (shown_until ledger sends passed item h conn (order conn)))
+    (fronts-drop (sent_to conn (take ledger.first sends)) (sent_to conn (trial_sends ledger)) (sent_to conn (pieces_until item passed)) (subst (Prefix (sent_to conn (pieces_until item passed))) (sent_to-append conn (take ledger.first sends) (trial_sends ledger)) (all conn)))
