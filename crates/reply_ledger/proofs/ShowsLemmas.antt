@@ -274,10 +274,10 @@ shows-covers_before ledger sends passed item h order survivor covers conn =
     let first = until-front item (stamped_of conn passed) (order conn) in
     let whole = survivor conn in
     let front : Prefix (sent_to conn (pieces_until item passed)) (sent_to conn sends) =
-        (first.0 ++ whole.0, ap (λ (l : List ℕ). l ++ (first.0 ++ whole.0)) early ∙ sym (append_assoc (bytes_of (until item (stamped_of conn passed))) first.0 whole.0) ∙ ap (λ (l : List ℕ). l ++ whole.0) (first.1 ∙ bytes_of-stamped_of conn passed) ∙ whole.1) in
+    (first.0 ++ whole.0, ap (λ (l : List ℕ). l ++ (first.0 ++ whole.0)) early ∙ sym (append_assoc (bytes_of (until item (stamped_of conn passed))) first.0 whole.0) ∙ ap (λ (l : List ℕ). l ++ whole.0) (first.1 ∙ bytes_of-stamped_of conn passed) ∙ whole.1) in
     subst (Prefix (sent_to conn (pieces_until item passed))) (sym (sent_to-append conn (take ledger.first sends) (trial_sends ledger)))
     (fronts-agree (sent_to conn (take ledger.first sends)) (sent_to conn (drop ledger.first sends)) (sent_to conn (trial_sends ledger)) (sent_to conn (pieces_until item passed))
-      (subst (Prefix (sent_to conn (pieces_until item passed))) split front) (subst (λ (l : List ℕ). Prefix l (sent_to conn (trial_sends ledger))) (shown_until ledger sends passed item h conn (order conn)) (covers conn)))
+    (subst (Prefix (sent_to conn (pieces_until item passed))) split front) (subst (λ (l : List ℕ). Prefix l (sent_to conn (trial_sends ledger))) (shown_until ledger sends passed item h conn (order conn)) (covers conn)))
 
 pub covers_before-shows : (ledger : Ledger) (sends passed : List Send) (item : ℕ) → Shows ledger sends passed → ((conn : ℕ) → IsInOrder (stamps_of (stamped_of conn passed)))
     → ((conn : ℕ) → Prefix (sent_to conn (pieces_until item passed)) (sent_to conn (take ledger.first sends ++ trial_sends ledger))) → CoversBefore ledger item
