@@ -1,7 +1,7 @@
 -- Sends that lie in their connections' streams.
-use Rattle.std.proofs.Common.{◌≡◌, ℕ, zero, suc, ◌+◌, ◌-◌, ◌<◌, ◌≤◌, Bool, true, false, not, List, [], ◌∷◌, ◌++◌, length, map, take, drop, get_or, refl, sym, ◌∙◌, ap, subst, arith, cond, if◌then◌else◌, append-nil, append_assoc, length-append, inl, inr}
+use Rattle.std.proofs.Common.{◌≡◌, ℕ, zero, suc, ◌+◌, ◌-◌, ◌<◌, ◌≤◌, Bool, true, false, List, [], ◌∷◌, ◌++◌, length, map, take, drop, get_or, refl, sym, ◌∙◌, ap, subst, arith, if◌then◌else◌, append-nil, append_assoc, length-append, inl, inr}
 use Rattle.std.specs.Prelude.{◌==◌, ◌⊎◌}
-use Rattle.std.specs.List.{AllByRecursion, flat_map}
+use Rattle.std.specs.List.{AllByRecursion}
 use Rattle.std.proofs.lemmas.List.{map-append, take-append-drop, get_or-drop, take-append-le, drop_all, take_all, length-take-le}
 use Rattle.std.proofs.Math.ListN.{get_or-append}
 use Rattle.std.proofs.lemmas.List.Concat.{flat_map-append}
@@ -17,9 +17,8 @@ use Rattle.reply_ledger.proofs.TallyLemmas.{retallied-none, number_at-none}
 use Rattle.reply_ledger.proofs.ConnectionLemmas.{number_at-set, number_at-same, connections_of-retallied, trimmed-one, trimmed-append, earlier_at-of, earlier_at-trimmed, unknown-of}
 use Rattle.std.proofs.lemmas.Bool.{cases_lt, eqb-true, eq-eqb}
 use Rattle.rx_io.specs.Sends.{Send, sent_to}
-use Rattle.rx_io.specs.Prefix.{Prefix}
 use Rattle.reply_ledger.specs.declared.entry.Entry.{Entry}
-use Rattle.reply_ledger.specs.Ledger.{Connection, IsInOrder, NotBefore, times_of, bytes_of, stamped_to, Passed}
+use Rattle.reply_ledger.specs.Ledger.{Connection, IsInOrder, NotBefore, times_of, bytes_of, stamped_to}
 use Rattle.reply_ledger.specs.Parts.{unpassed, parts_behind}
 use Rattle.reply_ledger.specs.Entries.{send_of, sends_of, rest_of, stream_behind}
 use Rattle.reply_ledger.specs.Inside.{Laid, earlier_at, part_of}

@@ -1,5 +1,5 @@
 -- The first element that passes a test, and what is found at it.
-use Rattle.std.proofs.Common.{◌≡◌, ℕ, zero, suc, ◌+◌, ◌-◌, ◌<◌, ◌≤◌, Bool, true, false, ◌&&◌, not, List, [], ◌∷◌, ◌++◌, length, map, take, drop, get_or, Option, None, Some, refl, sym, ◌∙◌, ap, subst, arith, cond}
+use Rattle.std.proofs.Common.{◌≡◌, ℕ, zero, suc, ◌+◌, ◌<◌, ◌≤◌, Bool, true, false, not, List, [], ◌∷◌, ◌++◌, length, map, drop, get_or, None, Some, refl, sym, ◌∙◌, ap, arith, cond}
 use Rattle.std.proofs.lemmas.Bool.{true≢false, ne_eqb, lt-ltb}
 use Rattle.std.specs.Prelude.{find, nat_lt, ◌==◌}
 use Rattle.std.specs.List.{position_or_len}

@@ -1,14 +1,14 @@
 -- Passed bytes with their stamps, as bytes beside runs of stamps.
-use Rattle.std.proofs.Common.{◌≡◌, ℕ, zero, suc, ◌+◌, ◌-◌, ◌<◌, ◌≤◌, Bool, true, false, List, [], ◌∷◌, ◌++◌, length, take, drop, map, get_or, filter, refl, sym, ◌∙◌, ap, subst, arith, cond, inl, inr, slice_index_or}
-use Rattle.std.specs.Prelude.{nat_le, ◌⊎◌, if◌then◌else◌}
+use Rattle.std.proofs.Common.{◌≡◌, ℕ, zero, suc, ◌+◌, ◌-◌, ◌<◌, ◌≤◌, Bool, true, false, List, [], ◌∷◌, ◌++◌, length, take, drop, get_or, refl, sym, ◌∙◌, ap, subst, arith, cond, inl, inr}
+use Rattle.std.specs.Prelude.{nat_le, if◌then◌else◌}
 use Rattle.std.proofs.Common.{length-append, length-take, length-drop, append_assoc, append-nil}
-use Rattle.std.proofs.lemmas.List.{get_or_default, take-append-le, drop-append-le, drop-drop, take_all, drop_all, length-take-le, take-append-drop, drop-take, map-append, length-map}
+use Rattle.std.proofs.lemmas.List.{get_or_default, take-append-le, drop-append-le, drop-drop, take_all, drop_all, take-append-drop, drop-take, map-append, length-map}
 use Rattle.std.proofs.lemmas.List.Elements.{filter-append}
 use Rattle.std.proofs.lemmas.Bool.{leb-true, leb-false, le-leb, lt-leb, true≢false}
-use Rattle.std.proofs.Math.Seq.{drop-append-add, drop-append_seam, take-suc, take-suc-set}
+use Rattle.std.proofs.Math.Seq.{drop-append-add, take-suc, take-suc-set}
 use Rattle.std.proofs.Math.ListN.{set, length-set}
 use Rattle.std.specs.List.{AllByRecursion}
-use Rattle.std.specs.List.Sorted.{IsPartitionedBy, IsPartitionPoint}
+use Rattle.std.specs.List.Sorted.{IsPartitionedBy}
 use Rattle.reply_ledger.specs.declared.account.Run.{Run}
 use Rattle.reply_ledger.specs.Ledger.{Passed, bytes_of, stamps_of, stamped, IsInOrder}
 use Rattle.reply_ledger.specs.Trials.{until}

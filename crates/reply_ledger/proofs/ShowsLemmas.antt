@@ -1,5 +1,5 @@
 -- What the calls make of a ledger beside all that was sent and passed.
-use Rattle.std.proofs.Common.{◌≡◌, ℕ, zero, suc, ◌+◌, ◌-◌, ◌<◌, ◌≤◌, Bool, true, false, ◌&&◌, not, List, [], ◌∷◌, ◌++◌, length, map, take, drop, filter, Option, None, Some, is_some, refl, sym, ◌∙◌, ap, subst, arith, cond, if◌then◌else◌, append-nil, append_assoc, length-append, length-drop, length-take}
+use Rattle.std.proofs.Common.{◌≡◌, ℕ, zero, suc, ◌+◌, ◌<◌, ◌≤◌, Bool, true, false, List, [], ◌∷◌, ◌++◌, length, take, drop, Option, None, Some, is_some, refl, sym, ◌∙◌, ap, subst, arith, cond, if◌then◌else◌, append-nil, append_assoc, length-append, length-drop}
 use Rattle.std.specs.Prelude.{IsSome, nat_le, ◌==◌}
 use Rattle.std.specs.List.{flat_map}
 use Rattle.std.specs.List.{AllByRecursion}
@@ -9,7 +9,7 @@ use Rattle.std.proofs.lemmas.List.Concat.{flat_map-append}
 use Rattle.std.proofs.Math.Seq.{take-add, drop-append_seam, take-append_seam}
 use Rattle.rx_io.specs.Sends.{Send, sent_to}
 use Rattle.rx_io.specs.Prefix.{Prefix}
-use Rattle.reply_ledger.specs.Ledger.{Passed, Connection, Ledger, connection_of, stamped, stamped_to, bytes_of, stamps_of, IsInOrder, passed_to, changed, new_connection, passed_connection, with_connection, with_change, with_send, with_passed}
+use Rattle.reply_ledger.specs.Ledger.{Passed, Connection, Ledger, connection_of, stamped, stamped_to, bytes_of, stamps_of, IsInOrder, passed_to, new_connection, passed_connection, with_connection, with_change, with_send, with_passed}
 use Rattle.reply_ledger.specs.Trials.{until, trial_sends, adopted, Covers, CoversBefore}
 use Rattle.reply_ledger.specs.Trimming.{trimmed_connections, without}
 use Rattle.reply_ledger.specs.Inside.{earlier_at}

@@ -1,5 +1,5 @@
 -- What a ledger's calls keep.
-use Rattle.std.proofs.Common.{◌≡◌, ℕ, zero, suc, ◌+◌, ◌-◌, ◌<◌, ◌≤◌, Bool, true, false, ◌&&◌, not, List, [], ◌∷◌, ◌++◌, length, map, take, drop, get_or, Option, None, Some, is_some, refl, sym, ◌∙◌, ap, subst, arith, cond, if◌then◌else◌, append-nil, append_assoc, length-append, length-drop}
+use Rattle.std.proofs.Common.{◌≡◌, ℕ, zero, suc, ◌+◌, ◌-◌, ◌<◌, ◌≤◌, Bool, true, false, ◌&&◌, not, List, [], ◌∷◌, ◌++◌, length, map, take, drop, get_or, Option, None, Some, refl, sym, ◌∙◌, ap, subst, arith, cond, if◌then◌else◌, append-nil, append_assoc, length-append, length-drop}
 use Rattle.std.specs.Prelude.{nat_eq, nat_lt, nat_le, ◌==◌, IsSome, min, unwrap_or}
 use Rattle.std.specs.List.{AllByRecursion, IsDistinct, list_all, position_or_len}
 use Rattle.std.specs.Map.{lookup, keys_of, values_of}
@@ -16,8 +16,8 @@ use Rattle.std.specs.Prelude.{find, ◌⊎◌}
 use Rattle.std.specs.Option.{option_map, option_map_or}
 use Rattle.reply_ledger.proofs.EntryLemmas.{later-at}
 use Rattle.std.proofs.lemmas.Bool.{leb-true, leb-false, le-leb, lt-leb}
-use Rattle.std.proofs.lemmas.Bool.{eqb-true, eq-eqb, true≢false, and_parts, and_from, ltb-true, lt-ltb, le-ltb}
-use Rattle.std.proofs.lemmas.List.{drop_all, take-append-drop, take-append-le, take_all, get_or-drop, drop-append-le, drop-drop}
+use Rattle.std.proofs.lemmas.Bool.{eqb-true, eq-eqb, true≢false, and_parts, and_from, ltb-true, lt-ltb}
+use Rattle.std.proofs.lemmas.List.{drop_all, take-append-drop}
 use Rattle.std.proofs.Math.Seq.{drop-append_seam}
 use Rattle.rx_io.specs.Sends.{Send, sent_to}
 use Rattle.rx_io.specs.Prefix.{Prefix}
@@ -27,10 +27,10 @@ use Rattle.reply_ledger.specs.Parts.{waits, parts_behind}
 use Rattle.reply_ledger.specs.Trimming.{trimmed_connections}
 use Rattle.reply_ledger.specs.Entries.{send_of, sends_of, rest_of, stream_behind}
 use Rattle.reply_ledger.specs.Inside.{Laid, Stands, Tries, TriesIfAny, earlier_at, part_of, waits_in, trial_of}
-use Rattle.reply_ledger.proofs.RunLemmas.{length-bytes_of, bytes_of-append, bytes_of-stamped, stamps_of-append, length-stamped, empty_of_length}
-use Rattle.reply_ledger.proofs.PositionLemmas.{position-le, position-same, position-later, position-append, position-drop, position-before}
+use Rattle.reply_ledger.proofs.RunLemmas.{length-bytes_of, bytes_of-append, bytes_of-stamped, stamps_of-append, empty_of_length}
+use Rattle.reply_ledger.proofs.PositionLemmas.{position-le, position-same, position-later, position-drop, position-before}
 use Rattle.reply_ledger.proofs.ConnectionLemmas.{keys-changed, stamped_to-changed, earlier_at-changed, is_open-changed, is_open-marked, stamped_to-passed, stamped_to-push, earlier_at-push, is_open-push, stamped_to-trimmed, earlier_at-trimmed, is_open-trimmed, keys-trimmed}
-use Rattle.reply_ledger.proofs.EntryLemmas.{laid-same, laid-none, laid-push, laid-take, laid-drop, parts-laid, stream-laid, stream-from, no_bytes, of_parts, sends_of-append, sends_of-one, sent_to-append, sends_of-drop, order-behind, length_parts}
+use Rattle.reply_ledger.proofs.EntryLemmas.{laid-same, laid-none, laid-push, laid-take, laid-drop, parts-laid, stream-laid, stream-from, no_bytes, of_parts, sends_of-append, sends_of-one, sent_to-append, order-behind, length_parts}
 
 -- which sends wait, by readings of their connections
 pub waits-same : (C C' : List Connection) (e : Entry) → is_open C' e.conn ≡ is_open C e.conn → earlier_at C' e.conn ≡ earlier_at C e.conn → stamped_to C' e.conn ≡ stamped_to C e.conn → waits_in C' e ≡ waits_in C e

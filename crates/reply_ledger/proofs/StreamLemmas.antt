@@ -1,6 +1,6 @@
 -- Streams of bytes, taken from sends.
-use Rattle.std.proofs.Common.{◌≡◌, ℕ, zero, suc, ◌+◌, ◌-◌, ◌<◌, ◌≤◌, List, [], ◌∷◌, ◌++◌, length, take, drop, get_or, min, if◌then◌else◌, ◌==◌, refl, sym, ◌∙◌, ap, arith, add-one, append_assoc, length-append, length-take, length-drop, drop-cons, append-nil}
-use Rattle.std.proofs.lemmas.List.{take-append-le, take_all, take_min, drop_all}
+use Rattle.std.proofs.Common.{◌≡◌, ℕ, zero, suc, ◌+◌, ◌-◌, ◌<◌, ◌≤◌, List, [], ◌∷◌, ◌++◌, length, take, drop, get_or, min, if◌then◌else◌, ◌==◌, refl, sym, ◌∙◌, ap, arith, add-one, append_assoc, drop-cons, append-nil}
+use Rattle.std.proofs.lemmas.List.{take_all, take_min, drop_all}
 use Rattle.reply_ledger.specs.declared.entry.Entry.{Entry}
 use Rattle.reply_ledger.specs.Entries.{rest_of, stream_behind}
 

@@ -1,16 +1,15 @@
 -- What is kept of connections: one of them read or changed, or all of them.
-use Rattle.std.proofs.Common.{◌≡◌, ℕ, zero, suc, ◌+◌, ◌-◌, ◌<◌, ◌≤◌, Bool, true, false, ◌&&◌, not, List, [], ◌∷◌, ◌++◌, length, take, drop, map, get_or, Option, None, Some, is_some, refl, sym, ◌∙◌, ap, subst, arith, cond, inl, inr, if◌then◌else◌, add-one}
-use Rattle.std.proofs.lemmas.Bool.{eqb-true, eqb-false, eq-eqb, ne_eqb, true≢false, and_parts}
-use Rattle.std.specs.Prelude.{nat_eq, nat_le, ◌==◌}
-use Rattle.std.specs.Option.{option_map_or, option_map}
+use Rattle.std.proofs.Common.{◌≡◌, ℕ, zero, suc, ◌+◌, ◌<◌, Bool, true, false, List, [], ◌∷◌, ◌++◌, length, take, drop, Option, None, Some, refl, sym, ◌∙◌, ap, subst, arith, cond, if◌then◌else◌, add-one}
+use Rattle.std.proofs.lemmas.Bool.{eqb-true, and_parts}
+use Rattle.std.specs.Prelude.{nat_eq}
+use Rattle.std.specs.Option.{option_map_or}
 use Rattle.std.specs.List.{IsDistinct, AllByRecursion, list_all}
 use Rattle.std.proofs.Common.{length-append}
 use Rattle.std.specs.Map.{lookup, keys_of, values_of, set_value}
 use Rattle.std.specs.Prelude.{slice_get, OnOk, OnErr}
 use Rattle.std.proofs.Common.{Result, Ok, Err}
 use Rattle.indexmap.specs.IndexMap.{set_value_at}
-use Rattle.std.proofs.lemmas.List.{map-append, length-map, take-append-drop}
-use Rattle.reply_ledger.specs.Ledger.{Passed, Connection}
+use Rattle.std.proofs.lemmas.List.{length-map, take-append-drop}
 use Rattle.reply_ledger.specs.Tallies.{Tally, retallied, all_retallied, number_at, passed_at}
 
 -- keys are distinct, so none behind the first is like it

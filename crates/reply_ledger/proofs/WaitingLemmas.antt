@@ -1,13 +1,12 @@
 -- Which sends may still be passed.
-use Rattle.std.proofs.Common.{◌≡◌, ℕ, ◌+◌, ◌-◌, ◌<◌, ◌≤◌, Bool, true, false, ◌&&◌, not, List, [], ◌∷◌, length, Option, None, Some, refl, sym, ◌∙◌, ap, arith}
+use Rattle.std.proofs.Common.{◌≡◌, ℕ, ◌+◌, Bool, false, ◌&&◌, not, List, length, Option, None, Some, sym, ◌∙◌, ap}
 use Rattle.std.specs.Prelude.{nat_eq, nat_lt, ◌==◌}
 use Rattle.std.specs.Option.{option_map_or}
 use Rattle.std.specs.Map.{lookup}
-use Rattle.std.proofs.lemmas.Bool.{and_parts, and_from}
 use Rattle.reply_ledger.specs.declared.entry.Entry.{Entry}
-use Rattle.reply_ledger.specs.Ledger.{Connection, is_open, stamped_to}
+use Rattle.reply_ledger.specs.Ledger.{stamped_to}
 use Rattle.reply_ledger.specs.Parts.{waits}
-use Rattle.reply_ledger.specs.Tallies.{Tally, connections_of, number_at, is_open_in, open_tally, passed_end}
+use Rattle.reply_ledger.specs.Tallies.{Tally, connections_of, is_open_in, open_tally, passed_end}
 use Rattle.reply_ledger.specs.Entries.{rest_of}
 use Rattle.reply_ledger.specs.Inside.{earlier_at, waits_in}
 use Rattle.reply_ledger.proofs.TallyLemmas.{number_at-some}

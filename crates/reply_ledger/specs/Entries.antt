@@ -1,8 +1,7 @@
 -- What the code keeps of each send.
-use Rattle.std.specs.Prelude.{◌≡◌, ℕ, ◌+◌, ◌-◌, ◌<◌, ◌≤◌, Bool, true, false, ◌&&◌, List, [], ◌∷◌, ◌++◌, length, map, take, drop, All, nat_eq, nat_le, Option, if◌then◌else◌, ◌==◌, slice_index_or}
+use Rattle.std.specs.Prelude.{ℕ, ◌-◌, List, [], map, drop, if◌then◌else◌, ◌==◌}
 use Rattle.std.specs.List.{flat_map}
-use Rattle.rx_io.specs.Sends.{Send, sent_to}
-use Rattle.reply_ledger.specs.Ledger.{Connection, times_of}
+use Rattle.rx_io.specs.Sends.{Send}
 use Rattle.reply_ledger.specs.declared.entry.Entry.{Entry}
 
 -- a send without its place

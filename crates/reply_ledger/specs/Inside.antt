@@ -1,13 +1,13 @@
 -- What the fields of a ledger stand for, and what always holds of them.
-use Rattle.std.specs.Prelude.{◌≡◌, ℕ, ◌+◌, ◌-◌, ◌<◌, ◌≤◌, Bool, List, [], ◌∷◌, ◌++◌, length, map, take, drop, Option, None, Some, MatchOption, slice_index_or, nat_eq}
+use Rattle.std.specs.Prelude.{◌≡◌, ℕ, ◌+◌, ◌<◌, ◌≤◌, Bool, List, [], ◌++◌, length, map, take, Option, None, Some, slice_index_or, nat_eq}
 use Rattle.std.specs.Option.{option_map_or}
 use Rattle.std.specs.List.{position_or_len, IsDistinct}
 use Rattle.rx_io.specs.Sends.{Send, sent_to}
 use Rattle.rx_io.specs.Prefix.{Prefix}
-use Rattle.reply_ledger.specs.Ledger.{Connection, Ledger, connection_of, is_open, bytes_of, stamped_to, stamps_of, times_of, IsInOrder}
+use Rattle.reply_ledger.specs.Ledger.{Connection, connection_of, bytes_of, stamped_to, stamps_of, times_of, IsInOrder}
 use Rattle.reply_ledger.specs.Parts.{waits}
-use Rattle.reply_ledger.specs.Tallies.{Tally, connections_of, number_at}
-use Rattle.reply_ledger.specs.Entries.{send_of, sends_of, rest_of}
+use Rattle.reply_ledger.specs.Tallies.{Tally, number_at}
+use Rattle.reply_ledger.specs.Entries.{sends_of, rest_of}
 use Rattle.reply_ledger.specs.declared.entry.Entry.{Entry}
 
 -- how many bytes of a connection's stream the sends had that aren't kept any more

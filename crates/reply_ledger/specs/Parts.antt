@@ -2,7 +2,7 @@
 use Rattle.std.specs.Prelude.{ℕ, ◌-◌, Bool, ◌&&◌, List, [], ◌∷◌, ◌++◌, length, drop, find, Option, nat_lt, nat_le, ◌==◌}
 use Rattle.std.specs.List.{position_or_len}
 use Rattle.rx_io.specs.Sends.{Send, sent_to}
-use Rattle.reply_ledger.specs.Ledger.{Connection, Ledger, is_open, bytes_of, stamped_to, passed_to}
+use Rattle.reply_ledger.specs.Ledger.{Connection, Ledger, is_open, bytes_of, stamped_to}
 
 -- a send with what of its bytes lies past what its connection was passed, behind these sends
 unfoldable pub unpassed : List Connection → List Send → Send → Send

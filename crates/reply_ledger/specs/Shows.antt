@@ -1,8 +1,8 @@
 -- A ledger beside all that the survivor sent, and all that was passed.
-use Rattle.std.specs.Prelude.{◌≡◌, ℕ, ◌≤◌, List, [], ◌++◌, length, take, drop, filter, None, nat_le, if◌then◌else◌, ◌==◌}
+use Rattle.std.specs.Prelude.{◌≡◌, ℕ, ◌≤◌, List, [], length, take, drop, filter, None, nat_le, if◌then◌else◌, ◌==◌}
 use Rattle.std.specs.List.{flat_map}
 use Rattle.rx_io.specs.Sends.{Send, sent_to}
-use Rattle.reply_ledger.specs.Ledger.{Passed, Connection, Ledger, connection_of, stamped, stamped_to}
+use Rattle.reply_ledger.specs.Ledger.{Passed, Ledger, connection_of, stamped, stamped_to}
 use Rattle.reply_ledger.specs.Inside.{earlier_at}
 
 -- the bytes that pieces gave to a connection, each with its piece's stamp

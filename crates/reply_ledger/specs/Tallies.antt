@@ -1,5 +1,5 @@
 -- What the code keeps of each connection.
-use Rattle.std.specs.Prelude.{◌≡◌, ℕ, ◌+◌, ◌-◌, ◌<◌, ◌≤◌, Bool, false, true, ◌⊎◌, ◌&&◌, not, nat_le, is_some, List, [], ◌∷◌, ◌++◌, length, map, replicate, take, drop, nat_eq, Option, if◌then◌else◌, ◌==◌}
+use Rattle.std.specs.Prelude.{◌≡◌, ℕ, ◌+◌, ◌-◌, ◌<◌, Bool, false, true, ◌⊎◌, ◌&&◌, not, nat_le, is_some, List, [], ◌∷◌, ◌++◌, length, map, take, drop, nat_eq, if◌then◌else◌, ◌==◌}
 use Rattle.std.specs.Option.{option_map_or}
 use Rattle.std.specs.Map.{lookup}
 use Rattle.reply_ledger.specs.Ledger.{Passed, Connection, stamped}

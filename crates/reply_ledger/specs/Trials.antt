@@ -1,5 +1,5 @@
 -- What a trial's sends say of what was passed.
-use Rattle.std.specs.Prelude.{◌≡◌, ℕ, Bool, true, ◌&&◌, ◌-◌, List, [], ◌∷◌, ◌++◌, take, filter, Option, None, Some, unwrap_or, IsTrue, nat_le, ◌==◌}
+use Rattle.std.specs.Prelude.{◌≡◌, ℕ, Bool, true, ◌&&◌, ◌-◌, List, [], ◌∷◌, ◌++◌, take, filter, None, Some, unwrap_or, nat_le, ◌==◌}
 use Rattle.rx_io.specs.Sends.{Send, sent_to}
 use Rattle.rx_io.specs.Prefix.{Prefix}
 use Rattle.reply_ledger.specs.Ledger.{Passed, Ledger, bytes_of, stamped_to, passed_to}

@@ -1,5 +1,5 @@
 -- What a ledger gives up, and what always holds of it.
-use Rattle.std.specs.Prelude.{◌≡◌, ℕ, ◌+◌, ◌-◌, List, length, map, take, drop, min}
+use Rattle.std.specs.Prelude.{ℕ, ◌+◌, ◌-◌, List, length, map, take, drop, min}
 use Rattle.rx_io.specs.Sends.{Send, sent_to}
 use Rattle.rx_io.specs.Prefix.{Prefix}
 use Rattle.reply_ledger.specs.Ledger.{Connection, Ledger, IsInOrder, times_of, stamps_of, stamped_to, passed_to}

@@ -1,5 +1,4 @@
-use Rattle.std.proofs.Common.{◌≡◌, ◌+◌, ◌<◌, ◌≤◌, length, get_or, refl, sym, ◌∙◌, ap, arith, drop}
-use Rattle.reply_ledger.specs.Trials.{agree}
+use Rattle.std.proofs.Common.{◌<◌, ◌≤◌, length, sym, ◌∙◌, arith}
 use Rattle.reply_ledger.proofs.AgreeLemmas.{agree-past, agree-done, agree-same, agree-apart}
 use Rattle.reply_ledger.proofs.account.agree_from.Goals as goal
 

@@ -1,4 +1,4 @@
-use Rattle.std.proofs.Common.{◌≡◌, ◌<◌, ◌≤◌, length, refl, sym, ◌∙◌, ap, arith, drop}
+use Rattle.std.proofs.Common.{◌<◌, length, sym, ◌∙◌, ap, arith}
 use Rattle.std.proofs.lemmas.Bool.{eqb-true, eqb-false}
 use Rattle.reply_ledger.specs.Tallies.{runs_past}
 use Rattle.reply_ledger.proofs.RunLemmas.{runs_past-stays, runs_past-goes, runs_past-none}

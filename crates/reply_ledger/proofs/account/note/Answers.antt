@@ -1,6 +1,4 @@
-use Rattle.std.proofs.Common.{◌≡◌, ◌<◌, ◌-◌, length, get_or, refl, sym, ◌∙◌, ap, arith, inl, inr, set, ℕ}
-use Rattle.reply_ledger.specs.declared.account.Run.{Run}
-use Rattle.reply_ledger.specs.Tallies.{Notes}
+use Rattle.std.proofs.Common.{refl, arith}
 use Rattle.reply_ledger.proofs.RunLemmas.{Notes-set}
 use Rattle.reply_ledger.proofs.account.note.Goals as goal
 

@@ -1,4 +1,4 @@
-use Rattle.std.proofs.Common.{◌≡◌, ◌<◌, length, ◌∙◌, refl, sym, ap, arith, List, ℕ}
+use Rattle.std.proofs.Common.{◌<◌, length, ◌∙◌, refl, sym, ap, arith, List, ℕ}
 use Rattle.std.proofs.lemmas.Bool.{leb-true}
 use Rattle.std.specs.Prelude.{slice_get}
 use Rattle.std.specs.Map.{values_of}

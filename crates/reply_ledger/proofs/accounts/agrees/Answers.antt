@@ -1,7 +1,6 @@
-use Rattle.std.proofs.Common.{◌≡◌, ◌-◌, ℕ, List, [], refl, sym, ◌∙◌, ap, drop, arith, length}
-use Rattle.reply_ledger.specs.Ledger.{Passed, bytes_of}
-use Rattle.reply_ledger.specs.Trials.{agree}
-use Rattle.reply_ledger.specs.Tallies.{Tally, number_at, passed_at}
+use Rattle.std.proofs.Common.{[], sym, arith}
+use Rattle.reply_ledger.specs.Ledger.{bytes_of}
+use Rattle.reply_ledger.specs.Tallies.{Tally}
 use Rattle.reply_ledger.proofs.AgreeLemmas.{agree-past}
 use Rattle.reply_ledger.proofs.TallyLemmas.{number_at-some, passed_at-some, passed_at-none}
 use Rattle.reply_ledger.proofs.accounts.agrees.Goals as goal

@@ -1,9 +1,6 @@
-use Rattle.std.proofs.Common.{◌≡◌, ◌<◌, length, ◌∙◌, refl, sym, ap, arith, List, ℕ}
-use Rattle.std.proofs.lemmas.Bool.{leb-true}
-use Rattle.std.specs.Prelude.{slice_get}
-use Rattle.std.specs.Map.{values_of}
-use Rattle.reply_ledger.specs.Tallies.{Tally, begun_tally, tries_all}
-use Rattle.reply_ledger.proofs.TallyLemmas.{all_retallied-start, all_retallied-more, length-part_retallied, value_unchanged, list_all-at}
+use Rattle.std.proofs.Common.{◌<◌, length, refl, arith}
+use Rattle.reply_ledger.specs.Tallies.{begun_tally}
+use Rattle.reply_ledger.proofs.TallyLemmas.{all_retallied-start, all_retallied-more, length-part_retallied}
 use Rattle.reply_ledger.proofs.accounts.begin_trial.Goals as goal
 
 pub loop-i-init : goal.loop-i-init

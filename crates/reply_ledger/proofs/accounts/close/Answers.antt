@@ -1,6 +1,6 @@
-use Rattle.std.proofs.Common.{◌+◌, ◌≤◌, ℕ, sym, ap, subst, arith}
-use Rattle.reply_ledger.specs.Tallies.{Tally, closed_tally, number_at}
-use Rattle.reply_ledger.proofs.TallyLemmas.{written, unwritten, number_at-some}
+use Rattle.std.proofs.Common.{ap}
+use Rattle.reply_ledger.specs.Tallies.{closed_tally}
+use Rattle.reply_ledger.proofs.TallyLemmas.{written, unwritten}
 use Rattle.reply_ledger.proofs.accounts.close.Goals as goal
 
 pub returns-in-Some : goal.returns-in-Some

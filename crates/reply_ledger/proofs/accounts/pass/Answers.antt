@@ -1,7 +1,7 @@
-use Rattle.std.proofs.Common.{◌≡◌, ◌+◌, ◌-◌, ℕ, List, [], refl, sym, ◌∙◌, ap, drop, take, arith, length}
+use Rattle.std.proofs.Common.{◌+◌, ap, drop, take, arith, length}
 use Rattle.reply_ledger.specs.Ledger.{stamped}
 use Rattle.reply_ledger.specs.Entries.{stream_behind}
-use Rattle.reply_ledger.specs.Tallies.{Tally, passed_end, passed_tally, number_at}
+use Rattle.reply_ledger.specs.Tallies.{Tally, passed_end, passed_tally}
 use Rattle.reply_ledger.proofs.TallyLemmas.{number_at-some, written, written-same, unwritten, on_ok, on_err}
 use Rattle.reply_ledger.proofs.accounts.pass.Goals as goal
 

@@ -1,5 +1,5 @@
-use Rattle.std.proofs.Common.{◌+◌, ◌≤◌, ℕ, sym, ap, subst, arith}
-use Rattle.reply_ledger.specs.Tallies.{Tally, sent_tally, number_at}
+use Rattle.std.proofs.Common.{◌≤◌, ℕ, ap, subst}
+use Rattle.reply_ledger.specs.Tallies.{Tally, sent_tally}
 use Rattle.reply_ledger.proofs.TallyLemmas.{written, unwritten, number_at-some}
 use Rattle.reply_ledger.proofs.accounts.send.Goals as goal
 

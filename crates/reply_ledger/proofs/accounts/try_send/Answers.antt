@@ -1,6 +1,6 @@
-use Rattle.std.proofs.Common.{◌+◌, ◌≤◌, ℕ, sym, ap, subst, arith}
-use Rattle.reply_ledger.specs.Tallies.{Tally, tried_tally, number_at}
-use Rattle.reply_ledger.proofs.TallyLemmas.{written, unwritten, number_at-some}
+use Rattle.std.proofs.Common.{ap}
+use Rattle.reply_ledger.specs.Tallies.{tried_tally}
+use Rattle.reply_ledger.proofs.TallyLemmas.{written, unwritten}
 use Rattle.reply_ledger.proofs.accounts.try_send.Goals as goal
 
 pub returns-in-Some : goal.returns-in-Some

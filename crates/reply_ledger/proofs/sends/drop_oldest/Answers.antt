@@ -1,9 +1,6 @@
-use Rattle.std.proofs.Common.{◌≡◌, ◌+◌, ◌≤◌, ◌∷◌, [], ℕ, List, length, take, drop, refl, sym, ◌∙◌, ap, subst, arith, length-drop}
+use Rattle.std.proofs.Common.{◌≡◌, ℕ, List, length, drop, refl, sym, ◌∙◌, ap, subst, arith}
 use Rattle.std.proofs.lemmas.List.{drop-drop}
-use Rattle.reply_ledger.specs.declared.entry.Entry.{Entry}
-use Rattle.reply_ledger.specs.Ledger.{Connection}
-use Rattle.reply_ledger.specs.Trimming.{trimmed_connections}
-use Rattle.reply_ledger.specs.Tallies.{Tally, given_up_tally, connections_of, number_at, retallied}
+use Rattle.reply_ledger.specs.Tallies.{Tally, given_up_tally, connections_of, retallied}
 use Rattle.reply_ledger.specs.Entries.{sends_of}
 use Rattle.reply_ledger.specs.Inside.{Laid, earlier_at, sent_ends}
 use Rattle.reply_ledger.proofs.ConnectionLemmas.{trimmed-none, number_at-same}

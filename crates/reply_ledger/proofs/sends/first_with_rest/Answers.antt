@@ -1,4 +1,4 @@
-use Rattle.std.proofs.Common.{sym, ap, ◌∙◌, Bool, ℕ, if◌then◌else◌}
+use Rattle.std.proofs.Common.{sym, ap, ◌∙◌, Bool, if◌then◌else◌}
 use Rattle.reply_ledger.proofs.ConnectionLemmas.{is_open-of}
 use Rattle.reply_ledger.proofs.sends.first_with_rest.Goals as goal
 

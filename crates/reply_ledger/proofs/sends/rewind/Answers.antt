@@ -1,8 +1,7 @@
-use Rattle.std.proofs.Common.{◌≡◌, ◌+◌, ◌-◌, ◌<◌, ◌≤◌, ℕ, suc, List, length, take, get_or, refl, sym, ◌∙◌, ap, subst, arith}
+use Rattle.std.proofs.Common.{◌≡◌, ◌+◌, ◌-◌, ◌≤◌, ℕ, suc, List, length, take, refl, sym, ◌∙◌, ap, subst, arith}
 use Rattle.rx_io.specs.Sends.{sent_to}
 use Rattle.reply_ledger.specs.declared.entry.Entry.{Entry}
-use Rattle.reply_ledger.specs.Ledger.{Connection}
-use Rattle.reply_ledger.specs.Tallies.{Tally, begun_tally, tried_tally, connections_of, number_at}
+use Rattle.reply_ledger.specs.Tallies.{Tally, begun_tally, tried_tally, connections_of}
 use Rattle.reply_ledger.specs.Entries.{sends_of}
 use Rattle.reply_ledger.specs.Inside.{earlier_at, sent_ends, tried_ends}
 use Rattle.std.proofs.lemmas.List.{take_all}

@@ -1,4 +1,4 @@
-use Rattle.std.proofs.Common.{◌≡◌, ◌-◌, ◌≤◌, length, refl, sym, ◌∙◌, ap, arith, drop, ℕ}
+use Rattle.std.proofs.Common.{◌-◌, ◌≤◌, length, refl, sym, ◌∙◌, ap, arith, drop, ℕ}
 use Rattle.std.proofs.lemmas.Bool.{le-leb}
 use Rattle.reply_ledger.specs.Trials.{agree}
 use Rattle.reply_ledger.proofs.RunLemmas.{bytes_of-passed_in}

@@ -1,4 +1,4 @@
-use Rattle.std.proofs.Common.{◌≡◌, ◌+◌, ◌≤◌, ◌++◌, ℕ, List, length, take, refl, sym, ◌∙◌, ap, subst, arith, drop, length-append, length-take}
+use Rattle.std.proofs.Common.{◌≡◌, ◌+◌, ◌≤◌, ◌++◌, ℕ, length, take, refl, sym, ◌∙◌, ap, subst, arith, drop, length-append, length-take}
 use Rattle.reply_ledger.specs.Entries.{stream_behind}
 use Rattle.reply_ledger.specs.Ledger.{stamped}
 use Rattle.reply_ledger.specs.Tallies.{passed_in, RunsFrom}

@@ -1,8 +1,5 @@
-use Rattle.std.proofs.Common.{◌≡◌, ◌+◌, ◌-◌, ◌<◌, ◌≤◌, ℕ, suc, length, get_or, refl, sym, ◌∙◌, ap, arith, rules}
-use Rattle.std.specs.Prelude.{nat_le}
+use Rattle.std.proofs.Common.{◌≡◌, ◌-◌, ◌≤◌, suc, length, refl, sym, ◌∙◌, ap, arith}
 use Rattle.reply_ledger.specs.declared.account.Run.{Run}
-use Rattle.reply_ledger.specs.Tallies.{passed_in}
-use Rattle.reply_ledger.specs.Trials.{until}
 use Rattle.reply_ledger.proofs.RunLemmas.{until-reach, end_at, end_at-none, end_at-last, runs_in_order, runs-IsPartitionedBy}
 use Rattle.reply_ledger.proofs.account.Account.passed_until.Goals as goal
 

@@ -1,15 +1,11 @@
-use Rattle.std.proofs.Common.{◌≡◌, ◌+◌, ◌-◌, ◌<◌, ◌≤◌, ◌++◌, ◌∷◌, [], ℕ, List, Bool, Option, None, Some, length, map, take, drop, min, refl, sym, ◌∙◌, ap, subst, arith, if◌then◌else◌, length-append}
-use Rattle.std.specs.Prelude.{nat_eq, ◌==◌, IsSome}
-use Rattle.std.specs.List.{position_or_len, IsDistinct}
-use Rattle.rx_io.specs.Sends.{Send, sent_to}
-use Rattle.reply_ledger.specs.declared.entry.Entry.{Entry}
-use Rattle.reply_ledger.specs.Ledger.{Ledger, Connection, Passed, connection_of, closed_connection, gone_connection, new_connection, passed_connection, stamped, stamped_to, changed, bytes_of, times_of, NotBefore}
-use Rattle.reply_ledger.specs.Tallies.{Tally, new_tally, closed_tally, gone_tally, sent_tally, tried_tally, adopted_tally, passed_tally, passed_end, connections_of, number_at, retallied, seen}
-use Rattle.reply_ledger.specs.Entries.{sends_of, send_of, stream_behind}
-use Rattle.reply_ledger.specs.Inside.{Stands, TriesIfAny, Tries, Laid, sent_ends, tried_ends, earlier_at, waits_in, trial_of}
-use Rattle.reply_ledger.proofs.ConnectionLemmas.{connections_of-retallied, connections_of-hidden, connections_of-all_hidden, connections_of-push, number_at-same, number_at-set, number_at-all, number_at-push, unknown-of, known-of, keys-of, keys-changed, earlier_at-of, passed_end-of, stamped_to-of, earlier_at-changed, stamped_to-changed, earlier_at-push, closed-falls, gone-falls}
-use Rattle.reply_ledger.proofs.TallyLemmas.{number_at-none}
-use Rattle.reply_ledger.proofs.StandsLemmas.{stands-change, stands-opened, stands-none, stands-sent, stands-adopted, stands-passed, tries_any-change, tries-change, tries-begun, tries-sent, tries-none, own-none, shared-none, cursor-marked, cursor-passed, stream-is}
+use Rattle.std.proofs.Common.{◌≡◌, ◌≤◌, ℕ, List, map, refl, sym, ◌∙◌, ap, subst, arith}
+use Rattle.std.specs.List.{position_or_len}
+use Rattle.reply_ledger.specs.Ledger.{Connection, closed_connection, stamped_to, changed}
+use Rattle.reply_ledger.specs.Tallies.{Tally, closed_tally, connections_of}
+use Rattle.reply_ledger.specs.Entries.{sends_of}
+use Rattle.reply_ledger.specs.Inside.{sent_ends, tried_ends, earlier_at, waits_in, trial_of}
+use Rattle.reply_ledger.proofs.ConnectionLemmas.{connections_of-retallied, number_at-same, keys-changed, earlier_at-changed, stamped_to-changed, closed-falls}
+use Rattle.reply_ledger.proofs.StandsLemmas.{stands-change, tries_any-change, cursor-marked}
 use Rattle.reply_ledger.proofs.replies.Replies.closes.Goals as goal
 
 pub first_waiting-self-inside-requires : goal.first_waiting-self-inside-requires

@@ -1,6 +1,5 @@
-use Rattle.std.proofs.Common.{◌≡◌, refl, sym, ap, subst}
+use Rattle.std.proofs.Common.{subst}
 use Rattle.reply_ledger.specs.Trimming.{IsLawful}
-use Rattle.reply_ledger.proofs.StandsLemmas.{stands-change}
 use Rattle.reply_ledger.proofs.replies.Replies.first_send.Goals as goal
 
 pub returns-clause-lawful : goal.returns-clause-lawful

@@ -1,4 +1,4 @@
-use Rattle.std.proofs.Common.{◌≡◌, ◌<◌, ℕ, length, get_or, false}
+use Rattle.std.proofs.Common.{◌≡◌, ◌<◌, ℕ, get_or, false}
 use Rattle.reply_ledger.specs.declared.entry.Entry.{Entry}
 use Rattle.reply_ledger.specs.Tallies.{connections_of}
 use Rattle.reply_ledger.proofs.StandsLemmas.{rests}
