@@ -14,18 +14,40 @@ fn text(alloc: Global, bytes: &[u8]) -> Result<Bytes, AllocError>
 
 #[tactic(auto, unfolding(reply_ledger::specs::Ledger::connection_of, reply_ledger::specs::Ledger::changed, reply_ledger::specs::Ledger::times_of, reply_ledger::specs::Ledger::stamps_of, reply_ledger::specs::Ledger::stamped_to, reply_ledger::specs::Ledger::bytes_of, reply_ledger::specs::Ledger::stamped))]
 #[test]
-fn a_part_is_passed_and_trimmed(rt: HostRuntime) -> Result<(), Fail> {
+fn a_part_is_passed(rt: HostRuntime) -> Result<(), Fail> {
     let mut replies = Replies::make(rt.alloc())?;
     replies.opens(0)?;
     replies.sent(0, text(rt.alloc(), b"aaa")?, 1)?;
     replies.passed(0, 2, 1)?;
     assert!(rt; replies.next_piece(0) == None);
     assert!(rt; replies.next_piece(1) == Some((0, b"a".as_slice())));
-    replies.trim(1);
-    assert_eq!(rt; replies.first_send(), 0);
     replies.closes(0);
     assert!(rt; replies.next_piece(1) == None);
     assert!(rt; replies.rest_of(0) == Some(b"a".as_slice()));
+    Ok(())
+}
+
+#[tactic(auto, unfolding(reply_ledger::specs::Ledger::connection_of, reply_ledger::specs::Ledger::changed, reply_ledger::specs::Ledger::times_of, reply_ledger::specs::Ledger::stamps_of, reply_ledger::specs::Ledger::stamped_to, reply_ledger::specs::Ledger::bytes_of, reply_ledger::specs::Ledger::stamped))]
+#[test]
+fn a_send_with_a_rest_is_kept(rt: HostRuntime) -> Result<(), Fail> {
+    let mut replies = Replies::make(rt.alloc())?;
+    replies.opens(0)?;
+    replies.sent(0, text(rt.alloc(), b"aaa")?, 1)?;
+    replies.passed(0, 2, 1)?;
+    replies.trim(1);
+    assert_eq!(rt; replies.first_send(), 0);
+    Ok(())
+}
+
+#[tactic(auto, unfolding(reply_ledger::specs::Ledger::connection_of, reply_ledger::specs::Ledger::changed, reply_ledger::specs::Ledger::times_of, reply_ledger::specs::Ledger::stamps_of, reply_ledger::specs::Ledger::stamped_to, reply_ledger::specs::Ledger::bytes_of, reply_ledger::specs::Ledger::stamped))]
+#[test]
+fn a_passed_send_is_trimmed(rt: HostRuntime) -> Result<(), Fail> {
+    let mut replies = Replies::make(rt.alloc())?;
+    replies.opens(0)?;
+    replies.sent(0, text(rt.alloc(), b"aaa")?, 1)?;
+    replies.passed(0, 3, 1)?;
+    replies.trim(1);
+    assert_eq!(rt; replies.first_send(), 1);
     Ok(())
 }
 
