@@ -1,0 +1,137 @@
+-- The end of a session: the pieces that it passes there, the one that a fault breaks off, and what was passed in all.
+use Rattle.std.proofs.Common.{◌≡◌, ℕ, Bool, true, false, cond, eqb, List, [], ◌∷◌, ◌++◌, length, refl, sym, ◌∙◌, ap, subst, inl, inr, arith, append-nil, append_assoc, length-append}
+use Rattle.std.proofs.lemmas.Bool.{eqb-true}
+use Rattle.rx_io.specs.declared.bytes.Item.{Item}
+use Rattle.rx_io.specs.declared.journal.Entry.{Entry}
+use Rattle.rx_io.specs.declared.journal.Entry.TheVariants as entry
+use Rattle.rx_io.specs.Prefix.{Prefix}
+use Rattle.rx_io.specs.Sends.{Send, sent_to}
+use Rattle.elf_image.specs.declared.image.Image.{Image}
+use Rattle.run_history.specs.Served.{Served, origin}
+use Rattle.run_history.proofs.Outputs.{sent_to-more}
+use Rattle.session_history.specs.Heeding.{items_in}
+use Rattle.session_history.specs.Owing.{Stands, OwesNothing}
+use Rattle.session_history.specs.Passing.{passed_in}
+use Rattle.session_history.specs.Opened.{is_open}
+use Rattle.session_history.specs.Lawful.{Rules, Survivor, IsDue, AreDue, AreLawful, Chapter, entries_of, IsDuePiece}
+use Rattle.session_history.specs.Account.{Session, journal_of, IsAccount, HasPassedAll}
+use Rattle.session_history.specs.Serving.{Carries, moment_of, Serving, ending_at, Ending}
+use Rattle.session_history.proofs.Paths.{served_same, served_on}
+use Rattle.session_history.proofs.Heeding.{items_in-gave}
+use Rattle.session_history.proofs.Accounts.{carries_piece, carries_run}
+use Rattle.session_history.proofs.Due.{are_due_then}
+use Rattle.session_history.proofs.Sessions.{piece_due}
+
+pub ending_none : (rules : Rules) (image : Image) (earlier : List Chapter) (survivor : Survivor) (since : List Entry) (at_end : Bool) → Serving rules image earlier survivor since → Ending rules image earlier survivor since [] at_end
+ending_none rules image earlier survivor since at_end serving =
+    let none : entries_of earlier ++ since ≡ entries_of earlier ++ (since ++ []) = ap (λ es. entries_of earlier ++ es) (sym (append-nil since)) in
+    let items = ap (items_in rules.bounds) none in
+    record {
+      carries = subst (λ es. Carries rules image es survivor.plan survivor.now) none serving.carries;
+      begins = subst (λ its. Served rules.limits its survivor.plan (origin image) survivor.begun) items serving.begins;
+      before = subst (λ its. AreLawful rules its [] earlier) items serving.before;
+      due = subst (λ its. AreDue rules its survivor (moment_of earlier []) since) items serving.due;
+      last = tt;
+    }
+
+-- one more piece at the end
+pub ending_piece : (rules : Rules) (image : Image) (earlier : List Chapter) (survivor : Survivor) (since ending : List Entry) (at_end : Bool) (conn : ℕ) (bytes : List ℕ) (gone : Bool) → Ending rules image earlier survivor since ending at_end
+    → IsDue rules (items_in rules.bounds (entries_of earlier ++ (since ++ ending))) survivor (ending_at earlier (since ++ ending) at_end) (entry.Gave conn bytes gone)
+    → Ending rules image earlier survivor since (ending ++ entry.Gave conn bytes gone ∷ []) at_end
+ending_piece rules image earlier survivor since ending at_end conn bytes gone was due =
+    let entries : List Entry = entries_of earlier ++ (since ++ ending) in
+    let items : List Item = items_in rules.bounds entries in
+    let more : List Entry = entry.Gave conn bytes gone ∷ [] in
+    let same : entries ++ more ≡ entries_of earlier ++ (since ++ (ending ++ more)) =
+    append_assoc (entries_of earlier) (since ++ ending) more ∙ ap (λ es. entries_of earlier ++ es) (append_assoc since ending more) in
+    let kept : items ≡ items_in rules.bounds (entries_of earlier ++ (since ++ (ending ++ more))) = sym (items_in-gave rules.bounds entries conn bytes gone) ∙ ap (items_in rules.bounds) same in
+    record {
+      carries =
+          subst (λ es. Carries rules image es survivor.plan survivor.now) same
+          (carries_piece rules image (ending_at earlier (since ++ ending) at_end) conn bytes gone survivor.plan due.way.path survivor.now was.carries
+          (served_on rules.limits items survivor.plan (origin image) survivor.begun due.way.path was.begins due.way.from) due.way.on (piece_due rules items survivor (ending_at earlier (since ++ ending) at_end) conn bytes gone due));
+      begins = subst (λ its. Served rules.limits its survivor.plan (origin image) survivor.begun) kept was.begins;
+      before = subst (λ its. AreLawful rules its [] earlier) kept was.before;
+      due = subst (λ its. AreDue rules its survivor (moment_of earlier []) since) kept was.due;
+      last = subst (λ its. AreDue rules its survivor (ending_at earlier since at_end) (ending ++ more)) kept (are_due_then rules items survivor (ending_at earlier since at_end) ending (entry.Gave conn bytes gone) was.last due);
+    }
+
+-- the account of a session at its end
+pub ending_account : (rules : Rules) (image : Image) (earlier : List Chapter) (survivor : Survivor) (since ending : List Entry) (at_end : Bool) → Ending rules image earlier survivor since ending at_end
+    → IsAccount rules image (record { earlier = earlier; survivor = survivor; since = since; ending = ending; broken = [] }) at_end
+ending_account rules image earlier survivor since ending at_end was =
+    let none : entries_of earlier ++ (since ++ ending) ≡ entries_of earlier ++ (since ++ (ending ++ [])) = ap (λ es. entries_of earlier ++ (since ++ es)) (sym (append-nil ending)) in
+    let items = ap (items_in rules.bounds) none in
+    let carries : Carries rules image (entries_of earlier ++ (since ++ (ending ++ []))) survivor.plan survivor.now = subst (λ es. Carries rules image es survivor.plan survivor.now) none was.carries in
+    record {
+      ran = carries_run rules image (entries_of earlier ++ (since ++ (ending ++ []))) survivor.plan survivor.now carries;
+      served = carries.served;
+      begins = subst (λ its. Served rules.limits its survivor.plan (origin image) survivor.begun) items was.begins;
+      taken = carries.taken;
+      passed = carries.covers;
+      feasible = carries.feasible;
+      earlier = subst (λ its. AreLawful rules its [] earlier) items was.before;
+      since = subst (λ its. AreDue rules its survivor (moment_of earlier []) since) items was.due;
+      ending = subst (λ its. AreDue rules its survivor (ending_at earlier since at_end) ending) items was.last;
+      broken = tt;
+    }
+
+-- and of one whose last piece was broken off
+pub broken_account : (rules : Rules) (image : Image) (earlier : List Chapter) (survivor : Survivor) (since ending : List Entry) (at_end : Bool) (conn : ℕ) (bytes : List ℕ) → Ending rules image earlier survivor since ending at_end
+    → IsDuePiece rules survivor.now.state.sends (ending_at earlier (since ++ ending) at_end) conn bytes
+    → Served rules.limits (items_in rules.bounds (entries_of earlier ++ (since ++ ending))) survivor.plan survivor.begun survivor.now
+    → IsAccount rules image (record { earlier = earlier; survivor = survivor; since = since; ending = ending; broken = entry.Gave conn bytes false ∷ [] }) at_end
+broken_account rules image earlier survivor since ending at_end conn bytes was due from =
+    let entries : List Entry = entries_of earlier ++ (since ++ ending) in
+    let items : List Item = items_in rules.bounds entries in
+    let more : List Entry = entry.Gave conn bytes false ∷ [] in
+    let same : entries ++ more ≡ entries_of earlier ++ (since ++ (ending ++ more)) =
+    append_assoc (entries_of earlier) (since ++ ending) more ∙ ap (λ es. entries_of earlier ++ es) (append_assoc since ending more) in
+    let kept : items ≡ items_in rules.bounds (entries_of earlier ++ (since ++ (ending ++ more))) = sym (items_in-gave rules.bounds entries conn bytes false) ∙ ap (items_in rules.bounds) same in
+    let carries : Carries rules image (entries_of earlier ++ (since ++ (ending ++ more))) survivor.plan survivor.now =
+    subst (λ es. Carries rules image es survivor.plan survivor.now) same
+    (carries_piece rules image (ending_at earlier (since ++ ending) at_end) conn bytes false survivor.plan survivor.now survivor.now was.carries
+    (served_on rules.limits items survivor.plan (origin image) survivor.begun survivor.now was.begins from) (served_same rules.limits items survivor.plan survivor.now) due) in
+    record {
+      ran = carries_run rules image (entries_of earlier ++ (since ++ (ending ++ more))) survivor.plan survivor.now carries;
+      served = carries.served;
+      begins = subst (λ its. Served rules.limits its survivor.plan (origin image) survivor.begun) kept was.begins;
+      taken = carries.taken;
+      passed = carries.covers;
+      feasible = carries.feasible;
+      earlier = subst (λ its. AreLawful rules its [] earlier) kept was.before;
+      since = subst (λ its. AreDue rules its survivor (moment_of earlier []) since) kept was.due;
+      ending = subst (λ its. AreDue rules its survivor (ending_at earlier since at_end) ending) kept was.last;
+      broken = due;
+    }
+
+-- two fronts of one another are one
+fronts_same : {X : Type 0} (xs ys : List X) → Prefix xs ys → Prefix ys xs → xs ≡ ys
+fronts_same xs ys one other = of one.0 one.1 (omega (arith, ap length one.1, ap length other.1, length-append xs one.0, length-append ys other.0))
+  where
+    of : (rest : List _) → xs ++ rest ≡ ys → length rest ≡ 0 → xs ≡ ys
+    of [] is none = sym (append-nil xs) ∙ is
+    of (x ∷ rest) is none = absurd (omega (arith, none))
+
+-- where each send to a connection was passed, all of them were
+all_passed : (conn : ℕ) (sends front back : List Send) (passed : List ℕ) → sends ≡ front ++ back → ((send : Send) (stands : Stands sends send) → send.conn ≡ conn → Prefix (sent_to conn (stands.earlier ++ send ∷ [])) passed)
+    → Prefix (sent_to conn front) passed → Prefix (sent_to conn sends) passed
+all_passed conn sends front [] passed split each was = subst (λ s. Prefix (sent_to conn s) passed) (sym (split ∙ append-nil front)) was
+all_passed conn sends front (send ∷ back) passed split each was =
+    all_passed conn sends (front ++ send ∷ []) back passed (split ∙ sym (append_assoc front (send ∷ []) back)) each (of (eqb send.conn conn) refl)
+  where
+    of : (b : Bool) → eqb send.conn conn ≡ b → Prefix (sent_to conn (front ++ send ∷ [])) passed
+    of true is = each send (record { earlier = front; later = back; split = split }) (eqb-true send.conn conn is)
+    of false is = subst (λ bytes. Prefix bytes passed) (sym (sent_to-more conn front send ∙ ap (λ (b : Bool). sent_to conn front ++ cond b send.bytes []) is ∙ append-nil (sent_to conn front))) was
+
+-- a session at its end that owes nothing has passed all that its connections still open are sent
+pub passed_all : (rules : Rules) (image : Image) (session : Session) → IsAccount rules image session true
+    → OwesNothing rules.bounds rules.hold (record { start = entries_of session.earlier; since = session.since ++ (session.ending ++ session.broken); at_end = true }) session.survivor.now.state.sends → HasPassedAll rules session
+passed_all rules image session account owes conn is_opened =
+    let sends : List Send = session.survivor.now.state.sends in
+    let passed : List ℕ = sent_to conn (passed_in rules.bounds (journal_of session)) in
+    fronts_same passed (sent_to conn sends) (account.passed conn)
+    (all_passed conn sends [] sends passed refl
+    (λ send stands is.
+    subst (λ c. Prefix (sent_to c (stands.earlier ++ send ∷ [])) (sent_to c (passed_in rules.bounds (journal_of session)))) is
+    (owes send stands (inl (subst (λ c. is_open rules.bounds (journal_of session) c ≡ true) (sym is) is_opened, inr refl)))) (passed, refl))

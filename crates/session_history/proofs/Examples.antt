@@ -1,0 +1,67 @@
+-- What the definitions compute at values: a link that opens connection 0, sends two messages and closes it; the session passes
+-- a reply behind the first of them.
+use Rattle.std.proofs.Common.{◌≡◌, true, false, List, [], ◌∷◌, Some, refl}
+use Rattle.rx_io.specs.declared.journal.Entry.{Entry}
+use Rattle.rx_io.specs.declared.journal.Entry.TheVariants as entry
+use Rattle.rx_io.specs.declared.journal.LinkEvent.{LinkEvent}
+use Rattle.rx_io.specs.declared.journal.LinkEvent.TheVariants as event
+use Rattle.msg_frame.specs.declared.framing.Framing.TheVariants.{Whole}
+use Rattle.msg_frame.specs.Messages.{cut, cut_whole}
+use Rattle.item_log.specs.Connections.{none_open}
+use Rattle.item_log.specs.Heard.{heard_from, items_from}
+use Rattle.session_history.specs.Heeding.{Bounds, LimitEvents, LimitItems, refusal, heeded, heeded_behind}
+use Rattle.session_history.specs.Opened.{is_open}
+use Rattle.session_history.specs.Passing.{passed_in}
+use Rattle.session_history.specs.Owing.{latest}
+
+abbrev few : Bounds
+few = record { framing = Whole; max_items = 2; max_events = 3 }
+
+abbrev enough : Bounds
+enough = record { framing = Whole; max_items = 9; max_events = 9 }
+
+abbrev opening : LinkEvent
+opening = event.Opens 0
+
+abbrev message : LinkEvent
+message = event.Piece 0 (97 ∷ [])
+
+abbrev closing : LinkEvent
+closing = event.Closes 0
+
+-- the third item is one too many, and so is the fourth event
+too_many_items : refusal few (opening ∷ message ∷ []) message ≡ Some LimitItems
+unfolding heard_from items_from none_open cut cut_whole
+too_many_items = refl
+
+too_many_events : refusal few (opening ∷ message ∷ event.Settles ∷ []) message ≡ Some LimitEvents
+too_many_events = refl
+
+-- the events before the first refused one are heeded, and none behind it
+first_two : heeded few (opening ∷ message ∷ message ∷ event.Settles ∷ []) ≡ opening ∷ message ∷ []
+unfolding heeded_behind heard_from items_from none_open cut cut_whole
+first_two = refl
+
+abbrev entries : List Entry
+entries = entry.Took opening ∷ entry.Took message ∷ entry.Gave 0 (120 ∷ []) false ∷ entry.Took message ∷ []
+
+-- the reply was passed when two items were received, and connection 0 is open until its close
+stamped : passed_in enough entries ≡ record { conn = 0; bytes = 120 ∷ []; taken = 2 } ∷ []
+unfolding heeded_behind heard_from items_from none_open cut cut_whole
+stamped = refl
+
+opened : is_open enough entries 0 ≡ true
+unfolding heeded_behind heard_from items_from none_open cut cut_whole
+opened = refl
+
+closed : is_open enough (entry.Took opening ∷ entry.Took closing ∷ []) 0 ≡ false
+unfolding heeded_behind heard_from items_from none_open cut cut_whole
+closed = refl
+
+gone : is_open enough (entry.Took opening ∷ entry.Gave 0 [] true ∷ []) 0 ≡ false
+unfolding heeded_behind heard_from items_from none_open cut cut_whole
+gone = refl
+
+-- the last event is the second message: behind it nothing came but Ends, which is none
+last_one : latest (entry.Took opening ∷ entry.Took message ∷ entry.Took event.Ends ∷ []) ≡ Some (record { before = entry.Took opening ∷ []; event = message })
+last_one = refl

@@ -1,0 +1,83 @@
+-- What one more entry makes of the events that are heeded, of the items received and of what was passed.
+use Rattle.std.proofs.Common.{◌≡◌, ℕ, Bool, true, false, List, [], ◌∷◌, ◌++◌, length, None, refl, sym, ◌∙◌, ap, arith, cond, drop, append-nil, append_assoc}
+use Rattle.std.specs.Prelude.{is_none}
+use Rattle.rx_io.specs.declared.journal.Entry.{Entry}
+use Rattle.rx_io.specs.declared.journal.Entry.TheVariants as entry
+use Rattle.rx_io.specs.declared.journal.LinkEvent.{LinkEvent}
+use Rattle.rx_io.specs.declared.journal.LinkEvent.TheVariants as event
+use Rattle.rx_io.specs.Links.{events_in}
+use Rattle.item_log.specs.Heard.{items_of}
+use Rattle.session_history.specs.Heeding.{Bounds, refusal, heeded, heeded_behind, items_in, received}
+use Rattle.session_history.specs.Passing.{passed_in, passed_behind}
+
+-- the events of two journals
+pub events_in-append : (entries more : List Entry) → events_in (entries ++ more) ≡ events_in entries ++ events_in more
+events_in-append [] more = refl
+events_in-append (entry.Gave conn bytes gone ∷ entries) more = events_in-append entries more
+events_in-append (entry.Took (event.Opens conn) ∷ entries) more = ap (λ events. event.Opens conn ∷ events) (events_in-append entries more)
+events_in-append (entry.Took (event.Piece conn bytes) ∷ entries) more = ap (λ events. event.Piece conn bytes ∷ events) (events_in-append entries more)
+events_in-append (entry.Took (event.Closes conn) ∷ entries) more = ap (λ events. event.Closes conn ∷ events) (events_in-append entries more)
+events_in-append (entry.Took event.Settles ∷ entries) more = ap (λ events. event.Settles ∷ events) (events_in-append entries more)
+events_in-append (entry.Took event.Ends ∷ entries) more = events_in-append entries more
+
+-- a piece brings no event
+pub events_in-gave : (entries : List Entry) (conn : ℕ) (bytes : List ℕ) (gone : Bool) → events_in (entries ++ entry.Gave conn bytes gone ∷ []) ≡ events_in entries
+events_in-gave entries conn bytes gone = events_in-append entries (entry.Gave conn bytes gone ∷ []) ∙ append-nil (events_in entries)
+
+-- all of some events are heeded, and so is the one behind them
+pub heeded_behind-more : (bounds : Bounds) (before events : List LinkEvent) (event : LinkEvent) → heeded_behind bounds before events ≡ events → refusal bounds (before ++ events) event ≡ None
+    → heeded_behind bounds before (events ++ event ∷ []) ≡ events ++ event ∷ []
+unfolding heeded_behind
+heeded_behind-more bounds before [] event all fine =
+    ap (λ r. cond (is_none r) (event ∷ []) []) (ap (λ b. refusal bounds b event) (sym (append-nil before)) ∙ fine)
+heeded_behind-more bounds before (first ∷ events) event all fine =
+    of (is_none (refusal bounds before first))
+    (λ more. heeded_behind-more bounds (before ++ first ∷ []) events event more (ap (λ b. refusal bounds b event) (append_assoc before (first ∷ []) events) ∙ fine)) all
+  where
+    of : (c : Bool) → (heeded_behind bounds (before ++ first ∷ []) events ≡ events → heeded_behind bounds (before ++ first ∷ []) (events ++ event ∷ []) ≡ events ++ event ∷ []) → cond c (first ∷ heeded_behind bounds (before ++ first ∷ []) events) [] ≡ first ∷ events
+        → cond c (first ∷ heeded_behind bounds (before ++ first ∷ []) (events ++ event ∷ [])) [] ≡ first ∷ (events ++ event ∷ [])
+    of true ih h = ap (λ es. first ∷ es) (ih (ap (drop 1) h))
+    of false ih h = absurd (omega (arith, ap length h))
+
+-- an event that is refused is not heeded
+pub heeded_behind-last : (bounds : Bounds) (before events : List LinkEvent) (event : LinkEvent) → heeded_behind bounds before events ≡ events → is_none (refusal bounds (before ++ events) event) ≡ false
+    → heeded_behind bounds before (events ++ event ∷ []) ≡ events
+unfolding heeded_behind
+heeded_behind-last bounds before [] event all bad =
+    ap (λ c. cond c (event ∷ []) []) (ap (λ b. is_none (refusal bounds b event)) (sym (append-nil before)) ∙ bad)
+heeded_behind-last bounds before (first ∷ events) event all bad =
+    of (is_none (refusal bounds before first))
+    (λ more. heeded_behind-last bounds (before ++ first ∷ []) events event more (ap (λ b. is_none (refusal bounds b event)) (append_assoc before (first ∷ []) events) ∙ bad)) all
+  where
+    of : (c : Bool) → (heeded_behind bounds (before ++ first ∷ []) events ≡ events → heeded_behind bounds (before ++ first ∷ []) (events ++ event ∷ []) ≡ events) → cond c (first ∷ heeded_behind bounds (before ++ first ∷ []) events) [] ≡ first ∷ events
+        → cond c (first ∷ heeded_behind bounds (before ++ first ∷ []) (events ++ event ∷ [])) [] ≡ first ∷ events
+    of true ih h = ap (λ es. first ∷ es) (ih (ap (drop 1) h))
+    of false ih h = absurd (omega (arith, ap length h))
+
+-- a piece brings no item
+pub items_in-gave : (bounds : Bounds) (entries : List Entry) (conn : ℕ) (bytes : List ℕ) (gone : Bool) → items_in bounds (entries ++ entry.Gave conn bytes gone ∷ []) ≡ items_in bounds entries
+items_in-gave bounds entries conn bytes gone = ap (λ events. items_of bounds.framing (heeded bounds events)) (events_in-gave entries conn bytes gone)
+
+-- one more entry behind what was passed
+pub passed_behind-append : (bounds : Bounds) (before entries more : List Entry) → passed_behind bounds before (entries ++ more) ≡ passed_behind bounds before entries ++ passed_behind bounds (before ++ entries) more
+passed_behind-append bounds before [] more = ap (λ b. passed_behind bounds b more) (sym (append-nil before))
+passed_behind-append bounds before (entry.Took event ∷ entries) more =
+    passed_behind-append bounds (before ++ entry.Took event ∷ []) entries more
+    ∙ ap (λ b. passed_behind bounds (before ++ entry.Took event ∷ []) entries ++ passed_behind bounds b more) (append_assoc before (entry.Took event ∷ []) entries)
+passed_behind-append bounds before (entry.Gave conn bytes gone ∷ entries) more =
+    ap (λ pieces. record { conn = conn; bytes = bytes; taken = received bounds before } ∷ pieces)
+    (passed_behind-append bounds (before ++ entry.Gave conn bytes gone ∷ []) entries more
+    ∙ ap (λ b. passed_behind bounds (before ++ entry.Gave conn bytes gone ∷ []) entries ++ passed_behind bounds b more) (append_assoc before (entry.Gave conn bytes gone ∷ []) entries))
+
+pub passed_in-gave : (bounds : Bounds) (entries : List Entry) (conn : ℕ) (bytes : List ℕ) (gone : Bool) → passed_in bounds (entries ++ entry.Gave conn bytes gone ∷ []) ≡ passed_in bounds entries ++ record { conn = conn; bytes = bytes; taken = received bounds entries } ∷ []
+passed_in-gave bounds entries conn bytes gone = passed_behind-append bounds [] entries (entry.Gave conn bytes gone ∷ [])
+
+pub passed_in-took : (bounds : Bounds) (entries : List Entry) (event : LinkEvent) → passed_in bounds (entries ++ entry.Took event ∷ []) ≡ passed_in bounds entries
+passed_in-took bounds entries event = passed_behind-append bounds [] entries (entry.Took event ∷ []) ∙ append-nil (passed_in bounds entries)
+
+-- of all events from the start
+pub one_more_heeded : (bounds : Bounds) (events : List LinkEvent) (event : LinkEvent) → heeded bounds events ≡ events → refusal bounds events event ≡ None → heeded bounds (events ++ event ∷ []) ≡ events ++ event ∷ []
+one_more_heeded bounds events event all fine = heeded_behind-more bounds [] events event all fine
+
+pub refused_unheeded : (bounds : Bounds) (events : List LinkEvent) (event : LinkEvent) → heeded bounds events ≡ events → is_none (refusal bounds events event) ≡ false → heeded bounds (events ++ event ∷ []) ≡ events
+refused_unheeded bounds events event all bad = heeded_behind-last bounds [] events event all bad

@@ -1,0 +1,9 @@
+pub mod Paths
+pub mod Due
+pub mod Heeding
+pub mod Examples
+pub mod Growing
+pub mod Passing
+pub mod Accounts
+pub mod Sessions
+pub mod Endings

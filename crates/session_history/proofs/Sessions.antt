@@ -1,0 +1,146 @@
+-- One lemma for each event of a session: what it makes of the account.
+use Rattle.std.proofs.Common.{◌≡◌, ℕ, ◌≤◌, Bool, true, false, List, [], ◌∷◌, ◌++◌, refl, sym, ◌∙◌, ap, subst, append-nil, append_assoc}
+use Rattle.rx_io.specs.declared.bytes.Item.{Item}
+use Rattle.rx_io.specs.declared.journal.Entry.{Entry}
+use Rattle.rx_io.specs.declared.journal.Entry.TheVariants as entry
+use Rattle.rx_io.specs.declared.journal.LinkEvent.{LinkEvent}
+use Rattle.elf_image.specs.declared.image.Image.{Image}
+use Rattle.run_history.specs.Served.{Path, Served, origin}
+use Rattle.run_history.specs.Served.{Override}
+use Rattle.run_history.specs.Machine.{start, start_machine}
+use Rattle.session_history.specs.Heeding.{items_in, received}
+use Rattle.session_history.specs.Passing.{passed_in, Covers, IsFeasible}
+use Rattle.session_history.proofs.Passing.{timed_on}
+use Rattle.session_history.proofs.Accounts.{Went, went}
+use Rattle.session_history.specs.Owing.{Moment}
+use Rattle.session_history.specs.Lawful.{Rules, Survivor, IsDue, AreDue, AreLawful, Chapter, entries_of, IsDuePiece, IsWholePiece}
+use Rattle.session_history.specs.Account.{IsAccount}
+use Rattle.session_history.specs.Serving.{gone_on, Carries, moment_of, Serving, first_survivor}
+use Rattle.session_history.proofs.Paths.{served_same, served_on, served_with}
+use Rattle.session_history.proofs.Heeding.{items_in-gave}
+use Rattle.session_history.proofs.Accounts.{carries_none, carries_on, carries_event, carries_piece, carries_run}
+use Rattle.session_history.proofs.Due.{due_with, are_due_on, are_due_with, are_due_then, are_lawful_with}
+
+pub serving_first : (rules : Rules) (image : Image) → Serving rules image [] (first_survivor image) []
+serving_first rules image = record { carries = carries_none rules image []; begins = served_same rules.limits (items_in rules.bounds []) [] (origin image); before = tt; due = tt }
+
+-- the survivor goes on, to any run that took received items alone
+pub serving_on : (rules : Rules) (image : Image) (earlier : List Chapter) (survivor : Survivor) (since : List Entry) (to : Path) → Serving rules image earlier survivor since
+    → Served rules.limits (items_in rules.bounds (entries_of earlier ++ since)) survivor.plan survivor.now to → to.state.machine.taken ≤ received rules.bounds (entries_of earlier ++ since)
+    → Serving rules image earlier (gone_on survivor to) since
+serving_on rules image earlier survivor since to serving on taken = record {
+  carries = carries_on rules image (entries_of earlier ++ since) survivor.plan survivor.now to serving.carries on taken;
+  begins = serving.begins;
+  before = serving.before;
+  due = are_due_on rules (items_in rules.bounds (entries_of earlier ++ since)) survivor to (moment_of earlier []) since on serving.due;
+}
+
+-- an event that is due is taken: with the items that it brings, or none where it is refused
+pub serving_event : (rules : Rules) (image : Image) (earlier : List Chapter) (survivor : Survivor) (since : List Entry) (event : LinkEvent) (more : List Item) → Serving rules image earlier survivor since
+    → IsDue rules (items_in rules.bounds (entries_of earlier ++ since)) survivor (moment_of earlier since) (entry.Took event)
+    → items_in rules.bounds ((entries_of earlier ++ since) ++ entry.Took event ∷ []) ≡ items_in rules.bounds (entries_of earlier ++ since) ++ more
+    → Serving rules image earlier survivor (since ++ entry.Took event ∷ [])
+serving_event rules image earlier survivor since event more serving due brings =
+    let entries : List Entry = entries_of earlier ++ since in
+    let items : List Item = items_in rules.bounds entries in
+    let same : entries ++ entry.Took event ∷ [] ≡ entries_of earlier ++ (since ++ entry.Took event ∷ []) = append_assoc (entries_of earlier) since (entry.Took event ∷ []) in
+    let grown : items ++ more ≡ items_in rules.bounds (entries_of earlier ++ (since ++ entry.Took event ∷ [])) = sym brings ∙ ap (items_in rules.bounds) same in
+    record {
+      carries = subst (λ es. Carries rules image es survivor.plan survivor.now) same (carries_event rules image entries event more survivor.plan survivor.now serving.carries brings);
+      begins = subst (λ its. Served rules.limits its survivor.plan (origin image) survivor.begun) grown (served_with rules.limits items more survivor.plan (origin image) survivor.begun serving.begins);
+      before = subst (λ its. AreLawful rules its [] earlier) grown (are_lawful_with rules items more [] earlier serving.before);
+      due =
+          subst (λ its. AreDue rules its survivor (moment_of earlier []) (since ++ entry.Took event ∷ [])) grown
+          (are_due_then rules (items ++ more) survivor (moment_of earlier []) since (entry.Took event) (are_due_with rules items more survivor (moment_of earlier []) since serving.due)
+          (due_with rules items more survivor (moment_of earlier since) (entry.Took event) due));
+    }
+
+-- a piece that is due is passed, whole, or in part to a connection that is gone
+pub piece_due : (rules : Rules) (items : List Item) (survivor : Survivor) (moment : Moment) (conn : ℕ) (bytes : List ℕ) (gone : Bool) (due : IsDue rules items survivor moment (entry.Gave conn bytes gone))
+    → IsDuePiece rules due.way.path.state.sends moment conn bytes
+piece_due rules items survivor moment conn bytes true due = due.due
+piece_due rules items survivor moment conn bytes false due = let whole : IsWholePiece rules due.way.path.state.sends moment conn bytes = due.due in whole.due
+
+pub serving_piece : (rules : Rules) (image : Image) (earlier : List Chapter) (survivor : Survivor) (since : List Entry) (conn : ℕ) (bytes : List ℕ) (gone : Bool) → Serving rules image earlier survivor since
+    → IsDue rules (items_in rules.bounds (entries_of earlier ++ since)) survivor (moment_of earlier since) (entry.Gave conn bytes gone)
+    → Serving rules image earlier survivor (since ++ entry.Gave conn bytes gone ∷ [])
+serving_piece rules image earlier survivor since conn bytes gone serving due =
+    let entries : List Entry = entries_of earlier ++ since in
+    let items : List Item = items_in rules.bounds entries in
+    let same : entries ++ entry.Gave conn bytes gone ∷ [] ≡ entries_of earlier ++ (since ++ entry.Gave conn bytes gone ∷ []) = append_assoc (entries_of earlier) since (entry.Gave conn bytes gone ∷ []) in
+    let kept : items ≡ items_in rules.bounds (entries_of earlier ++ (since ++ entry.Gave conn bytes gone ∷ [])) = sym (items_in-gave rules.bounds entries conn bytes gone) ∙ ap (items_in rules.bounds) same in
+    record {
+      carries =
+          subst (λ es. Carries rules image es survivor.plan survivor.now) same
+          (carries_piece rules image (moment_of earlier since) conn bytes gone survivor.plan due.way.path survivor.now serving.carries
+          (served_on rules.limits items survivor.plan (origin image) survivor.begun due.way.path serving.begins due.way.from) due.way.on (piece_due rules items survivor (moment_of earlier since) conn bytes gone due));
+      begins = subst (λ its. Served rules.limits its survivor.plan (origin image) survivor.begun) kept serving.begins;
+      before = subst (λ its. AreLawful rules its [] earlier) kept serving.before;
+      due =
+          subst (λ its. AreDue rules its survivor (moment_of earlier []) (since ++ entry.Gave conn bytes gone ∷ [])) kept
+          (are_due_then rules items survivor (moment_of earlier []) since (entry.Gave conn bytes gone) serving.due due);
+    }
+
+-- a session that serves has an account
+pub serving_account : (rules : Rules) (image : Image) (earlier : List Chapter) (survivor : Survivor) (since : List Entry) (at_end : Bool) → Serving rules image earlier survivor since
+    → IsAccount rules image (record { earlier = earlier; survivor = survivor; since = since; ending = []; broken = [] }) at_end
+serving_account rules image earlier survivor since at_end serving =
+    let entries : List Entry = entries_of earlier ++ since in
+    let none : entries ≡ entries_of earlier ++ (since ++ []) = ap (λ es. entries_of earlier ++ es) (sym (append-nil since)) in
+    let items : items_in rules.bounds entries ≡ items_in rules.bounds (entries_of earlier ++ (since ++ [])) = ap (items_in rules.bounds) none in
+    let carries : Carries rules image (entries_of earlier ++ (since ++ [])) survivor.plan survivor.now = subst (λ es. Carries rules image es survivor.plan survivor.now) none serving.carries in
+    record {
+      ran = carries_run rules image (entries_of earlier ++ (since ++ [])) survivor.plan survivor.now carries;
+      served = carries.served;
+      begins = subst (λ its. Served rules.limits its survivor.plan (origin image) survivor.begun) items serving.begins;
+      taken = carries.taken;
+      passed = carries.covers;
+      feasible = carries.feasible;
+      earlier = subst (λ its. AreLawful rules its [] earlier) items serving.before;
+      since = subst (λ its. AreDue rules its survivor (moment_of earlier []) since) items serving.due;
+      ending = tt;
+      broken = tt;
+    }
+
+-- the entries of some chapters, and of one more
+entries_of-then : (chapters : List Chapter) (chapter : Chapter) → entries_of (chapters ++ chapter ∷ []) ≡ entries_of chapters ++ chapter.entries
+entries_of-then [] chapter = append-nil chapter.entries
+entries_of-then (first ∷ chapters) chapter = ap (λ es. first.entries ++ es) (entries_of-then chapters chapter) ∙ sym (append_assoc first.entries (entries_of chapters) chapter.entries)
+
+-- one more chapter that is lawful behind those that are
+are_lawful_then : (rules : Rules) (items : List Item) (before : List Entry) (chapters : List Chapter) (chapter : Chapter) → AreLawful rules items before chapters
+    → AreDue rules items chapter.survivor (record { start = before ++ entries_of chapters; since = []; at_end = false }) chapter.entries → AreLawful rules items before (chapters ++ chapter ∷ [])
+are_lawful_then rules items before [] chapter are due =
+    (subst (λ start. AreDue rules items chapter.survivor (record { start = start; since = []; at_end = false }) chapter.entries) (append-nil before) due, tt)
+are_lawful_then rules items before (first ∷ chapters) chapter are due = (
+  are.0,
+  are_lawful_then rules items (before ++ first.entries) chapters chapter are.1
+      (subst (λ start. AreDue rules items chapter.survivor (record { start = start; since = []; at_end = false }) chapter.entries) (sym (append_assoc before first.entries (entries_of chapters))) due),
+)
+
+-- another survivor is adopted: a run from the start under its plan, which emits what was passed, and in time
+pub serving_adopts : (rules : Rules) (image : Image) (earlier : List Chapter) (survivor : Survivor) (since : List Entry) (plan : List Override) (to : Path) → Serving rules image earlier survivor since
+    → Served rules.limits (items_in rules.bounds (entries_of earlier ++ since)) plan (origin image) to → to.state.machine.taken ≤ received rules.bounds (entries_of earlier ++ since)
+    → Covers (passed_in rules.bounds (entries_of earlier ++ since)) to.state → IsFeasible (passed_in rules.bounds (entries_of earlier ++ since)) to.state
+    → Serving rules image (earlier ++ record { survivor = survivor; entries = since } ∷ []) (record { plan = plan; begun = to; now = to }) []
+unfolding start start_machine
+serving_adopts rules image earlier survivor since plan to serving ran taken covers feasible =
+    let entries : List Entry = entries_of earlier ++ since in
+    let items : List Item = items_in rules.bounds entries in
+    let chapter : Chapter = record { survivor = survivor; entries = since } in
+    let same : entries ≡ entries_of (earlier ++ chapter ∷ []) ++ [] = sym (entries_of-then earlier chapter) ∙ sym (append-nil (entries_of (earlier ++ chapter ∷ []))) in
+    let grown : Went items (origin image) to = went rules.limits items plan (origin image) to refl ran in
+    let carries : Carries rules image entries plan to = record {
+      served = ran;
+      taken = taken;
+      covers = covers;
+      feasible = feasible;
+      ordered = serving.carries.ordered;
+      timed = timed_on (origin image).state to.state grown.grows tt;
+    } in
+    record {
+      carries = subst (λ es. Carries rules image es plan to) same carries;
+      begins = subst (λ es. Served rules.limits (items_in rules.bounds es) plan (origin image) to) same ran;
+      before = subst (λ es. AreLawful rules (items_in rules.bounds es) [] (earlier ++ chapter ∷ [])) same (are_lawful_then rules items [] earlier chapter serving.before serving.due);
+      due = tt;
+    }

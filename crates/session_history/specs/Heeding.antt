@@ -1,0 +1,46 @@
+-- The events of a link that a session heeds, and their items. A session ends at the first event that it refuses.
+use Rattle.std.specs.Prelude.{ℕ, List, [], ◌∷◌, ◌++◌, length, Option, None, Some, is_none, nat_le, nat_lt, if◌then◌else◌}
+use Rattle.rx_io.specs.declared.bytes.Item.{Item}
+use Rattle.rx_io.specs.declared.journal.Entry.{Entry}
+use Rattle.rx_io.specs.declared.journal.LinkEvent.{LinkEvent}
+use Rattle.rx_io.specs.Links.{events_in}
+use Rattle.msg_frame.specs.declared.framing.Framing.{Framing}
+use Rattle.item_log.specs.Heard.{heard, items_of}
+
+-- what a session allows a link: how pieces are cut into messages, how many items it receives, and how many events
+pub record Bounds : Type 0 where
+  pub framing : Framing
+  pub max_items : ℕ
+  pub max_events : ℕ
+
+-- why an event is refused: it is one too many, a message of its piece is too long, or it would bring too many items
+pub data Unheeded : Type 0 where
+  LimitEvents : Unheeded
+  TooLong : Unheeded
+  LimitItems : Unheeded
+
+-- whether the event behind these is refused, by the first cause that holds
+abbrev pub refusal : Bounds → List LinkEvent → LinkEvent → Option Unheeded
+refusal bounds before event =
+    if nat_le bounds.max_events (length before) then Some LimitEvents else
+    if is_none (heard bounds.framing (before ++ event ∷ [])) then Some TooLong else
+    if nat_lt bounds.max_items (length (items_of bounds.framing (before ++ event ∷ []))) then Some LimitItems else
+    None
+
+-- the events behind these that come before the first refused one
+unfoldable pub heeded_behind : Bounds → List LinkEvent → List LinkEvent → List LinkEvent
+heeded_behind bounds before [] = []
+heeded_behind bounds before (event ∷ events) =
+    if is_none (refusal bounds before event) then event ∷ heeded_behind bounds (before ++ event ∷ []) events else []
+
+-- the events of a link that are heeded
+abbrev pub heeded : Bounds → List LinkEvent → List LinkEvent
+heeded bounds events = heeded_behind bounds [] events
+
+-- the items that a journal's events bring
+abbrev pub items_in : Bounds → List Entry → List Item
+items_in bounds entries = items_of bounds.framing (heeded bounds (events_in entries))
+
+-- how many items were received with a journal
+abbrev pub received : Bounds → List Entry → ℕ
+received bounds entries = length (items_in bounds entries)

@@ -1,0 +1,110 @@
+-- The journal of a session is lawful where each reply comes when it is owed, and no event comes before it is asked for. It is
+-- told in chapters, one for each survivor: a chapter has the entries of its survivor's time.
+use Rattle.std.specs.Prelude.{◌≡◌, ◌≢◌, ℕ, ◌<◌, List, [], ◌∷◌, ◌++◌, length, Bool, true, false, Option, None, Some, ◌⊎◌, ◌==◌}
+use Rattle.rx_io.specs.declared.bytes.Item.{Item}
+use Rattle.rx_io.specs.declared.journal.Entry.{Entry}
+use Rattle.rx_io.specs.declared.journal.Entry.TheVariants as entry
+use Rattle.rx_io.specs.declared.journal.LinkEvent.{LinkEvent}
+use Rattle.rx_io.specs.declared.journal.LinkEvent.TheVariants as event
+use Rattle.rx_io.specs.Prefix.{Prefix}
+use Rattle.rx_io.specs.Sends.{Send, sent_to}
+use Rattle.run_history.specs.Served.{Limits, Override, Path, Served, AsksFor}
+use Rattle.session_history.specs.Heeding.{Bounds, received}
+use Rattle.session_history.specs.Passing.{passed_in}
+use Rattle.session_history.specs.Owing.{Moment, journal, Latest, latest, IsOwed, IsPassed, OwesNothing, Stands}
+
+-- what a session allows its guest and its link, and how many items more have to be received before a reply is passed
+pub record Rules : Type 0 where
+  pub limits : Limits
+  pub bounds : Bounds
+  pub hold : ℕ
+
+-- a survivor: its plan, where it began, and where it stands
+pub record Survivor : Type 0 where
+  pub plan : List Override
+  pub begun : Path
+  pub now : Path
+
+-- a run on the way to where the survivor stands
+pub record OnTheWay (rules : Rules) (items : List Item) (survivor : Survivor) : Type 0 where
+  pub path : Path
+  pub from : Served rules.limits items survivor.plan survivor.begun path
+  pub on : Served rules.limits items survivor.plan path survivor.now
+
+-- Before an event the survivor stood at its request for the item that is received next, and owed nothing.
+pub record IsDueEvent (rules : Rules) (plan : List Override) (path : Path) (moment : Moment) : Type 0 where
+  pub asks : AsksFor rules.limits plan path (received rules.bounds (journal moment))
+  pub owes_nothing : OwesNothing rules.bounds rules.hold moment path.state.sends
+
+-- whether the last event closes a connection
+abbrev pub is_close_of : ℕ → LinkEvent → Bool
+is_close_of conn (event.Closes closed) = closed == conn
+is_close_of conn (event.Opens opened) = false
+is_close_of conn (event.Piece to bytes) = false
+is_close_of conn event.Settles = false
+is_close_of conn event.Ends = false
+
+abbrev pub is_closing : Option Latest → ℕ → Bool
+is_closing None conn = false
+is_closing (Some latest) conn = is_close_of conn latest.event
+
+-- of two sends of a run the first is passed before the second: those to a connection that closes go first, and else they keep
+-- the order in which they were made
+abbrev pub GoesBefore : Option Latest → {sends : List Send} → {first second : Send} → Stands sends first → Stands sends second → Type 0
+GoesBefore last {first = first} {second = second} one other =
+    ((is_closing last first.conn ≡ true) × (is_closing last second.conn ≡ false))
+    ⊎ ((is_closing last first.conn ≡ is_closing last second.conn) × (length one.earlier < length other.earlier))
+
+-- A piece is some first bytes of what its connection wasn't passed of one send of the survivor: the send is owed, all before
+-- it to its connection was passed, and so was all that is owed and goes before it.
+pub record IsDuePiece (rules : Rules) (sends : List Send) (moment : Moment) (conn : ℕ) (bytes : List ℕ) : Type 0 where
+  pub send : Send
+  pub stands : Stands sends send
+  pub to : send.conn ≡ conn
+  pub owed : IsOwed rules.bounds rules.hold moment send
+  pub behind : Prefix (sent_to conn stands.earlier) (sent_to conn (passed_in rules.bounds (journal moment)))
+  pub part : Prefix (sent_to conn (passed_in rules.bounds (journal moment)) ++ bytes) (sent_to conn (stands.earlier ++ send ∷ []))
+  pub in_order : (other : Send) (of_other : Stands sends other) → GoesBefore (latest moment.since) of_other stands → IsOwed rules.bounds rules.hold moment other → IsPassed rules.bounds (journal moment) sends other of_other
+
+-- with this piece a connection was passed all of the send: none of it is left, and it wasn't passed before
+pub record IsWholePiece (rules : Rules) (sends : List Send) (moment : Moment) (conn : ℕ) (bytes : List ℕ) : Type 0 where
+  pub due : IsDuePiece rules sends moment conn bytes
+  pub whole : sent_to conn (passed_in rules.bounds (journal moment)) ++ bytes ≡ sent_to conn (due.stands.earlier ++ due.send ∷ [])
+  pub some : bytes ≢ []
+
+-- an entry is due where this run stands: where a connection is gone, a first part of its piece went out
+abbrev pub IsDueAt : Rules → List Override → Path → Moment → Entry → Type 0
+IsDueAt rules plan path moment (entry.Took event) = IsDueEvent rules plan path moment
+IsDueAt rules plan path moment (entry.Gave conn bytes false) = IsWholePiece rules path.state.sends moment conn bytes
+IsDueAt rules plan path moment (entry.Gave conn bytes true) = IsDuePiece rules path.state.sends moment conn bytes
+
+-- an entry was due where the survivor stood when it came or went
+pub record IsDue (rules : Rules) (items : List Item) (survivor : Survivor) (moment : Moment) (entry : Entry) : Type 0 where
+  pub way : OnTheWay rules items survivor
+  pub due : IsDueAt rules survivor.plan way.path moment entry
+
+-- a moment with one more entry behind it
+abbrev pub then_entry : Moment → Entry → Moment
+then_entry moment entry = record moment { since = moment.since ++ entry ∷ [] }
+
+-- each of some entries is due at its moment
+abbrev pub AreDue : Rules → List Item → Survivor → Moment → List Entry → Type 0
+AreDue rules items survivor moment [] = Unit {0}
+AreDue rules items survivor moment (entry ∷ entries) = IsDue rules items survivor moment entry × AreDue rules items survivor (then_entry moment entry) entries
+
+-- a survivor and the entries of its time
+pub record Chapter : Type 0 where
+  pub survivor : Survivor
+  pub entries : List Entry
+
+-- the entries of some chapters, one chapter behind the other
+abbrev pub entries_of : List Chapter → List Entry
+entries_of [] = []
+entries_of (chapter ∷ chapters) = chapter.entries ++ entries_of chapters
+
+-- each chapter's entries are due, behind those of the chapters before it
+abbrev pub AreLawful : Rules → List Item → List Entry → List Chapter → Type 0
+AreLawful rules items before [] = Unit {0}
+AreLawful rules items before (chapter ∷ chapters) =
+    AreDue rules items chapter.survivor (record { start = before; since = []; at_end = false }) chapter.entries
+    × AreLawful rules items (before ++ chapter.entries) chapters

@@ -1,0 +1,75 @@
+-- When a session owes bytes that its survivor sent.
+use Rattle.std.specs.Prelude.{◌≡◌, ℕ, ◌+◌, ◌≤◌, List, [], ◌∷◌, ◌++◌, Bool, true, false, Option, None, Some, option_map, unwrap_or, ◌⊎◌}
+use Rattle.rx_io.specs.declared.journal.Entry.{Entry}
+use Rattle.rx_io.specs.declared.journal.Entry.TheVariants as entry
+use Rattle.rx_io.specs.declared.journal.LinkEvent.{LinkEvent}
+use Rattle.rx_io.specs.declared.journal.LinkEvent.TheVariants as event
+use Rattle.rx_io.specs.Prefix.{Prefix}
+use Rattle.rx_io.specs.Sends.{Send, sent_to}
+use Rattle.rx_io.specs.Links.{events_in}
+use Rattle.session_history.specs.Heeding.{Bounds, heeded, received}
+use Rattle.session_history.specs.Opened.{closes, is_open, is_gone}
+use Rattle.session_history.specs.Passing.{passed_in}
+
+-- the last event of some entries, and the entries before it. Ends is none
+pub record Latest : Type 0 where
+  pub before : List Entry
+  pub event : LinkEvent
+
+abbrev pub behind : Entry → Latest → Latest
+behind entry latest = record latest { before = entry ∷ latest.before }
+
+abbrev pub latest : List Entry → Option Latest
+latest [] = None
+latest (entry.Gave conn bytes gone ∷ entries) = option_map (behind (entry.Gave conn bytes gone)) (latest entries)
+latest (entry.Took event.Ends ∷ entries) = option_map (behind (entry.Took event.Ends)) (latest entries)
+latest (entry.Took event ∷ entries) = Some (unwrap_or (option_map (behind (entry.Took event)) (latest entries)) (record { before = []; event = event }))
+
+-- A session's journal, seen from one moment: what stood before the survivor was adopted, what came since, and whether the
+-- session has come to its end.
+pub record Moment : Type 0 where
+  pub start : List Entry
+  pub since : List Entry
+  pub at_end : Bool
+
+abbrev pub journal : Moment → List Entry
+journal moment = moment.start ++ moment.since
+
+-- how many items were received before an event since the survivor was adopted
+abbrev pub received_before : Bounds → Moment → Latest → ℕ
+received_before bounds moment latest = received bounds (moment.start ++ latest.before)
+
+-- an event makes owed what was sent with no more items taken than were received before it: a settle to each open connection,
+-- and a close that is heeded to its own, unless a piece found it gone
+abbrev pub IsMadeDue : Bounds → Moment → ℕ → ℕ → LinkEvent → ℕ → Type 0
+IsMadeDue bounds moment conn taken event.Settles before = (is_open bounds (journal moment) conn ≡ true) × (taken ≤ before)
+IsMadeDue bounds moment conn taken (event.Closes closed) before = (closed ≡ conn) × (closes conn (heeded bounds (events_in (journal moment))) ≡ true) × (is_gone conn (journal moment) ≡ false) × (taken ≤ before)
+IsMadeDue bounds moment conn taken (event.Opens opened) before = ⊥
+IsMadeDue bounds moment conn taken (event.Piece to bytes) before = ⊥
+IsMadeDue bounds moment conn taken event.Ends before = ⊥
+
+abbrev pub IsDueBy : Bounds → Moment → ℕ → ℕ → Option Latest → Type 0
+IsDueBy bounds moment conn taken None = ⊥
+IsDueBy bounds moment conn taken (Some latest) = IsMadeDue bounds moment conn taken latest.event (received_before bounds moment latest)
+
+-- Bytes that the survivor sent to a connection with so many items taken are owed: the connection is open, and so many more
+-- items were received as are held back, or the session has come to its end; or the last event makes them owed.
+abbrev pub IsOwed : Bounds → ℕ → Moment → Send → Type 0
+IsOwed bounds hold moment send =
+    ((is_open bounds (journal moment) send.conn ≡ true) × ((send.taken + hold ≤ received bounds (journal moment)) ⊎ (moment.at_end ≡ true)))
+    ⊎ IsDueBy bounds moment send.conn send.taken (latest moment.since)
+
+-- where a send stands among those of a run
+pub record Stands (sends : List Send) (send : Send) : Type 0 where
+  pub earlier : List Send
+  pub later : List Send
+  pub split : sends ≡ earlier ++ send ∷ later
+
+-- a send was passed, with all that was sent to its connection before it
+abbrev pub IsPassed : Bounds → List Entry → (sends : List Send) → (send : Send) → Stands sends send → Type 0
+IsPassed bounds entries sends send stands = Prefix (sent_to send.conn (stands.earlier ++ send ∷ [])) (sent_to send.conn (passed_in bounds entries))
+
+-- all that is owed of some sends was passed
+abbrev pub OwesNothing : Bounds → ℕ → Moment → List Send → Type 0
+OwesNothing bounds hold moment sends =
+    (send : Send) (stands : Stands sends send) → IsOwed bounds hold moment send → IsPassed bounds (journal moment) sends send stands

@@ -1,0 +1,49 @@
+-- What holds while a session serves, and at its end. Each event keeps it; it has the account.
+use Rattle.std.specs.Prelude.{◌≤◌, List, [], ◌++◌, Bool, false}
+use Rattle.rx_io.specs.declared.journal.Entry.{Entry}
+use Rattle.elf_image.specs.declared.image.Image.{Image}
+use Rattle.run_history.specs.Served.{Override, Path, Served, origin}
+use Rattle.session_history.specs.Heeding.{items_in, received}
+use Rattle.session_history.specs.Passing.{passed_in, Covers, IsFeasible, AreBetween, AreInOrder}
+use Rattle.session_history.specs.Owing.{Moment}
+use Rattle.session_history.specs.Lawful.{Rules, Survivor, AreDue, AreLawful, Chapter, entries_of}
+
+-- the survivor went on to here
+abbrev pub gone_on : Survivor → Path → Survivor
+gone_on survivor path = record survivor { now = path }
+
+-- What holds of a journal and the survivor behind it: it is a run on the items received, which emits what was passed.
+pub record Carries (rules : Rules) (image : Image) (entries : List Entry) (plan : List Override) (now : Path) : Type 0 where
+  pub served : Served rules.limits (items_in rules.bounds entries) plan (origin image) now
+  pub taken : now.state.machine.taken ≤ received rules.bounds entries
+  pub covers : Covers (passed_in rules.bounds entries) now.state
+  pub feasible : IsFeasible (passed_in rules.bounds entries) now.state
+  pub ordered : AreInOrder (received rules.bounds entries) (passed_in rules.bounds entries)
+  pub timed : AreBetween 0 now.state.machine.taken now.state.sends
+
+-- the moment of a session that serves, behind some entries of its survivor's time
+abbrev pub moment_of : List Chapter → List Entry → Moment
+moment_of earlier since = record { start = entries_of earlier; since = since; at_end = false }
+
+-- a session serves: what its account says while it has no end
+pub record Serving (rules : Rules) (image : Image) (earlier : List Chapter) (survivor : Survivor) (since : List Entry) : Type 0 where
+  pub carries : Carries rules image (entries_of earlier ++ since) survivor.plan survivor.now
+  pub begins : Served rules.limits (items_in rules.bounds (entries_of earlier ++ since)) survivor.plan (origin image) survivor.begun
+  pub before : AreLawful rules (items_in rules.bounds (entries_of earlier ++ since)) [] earlier
+  pub due : AreDue rules (items_in rules.bounds (entries_of earlier ++ since)) survivor (moment_of earlier []) since
+
+-- the first survivor at its start
+abbrev pub first_survivor : Image → Survivor
+first_survivor image = record { plan = []; begun = origin image; now = origin image }
+
+-- the moment behind the entries of the survivor's time and the pieces of the end
+abbrev pub ending_at : List Chapter → List Entry → Bool → Moment
+ending_at earlier since at_end = record { start = entries_of earlier; since = since; at_end = at_end }
+
+-- a session that may have come to its end, with the pieces that were passed there
+pub record Ending (rules : Rules) (image : Image) (earlier : List Chapter) (survivor : Survivor) (since ending : List Entry) (at_end : Bool) : Type 0 where
+  pub carries : Carries rules image (entries_of earlier ++ (since ++ ending)) survivor.plan survivor.now
+  pub begins : Served rules.limits (items_in rules.bounds (entries_of earlier ++ (since ++ ending))) survivor.plan (origin image) survivor.begun
+  pub before : AreLawful rules (items_in rules.bounds (entries_of earlier ++ (since ++ ending))) [] earlier
+  pub due : AreDue rules (items_in rules.bounds (entries_of earlier ++ (since ++ ending))) survivor (moment_of earlier []) since
+  pub last : AreDue rules (items_in rules.bounds (entries_of earlier ++ (since ++ ending))) survivor (ending_at earlier since at_end) ending
