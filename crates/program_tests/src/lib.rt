@@ -2,6 +2,8 @@
 #![tactic(auto)]
 
 #[cfg(test)]
+mod command_line_tests;
+#[cfg(test)]
 mod rx_serve_tests;
 #[cfg(test)]
 mod rx_tests;

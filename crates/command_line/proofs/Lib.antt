@@ -1,0 +1,10 @@
+mod Numbers
+mod Listed
+mod Taking
+mod Asking
+mod Pieces
+mod Walking
+mod Cutting
+mod Finding
+mod Clapping
+mod Readable

@@ -1,0 +1,116 @@
+-- clap's commands of `run` and of `asm`, computed.
+use Rattle.std.proofs.Common.{◌≡◌, ◌<◌, ℕ, refl, true, false, length, List, Some, codes, arith}
+use Rattle.clap.specs.Matches.{first_value, found_of}
+use Rattle.clap.specs.Simple.{built, matches_of}
+use Rattle.clap.specs.Takes.{takes}
+use Rattle.clap.specs.Walk.{Text, rows_of}
+use Rattle.clap.specs.declared.parser.matches.ArgMatches.{ArgMatches}
+use Rattle.command_line.specs.Commands.{fits, positional}
+use Rattle.command_line.specs.Parts.{parts}
+use Rattle.command_line.specs.Table.{asm_form, run_form}
+use Rattle.command_line.specs.Reading.{EachName, HasRead, app_of_form}
+use Rattle.command_line.proofs.Pieces.{is_row}
+use Rattle.command_line.proofs.Clapping.{IsReadable, clap_takes, name_value, options_value}
+use Rattle.command_line.proofs.Finding.{NameAt}
+
+pub asm_readable : IsReadable asm_form (app_of_form asm_form) (built (app_of_form asm_form))
+unfolding asm_form
+asm_readable = record {
+  built_is = refl;
+  simple = refl;
+  no_subs = refl;
+  all_words = refl;
+  places = (record { by_index = refl; by_id = refl }, refl, refl, (record { by_index = refl; by_id = refl }, refl, refl, tt));
+  options = tt;
+  defaults = refl;
+  valid = λ rows. refl;
+}
+
+pub run_readable : IsReadable run_form (app_of_form run_form) (built (app_of_form run_form))
+unfolding run_form
+run_readable = record {
+  built_is = refl;
+  simple = refl;
+  no_subs = refl;
+  all_words = refl;
+  places = (record { by_index = refl; by_id = refl }, refl, refl, tt);
+  options = (
+    (record { defaults = _; by_long = refl; by_id = refl; some = refl; long = refl }, refl, refl),
+    (
+      (record { defaults = _; by_long = refl; by_id = refl; some = refl; long = refl }, refl, refl),
+      (
+        (record { defaults = _; by_long = refl; by_id = refl; some = refl; long = refl }, refl, refl),
+        (
+          (record { defaults = _; by_long = refl; by_id = refl; some = refl; long = refl }, refl, refl),
+          (
+            (record { defaults = _; by_long = refl; by_id = refl; some = refl; long = refl }, refl, refl),
+            (
+              (record { defaults = _; by_long = refl; by_id = refl; some = refl; long = refl }, refl, refl),
+              (
+                (record { defaults = _; by_long = refl; by_id = refl; some = refl; long = refl }, refl, refl),
+                (
+                  (record { defaults = _; by_long = refl; by_id = refl; some = refl; long = refl }, refl, refl),
+                  (
+                    (record { defaults = _; by_long = refl; by_id = refl; some = refl; long = refl }, refl, refl),
+                    (
+                      (record { defaults = _; by_long = refl; by_id = refl; some = refl; long = refl }, refl, refl),
+                      tt,
+                    ),
+                  ),
+                ),
+              ),
+            ),
+          ),
+        ),
+      ),
+    ),
+  );
+  defaults = refl;
+  valid = λ rows. refl;
+}
+
+run_name : NameAt (codes "PROGRAM") run_form.positionals 0 × (is_row (codes "PROGRAM") run_form.options ≡ false) × (0 < length run_form.positionals)
+unfolding run_form
+run_name = (refl, refl, omega arith)
+
+asm_name : (NameAt (codes "SOURCE") asm_form.positionals 0 × (is_row (codes "SOURCE") asm_form.options ≡ false) × (0 < length asm_form.positionals))
+    × (NameAt (codes "OUT") asm_form.positionals 1 × (is_row (codes "OUT") asm_form.options ≡ false) × (1 < length asm_form.positionals))
+unfolding asm_form
+asm_name = ((refl, refl, omega arith), ((refl, refl), refl, omega arith))
+
+one_name : (P : ℕ → Text → Type 0) → P 0 (codes "PROGRAM") → EachName P 0 run_form.positionals
+unfolding run_form
+one_name P p = (p, tt)
+
+two_names : (P : ℕ → Text → Type 0) → P 0 (codes "SOURCE") → P 1 (codes "OUT") → EachName P 0 asm_form.positionals
+unfolding asm_form
+two_names P p q = (p, (q, tt))
+
+run_names : (words : List Text) (m : ArgMatches) → fits run_form (parts words) ≡ true → rows_of (found_of m) ≡ matches_of (app_of_form run_form) words
+    → EachName (λ place name. first_value (found_of m) name ≡ Some (positional place (parts words))) 0 run_form.positionals
+run_names words m taken rows =
+    one_name (λ place name. first_value (found_of m) name ≡ Some (positional place (parts words)))
+    (name_value run_form _ _ words run_readable taken m rows 0 (codes "PROGRAM") run_name.0 run_name.1 run_name.2)
+
+asm_names : (words : List Text) (m : ArgMatches) → fits asm_form (parts words) ≡ true → rows_of (found_of m) ≡ matches_of (app_of_form asm_form) words
+    → EachName (λ place name. first_value (found_of m) name ≡ Some (positional place (parts words))) 0 asm_form.positionals
+asm_names words m taken rows =
+    two_names (λ place name. first_value (found_of m) name ≡ Some (positional place (parts words)))
+    (name_value asm_form _ _ words asm_readable taken m rows 0 (codes "SOURCE") asm_name.0.0 asm_name.0.1 asm_name.0.2)
+    (name_value asm_form _ _ words asm_readable taken m rows 1 (codes "OUT") asm_name.1.0 asm_name.1.1 asm_name.1.2)
+
+pub run_taken : (words : List Text) → fits run_form (parts words) ≡ true → takes (app_of_form run_form) words ≡ true
+run_taken words taken = clap_takes run_form _ _ words run_readable taken
+
+pub asm_taken : (words : List Text) → fits asm_form (parts words) ≡ true → takes (app_of_form asm_form) words ≡ true
+asm_taken words taken = clap_takes asm_form _ _ words asm_readable taken
+
+pub run_read : (words : List Text) (m : ArgMatches) → fits run_form (parts words) ≡ true → rows_of (found_of m) ≡ matches_of (app_of_form run_form) words
+    → HasRead run_form (parts words) m
+run_read words m taken rows =
+    record { names = run_names words m taken rows; options = options_value run_form _ _ words run_readable taken m rows }
+
+pub asm_read : (words : List Text) (m : ArgMatches) → fits asm_form (parts words) ≡ true → rows_of (found_of m) ≡ matches_of (app_of_form asm_form) words
+    → HasRead asm_form (parts words) m
+asm_read words m taken rows =
+    record { names = asm_names words m taken rows; options = options_value asm_form _ _ words asm_readable taken m rows }

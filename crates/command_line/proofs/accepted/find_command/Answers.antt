@@ -1,0 +1,48 @@
+use Rattle.std.proofs.Common.{◌≡◌, ◌∙◌, true, false, sym, ap}
+use Rattle.std.specs.Str.{bytes_eq}
+use Rattle.command_line.specs.Table.{asm_form, run_form}
+use Rattle.command_line.proofs.Asking.{asm_asked, asm_refused, first_word, of_asm, of_none, of_run, run_asked, run_refused}
+use Rattle.command_line.proofs.accepted.find_command.Goals as goal
+
+pub returns-then-not-are_run_words : goal.returns-then-not-are_run_words
+unfolding run_form
+returns-then-not-are_run_words c =
+    let words = first_word _ c.command-item.result c.as_str.result.now c.in-len1-up.len_at_least c.command-item.is c.as_str.ensures.value in
+    let named : bytes_eq c.as_str.result.now run_form.name ≡ true = sym c.eq.ensures ∙ c.if-eq.true in
+    of_run _ c.as_str.result.now _ words named ∙ run_refused _ (sym c.are_run_words.ensures ∙ c.if-not-are_run_words.true)
+
+pub returns-then-eq : goal.returns-then-eq
+unfolding run_form
+returns-then-eq c =
+    let words = first_word _ c.command-item.result c.as_str.result.now c.in-len1-up.len_at_least c.command-item.is c.as_str.ensures.value in
+    let named : bytes_eq c.as_str.result.now run_form.name ≡ true = sym c.eq.ensures ∙ c.if-eq.true in
+    let taken = sym c.are_run_words.ensures ∙ c.if-not-are_run_words.false in
+    (taken, of_run _ c.as_str.result.now _ words named ∙ run_asked _ taken)
+
+pub returns-then-not-are_asm_words : goal.returns-then-not-are_asm_words
+unfolding run_form asm_form
+returns-then-not-are_asm_words c =
+    let words = first_word _ c.command-item.result c.as_str.result.now c.in-len1-up.len_at_least c.command-item.is c.as_str.ensures.value in
+    let other : bytes_eq c.as_str.result.now run_form.name ≡ false = sym c.eq.ensures ∙ c.if-eq.false in
+    let same : c.as_str-2.result.now ≡ c.as_str.result.now = c.as_str-2.ensures.value ∙ sym c.as_str.ensures.value in
+    let named : bytes_eq c.as_str.result.now asm_form.name ≡ true = ap (λ t. bytes_eq t asm_form.name) (sym same) ∙ sym c.eq-2.ensures ∙ c.if-eq-2.true in
+    of_asm _ c.as_str.result.now _ words other named ∙ asm_refused _ (sym c.are_asm_words.ensures ∙ c.if-not-are_asm_words.true)
+
+pub returns-then-eq-2 : goal.returns-then-eq-2
+unfolding run_form asm_form
+returns-then-eq-2 c =
+    let words = first_word _ c.command-item.result c.as_str.result.now c.in-len1-up.len_at_least c.command-item.is c.as_str.ensures.value in
+    let other : bytes_eq c.as_str.result.now run_form.name ≡ false = sym c.eq.ensures ∙ c.if-eq.false in
+    let same : c.as_str-2.result.now ≡ c.as_str.result.now = c.as_str-2.ensures.value ∙ sym c.as_str.ensures.value in
+    let named : bytes_eq c.as_str.result.now asm_form.name ≡ true = ap (λ t. bytes_eq t asm_form.name) (sym same) ∙ sym c.eq-2.ensures ∙ c.if-eq-2.true in
+    let taken = sym c.are_asm_words.ensures ∙ c.if-not-are_asm_words.false in
+    (taken, of_asm _ c.as_str.result.now _ words other named ∙ asm_asked _ taken)
+
+pub returns : goal.returns
+unfolding run_form asm_form
+returns c =
+    let words = first_word _ c.command-item.result c.as_str.result.now c.in-len1-up.len_at_least c.command-item.is c.as_str.ensures.value in
+    let other : bytes_eq c.as_str.result.now run_form.name ≡ false = sym c.eq.ensures ∙ c.if-eq.false in
+    let same : c.as_str-2.result.now ≡ c.as_str.result.now = c.as_str-2.ensures.value ∙ sym c.as_str.ensures.value in
+    let neither : bytes_eq c.as_str.result.now asm_form.name ≡ false = ap (λ t. bytes_eq t asm_form.name) (sym same) ∙ sym c.eq-2.ensures ∙ c.if-eq-2.false in
+    of_none _ c.as_str.result.now _ words other neither

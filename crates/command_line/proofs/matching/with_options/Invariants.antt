@@ -1,0 +1,10 @@
+use Rattle.std.proofs.Common.{◌≡◌, drop, fold, map}
+use Rattle.clap.specs.Words.{app_of, with_rule}
+use Rattle.command_line.specs.Reading.{option_rule}
+use Rattle.command_line.specs.Table.{row_read}
+use Rattle.command_line.proofs.matching.with_options.Given as goal
+
+abbrev pub invariant-loop-row : goal.invariant-loop-row
+invariant-loop-row l =
+    fold with_rule (app_of l.command) (map option_rule (map row_read (drop l.row-index l.rows)))
+    ≡ fold with_rule (app_of l.fn.command) (map option_rule (map row_read l.rows))

@@ -1,0 +1,8 @@
+use Rattle.std.proofs.Common.{◌≡◌, Bor, drop, fold, map}
+use Rattle.clap.specs.Words.{Text, app_of, new_rule, with_rule}
+use Rattle.command_line.proofs.matching.with_positionals.Given as goal
+
+abbrev pub invariant-loop-name : goal.invariant-loop-name
+invariant-loop-name l =
+    fold with_rule (app_of l.command) (map new_rule (map (λ (t : Bor Text). t.now) (drop l.name-index l.names)))
+    ≡ fold with_rule (app_of l.fn.command) (map new_rule (map (λ (t : Bor Text). t.now) l.names))

@@ -1,0 +1,8 @@
+use Rattle.std.proofs.Common.{◌≡◌, drop}
+use Rattle.command_line.specs.Options.{has_required}
+use Rattle.command_line.specs.Table.{rows_read}
+use Rattle.command_line.specs.Parts.{parts_of}
+use Rattle.command_line.proofs.parts.are_complete.Given as goal
+
+abbrev pub invariant-loop-row : goal.invariant-loop-row
+invariant-loop-row l = has_required (rows_read (drop l.row-index l.rows)) (parts_of l.words).options ≡ has_required (rows_read l.rows) (parts_of l.words).options

@@ -1,0 +1,11 @@
+use Rattle.std.proofs.Common.{◌≡◌, length}
+use Rattle.command_line.specs.Options.{are_options}
+use Rattle.command_line.specs.Table.{rows_read}
+use Rattle.command_line.specs.Parts.{parts_of}
+use Rattle.command_line.proofs.parts.are_taken.Given as goal
+
+abbrev pub invariant-parts : goal.invariant-parts
+invariant-parts l = are_options (rows_read l.rows) (parts_of l.words).options ≡ are_options (rows_read l.rows) (parts_of l.rest).options
+
+abbrev pub decreases-parts : goal.decreases-parts
+decreases-parts l = length l.rest

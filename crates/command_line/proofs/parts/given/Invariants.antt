@@ -1,0 +1,11 @@
+use Rattle.std.proofs.Common.{◌≡◌, length}
+use Rattle.command_line.specs.Options.{given}
+use Rattle.command_line.specs.Table.{row_read}
+use Rattle.command_line.specs.Parts.{parts_of}
+use Rattle.command_line.proofs.parts.given.Given as goal
+
+abbrev pub invariant-parts : goal.invariant-parts
+invariant-parts l = given (row_read l.row) (parts_of l.words).options ≡ given (row_read l.row) (parts_of l.rest).options
+
+abbrev pub decreases-parts : goal.decreases-parts
+decreases-parts l = length l.rest

@@ -1,0 +1,10 @@
+use Rattle.std.proofs.Common.{◌≡◌, length}
+use Rattle.command_line.specs.Options.{has_option}
+use Rattle.command_line.specs.Parts.{parts_of}
+use Rattle.command_line.proofs.parts.is_there.Given as goal
+
+abbrev pub invariant-parts : goal.invariant-parts
+invariant-parts l = has_option l.name (parts_of l.words).options ≡ has_option l.name (parts_of l.rest).options
+
+abbrev pub decreases-parts : goal.decreases-parts
+decreases-parts l = length l.rest

@@ -1,0 +1,8 @@
+use Rattle.std.proofs.Common.{◌∙◌, sym, ap}
+use Rattle.command_line.proofs.Taking.{ended}
+use Rattle.std.specs.Prelude.{slice_get}
+use Rattle.command_line.specs.Parts.{Parts}
+use Rattle.command_line.proofs.parts.positional.Goals as goal
+
+pub returns : goal.returns
+returns c = sym (c.parts.invariant ∙ ap (λ (p : Parts). slice_get p.positionals c.parts.left) (ended _ c.in_default.ensures))

@@ -1,0 +1,9 @@
+use Rattle.std.proofs.Common.{◌≡◌, slice_get, length}
+use Rattle.command_line.specs.Parts.{parts_of}
+use Rattle.command_line.proofs.parts.positional.Given as goal
+
+abbrev pub invariant-parts : goal.invariant-parts
+invariant-parts l = slice_get (parts_of l.words).positionals l.index ≡ slice_get (parts_of l.rest).positionals l.left
+
+abbrev pub decreases-parts : goal.decreases-parts
+decreases-parts l = length l.rest

@@ -1,0 +1,25 @@
+use Rattle.std.proofs.Common.{◌∙◌, ℕ, ap, unwrap_or}
+use Rattle.command_line.specs.Texts.{Text, number_of}
+use Rattle.command_line.specs.Table.{run_form, budget_row, every_row, form_row, frame_row, frames_row, hold_row, record_row, report_row, ring_row, window_row}
+use Rattle.command_line.specs.Commands.{form_of, frame_of, run_value}
+use Rattle.command_line.proofs.reading.run_from.Goals as goal
+
+abbrev number_read : Text → ℕ
+number_read text = unwrap_or (number_of text) 0
+
+pub returns : goal.returns
+unfolding run_value run_form budget_row every_row form_row frame_row frames_row hold_row record_row report_row ring_row window_row
+returns c =
+    λ p read i. record {
+      program = c.value_in.ensures _ read.names.0 i;
+      recording = c.value_in-2.ensures _ read.options.0 i;
+      report = c.value_in-3.ensures _ read.options.1.0 i;
+      form = (c.form_of.ensures ∙ ap form_of (c.value_in-4.ensures _ read.options.1.1.0)) i;
+      frame = (c.frame_of.ensures ∙ ap frame_of (c.value_in-5.ensures _ read.options.1.1.1.0)) i;
+      window = (c.number_or_zero.ensures ∙ ap number_read (c.value_in-6.ensures _ read.options.1.1.1.1.0)) i;
+      hold = (c.number_or_zero-2.ensures ∙ ap number_read (c.value_in-7.ensures _ read.options.1.1.1.1.1.0)) i;
+      ring = (c.number_or_zero-3.ensures ∙ ap number_read (c.value_in-8.ensures _ read.options.1.1.1.1.1.1.0)) i;
+      every = (c.number_or_zero-4.ensures ∙ ap number_read (c.value_in-9.ensures _ read.options.1.1.1.1.1.1.1.0)) i;
+      frames = (c.number_or_zero-5.ensures ∙ ap number_read (c.value_in-10.ensures _ read.options.1.1.1.1.1.1.1.1.0)) i;
+      budget = (c.number_or_zero-6.ensures ∙ ap number_read (c.value_in-11.ensures _ read.options.1.1.1.1.1.1.1.1.1.0)) i;
+    }

@@ -1,0 +1,123 @@
+-- The command that words ask for.
+use Rattle.std.specs.Prelude.{ℕ, ◌&&◌, Bool, not, List, [], ◌∷◌, Option, Some, None, if◌then◌else◌, length, slice_get, unwrap_or}
+use Rattle.std.specs.Str.{bytes_eq}
+use Rattle.msg_frame.specs.declared.framing.Framing.{Framing}
+use Rattle.msg_frame.specs.declared.framing.Framing.TheVariants.{Line, Length, Whole}
+use Rattle.command_line.specs.Texts.{Text}
+use Rattle.command_line.specs.Parts.{Parts, are_positionals, parts}
+use Rattle.command_line.specs.Options.{are_options, has_required, number_at, value_of}
+use Rattle.command_line.specs.declared.command.Form.{Form}
+use Rattle.command_line.specs.declared.command.Form.TheVariants as form
+use Rattle.command_line.specs.declared.command.Command.{Command}
+use Rattle.command_line.specs.declared.command.Command.TheVariants.{Run, Asm}
+use Rattle.command_line.specs.declared.command.RunCommand.{RunCommand}
+use Rattle.command_line.specs.declared.command.AsmCommand.{AsmCommand}
+use Rattle.command_line.specs.declared.options.TheConstants.{JSON, LENGTH, WHOLE}
+use Rattle.command_line.specs.Table.{CommandForm, run_form, asm_form, record_row, report_row, form_row, frame_row, window_row, hold_row, ring_row, every_row, frames_row, budget_row}
+
+-- what a session of a program is asked for
+pub record RunValue : Type 0 where
+  pub program : Text
+  pub recording : Text
+  pub report : Text
+  pub form : Form
+  pub frame : Framing
+  pub window : ℕ
+  pub hold : ℕ
+  pub ring : ℕ
+  pub every : ℕ
+  pub frames : ℕ
+  pub budget : ℕ
+
+-- what an assembly is asked for
+pub record AsmValue : Type 0 where
+  pub source : Text
+  pub out : Text
+
+-- a command with its names and numbers
+pub data CommandValue : Type 0 where
+  run : RunValue → CommandValue
+  asm : AsmValue → CommandValue
+
+-- the positionals are as many as the command has, all of them names, and the options are of its rows, each at most once,
+-- those without a default present
+abbrev pub fits : CommandForm → Parts → Bool
+fits command p =
+    are_positionals (length command.positionals) p.positionals
+    && (are_options command.options p.options && has_required command.options p.options)
+
+abbrev pub positional : ℕ → Parts → Text
+positional index p = unwrap_or (slice_get p.positionals index) []
+
+abbrev pub form_of : Text → Form
+form_of text = if bytes_eq text JSON.now then form.Json else form.Text
+
+abbrev pub frame_of : Text → Framing
+frame_of text = if bytes_eq text LENGTH.now then Length else (if bytes_eq text WHOLE.now then Whole else Line)
+
+-- the names and numbers of `run`
+unfoldable pub run_value : Parts → RunValue
+run_value p = record {
+  program = positional 0 p;
+  recording = value_of record_row p.options;
+  report = value_of report_row p.options;
+  form = form_of (value_of form_row p.options);
+  frame = frame_of (value_of frame_row p.options);
+  window = number_at window_row p.options;
+  hold = number_at hold_row p.options;
+  ring = number_at ring_row p.options;
+  every = number_at every_row p.options;
+  frames = number_at frames_row p.options;
+  budget = number_at budget_row p.options;
+}
+
+-- no two of three texts are alike
+abbrev pub differ : Text → Text → Text → Bool
+differ first second third = not (bytes_eq first second) && (not (bytes_eq first third) && not (bytes_eq second third))
+
+-- the words are those of `run`: its names are three different texts
+unfoldable pub is_run : Parts → Bool
+is_run p = fits run_form p && differ (positional 0 p) (value_of record_row p.options) (value_of report_row p.options)
+
+-- the names of `asm`
+unfoldable pub asm_value : Parts → AsmValue
+asm_value p = record { source = positional 0 p; out = positional 1 p }
+
+-- the words are those of `asm`: its names are two different texts
+unfoldable pub is_asm : Parts → Bool
+is_asm p = fits asm_form p && not (bytes_eq (positional 0 p) (positional 1 p))
+
+abbrev pub run_of : Parts → Option CommandValue
+run_of p = if is_run p then Some (run (run_value p)) else None
+
+abbrev pub asm_of : Parts → Option CommandValue
+asm_of p = if is_asm p then Some (asm (asm_value p)) else None
+
+-- the command that the words behind the program's own name ask for: the first of them says which it is
+abbrev pub command_of : List Text → Option CommandValue
+command_of [] = None
+command_of (word ∷ rest) =
+    if bytes_eq word run_form.name then run_of (parts rest) else (if bytes_eq word asm_form.name then asm_of (parts rest) else None)
+
+-- a command of the code, as the value that definitions speak of
+abbrev pub run_shown : RunCommand → RunValue
+run_shown c = record {
+  program = c.program.now;
+  recording = c.recording.now;
+  report = c.report.now;
+  form = c.form;
+  frame = c.frame;
+  window = c.window;
+  hold = c.hold;
+  ring = c.ring;
+  every = c.every;
+  frames = c.frames;
+  budget = c.budget;
+}
+
+abbrev pub asm_shown : AsmCommand → AsmValue
+asm_shown c = record { source = c.source.now; out = c.out.now }
+
+abbrev pub shown : Command → CommandValue
+shown (Run c) = run (run_shown c)
+shown (Asm c) = asm (asm_shown c)

@@ -1,0 +1,7 @@
+pub mod Texts
+pub mod Parts
+pub mod Table
+pub mod Options
+pub mod Commands
+pub mod Meant
+pub mod Reading

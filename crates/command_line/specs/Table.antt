@@ -1,0 +1,103 @@
+-- The table of the commands and their options, as plain texts and numbers.
+use Rattle.std.specs.Prelude.{List, map, option_map}
+use Rattle.std.specs.Borrow.{Bor}
+use Rattle.command_line.specs.Texts.{Text}
+use Rattle.command_line.specs.declared.options.CommandOf.{CommandOf}
+use Rattle.command_line.specs.declared.options.RowOf.{RowOf}
+use Rattle.command_line.specs.declared.options.TakesOf.{TakesOf}
+use Rattle.command_line.specs.declared.options.TakesOf.TheVariants.{Name, OneOf, Number}
+use Rattle.command_line.specs.declared.options.TheConstants as table
+
+-- what an option takes, a row of the table, and a command with its rows
+abbrev pub Takes : Type 0
+Takes = TakesOf (List Text)
+
+abbrev pub Row : Type 0
+Row = RowOf Text (List Text)
+
+abbrev pub CommandForm : Type 0
+CommandForm = CommandOf Text (List Text) (List Row)
+
+-- ---- the same with the code's references read
+
+abbrev pub takes_by : {B : Type 0} → (B → List Text) → TakesOf B → Takes
+takes_by texts Name = Name
+takes_by texts (OneOf x) = OneOf (texts x)
+takes_by texts (Number least most) = Number least most
+
+abbrev pub row_by : {A B : Type 0} → (A → Text) → (B → List Text) → RowOf A B → Row
+row_by text texts row = record { name = text row.name; takes = takes_by texts row.takes; default = option_map text row.default }
+
+abbrev pub Texts : Type 0
+Texts = Bor (List (Bor Text))
+
+abbrev pub texts_read : Texts → List Text
+texts_read texts = map (λ text. text.now) texts.now
+
+abbrev pub takes_read : TakesOf Texts → Takes
+takes_read takes = takes_by texts_read takes
+
+abbrev pub row_read : RowOf (Bor Text) Texts → Row
+row_read row = row_by (λ text. text.now) texts_read row
+
+abbrev pub rows_read : List (RowOf (Bor Text) Texts) → List Row
+rows_read rows = map row_read rows
+
+abbrev pub form_read : CommandOf (Bor Text) Texts (Bor (List (RowOf (Bor Text) Texts))) → CommandForm
+form_read command = record { name = command.name.now; positionals = texts_read command.positionals; options = rows_read command.options.now }
+
+-- ---- the table's own rows
+
+abbrev pub StaticText : Type 0
+StaticText = record { now : Text }
+
+abbrev pub StaticTexts : Type 0
+StaticTexts = record { now : List StaticText }
+
+abbrev pub StaticRow : Type 0
+StaticRow = RowOf StaticText StaticTexts
+
+abbrev pub static_texts : StaticTexts → List Text
+static_texts texts = map (λ text. text.now) texts.now
+
+abbrev pub static_row : StaticRow → Row
+static_row row = row_by (λ text. text.now) static_texts row
+
+abbrev pub static_form : CommandOf StaticText StaticTexts (record { now : List StaticRow }) → CommandForm
+static_form command = record { name = command.name.now; positionals = static_texts command.positionals; options = map static_row command.options.now }
+
+unfoldable pub run_form : CommandForm
+run_form = static_form table.RUN
+
+unfoldable pub asm_form : CommandForm
+asm_form = static_form table.ASM
+
+unfoldable pub record_row : Row
+record_row = static_row table.RECORD
+
+unfoldable pub report_row : Row
+report_row = static_row table.REPORT
+
+unfoldable pub form_row : Row
+form_row = static_row table.FORM
+
+unfoldable pub frame_row : Row
+frame_row = static_row table.FRAME
+
+unfoldable pub window_row : Row
+window_row = static_row table.WINDOW
+
+unfoldable pub hold_row : Row
+hold_row = static_row table.HOLD
+
+unfoldable pub ring_row : Row
+ring_row = static_row table.RING
+
+unfoldable pub every_row : Row
+every_row = static_row table.EVERY
+
+unfoldable pub frames_row : Row
+frames_row = static_row table.FRAMES
+
+unfoldable pub budget_row : Row
+budget_row = static_row table.BUDGET

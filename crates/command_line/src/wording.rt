@@ -1,0 +1,336 @@
+// What is wrong with words that are refused, for a person.
+use crate::accepted::{name_at, recording, report};
+use crate::options::{
+    ASM, COMMANDS, CommandRow, OUT, OptionRow, PROGRAM, RUN, SOURCE, Takes, TakesOf, is_named,
+    takes_value,
+};
+use crate::parts::{Part, given, is_there, next_part, positional};
+use crate::texts::is_name;
+use std::alloc::{AllocError, Global};
+
+// The command of this name.
+fn command_named(name: &str) -> Option<CommandRow> {
+    for command in COMMANDS {
+        if command.name == name {
+            return Some(command);
+        }
+    }
+    None
+}
+
+// The row of the option that this word names.
+fn row_named(rows: &[OptionRow], word: &str) -> Option<OptionRow> {
+    for row in rows {
+        if is_named(word, row) {
+            return Some(*row);
+        }
+    }
+    None
+}
+
+// Texts as a choice: `text or json`.
+fn choice(alloc: Global, texts: &[&str]) -> Result<String, AllocError> {
+    let mut line = String::new(alloc);
+    for text in texts {
+        if !line.is_empty() {
+            line.push_str(" or ")?;
+        }
+        line.push_str(text)?;
+    }
+    Ok(line)
+}
+
+/// What an option takes, in words: `a name`, `text or json`, `1 to 16`.
+pub fn range_of(alloc: Global, takes: &Takes) -> Result<String, AllocError> {
+    match takes {
+        TakesOf::Name => format!(in alloc; "a name"),
+        TakesOf::OneOf(texts) => choice(alloc, texts),
+        TakesOf::Number(least, most) => format!(in alloc; "{least} to {most}"),
+    }
+}
+
+// What is wrong with an option and its value. `behind` is what follows them.
+fn wrong_option(
+    alloc: Global,
+    command: &CommandRow,
+    place: usize,
+    word: &str,
+    value: &str,
+    before: &[String],
+) -> Result<Option<String>, AllocError> {
+    let Some(row) = row_named(command.options, word) else {
+        let line = format!(in alloc; "word {place}: {word} is no option of {}", command.name)?;
+        return Ok(Some(line));
+    };
+    if is_there(before, word) {
+        let line = format!(in alloc; "word {place}: {word} is given once, not again")?;
+        return Ok(Some(line));
+    }
+    if is_name(value) && takes_value(&row.takes, value) {
+        return Ok(None);
+    }
+    let range = range_of(alloc, &row.takes)?;
+    let at = place.saturating_add(1);
+    if value.is_empty() {
+        let line = format!(in alloc; "word {at}: {word} is {range}, not nothing")?;
+        return Ok(Some(line));
+    }
+    let line = format!(in alloc; "word {at}: {word} is {range}, not {value}")?;
+    Ok(Some(line))
+}
+
+// What is wrong with a positional behind so many others.
+fn wrong_name(
+    alloc: Global,
+    command: &CommandRow,
+    place: usize,
+    word: &str,
+    seen: usize,
+) -> Result<Option<String>, AllocError> {
+    if seen >= command.positionals.len() {
+        let line = format!(in alloc;
+            "word {place}: {word} is one name too many for {}",
+            command.name
+        )?;
+        return Ok(Some(line));
+    }
+    if is_name(word) {
+        return Ok(None);
+    }
+    let line = format!(in alloc;
+        "word {place}: {} is a name, not nothing",
+        command.positionals[seen]
+    )?;
+    Ok(Some(line))
+}
+
+// What is wrong with the first part that is wrong. The words stand behind the command.
+fn wrong_part(
+    alloc: Global,
+    command: &CommandRow,
+    words: &[String],
+) -> Result<Option<String>, AllocError> {
+    let mut rest = words;
+    let mut seen: usize = 0;
+    'parts: while let Some(next) = next_part(rest) {
+        let gone = words.len().saturating_sub(rest.len());
+        let place = gone.saturating_add(2);
+        rest = next.behind;
+        let wrong = match next.part {
+            Part::Option(word, value) => {
+                wrong_option(
+                    alloc,
+                    command,
+                    place,
+                    word,
+                    value,
+                    words_before(words, gone),
+                )?
+            }
+            Part::Positional(word) => {
+                let wrong = wrong_name(alloc, command, place, word, seen)?;
+                seen = seen.saturating_add(1);
+                wrong
+            }
+        };
+        if wrong.is_some() {
+            return Ok(wrong);
+        }
+    }
+    Ok(None)
+}
+
+// The first so many words.
+fn words_before(words: &[String], count: usize) -> &[String] {
+    if count <= words.len() {
+        return &words[..count];
+    }
+    words
+}
+
+// What is missing behind the words.
+fn missing(
+    alloc: Global,
+    command: &CommandRow,
+    words: &[String],
+) -> Result<Option<String>, AllocError> {
+    let place = words.len().saturating_add(2);
+    for (i, name) in command.positionals.iter().enumerate() {
+        if positional(words, i).is_none() {
+            let line = format!(in alloc; "word {place}: {name} is missing")?;
+            return Ok(Some(line));
+        }
+    }
+    missing_option(alloc, command, place, words)
+}
+
+// Which option is missing that has no default.
+fn missing_option(
+    alloc: Global,
+    command: &CommandRow,
+    place: usize,
+    words: &[String],
+) -> Result<Option<String>, AllocError> {
+    for row in command.options {
+        if row.default.is_none() && given(words, row).is_none() {
+            let range = range_of(alloc, &row.takes)?;
+            let line = format!(in alloc; "word {place}: --{} is missing, {range}", row.name)?;
+            return Ok(Some(line));
+        }
+    }
+    Ok(None)
+}
+
+// The place of the last word that is this text, counted from 1 behind the program's name.
+fn last_place(words: &[String], text: &str) -> usize {
+    let mut place = 1;
+    for (i, word) in words.iter().enumerate() {
+        if word.as_str() == text {
+            place = i.saturating_add(2);
+        }
+    }
+    place
+}
+
+// What is wrong where two names that have to differ are alike.
+fn alike(
+    alloc: Global,
+    words: &[String],
+    first: &str,
+    one: &str,
+    second: &str,
+    other: &str,
+) -> Result<Option<String>, AllocError> {
+    if one != other {
+        return Ok(None);
+    }
+    let place = last_place(words, one);
+    let line = format!(in alloc;
+        "word {place}: {first} and {second} are two names, not {one} twice"
+    )?;
+    Ok(Some(line))
+}
+
+// Which names of `run` are alike.
+fn alike_of_run(alloc: Global, words: &[String]) -> Result<Option<String>, AllocError> {
+    let program = name_at(words, 0);
+    let to_record = recording(words);
+    let to_report = report(words);
+    let wrong = alike(alloc, words, PROGRAM, program, "--record", to_record)?;
+    if wrong.is_some() {
+        return Ok(wrong);
+    }
+    let wrong = alike(alloc, words, PROGRAM, program, "--report", to_report)?;
+    if wrong.is_some() {
+        return Ok(wrong);
+    }
+    alike(alloc, words, "--record", to_record, "--report", to_report)
+}
+
+// Which names of `asm` are alike.
+fn alike_of_asm(alloc: Global, words: &[String]) -> Result<Option<String>, AllocError> {
+    let source = name_at(words, 0);
+    let out = name_at(words, 1);
+    alike(alloc, words, SOURCE, source, OUT, out)
+}
+
+// What is wrong with the words behind a command. Empty where nothing is.
+fn complaint_of(
+    alloc: Global,
+    command: &CommandRow,
+    words: &[String],
+) -> Result<String, AllocError> {
+    if let Some(line) = wrong_part(alloc, command, words)? {
+        return Ok(line);
+    }
+    if let Some(line) = missing(alloc, command, words)? {
+        return Ok(line);
+    }
+    let wrong = if command.name == RUN.name {
+        alike_of_run(alloc, words)?
+    } else if command.name == ASM.name {
+        alike_of_asm(alloc, words)?
+    } else {
+        None
+    };
+    match wrong {
+        Some(line) => Ok(line),
+        None => Ok(String::new(alloc)),
+    }
+}
+
+// The names of the commands, as a choice.
+fn command_names(alloc: Global) -> Result<String, AllocError> {
+    let mut line = String::new(alloc);
+    for command in COMMANDS {
+        if !line.is_empty() {
+            line.push_str(" or ")?;
+        }
+        line.push_str(command.name)?;
+    }
+    Ok(line)
+}
+
+/// What is wrong with the words behind the program's own name: the first word that is wrong, its place, counted from 1, and what
+/// would be right, as `word 5: --ring is 1 to 16, not 08`. Empty where they are those of a command.
+pub fn complaint(alloc: Global, words: &[String]) -> Result<String, AllocError> {
+    let [word, rest @ ..] = words else {
+        let names = command_names(alloc)?;
+        return format!(in alloc; "word 1: the command is missing, {names}");
+    };
+    match command_named(word.as_str()) {
+        Some(command) => complaint_of(alloc, &command, rest),
+        None => {
+            let names = command_names(alloc)?;
+            format!(in alloc; "word 1: the command is {names}, not {word}")
+        }
+    }
+}
+
+// The line of an option: what it takes, and its default.
+fn option_line(alloc: Global, row: &OptionRow) -> Result<String, AllocError> {
+    let range = range_of(alloc, &row.takes)?;
+    match row.default {
+        Some(text) => format!(in alloc; "  --{} {range} ({text})\n", row.name),
+        None => format!(in alloc; "  --{} {range}, always\n", row.name),
+    }
+}
+
+// The lines of a command: its names, and then its options.
+fn usage_of(alloc: Global, command: &CommandRow) -> Result<String, AllocError> {
+    let mut lines = format!(in alloc; "{}", command.name)?;
+    for name in command.positionals {
+        lines.push_str(" ")?;
+        lines.push_str(name)?;
+    }
+    if command.options.is_empty() {
+        lines.push_str("\n")?;
+        return Ok(lines);
+    }
+    lines.push_str(" and in any place, each once:\n")?;
+    add_options(alloc, lines, command.options)
+}
+
+// The lines with those of the options behind them.
+fn add_options(alloc: Global, lines: String, rows: &[OptionRow]) -> Result<String, AllocError> {
+    let mut lines = lines;
+    for row in rows {
+        let line = option_line(alloc, row)?;
+        lines.push_str(line.as_str())?;
+    }
+    Ok(lines)
+}
+
+/// How a command is written, in lines that each end with a line feed, twelve at most. Of all commands where the name is that of
+/// none.
+pub fn usage(alloc: Global, name: &str) -> Result<String, AllocError> {
+    if let Some(command) = command_named(name) {
+        return usage_of(alloc, &command);
+    }
+    let mut lines = String::new(alloc);
+    for command in COMMANDS {
+        let more = usage_of(alloc, &command)?;
+        lines.push_str(more.as_str())?;
+    }
+    Ok(lines)
+}
