@@ -83,3 +83,32 @@ fn a_trial_contradicts(rt: HostRuntime) -> Result<(), Fail> {
     assert!(rt; replies.rest_of(0) == None);
     Ok(())
 }
+
+#[tactic(auto, unfolding(reply_ledger::specs::Ledger::connection_of, reply_ledger::specs::Ledger::changed, reply_ledger::specs::Ledger::times_of, reply_ledger::specs::Ledger::stamps_of, reply_ledger::specs::Ledger::stamped_to, reply_ledger::specs::Ledger::bytes_of, reply_ledger::specs::Ledger::stamped))]
+#[test]
+fn a_later_send_is_held(rt: HostRuntime) -> Result<(), Fail> {
+    let mut replies = Replies::make(rt.alloc())?;
+    replies.opens(0)?;
+    replies.sent(0, text(rt.alloc(), b"a")?, 1)?;
+    replies.sent(0, text(rt.alloc(), b"b")?, 2)?;
+    replies.passed(0, 1, 3)?;
+    assert!(rt; replies.next_piece(1) == None);
+    assert!(rt; replies.next_piece(2) == Some((0, b"b".as_slice())));
+    Ok(())
+}
+
+#[tactic(auto, unfolding(reply_ledger::specs::Ledger::connection_of, reply_ledger::specs::Ledger::changed, reply_ledger::specs::Ledger::times_of, reply_ledger::specs::Ledger::stamps_of, reply_ledger::specs::Ledger::stamped_to, reply_ledger::specs::Ledger::bytes_of, reply_ledger::specs::Ledger::stamped))]
+#[test]
+fn a_trial_contradicts_one_of_two(rt: HostRuntime) -> Result<(), Fail> {
+    let mut replies = Replies::make(rt.alloc())?;
+    replies.opens(0)?;
+    replies.opens(1)?;
+    replies.sent(0, text(rt.alloc(), b"a")?, 2)?;
+    replies.passed(0, 1, 3)?;
+    replies.begin_trial(0);
+    let held = replies.trial_sent(1, text(rt.alloc(), b"b")?, 2)?;
+    assert!(rt; held);
+    let same = replies.trial_sent(0, text(rt.alloc(), b"b")?, 2)?;
+    assert!(rt; !same);
+    Ok(())
+}
