@@ -75,7 +75,7 @@ static RANGES: [(u32, u32, bool, bool); 8] = [
 #[test]
 fn memory_is_as_the_file_says(rt: HostRuntime) -> Result<(), Fail> {
     let image = read_image(rt.alloc(), &FILE, 4 << 20)?;
-    let mut space = GuestSpace::make(rt.alloc(), &image)?;
+    let mut space = GuestSpace::make(rt.alloc(), &image, 1, 2 * (image.window / 4096))?;
     for (at, want) in FETCHES {
         assert_eq!(rt; space.fetch(at).ok(), want, "{at:x}");
     }
@@ -102,5 +102,33 @@ fn memory_is_as_the_file_says(rt: HostRuntime) -> Result<(), Fail> {
     assert_eq!(rt; space.load(0x10006, 4), Ok(0x7766_0000));
     assert_eq!(rt; space.load(0x1000c, 4), Ok(0x6605_0403));
     assert_eq!(rt; space.load(0x3f_effc, 4), Ok(0x9988_7766));
+    Ok(())
+}
+
+// The same file with its data at 0x10ffe, two bytes of it on each of two pages, in a window of 256 pages. A store across
+// them copies both.
+#[test]
+fn what_was_saved_comes_back(rt: HostRuntime) -> Result<(), Fail> {
+    let mut file = FILE;
+    file[92] = 0xfe;
+    file[93] = 0x0f;
+    let image = read_image(rt.alloc(), &file, 1 << 20)?;
+    let mut space = GuestSpace::make(rt.alloc(), &image, 1, 2 * (image.window / 4096))?;
+    space.save(0);
+    assert_eq!(rt; (space.used(), space.held()), (256, 256));
+    assert!(rt; space.store(0x10ffe, 4, 0x4433_2211).is_ok());
+    assert_eq!(rt;
+        (space.used(), space.load(0x10ffe, 4)),
+        (258, Ok(0x4433_2211))
+    );
+    assert!(rt; space.is_saved(0));
+    space.restore(0);
+    assert_eq!(rt;
+        (space.used(), space.load(0x10ffe, 4)),
+        (256, Ok(0xd4c3_b2a1))
+    );
+    assert!(rt; space.is_saved(0));
+    space.release(0);
+    assert_eq!(rt; (space.used(), space.held()), (256, 0));
     Ok(())
 }

@@ -1,8 +1,9 @@
 // What single instructions do: the words are by the formats of the manual, the values are worked out from its text.
-ghost use Rattle.std.specs.Prelude.{◌≡◌, ◌<◌};
+ghost use Rattle.std.specs.Prelude.{◌≡◌, ◌+◌, ◌<◌, ◌||◌, nat_lt, nat_le};
 
+use block_book::Book;
 use elf_image::read_image;
-use guest_space::GuestSpace;
+use guest_space::{AccessRule, AllMapped, GuestSpace};
 use run_history::{Cause, Regs};
 use rv_exec::step;
 use rv_isa::{Instr, decode};
@@ -230,9 +231,12 @@ static STORES: [(u32, u32, u32, u32, u32); 9] = [
     (0x0062_a123, 0x0001_0000, 0x1234_5678, 0x5678_7f80, 0xf856_1234), // sw x6, 2(x5)
 ];
 
-// What fails at pc 0x10000, where x6 is 0 and the last byte is at 0x10007: the word, x5, and the cause.
+// The word of an instruction at pc 0x10000, x5, and the cause by which it fails, where x6 is 0.
+type Failure = (u32, u32, Cause);
+
+// What fails where the last byte is at 0x10007.
 #[rattlefmt::skip]
-static FAILURES: [(u32, u32, Cause); 21] = [
+static FAILURES: [Failure; 21] = [
     (0x0020_03ef, 0, Cause::BadJump), // jal x7, 2
     (0xffbf_f3ef, 0, Cause::BadJump), // jal x7, -6
     (0x0022_83e7, 0x0002_0000, Cause::BadJump), // jalr x7, 2(x5)
@@ -256,6 +260,43 @@ static FAILURES: [(u32, u32, Cause); 21] = [
     (0x0010_0073, 0xffff_ffff, Cause::AssertFailed(0)), // ebreak
 ];
 
+// A rule that refuses what touches one address.
+#[derive(Drop)]
+struct Guarded {
+    address: u32,
+}
+
+impl AccessRule for Guarded {
+    ghost rule = { λ guarded heap first count. nat_lt guarded.address first || nat_le (first + count) guarded.address };
+
+    fn permits(&self, _book: &Book, at: u32, len: u32) -> bool
+        ensures { result ≡ (nat_lt self.now.address at || nat_le (at + len) self.now.address) }
+    {
+        self.address < at || u64::from(at) + u64::from(len) <= u64::from(self.address)
+    }
+}
+
+// What touches 0x10002.
+#[rattlefmt::skip]
+static REFUSED: [Failure; 7] = [
+    (0x0002_8383, 0x0001_0002, Cause::BadAccess), // lb x7, 0(x5)
+    (0x0002_9383, 0x0001_0001, Cause::BadAccess), // lh x7, 0(x5)
+    (0x0002_a383, 0x0001_0000, Cause::BadAccess), // lw x7, 0(x5)
+    (0x0002_d383, 0x0001_0002, Cause::BadAccess), // lhu x7, 0(x5)
+    (0x0062_8023, 0x0001_0002, Cause::BadAccess), // sb x6, 0(x5)
+    (0x0062_9023, 0x0001_0001, Cause::BadAccess), // sh x6, 0(x5)
+    (0x0062_a023, 0x0001_0002, Cause::BadAccess), // sw x6, 0(x5)
+];
+
+// What touches the bytes beside it, or none.
+#[rattlefmt::skip]
+static PERMITTED: [Row; 4] = [
+    (0x0002_8383, 0x0001_0001, 0, NEXT, 127), // lb x7, 0(x5)
+    (0x0002_9383, 0x0001_0003, 0, NEXT, 0x0000_3401), // lh x7, 0(x5)
+    (0x0002_d383, 0x0001_0000, 0, NEXT, 0x0000_7f80), // lhu x7, 0(x5)
+    (0x0062_83b3, 0x0001_0002, 1, NEXT, 0x0001_0003), // add x7, x5, x6
+];
+
 // What an instruction gave, and what it left in the registers and in the words at 0x10000.
 type After = (Result<(), Cause>, Regs, (Option<u32>, Option<u32>));
 
@@ -269,8 +310,10 @@ fn registers(pc: u32, first: u32, second: u32, third: u32) -> Regs {
 }
 
 // What the instruction of a word that is no call does at 0x10000, with these values in x5 and x6, and the mark in x7.
-fn try_word<L: Ledger>(
+fn try_word<R: AccessRule, L: Ledger>(
     space: &mut GuestSpace,
+    book: &Book,
+    rule: &R,
     steps: &mut Steps<L>,
     word: u32,
     first: u32,
@@ -281,42 +324,57 @@ fn try_word<L: Ledger>(
     let _ = space.store(0x10004, 4, HIGH);
     let result = match decode(word) {
         Some(Instr::Ecall) | None => Err(Cause::BadInstruction),
-        Some(instr) => step(&mut regs, space, &instr, steps),
+        Some(instr) => step(&mut regs, space, book, rule, &instr, steps),
     };
     let words = (space.load(0x10000, 4).ok(), space.load(0x10004, 4).ok());
     (result, regs, words)
 }
 
 // Instructions that go on and write no memory.
-fn try_rows<L: Ledger>(
+fn try_rows<R: AccessRule, L: Ledger>(
     rt: &impl Abort,
     space: &mut GuestSpace,
+    book: &Book,
+    rule: &R,
     steps: &mut Steps<L>,
     rows: &[Row],
 ) {
     for (word, first, second, pc, third) in rows {
-        let after = try_word(space, steps, *word, *first, *second);
+        let after = try_word(space, book, rule, steps, *word, *first, *second);
         let regs = registers(*pc, *first, *second, *third);
         let words = (Some(LOW), Some(HIGH));
         assert_eq!(rt; after, (Ok(()), regs, words), "{word:08x}");
     }
 }
 
-fn try_stores<L: Ledger>(rt: &impl Abort, space: &mut GuestSpace, steps: &mut Steps<L>) {
+fn try_stores<L: Ledger>(
+    rt: &impl Abort,
+    space: &mut GuestSpace,
+    book: &Book,
+    steps: &mut Steps<L>,
+) {
     for (word, first, second, low, high) in STORES {
-        let after = try_word(space, steps, word, first, second);
+        let after = try_word(space, book, &AllMapped, steps, word, first, second);
         let regs = registers(NEXT, first, second, MARK);
         let words = (Some(low), Some(high));
         assert_eq!(rt; after, (Ok(()), regs, words), "{word:08x}");
     }
 }
 
-fn try_failures<L: Ledger>(rt: &impl Abort, space: &mut GuestSpace, steps: &mut Steps<L>) {
-    for (word, first, cause) in FAILURES {
-        let after = try_word(space, steps, word, first, 0);
-        let regs = registers(0x10000, first, 0, MARK);
+// Instructions that fail and leave all as it was.
+fn try_failures<R: AccessRule, L: Ledger>(
+    rt: &impl Abort,
+    space: &mut GuestSpace,
+    book: &Book,
+    rule: &R,
+    steps: &mut Steps<L>,
+    rows: &[Failure],
+) {
+    for (word, first, cause) in rows {
+        let after = try_word(space, book, rule, steps, *word, *first, 0);
+        let regs = registers(0x10000, *first, 0, MARK);
         let words = (Some(LOW), Some(HIGH));
-        assert_eq!(rt; after, (Err(cause), regs, words), "{word:08x}");
+        assert_eq!(rt; after, (Err(*cause), regs, words), "{word:08x}");
     }
 }
 
@@ -327,14 +385,22 @@ fn try_all<L: Ledger>(rt: &impl Abort, alloc: Global, blank: Blank) -> Result<()
 {
     let mut steps = Steps::<L>::start(blank);
     let image = read_image(alloc, &FILE, 4 << 20)?;
-    let mut space = GuestSpace::make(alloc, &image)?;
-    try_rows(rt, &mut space, &mut steps, &OPERATIONS);
-    try_rows(rt, &mut space, &mut steps, &IMMEDIATES);
-    try_rows(rt, &mut space, &mut steps, &JUMPS);
-    try_rows(rt, &mut space, &mut steps, &BRANCHES);
-    try_rows(rt, &mut space, &mut steps, &LOADS);
-    try_stores(rt, &mut space, &mut steps);
-    try_failures(rt, &mut space, &mut steps);
+    let mut space = GuestSpace::make(alloc, &image, 1, 2 * (image.window / 4096))?;
+    let book = Book::make(alloc, 16, 16)?;
+    for rows in [
+        OPERATIONS.as_slice(),
+        IMMEDIATES.as_slice(),
+        JUMPS.as_slice(),
+        BRANCHES.as_slice(),
+        LOADS.as_slice(),
+    ] {
+        try_rows(rt, &mut space, &book, &AllMapped, &mut steps, rows);
+    }
+    try_stores(rt, &mut space, &book, &mut steps);
+    try_failures(rt, &mut space, &book, &AllMapped, &mut steps, &FAILURES);
+    let rule = Guarded { address: 0x10002 };
+    try_rows(rt, &mut space, &book, &rule, &mut steps, &PERMITTED);
+    try_failures(rt, &mut space, &book, &rule, &mut steps, &REFUSED);
     Ok(())
 }
 

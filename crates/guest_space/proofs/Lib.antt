@@ -1,2 +1,4 @@
-pub mod MemoryLemmas
-pub mod RangeLemmas
+pub mod FlatLemmas
+pub mod SpaceLemmas
+pub mod FillLemmas
+pub mod StartLemmas

@@ -1,2 +1,4 @@
+pub mod Space
 pub mod Access
 pub mod Ranges
+pub mod Filling

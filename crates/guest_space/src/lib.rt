@@ -1,9 +1,12 @@
-//! The memory of a guest: a flat memory of areas with permissions.
+//! The memory of a guest: a flat memory of spans with permissions, on shared pages.
 #![tactic(auto)]
 
-mod area;
+mod access_rule;
 mod bad_access;
+mod filling;
 mod space;
+mod span;
 
+pub use access_rule::{AccessRule, AllMapped};
 pub use bad_access::BadAccess;
 pub use space::GuestSpace;

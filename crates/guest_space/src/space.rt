@@ -1,213 +1,79 @@
-// The memory of a guest: areas of bytes, each with its permissions.
-ghost use Rattle.std.specs.Prelude.{◌≡◌, ◌+◌, ◌*◌, ◌^◌, ◌<◌, ◌≤◌, length, true, IfOk, IfSome, MatchBool, if◌then◌else◌};
+// The memory of a guest: spans of a window of pages.
+ghost use Rattle.std.specs.Prelude.{◌≡◌, ◌+◌, ◌-◌, ◌*◌, ◌/◌, ◌%◌, ◌^◌, ◌<◌, ◌≤◌, length, take, drop, replicate, true, None, is_some, IsSome, IfOk, IfSome, MatchBool, slice_set, if◌then◌else◌};
+ghost use Rattle.std.specs.Bool.{OnFalse};
 ghost use Rattle.rv_isa.specs.Words.{little_bytes, little_number};
-ghost use Rattle.elf_image.specs.Memory.{byte_at, permitted, bytes_at, put_byte, put_bytes};
-ghost use Rattle.elf_image.specs.Image.{memory_of};
-ghost use Rattle.guest_space.specs.Access.{Reads, Writes};
-ghost use Rattle.guest_space.specs.Ranges.{Spans};
+ghost use Rattle.elf_image.specs.Memory.{permitted, bytes_at};
+ghost use Rattle.cow_pages.specs.Pages.{slot_at, used_of, held_of};
+ghost use Rattle.guest_space.specs.Space.{flat, IsLawfulSpace};
+ghost use Rattle.guest_space.specs.Access.{IsStart, Reads, Puts, Stores, Saves, Releases, Restores};
+ghost use Rattle.guest_space.specs.Ranges.{AreHeld};
 
 use crate::BadAccess;
-use crate::area::{Area, EXECUTE, READ, WRITE, blank_area, segment_area};
+use crate::filling::{fill, spans_of};
+use crate::span::{EXECUTE, READ, Span, WRITE, are_held, each_has, one_has};
+use cow_pages::PageStore;
 use elf_image::Image;
 use std::alloc::{AllocError, Global};
 use std::marker::Model;
 
-// How many bytes the stack has.
-const STACK: u32 = 65536;
+// How many bytes a page has.
+const PAGE: u32 = 4096;
 
 // How many addresses there are.
 const ADDRESSES: u64 = 0x1_0000_0000;
 
-/// The memory of a guest.
+/// The memory of a guest: a window of pages of 4096 bytes from a base on, of which its spans may be touched.
 #[derive(Debug, Drop)]
 pub struct GuestSpace {
-    areas: Vec<Area>,
+    base: u32,
+    spans: Vec<Span>,
+    store: PageStore,
 }
 
 impl Model for GuestSpace {
-    ghost use Rattle.std.specs.Prelude.{List};
-    ghost use Rattle.elf_image.specs.Memory as memory;
+    ghost use Rattle.guest_space.specs.Space.{GuestPages, guest_pages, IsLawfulSpace};
 
-    ghost Value = { List memory.Area };
+    ghost Value = { GuestPages };
 
-    ghost view = { λ s. s.areas.items };
+    ghost view = { λ s. guest_pages s.base s.spans.items s.store };
+
+    ghost invariant = { λ s. IsLawfulSpace (guest_pages s.base s.spans.items s.store) };
 }
 
 impl GuestSpace {
-    /// The memory at a program's start: its segments, its heap and its stack.
-    pub fn make(alloc: Global, image: &Image) -> Result<GuestSpace, AllocError>
-        ensures { IfOk result (λ space. space ≡ memory_of image.now) }
+    /// The memory at a program's start: its segments, its heap and its stack, with nothing saved. The window has a page for
+    /// each 4096 of its bytes: so many slots, 1 to 16, and 2 to 16 frames for each page.
+    pub fn make(
+        alloc: Global,
+        image: &Image,
+        slots: u32,
+        frames: u32,
+    ) -> Result<GuestSpace, AllocError>
+        requires numbered { (1 ≤ slots) × (slots ≤ 16) }
+        requires enough { (2 * (image.now.window / 4096) ≤ frames) × (frames ≤ 16 * (image.now.window / 4096)) }
+        ensures start { IfOk result (λ space. IsStart image.now (image.now.window / 4096) slots frames space) }
+        ensures lawful { IfOk result (λ space. IsLawfulSpace space) }
     {
-        let segments = image.segments.as_slice();
-        let top = image.stack_top();
-        let mut areas = Vec::with_capacity(alloc, segments.len() + 2)?;
-        for segment in segments {
-            areas.push(segment_area(alloc, segment)?)?;
-        }
-        areas.push(blank_area(alloc, image.heap_start(), image.heap_end())?)?;
-        areas.push(blank_area(alloc, top.saturating_sub(STACK), top)?)?;
-        Ok(GuestSpace { areas })
+        let base = image.base();
+        let pages = image.window / PAGE;
+        let spans = spans_of(alloc, image)?;
+        let mut store = PageStore::make(alloc, pages, slots, frames)?;
+        fill(&mut store, base, image.segments.as_slice());
+        Ok(GuestSpace { base, spans, store })
     }
 
-    /// The byte at an address, in the area that has it and permits this.
+    /// What holds of every guest's memory.
     #[inline(always)]
-    fn byte_at(&self, flag: u32, at: u32) -> Option<u8>
-        requires { 0 < flag }
-        ensures { result ≡ byte_at flag self.now at }
+    pub fn sound(&self)
+        ensures { IsLawfulSpace self.now }
     {
-        for area in &self.areas {
-            if let Some(byte) = area.byte(flag, at) {
-                return Some(byte);
-            }
-        }
-        None
-    }
-
-    /// Another byte at an address that may be written.
-    #[inline(always)]
-    fn put_byte(&mut self, at: u32, byte: u8)
-        ensures { self.new ≡ put_byte self.old at byte }
-    {
-        for i in 0..self.areas.len() {
-            if self.areas[i].covers(WRITE, at) {
-                self.areas[i].put(at, byte);
-                return;
-            }
-        }
-    }
-
-    /// The bytes of a range that lies whole in the first area that it reaches into.
-    #[inline(always)]
-    fn span(&self, flag: u32, at: u32, size: usize) -> Option<&[u8]>
-        requires kind { 0 < flag }
-        requires within { at + size ≤ 2 ^ 32 }
-        ensures { IfSome result (λ bytes. Spans flag self.now at size bytes.now) }
-    {
-        for area in &self.areas {
-            if area.meets(flag, at, size) {
-                return area.range(at, size);
-            }
-        }
-        None
-    }
-
-    /// Puts bytes where their range lies whole in the first area that it reaches into. Else nothing changed.
-    #[inline(always)]
-    fn put_span(&mut self, at: u32, bytes: &[u8]) -> bool
-        requires { at + length bytes.now ≤ 2 ^ 32 }
-        ensures { MatchBool result ((permitted WRITE self.old at (length bytes.now) ≡ true) × (self.new ≡ put_bytes self.old at bytes.now)) (self.new ≡ self.old) }
-    {
-        for i in 0..self.areas.len() {
-            if self.areas[i].meets(WRITE, at, bytes.len()) {
-                return self.areas[i].put_range(at, bytes);
-            }
-        }
-        false
-    }
-
-    /// Whether each byte of a range may be touched so.
-    #[cold]
-    #[inline(never)]
-    fn permits_each(&self, flag: u32, at: u32, size: usize) -> bool
-        requires kind { 0 < flag }
-        requires within { at + size ≤ 2 ^ 32 }
-        ensures { result ≡ permitted flag self.now at size }
-    {
-        for k in 0..size {
-            if self.byte_at(flag, (at as usize + k) as u32).is_none() {
-                return false;
-            }
-        }
-        true
-    }
-
-    /// The number of at most four bytes, the lowest first, byte by byte.
-    #[cold]
-    #[inline(never)]
-    fn number_of_each(&self, flag: u32, at: u32, size: u32) -> Result<u32, BadAccess>
-        requires kind { 0 < flag }
-        requires small { size ≤ 4 }
-        requires within { at + size ≤ 2 ^ 32 }
-        ensures value { Reads flag self.now at size result }
-        ensures few { IfOk result (λ value. value < 2 ^ (8 * size)) }
-    {
-        let mut value: u64 = 0;
-        let mut place: u64 = 1;
-        for k in 0..size {
-            let Some(byte) = self.byte_at(flag, at + k) else {
-                return Err(BadAccess);
-            };
-            value += u64::from(byte) * place;
-            place *= 256;
-        }
-        Ok(value as u32)
-    }
-
-    /// Puts bytes from an address on, byte by byte.
-    #[cold]
-    #[inline(never)]
-    fn put_each(&mut self, at: u32, bytes: &[u8])
-        requires { at + length bytes.now ≤ 2 ^ 32 }
-        ensures { self.new ≡ put_bytes self.old at bytes.now }
-    {
-        let mut next = u64::from(at);
-        for byte in bytes {
-            self.put_byte(next as u32, *byte);
-            next += 1;
-        }
-    }
-
-    /// Whether each of so many bytes may be touched so.
-    #[inline(always)]
-    fn permits(&self, flag: u32, at: u32, len: u32) -> bool
-        requires { 0 < flag }
-        ensures { result ≡ permitted flag self.now at len }
-    {
-        if u64::from(at) + u64::from(len) > ADDRESSES {
-            return false;
-        }
-        self.span(flag, at, len as usize).is_some() || self.permits_each(flag, at, len as usize)
-    }
-
-    /// The number of at most four bytes, the lowest first.
-    #[inline(always)]
-    fn number_at(&self, flag: u32, at: u32, size: u32) -> Result<u32, BadAccess>
-        requires kind { 0 < flag }
-        requires small { size ≤ 4 }
-        ensures value { Reads flag self.now at size result }
-        ensures few { IfOk result (λ value. value < 2 ^ (8 * size)) }
-    {
-        if u64::from(at) + u64::from(size) > ADDRESSES {
-            return Err(BadAccess);
-        }
-        match self.span(flag, at, size as usize) {
-            Some(bytes) => Ok(number_of(bytes)),
-            None => self.number_of_each(flag, at, size),
-        }
-    }
-
-    /// Writes bytes from an address on.
-    #[inline(always)]
-    fn store_bytes(&mut self, at: u32, bytes: &[u8]) -> Result<(), BadAccess>
-        ensures { Writes self.old at bytes.now result self.new }
-    {
-        if bytes.len() > (ADDRESSES - u64::from(at)) as usize {
-            return Err(BadAccess);
-        }
-        if self.put_span(at, bytes) {
-            return Ok(());
-        }
-        if !self.permits_each(WRITE, at, bytes.len()) {
-            return Err(BadAccess);
-        }
-        self.put_each(at, bytes);
-        Ok(())
+        let _base = self.base;
     }
 
     /// Whether so many bytes from an address on may be written, or read.
     #[inline(always)]
     pub fn allows(&self, at: u32, len: u32, write: bool) -> bool
-        ensures { result ≡ permitted (if write then 2 else 4) self.now at len }
+        ensures { result ≡ permitted (if write then 2 else 4) (flat self.now) at len }
     {
         self.permits(if write { WRITE } else { READ }, at, len)
     }
@@ -216,7 +82,7 @@ impl GuestSpace {
     #[inline(always)]
     pub fn load(&self, at: u32, size: u32) -> Result<u32, BadAccess>
         requires { size ≤ 4 }
-        ensures value { Reads 4 self.now at size result }
+        ensures value { Reads 4 (flat self.now) at size result }
         ensures few { IfOk result (λ value. value < 2 ^ (8 * size)) }
     {
         self.number_at(READ, at, size)
@@ -225,7 +91,7 @@ impl GuestSpace {
     /// The instruction word at an address.
     #[inline(always)]
     pub fn fetch(&self, at: u32) -> Result<u32, BadAccess>
-        ensures { Reads 1 self.now at 4 result }
+        ensures { Reads 1 (flat self.now) at 4 result }
     {
         self.number_at(EXECUTE, at, 4)
     }
@@ -234,7 +100,219 @@ impl GuestSpace {
     #[inline(always)]
     pub fn store(&mut self, at: u32, size: u32, value: u32) -> Result<(), BadAccess>
         requires { size ≤ 4 }
-        ensures { Writes self.old at (little_bytes size value) result self.new }
+        ensures stored { Stores self.old at (little_bytes size value) result self.new }
+    {
+        if !one_has(&self.spans, WRITE, at, size) {
+            return self.store_each(at, size, value);
+        }
+        if self.put_number(at, size, value) {
+            return Ok(());
+        }
+        self.store_each(at, size, value)
+    }
+
+    /// So many bytes from an address on. It requires that they may be read, which `allows` tests, and refuses nothing: the
+    /// only error is want of memory.
+    pub fn read_bytes(&self, alloc: Global, at: u32, len: u32) -> Result<Vec<u8>, AllocError>
+        requires { permitted 4 (flat self.now) at len ≡ true }
+        ensures { IfOk result (λ bytes. bytes.items ≡ bytes_at 4 (flat self.now) at len) }
+    {
+        let mut bytes = vec![in alloc; 0; len as usize]?;
+        let _base = self.base;
+        if len == 0 {
+            return Ok(bytes);
+        }
+        self.store.read_run(at - self.base, bytes.as_mut_slice());
+        Ok(bytes)
+    }
+
+    /// Puts bytes from an address on. It requires that all of them may be written, which `allows` tests, and refuses nothing.
+    pub fn write_bytes(&mut self, at: u32, bytes: &[u8])
+        requires { permitted 2 (flat self.old) at (length bytes.now) ≡ true }
+        ensures { Puts self.old at bytes.now self.new }
+    {
+        let _base = self.base;
+        if bytes.is_empty() {
+            return;
+        }
+        self.store.write_run(at - self.base, bytes);
+    }
+
+    /// Puts so many zeros from an address on. It requires that all of them may be written, which `allows` tests, and refuses
+    /// nothing.
+    pub fn zero(&mut self, at: u32, len: u32)
+        requires { permitted 2 (flat self.old) at len ≡ true }
+        ensures { Puts self.old at (replicate len 0) self.new }
+    {
+        let _base = self.base;
+        if len == 0 {
+            return;
+        }
+        self.store.zero_run(at - self.base, len);
+    }
+
+    /// Saves the memory in a slot.
+    pub fn save(&mut self, slot: u32)
+        requires there { slot < length self.old.store.slots }
+        requires empty { slot_at self.old.store slot ≡ None }
+        requires room { used_of self.old.store + self.old.store.pages ≤ self.old.store.frames }
+        ensures saved { Saves self.old slot self.new }
+    {
+        self.store.save(slot);
+    }
+
+    /// Gives up what is saved in a slot.
+    pub fn release(&mut self, slot: u32)
+        requires { IsSome (slot_at self.old.store slot) }
+        ensures released { Releases self.old slot self.new }
+    {
+        self.store.release(slot);
+    }
+
+    /// Makes the memory what is saved in a slot.
+    pub fn restore(&mut self, slot: u32)
+        requires { IsSome (slot_at self.old.store slot) }
+        ensures restored { Restores self.old slot self.new }
+    {
+        self.store.restore(slot);
+    }
+
+    /// How many frames the saved slots have, each counted once.
+    pub fn held(&self) -> u32
+        ensures held { result ≡ held_of self.now.store }
+        ensures lawful { IsLawfulSpace self.now }
+    {
+        self.store.held()
+    }
+
+    /// How many frames the memory and the saved slots have, each counted once.
+    pub fn used(&self) -> u32
+        ensures used { result ≡ used_of self.now.store }
+        ensures lawful { IsLawfulSpace self.now }
+    {
+        self.store.used()
+    }
+
+    /// Whether something is saved in a slot. Nothing is past the last one.
+    pub fn is_saved(&self, slot: u32) -> bool
+        ensures saved { result ≡ is_some (slot_at self.now.store slot) }
+        ensures empty { OnFalse result (slot_at self.now.store slot ≡ None) }
+        ensures lawful { IsLawfulSpace self.now }
+    {
+        self.store.is_saved(slot)
+    }
+
+    // Whether each of so many bytes may be touched so.
+    #[inline(always)]
+    fn permits(&self, flag: u32, at: u32, len: u32) -> bool
+        requires { 0 < flag }
+        ensures { result ≡ permitted flag (flat self.now) at len }
+    {
+        if u64::from(at) + u64::from(len) > ADDRESSES {
+            return false;
+        }
+        are_held(&self.spans, flag, at, len)
+    }
+
+    // The number of at most four bytes, the lowest first.
+    #[inline(always)]
+    fn number_at(&self, flag: u32, at: u32, size: u32) -> Result<u32, BadAccess>
+        requires kind { 0 < flag }
+        requires small { size ≤ 4 }
+        ensures value { Reads flag (flat self.now) at size result }
+        ensures few { IfOk result (λ value. value < 2 ^ (8 * size)) }
+    {
+        if size == 0 {
+            return self.number_of_each(flag, at, size);
+        }
+        if !one_has(&self.spans, flag, at, size) {
+            return self.number_of_each(flag, at, size);
+        }
+        match self.number_in_page(flag, at, size) {
+            Some(value) => Ok(value),
+            None => self.number_of_each(flag, at, size),
+        }
+    }
+
+    // The number of one, two or four bytes that lie in one page.
+    #[inline(always)]
+    fn number_in_page(&self, flag: u32, at: u32, size: u32) -> Option<u32>
+        requires some { 0 < size }
+        requires small { size ≤ 4 }
+        requires held { AreHeld flag self.now.spans at size }
+        ensures value { IfSome result (λ value. Reads flag (flat self.now) at size (Ok value)) }
+        ensures few { IfSome result (λ value. value < 2 ^ (8 * size)) }
+    {
+        let place = at - self.base;
+        if place % PAGE + size > PAGE {
+            return None;
+        }
+        match size {
+            1 => Some(u32::from(self.store.byte_at(place))),
+            2 => Some(u32::from(self.store.half_at(place))),
+            4 => Some(self.store.word_at(place)),
+            _ => None,
+        }
+    }
+
+    // The number of at most four bytes, wherever they lie.
+    #[cold]
+    #[inline(never)]
+    fn number_of_each(&self, flag: u32, at: u32, size: u32) -> Result<u32, BadAccess>
+        requires kind { 0 < flag }
+        requires small { size ≤ 4 }
+        ensures value { Reads flag (flat self.now) at size result }
+        ensures few { IfOk result (λ value. value < 2 ^ (8 * size)) }
+    {
+        if !self.permits(flag, at, size) {
+            return Err(BadAccess);
+        }
+        if size == 0 {
+            return Ok(0);
+        }
+        let mut bytes = [0; 4];
+        let part = &mut bytes[..size as usize];
+        self.store.read_run(at - self.base, part);
+        Ok(number_of(part))
+    }
+
+    // Puts one, two or four bytes of a number that lie in one page. Else nothing changed.
+    #[inline(always)]
+    fn put_number(&mut self, at: u32, size: u32, value: u32) -> bool
+        requires small { size ≤ 4 }
+        requires held { AreHeld 2 self.old.spans at size }
+        ensures { MatchBool result ((permitted 2 (flat self.old) at size ≡ true) × Puts self.old at (little_bytes size value) self.new) (self.new ≡ self.old) }
+    {
+        if size == 0 {
+            return false;
+        }
+        let place = at - self.base;
+        if place % PAGE + size > PAGE {
+            return false;
+        }
+        match size {
+            1 => {
+                self.store.put_byte(place, (value % 256) as u8);
+                true
+            }
+            2 => {
+                self.store.put_half(place, (value % 65536) as u16);
+                true
+            }
+            4 => {
+                self.store.put_word(place, value);
+                true
+            }
+            _ => false,
+        }
+    }
+
+    // Puts at most four bytes of a number, wherever they lie.
+    #[cold]
+    #[inline(never)]
+    fn store_each(&mut self, at: u32, size: u32, value: u32) -> Result<(), BadAccess>
+        requires { size ≤ 4 }
+        ensures { Stores self.old at (little_bytes size value) result self.new }
     {
         let first = (value % 256) as u8;
         let second = (value / 256 % 256) as u8;
@@ -249,35 +327,20 @@ impl GuestSpace {
         }
     }
 
-    /// So many bytes from an address on. It requires that they may be read, which `allows` tests, and refuses nothing: the
-    /// only error is want of memory.
-    pub fn read_bytes(&self, alloc: Global, at: u32, len: u32) -> Result<Vec<u8>, AllocError>
-        requires { permitted 4 self.now at len ≡ true }
-        ensures { IfOk result (λ bytes. bytes.items ≡ bytes_at 4 self.now at len) }
+    // Puts at most four bytes from an address on, where they may be written.
+    fn store_bytes(&mut self, at: u32, bytes: &[u8]) -> Result<(), BadAccess>
+        requires { length bytes.now ≤ 4 }
+        ensures { Stores self.old at bytes.now result self.new }
     {
-        let mut bytes = Vec::with_capacity(alloc, len as usize)?;
-        if let Some(span) = self.span(READ, at, len as usize) {
-            bytes.extend_from_slice(span)?;
-            return Ok(bytes);
+        if !self.permits(WRITE, at, bytes.len() as u32) {
+            return Err(BadAccess);
         }
-        for k in 0..len {
-            bytes.push(self.byte_at(READ, at + k).unwrap_or(0))?;
-        }
-        Ok(bytes)
-    }
-
-    /// Puts bytes from an address on. It requires that all of them may be written, which `allows` tests, and refuses nothing.
-    pub fn write_bytes(&mut self, at: u32, bytes: &[u8])
-        requires { permitted 2 self.old at (length bytes.now) ≡ true }
-        ensures { self.new ≡ put_bytes self.old at bytes.now }
-    {
-        if !self.put_span(at, bytes) {
-            self.put_each(at, bytes);
-        }
+        self.write_bytes(at, bytes);
+        Ok(())
     }
 }
 
-/// The number of at most four bytes, the lowest first.
+// The number of at most four bytes, the lowest first.
 #[inline(always)]
 fn number_of(bytes: &[u8]) -> u32
     requires { length bytes.now ≤ 4 }

@@ -1,5 +1,5 @@
 -- Instructions on registers and a memory.
-use Rattle.std.specs.Prelude.{◌≡◌, ℕ, ◌+◌, List, Option, Some, None, Result, Ok, Err, slice_index, if◌then◌else◌, ◌==◌}
+use Rattle.std.specs.Prelude.{◌≡◌, ℕ, ◌+◌, List, Option, Some, None, Result, Ok, Err, if◌then◌else◌}
 use Rattle.rv_isa.specs.declared.instr.Instr.{Instr}
 use Rattle.rv_isa.specs.Table.{row}
 use Rattle.rv_isa.specs.Words.{little_number}
@@ -9,10 +9,6 @@ use Rattle.run_history.specs.declared.regs.Regs.{Regs}
 use Rattle.elf_image.specs.Memory.{Area, execute, permitted, bytes_at}
 use Rattle.run_history.specs.Machine.{Machine, Effect, Goes, Fails, with_register}
 use Rattle.rv_exec.specs.Stepping.{with_parts}
-
--- what a register reads as
-abbrev pub value_of : Regs → ℕ → ℕ
-value_of regs n = if n == 0 then 0 else slice_index regs.x n
 
 -- the registers with another value in one
 abbrev pub with_value : ℕ → ℕ → Regs → Regs

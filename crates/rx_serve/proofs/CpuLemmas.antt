@@ -8,6 +8,7 @@ use Rattle.rv_isa.specs.declared.instr.Instr.{Instr}
 use Rattle.rv_isa.specs.declared.instr.Instr.TheVariants.{Ecall}
 use Rattle.rv_isa.specs.Table.{row}
 use Rattle.rv_isa.specs.Words.{little_number}
+use Rattle.block_book.specs.Heap.{Heap}
 use Rattle.rx_serve.specs.FirstPath.{unserved, call, effect, effect_within, quiet_run}
 use Rattle.run_history.specs.declared.answer.Cause.{Cause}
 use Rattle.run_history.specs.declared.answer.Cause.TheVariants.{BadAccess}
@@ -16,13 +17,13 @@ use Rattle.elf_image.specs.Memory.{Area, execute, permitted, bytes_at, put_bytes
 use Rattle.run_history.specs.Machine.{Machine, Effect, Goes, Emits, Wants, Fails, register}
 use Rattle.run_history.specs.Call.{received, connections_after}
 use Rattle.run_history.specs.Run.{instruction, executed, does}
-use Rattle.run_history.specs.Touching.{instruction_at}
-use Rattle.run_history.specs.Served.{Request, Nothing, request_of}
+use Rattle.run_history.specs.Touching.{Range, touched_by, instruction_at}
+use Rattle.run_history.specs.Served.{Nothing, request_of, is_refused}
 use Rattle.run_history.proofs.Shapes.{Keeps}
 use Rattle.rx_serve.proofs.FirstRuns.{within, within_early, within_effect, asks_permitted, goes_keeps, emits_keeps, quiet_keeps}
 use Rattle.rx_serve.specs.declared.guest_cpu.Event.{Event}
 use Rattle.rx_serve.specs.declared.guest_cpu.Event.TheVariants as event
-use Rattle.rv_exec.specs.Stepping.{with_parts}
+use Rattle.rv_exec.specs.Stepping.{limits_of, with_parts, under}
 use Rattle.rv_exec.specs.Execution.{or_bad, fetched}
 use Rattle.rx_serve.specs.Gate.{received_by}
 use Rattle.rx_serve.specs.Events.{Meets, Advances, RunsTo}
@@ -94,6 +95,16 @@ advances_by budget does m (Ok (Some (event.Emits conn bytes))) new steps is h = 
 advances_by budget does m (Ok (Some (event.Exits code))) new steps is h = (is ∙ h.0, h.1, h.2)
 advances_by budget does m (Ok (Some (event.Failed cause))) new steps is h = (is ∙ h.0, h.1, h.2)
 advances_by budget does m (Err e) new steps is h = h
+
+-- the rule that every access keeps refuses nothing
+none_refused : (budget : ℕ) (heap : Heap) (range : Option Range) → is_refused (limits_of budget (λ blocks first count. true)) heap range ≡ false
+none_refused budget heap None = refl
+none_refused budget heap (Some range) = refl
+
+-- so under it an instruction does what it does
+pub under_mapped : (budget : ℕ) (heap : Heap) (instr : Instr) (m : Machine) → under (limits_of budget (λ blocks first count. true)) heap instr m ≡ instruction instr None None m
+under_mapped budget heap instr m =
+    ap (λ refused. if refused then Fails BadAccess else instruction instr None None m) (none_refused budget heap (touched_by instr m))
 
 -- within the budget, the machine does what its next instruction does
 pub within_fetched : (budget : ℕ) (m view : Machine) (regs : Regs) (memory : List Area) (instr : Instr) (acts : Effect) → with_parts view regs memory ≡ m → view.since < budget → Ok instr ≡ fetched regs memory → instr ≢ Ecall

@@ -1,23 +1,22 @@
 -- Laws of the first path's effects: they don't depend on items behind those that they take, and what they keep.
-use Rattle.std.proofs.Common.{◌≡◌, ◌≢◌, inl, inr, ℕ, zero, suc, ◌+◌, ◌<◌, ◌≤◌, true, leb, cond, eqb, Bool, false, List, [], ◌∷◌, ◌++◌, length, Option, Some, None, refl, sym, ◌∙◌, ap, arith, add-zero, add-suc, add-one, add_assoc}
+use Rattle.std.proofs.Common.{◌≡◌, ◌≢◌, inl, inr, ℕ, zero, suc, ◌+◌, ◌<◌, ◌≤◌, true, leb, List, [], ◌∷◌, ◌++◌, length, Option, Some, None, refl, sym, ◌∙◌, ap, arith, add-zero, add-suc, add-one}
 use Rattle.std.specs.Prelude.{slice_get, option_and_then}
 use Rattle.std.proofs.lemmas.Bool.{cases_Bool, leb-false, leb-true, lt-leb}
-use Rattle.std.proofs.lemmas.Option.{option_and_then_some, none-some, same_Some, slice_get_past}
+use Rattle.std.proofs.lemmas.Option.{option_and_then_some, none-some, same_Some}
 use Rattle.rx_io.specs.declared.bytes.Item.{Item}
 use Rattle.block_book.specs.declared.choice.Choice.{Choice}
-use Rattle.run_history.specs.declared.answer.Cause.{Cause}
 use Rattle.run_history.specs.declared.answer.Cause.TheVariants.{Hang, BadCall}
 use Rattle.elf_image.specs.declared.image.Image.{Image}
 use Rattle.elf_image.specs.Memory.{write, permitted}
-use Rattle.run_history.specs.Machine.{Machine, State, register, with_register, no_connections, start, start_machine, Effect, Goes, Emits, Ends, Wants, Chooses, Fails}
-use Rattle.run_history.specs.Call.{takes, received, connections_after, malloc}
+use Rattle.run_history.specs.Machine.{Machine, register, no_connections, start, start_machine, Effect, Goes, Emits, Ends, Wants, Chooses, Fails}
+use Rattle.run_history.specs.Call.{takes, received}
 use Rattle.run_history.specs.Run.{does}
 use Rattle.run_history.specs.Touching.{instruction_at}
 use Rattle.run_history.specs.Served.{Request, Malloc, Free, Nothing, request_of}
 use Rattle.run_history.proofs.Repeats.{and_then_same, and_then_twice}
 use Rattle.run_history.proofs.Shapes as shapes
 use Rattle.run_history.proofs.Shapes.{Keeps, MaySend, IsOwnCause, Alone, does_shape, length-with_register}
-use Rattle.run_history.proofs.Runs.{slice_get_longer, element_behind, element_none, received_keeps}
+use Rattle.run_history.proofs.Runs.{slice_get_longer, element_behind, element_none}
 use Rattle.run_history.proofs.Connections.{OpenWithin}
 use Rattle.run_history.proofs.Blocks.{does_leaves}
 use Rattle.rx_serve.specs.FirstPath.{unserved, effect, effect_within, stays_quiet, quiet_run}

@@ -2,6 +2,7 @@ pub mod FirstRuns
 pub mod FirstWithin
 pub mod ArrivalLemmas
 pub mod CpuLemmas
+pub mod MemoryLemmas
 pub mod HeadlineLemmas
 pub mod JournalLemmas
 pub mod NextLemmas

@@ -3,6 +3,7 @@ ghost use Rattle.std.specs.Prelude.{◌≡◌, ◌<◌, ◌≤◌, ◌^◌, Bool
 ghost use Rattle.elf_image.specs.Memory.{permitted, put_bytes};
 ghost use Rattle.run_history.specs.Machine.{Machine, register, no_connections};
 ghost use Rattle.run_history.specs.Call.{connections_after};
+ghost use Rattle.guest_space.specs.Space.{flat};
 ghost use Rattle.rx_serve.specs.Gate.{called, replied, received_by, SendDoes, MayBeSent};
 
 use guest_space::GuestSpace;
@@ -116,8 +117,8 @@ pub fn reply_to_send(
     at: u32,
     len: u32,
 ) -> Result<Reply, Cause>
-    ensures does { (m : Machine) → m.memory ≡ space.now → m.connections ≡ connections.now → register m 10 ≡ conn → register m 11 ≡ at → register m 12 ≡ len → SendDoes m result }
-    ensures sent { result ≡ Ok Reply.Sends → MayBeSent space.now conn at len }
+    ensures does { (m : Machine) → m.memory ≡ flat space.now → m.connections ≡ connections.now → register m 10 ≡ conn → register m 11 ≡ at → register m 12 ≡ len → SendDoes m result }
+    ensures sent { result ≡ Ok Reply.Sends → MayBeSent (flat space.now) conn at len }
 {
     if len > 65535 {
         return Ok(Reply::Answers(2));
@@ -144,10 +145,10 @@ pub fn answer(regs: &mut Regs, value: u32)
 
 /// A recv takes an item.
 pub fn receive(regs: &mut Regs, space: &mut GuestSpace, item: &Item)
-    requires buffer { permitted 2 space.old (slice_index regs.old.x 10) (slice_index regs.old.x 11) ≡ true }
+    requires buffer { permitted 2 (flat space.old) (slice_index regs.old.x 10) (slice_index regs.old.x 11) ≡ true }
     requires short { length item.now.bytes < 2 ^ 32 }
     ensures registers { regs.new ≡ received_by item.now regs.old }
-    ensures memory { space.new ≡ put_bytes space.old (slice_index regs.old.x 10) (take (slice_index regs.old.x 11) item.now.bytes) }
+    ensures memory { flat space.new ≡ put_bytes (flat space.old) (slice_index regs.old.x 10) (take (slice_index regs.old.x 11) item.now.bytes) }
 {
     let bytes = item.bytes.as_slice();
     let (front, _) = bytes.split_at(bytes.len().min(regs.x[11] as usize));

@@ -5,8 +5,9 @@ ghost use Rattle.run_history.specs.Machine.{register, Wants, start_machine};
 ghost use Rattle.run_history.specs.Call.{send, answered, received};
 
 use crate::call_gate::{Call, ConnSet, Reply, answer, read_call, receive, reply_to_send};
+use block_book::Book;
 use elf_image::Image;
-use guest_space::GuestSpace;
+use guest_space::{AllMapped, GuestSpace};
 use run_history::{Cause, Regs};
 use rv_exec::{next_instr, step};
 use rv_isa::Instr;
@@ -29,6 +30,8 @@ pub enum Event {
 pub struct Cpu {
     regs: Regs,
     space: GuestSpace,
+    // No block stands in it: malloc and free aren't served, and the rule on accesses doesn't look at it.
+    book: Book,
     heap_start: u32,
     heap_end: u32,
     connections: ConnSet,
@@ -39,13 +42,14 @@ pub struct Cpu {
 impl Model for Cpu {
     ghost use Rattle.std.specs.Prelude.{[]};
     ghost use Rattle.run_history.specs.Machine.{Machine};
+    ghost use Rattle.guest_space.specs.Space.{flat};
 
     ghost Value = { Machine };
 
     ghost view = { λ c. record {
       pc = c.regs.pc;
       registers = c.regs.x;
-      memory = c.space;
+      memory = flat c.space;
       heap_start = c.heap_start;
       heap_end = c.heap_end;
       blocks = [];
@@ -69,7 +73,8 @@ impl Cpu {
         x[2] = image.stack_top();
         Ok(Cpu {
             regs: Regs { pc: image.entry, x },
-            space: GuestSpace::make(alloc, image)?,
+            space: GuestSpace::make(alloc, image, 1, 2 * (image.window / 4096))?,
+            book: Book::make(alloc, 16, 16)?,
             heap_start: image.heap_start(),
             heap_end: image.heap_end(),
             connections: ConnSet::make(alloc)?,
@@ -184,7 +189,14 @@ impl Cpu {
         if let Instr::Ecall = instr {
             return self.call(alloc, steps);
         }
-        match step(&mut self.regs, &mut self.space, &instr, steps) {
+        match step(
+            &mut self.regs,
+            &mut self.space,
+            &self.book,
+            &AllMapped,
+            &instr,
+            steps,
+        ) {
             Ok(()) => {
                 self.since += 1;
                 Ok(None)

@@ -1,5 +1,5 @@
 use Rattle.std.proofs.Common.{◌≤◌, length, slice_index, arith}
-use Rattle.guest_space.proofs.MemoryLemmas.{permitted-fewer}
+use Rattle.rx_serve.proofs.MemoryLemmas.{permitted-fewer}
 use Rattle.rx_serve.proofs.call_gate.receive.Goals as goal
 
 pub write_bytes-requires : goal.write_bytes-requires

@@ -1,8 +1,24 @@
-use Rattle.guest_space.proofs.MemoryLemmas.{permitted-within}
+use Rattle.std.proofs.Common.{◌≡◌, ◌<◌, length, subst, rules}
+use Rattle.guest_space.specs.Space.{IsLawfulSpace}
+use Rattle.guest_space.proofs.SpaceLemmas.{parts_run, parts_put, puts_none, is_held}
 use Rattle.guest_space.proofs.space.GuestSpace.write_bytes.Goals as goal
 
-pub put_span-requires : goal.put_span-requires
-put_span-requires c = permitted-within 2 _ _ _ c.requires
+pub returns-then-is_empty : goal.returns-then-is_empty
+returns-then-is_empty c =
+    let none : length c.args.bytes.now ≡ 0 = search rules in
+    puts_none c.args.self.now c.args.at c.args.bytes.now (subst IsLawfulSpace c.self.view_is c.self.invariant) none
 
-pub put_each-requires : goal.put_each-requires
-put_each-requires c = permitted-within 2 _ _ _ c.requires
+pub overflow_sub-at : goal.overflow_sub-at
+overflow_sub-at c =
+    let some : 0 < length c.args.bytes.now = search rules in
+    (parts_run 2 c.self.inside.base c.self.inside.spans.items c.self.inside.store c.args.self.now c.args.at (length c.args.bytes.now) c.self.invariant c.self.view_is some c.requires).0
+
+pub write_run-requires : goal.write_run-requires
+write_run-requires c =
+    let some : 0 < length c.args.bytes.now = search rules in
+    (parts_run 2 c.self.inside.base c.self.inside.spans.items c.self.inside.store c.args.self.now c.args.at (length c.args.bytes.now) c.self.invariant c.self.view_is some c.requires).1
+
+pub returns : goal.returns
+returns c =
+    parts_put c.self.inside.base c.self.inside.spans.items c.self.inside.store _ c.args.self.now c.args.at c.args.bytes.now c.self.invariant c.self.view_is c.write_run.ensures.writes c.write_run.ensures.lawful
+    (is_held 2 c.args.self.now c.args.at (length c.args.bytes.now) (subst IsLawfulSpace c.self.view_is c.self.invariant) c.requires)

@@ -1,0 +1,219 @@
+-- A guest's memory: what its spans and its pages say of the flat memory.
+use Rattle.std.proofs.Common.{◌≡◌, ℕ, zero, suc, ◌+◌, ◌-◌, ◌*◌, ◌^◌, ◌/◌, ◌%◌, ◌<◌, ◌≤◌, Bool, true, false, List, [], ◌∷◌, length, take, drop, slice_set, Some, None, IfSome, IsSome, Option, option_map, slice_get, MatchBool, refl, sym, ap, subst, ◌∙◌, inl, inr, arith}
+use Rattle.std.specs.List.{All}
+use Rattle.std.proofs.lemmas.Bool.{cases_Bool, false≢true}
+use Rattle.std.proofs.lemmas.List.{get_or-set_same}
+use Rattle.rv_isa.specs.Words.{little_number, little_bytes}
+use Rattle.elf_image.specs.Memory.{permitted, bytes_at}
+use Rattle.cow_pages.specs.Pages.{Space, Pages, slot_at, used_of, held_of, IsLawful}
+use Rattle.cow_pages.specs.Little as pages
+use Rattle.cow_pages.specs.Writes.{Writes}
+use Rattle.cow_pages.proofs.RunSteps.{writes_nothing}
+use Rattle.guest_space.specs.Space.{Span, GuestPages, guest_pages, flat_of, flat, saved_flat, LiesIn, IsLawfulSpace}
+use Rattle.guest_space.specs.Access.{Puts, Saves, Releases, Restores}
+use Rattle.guest_space.specs.Ranges.{AreHeld}
+use Rattle.guest_space.proofs.FlatLemmas.{permitted-held, held-permitted, range_inside, bytes_at-flat, put_bytes-flat}
+
+-- the window has 4096 bytes for each page
+pub bytes_are : (space : GuestPages) → IsLawfulSpace space → length space.store.live.bytes ≡ 4096 * space.store.pages
+bytes_are space so = (so.store.spaces space.store.live (inl refl)).bytes
+
+pub is_permitted : (flag : ℕ) (space : GuestPages) (at size : ℕ) → IsLawfulSpace space → at + size ≤ 2 ^ 32 → AreHeld flag space.spans at size → permitted flag (flat space) at size ≡ true
+is_permitted flag space at size so near held =
+    permitted-held flag space.base space.store.pages space.spans space.store.live.bytes at size so.within (bytes_are space so) near held
+
+pub is_held : (flag : ℕ) (space : GuestPages) (at size : ℕ) → IsLawfulSpace space → permitted flag (flat space) at size ≡ true → AreHeld flag space.spans at size
+is_held flag space at size so h =
+    held-permitted flag space.base space.store.pages space.spans space.store.live.bytes at size so.within (bytes_are space so) h
+
+pub is_refused : (flag : ℕ) (space : GuestPages) (at size : ℕ) → IsLawfulSpace space → (AreHeld flag space.spans at size → ⊥) → permitted flag (flat space) at size ≡ false
+is_refused flag space at size so miss =
+    elim (cases_Bool (permitted flag (flat space) at size)) [
+      | inl has ↦ absurd (miss (is_held flag space at size so has))
+      | inr lacks ↦ lacks
+    ]
+
+-- what a test of the spans says of the flat memory
+pub is_answer : (flag : ℕ) (space : GuestPages) (at size : ℕ) (b : Bool) → IsLawfulSpace space → at + size ≤ 2 ^ 32 → MatchBool b (AreHeld flag space.spans at size) (AreHeld flag space.spans at size → ⊥) → b ≡ permitted flag (flat space) at size
+is_answer flag space at size true so near h = sym (is_permitted flag space at size so near h)
+is_answer flag space at size false so near h = sym (is_refused flag space at size so h)
+
+-- a range lies in the window
+pub is_inside : (flag : ℕ) (space : GuestPages) (at size : ℕ) → IsLawfulSpace space → 0 < size → AreHeld flag space.spans at size → (space.base ≤ at) × (at + size ≤ space.base + 4096 * space.store.pages)
+is_inside flag space at size so some held = range_inside flag space.base space.store.pages space.spans at size so.within some held
+
+pub is_near : (flag : ℕ) (space : GuestPages) (at size : ℕ) → IsLawfulSpace space → 0 < size → AreHeld flag space.spans at size → at + size ≤ 2 ^ 32
+is_near flag space at size so some held =
+    let inside = is_inside flag space at size so some held in
+    let below = so.below in
+    omega arith
+
+-- the two definitions of a number by its bytes are one
+pub same_number : (bytes : List ℕ) → pages.little_number bytes ≡ little_number bytes
+same_number [] = refl
+same_number (byte ∷ bytes) = ap (λ n. byte + 256 * n) (same_number bytes)
+
+pub same_bytes : (count n : ℕ) → pages.little_bytes count n ≡ little_bytes count n
+same_bytes zero n = refl
+same_bytes (suc count) n = ap (λ bytes. n % 256 ∷ bytes) (same_bytes count (n / 256))
+
+-- the bytes of a range
+pub range_is : (flag : ℕ) (space : GuestPages) (at size : ℕ) → IsLawfulSpace space → AreHeld flag space.spans at size → bytes_at flag (flat space) at size ≡ take size (drop (at - space.base) space.store.live.bytes)
+range_is flag space at size so held =
+    bytes_at-flat flag space.base space.store.pages space.spans space.store.live.bytes at size so.within (bytes_are space so) held
+
+pub reads_held : (flag : ℕ) (space : GuestPages) (at size value : ℕ) → IsLawfulSpace space → 0 < size → AreHeld flag space.spans at size → value ≡ little_number (take size (drop (at - space.base) space.store.live.bytes)) → (permitted flag (flat space) at size ≡ true) × (value ≡ little_number (bytes_at flag (flat space) at size))
+reads_held flag space at size value so some held is = (
+  is_permitted flag space at size so (is_near flag space at size so some held) held,
+  is ∙ ap little_number (sym (range_is flag space at size so held)),
+)
+
+pub reads_none : (flag : ℕ) (space : GuestPages) (at size : ℕ) → IsLawfulSpace space → size ≡ 0 → at + size ≤ 2 ^ 32 → (permitted flag (flat space) at size ≡ true) × (0 ≡ little_number (bytes_at flag (flat space) at size))
+reads_none flag space at size so none near = (
+  is_permitted flag space at size so near (λ k less. absurd (omega arith)),
+  sym (ap (λ n. little_number (bytes_at flag (flat space) at n)) none),
+)
+
+-- a write into the window is one into the flat memory
+pub puts_held : (old : GuestPages) (store : Pages) (at : ℕ) (bytes : List ℕ) → IsLawfulSpace old → Writes old.store store (at - old.base) bytes → IsLawfulSpace (guest_pages old.base old.spans store) → AreHeld 2 old.spans at (length bytes) → Puts old at bytes (guest_pages old.base old.spans store)
+puts_held old store at bytes so wrote lawful held = record {
+  base_stays = refl;
+  spans_stay = refl;
+  memory = ap (flat_of old.base old.spans) wrote.written
+      ∙ sym (put_bytes-flat old.base old.store.pages old.spans at bytes old.store.live.bytes so.within so.apart (bytes_are old so) held);
+  pages = wrote;
+  lawful = lawful;
+}
+
+pub puts_none : (old : GuestPages) (at : ℕ) (bytes : List ℕ) → IsLawfulSpace old → length bytes ≡ 0 → Puts old at bytes old
+puts_none old at [] so none = record { lawful = so; base_stays = refl; spans_stay = refl; memory = refl; pages = writes_nothing old.store (at - old.base) }
+puts_none old at (byte ∷ bytes) so none = absurd (omega arith)
+
+-- the parts with other pages, as many
+pub parts_kept : (base : ℕ) (spans : List Span) (before store : Pages) → IsLawfulSpace (guest_pages base spans before) → store.pages ≡ before.pages → IsLawful store → IsLawfulSpace (guest_pages base spans store)
+parts_kept base spans before store so same lawful = record {
+  below = subst (λ n. base + 4096 * n ≤ 2 ^ 32) (sym same) so.below;
+  within = subst (λ n. All (LiesIn base n) spans) (sym same) so.within;
+  apart = so.apart;
+  store = lawful;
+}
+
+pub parts_lawful : (base : ℕ) (spans : List Span) (before store : Pages) (place : ℕ) (bytes : List ℕ) → IsLawfulSpace (guest_pages base spans before) → Writes before store place bytes → IsLawful store → IsLawfulSpace (guest_pages base spans store)
+parts_lawful base spans before store place bytes so wrote lawful = parts_kept base spans before store so wrote.pages lawful
+
+-- the same where the space is seen as its parts
+pub parts_put : (base : ℕ) (spans : List Span) (before store : Pages) (old : GuestPages) (at : ℕ) (bytes : List ℕ) → IsLawfulSpace (guest_pages base spans before) → guest_pages base spans before ≡ old → Writes before store (at - base) bytes → IsLawful store → AreHeld 2 old.spans at (length bytes) → Puts old at bytes (guest_pages base spans store)
+parts_put base spans before store old at bytes so is wrote lawful held =
+    subst (λ (s : GuestPages). Puts s at bytes (guest_pages base spans store)) is
+    (puts_held (guest_pages base spans before) store at bytes so wrote (parts_lawful base spans before store (at - base) bytes so wrote lawful)
+    (subst (λ (s : GuestPages). AreHeld 2 s.spans at (length bytes)) (sym is) held))
+
+-- the low bytes of a number are those of its rest
+pub one_byte : (value : ℕ) → value % 256 ∷ [] ≡ little_bytes 1 value
+one_byte value = refl
+
+pub half_bytes_are : (value : ℕ) → pages.little_bytes 2 (value % 65536) ≡ little_bytes 2 value
+half_bytes_are value =
+    let low : value % 65536 % 256 ≡ value % 256 = omega arith in
+    let high : value % 65536 / 256 % 256 ≡ value / 256 % 256 = omega arith in
+    ap (λ n. n ∷ (value % 65536 / 256 % 256) ∷ []) low ∙ ap (λ n. value % 256 ∷ n ∷ []) high
+
+-- what is known of a space that is seen as its parts
+pub parts_answer : (flag base : ℕ) (spans seen : List Span) (store : Pages) (space : GuestPages) (at size : ℕ) (b : Bool) → IsLawfulSpace (guest_pages base spans store) → guest_pages base spans store ≡ space → seen ≡ spans → at + size ≤ 2 ^ 32 → MatchBool b (AreHeld flag seen at size) (AreHeld flag seen at size → ⊥) → b ≡ permitted flag (flat space) at size
+parts_answer flag base spans seen store space at size b so is same near h =
+    subst (λ (s : GuestPages). b ≡ permitted flag (flat s) at size) is
+    (is_answer flag (guest_pages base spans store) at size b so near (subst (λ xs. MatchBool b (AreHeld flag xs at size) (AreHeld flag xs at size → ⊥)) same h))
+
+pub parts_seen : (flag base : ℕ) (spans seen : List Span) (store : Pages) (space : GuestPages) (at size : ℕ) → guest_pages base spans store ≡ space → seen ≡ spans → AreHeld flag seen at size → AreHeld flag space.spans at size
+parts_seen flag base spans seen store space at size is same h =
+    subst (λ (s : GuestPages). AreHeld flag s.spans at size) is (subst (λ xs. AreHeld flag xs at size) same h)
+
+pub parts_held : (flag base : ℕ) (spans : List Span) (store : Pages) (space : GuestPages) (at size : ℕ) → IsLawfulSpace (guest_pages base spans store) → guest_pages base spans store ≡ space → permitted flag (flat space) at size ≡ true → AreHeld flag spans at size
+parts_held flag base spans store space at size so is h =
+    is_held flag (guest_pages base spans store) at size so (subst (λ (s : GuestPages). permitted flag (flat s) at size ≡ true) (sym is) h)
+
+pub parts_back : (flag base : ℕ) (spans : List Span) (store : Pages) (space : GuestPages) (at size : ℕ) → guest_pages base spans store ≡ space → AreHeld flag space.spans at size → AreHeld flag spans at size
+parts_back flag base spans store space at size is h = subst (λ (s : GuestPages). AreHeld flag s.spans at size) (sym is) h
+
+pub parts_room : (flag base : ℕ) (spans : List Span) (store : Pages) (at size : ℕ) → IsLawfulSpace (guest_pages base spans store) → 0 < size → AreHeld flag spans at size → (base ≤ at) × (at - base + size ≤ 4096 * store.pages)
+parts_room flag base spans store at size so some held =
+    let inside = is_inside flag (guest_pages base spans store) at size so some held in
+    (inside.0, omega arith)
+
+pub parts_reads : (flag base : ℕ) (spans : List Span) (store : Pages) (space : GuestPages) (at size value : ℕ) → IsLawfulSpace (guest_pages base spans store) → guest_pages base spans store ≡ space → 0 < size → AreHeld flag spans at size → value ≡ little_number (take size (drop (at - base) store.live.bytes)) → (permitted flag (flat space) at size ≡ true) × (value ≡ little_number (bytes_at flag (flat space) at size))
+parts_reads flag base spans store space at size value so is some held e =
+    subst (λ (s : GuestPages). (permitted flag (flat s) at size ≡ true) × (value ≡ little_number (bytes_at flag (flat s) at size))) is
+    (reads_held flag (guest_pages base spans store) at size value so some held e)
+
+pub parts_bytes : (flag base : ℕ) (spans : List Span) (store : Pages) (space : GuestPages) (at size : ℕ) → IsLawfulSpace (guest_pages base spans store) → guest_pages base spans store ≡ space → AreHeld flag spans at size → take size (drop (at - base) store.live.bytes) ≡ bytes_at flag (flat space) at size
+parts_bytes flag base spans store space at size so is held =
+    sym (range_is flag (guest_pages base spans store) at size so held) ∙ ap (λ (s : GuestPages). bytes_at flag (flat s) at size) is
+
+pub length-little_bytes : (size value : ℕ) → length (little_bytes size value) ≡ size
+length-little_bytes zero value = refl
+length-little_bytes (suc size) value = ap suc (length-little_bytes size (value / 256))
+
+pub parts_stored : (base : ℕ) (spans : List Span) (before store : Pages) (old : GuestPages) (at size value : ℕ) (bytes : List ℕ) → IsLawfulSpace (guest_pages base spans before) → guest_pages base spans before ≡ old → 0 < size → AreHeld 2 old.spans at size → bytes ≡ little_bytes size value → Writes before store (at - base) bytes → IsLawful store → (permitted 2 (flat old) at size ≡ true) × Puts old at (little_bytes size value) (guest_pages base spans store)
+parts_stored base spans before store old at size value bytes so is some held same wrote lawful =
+    let old_so : IsLawfulSpace old = subst IsLawfulSpace is so in (
+      is_permitted 2 old at size old_so (is_near 2 old at size old_so some held) held,
+      parts_put base spans before store old at (little_bytes size value) so is (subst (λ xs. Writes before store (at - base) xs) same wrote) lawful (subst (λ n. AreHeld 2 old.spans at n) (sym (length-little_bytes size value)) held),
+    )
+
+-- a byte as a number
+pub one_number : (xs : List ℕ) (place x : ℕ) → slice_get xs place ≡ Some x → x ≡ little_number (take 1 (drop place xs))
+one_number [] place x h = cc
+one_number (y ∷ xs) zero x h = let e : y ≡ x = grind arith in omega arith
+one_number (y ∷ xs) (suc place) x h = one_number xs place x h
+
+-- saving, giving up and restoring
+pub parts_saved : (base : ℕ) (spans : List Span) (before store : Pages) (old : GuestPages) (slot : ℕ) → IsLawfulSpace (guest_pages base spans before) → guest_pages base spans before ≡ old → store ≡ record before { slots = slice_set before.slots slot (Some before.live) } → used_of store ≡ used_of before → held_of store ≡ used_of before → IsLawful store → Saves old slot (guest_pages base spans store)
+parts_saved base spans before store old slot so is e used held lawful =
+    subst (λ (o : GuestPages). Saves o slot (guest_pages base spans store)) is record {
+      store_is = ap (guest_pages base spans) e;
+      used = used;
+      held = held;
+      lawful = parts_kept base spans before store so (ap (λ (s : Pages). s.pages) e) lawful;
+    }
+
+pub parts_released : (base : ℕ) (spans : List Span) (before store : Pages) (old : GuestPages) (slot : ℕ) → IsLawfulSpace (guest_pages base spans before) → guest_pages base spans before ≡ old → store ≡ record before { slots = slice_set before.slots slot None } → IsLawful store → Releases old slot (guest_pages base spans store)
+parts_released base spans before store old slot so is e lawful =
+    subst (λ (o : GuestPages). Releases o slot (guest_pages base spans store)) is record {
+      store_is = ap (guest_pages base spans) e;
+      lawful = parts_kept base spans before store so (ap (λ (s : Pages). s.pages) e) lawful;
+    }
+
+restored_memory : (base : ℕ) (spans : List Span) (o : Option Space) (before store : Pages) → IsSome o → IfSome o (λ space. store ≡ record before { live = space }) → Some (flat_of base spans store.live.bytes) ≡ option_map (λ (saved : Space). flat_of base spans saved.bytes) o
+restored_memory base spans None before store some e = absurd (false≢true some)
+restored_memory base spans (Some space) before store some e = ap (λ (s : Pages). Some (flat_of base spans s.live.bytes)) e
+
+restored_parts : (base : ℕ) (spans : List Span) (o : Option Space) (before store : Pages) → IfSome o (λ space. store ≡ record before { live = space }) → IfSome o (λ space. guest_pages base spans store ≡ guest_pages base spans (record before { live = space }))
+restored_parts base spans None before store e = tt
+restored_parts base spans (Some space) before store e = ap (guest_pages base spans) e
+
+pub restored_pages : (o : Option Space) (before store : Pages) → IsSome o → IfSome o (λ space. store ≡ record before { live = space }) → store.pages ≡ before.pages
+restored_pages None before store some e = absurd (false≢true some)
+restored_pages (Some space) before store some e = ap (λ (s : Pages). s.pages) e
+
+pub parts_restored : (base : ℕ) (spans : List Span) (before store : Pages) (old : GuestPages) (slot : ℕ) → IsLawfulSpace (guest_pages base spans before) → guest_pages base spans before ≡ old → IsSome (slot_at before slot) → IfSome (slot_at before slot) (λ space. store ≡ record before { live = space }) → IsLawful store → Restores old slot (guest_pages base spans store)
+parts_restored base spans before store old slot so is some e lawful =
+    subst (λ (o : GuestPages). Restores o slot (guest_pages base spans store)) is record {
+      store_is = restored_parts base spans (slot_at before slot) before store e;
+      memory = restored_memory base spans (slot_at before slot) before store some e;
+      lawful = parts_kept base spans before store so (restored_pages (slot_at before slot) before store some e) lawful;
+    }
+
+-- what a slot holds after a save is the flat memory as it was
+pub saved_is : (old new : GuestPages) (slot : ℕ) → slot < length old.store.slots → Saves old slot new → saved_flat new slot ≡ Some (flat old)
+saved_is old new slot less so =
+    ap (λ (s : GuestPages). saved_flat s slot) so.store_is
+    ∙ ap (option_map (λ (saved : Space). flat_of old.base old.spans saved.bytes)) (get_or-set_same old.store.slots slot (Some old.store.live) None less)
+
+-- where a range lies
+pub parts_place : (flag base : ℕ) (spans : List Span) (store : Pages) (space : GuestPages) (at size : ℕ) → IsLawfulSpace (guest_pages base spans store) → guest_pages base spans store ≡ space → 0 < size → AreHeld flag space.spans at size → (base ≤ at) × (at - base + size ≤ 4096 * store.pages)
+parts_place flag base spans store space at size so is some held =
+    parts_room flag base spans store at size so some (parts_back flag base spans store space at size is held)
+
+pub parts_run : (flag base : ℕ) (spans : List Span) (store : Pages) (space : GuestPages) (at size : ℕ) → IsLawfulSpace (guest_pages base spans store) → guest_pages base spans store ≡ space → 0 < size → permitted flag (flat space) at size ≡ true → (base ≤ at) × (at - base + size ≤ 4096 * store.pages)
+parts_run flag base spans store space at size so is some h =
+    parts_room flag base spans store at size so some (parts_held flag base spans store space at size so is h)

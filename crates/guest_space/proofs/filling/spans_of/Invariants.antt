@@ -1,0 +1,6 @@
+use Rattle.std.proofs.Common.{◌≡◌, map, take}
+use Rattle.guest_space.specs.Space.{segment_span}
+use Rattle.guest_space.proofs.filling.spans_of.Given as goal
+
+abbrev pub invariant-loop-segment : goal.invariant-loop-segment
+invariant-loop-segment l = l.spans.items ≡ map segment_span (take l.segment-index l.segments)

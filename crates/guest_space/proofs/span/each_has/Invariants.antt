@@ -1,0 +1,5 @@
+use Rattle.guest_space.specs.Ranges.{AreHeld}
+use Rattle.guest_space.proofs.span.each_has.Given as goal
+
+abbrev pub invariant-loop-k : goal.invariant-loop-k
+invariant-loop-k l = AreHeld l.flag l.spans l.at l.k

@@ -1,0 +1,23 @@
+-- The bytes of segments in a window.
+use Rattle.std.specs.Prelude.{◌≡◌, ℕ, ◌+◌, ◌-◌, ◌*◌, ◌≤◌, List, [], ◌∷◌, length}
+use Rattle.elf_image.specs.declared.segment.Segment.{Segment}
+use Rattle.cow_pages.specs.Pages.{Pages, used_of, IsLawful}
+use Rattle.cow_pages.specs.Writes.{put_at}
+
+-- a window of bytes after the file's bytes of segments were put into it, one segment after the other
+abbrev pub filled_bytes : ℕ → List Segment → List ℕ → List ℕ
+filled_bytes base [] xs = xs
+filled_bytes base (segment ∷ segments) xs = filled_bytes base segments (put_at (segment.vaddr - base) segment.filled xs)
+
+-- the file's bytes of a segment lie in a window of so many pages
+abbrev pub FilesIn : ℕ → ℕ → Segment → Type 0
+FilesIn base pages segment = (base ≤ segment.vaddr) × (segment.vaddr + length segment.filled ≤ base + 4096 * pages)
+
+-- the file's bytes of segments were put into the live space of a store, and nothing else changed
+pub record Fills (old : Pages) (base : ℕ) (segments : List Segment) (new : Pages) : Type 0 where
+  pub pages : new.pages ≡ old.pages
+  pub frames : new.frames ≡ old.frames
+  pub slots : new.slots ≡ old.slots
+  pub bytes : new.live.bytes ≡ filled_bytes base segments old.live.bytes
+  pub used : used_of new ≡ used_of old
+  pub lawful : IsLawful new

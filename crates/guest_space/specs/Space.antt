@@ -1,0 +1,72 @@
+-- A guest's memory on shared pages: a window of pages, and the spans of it that may be touched.
+use Rattle.std.specs.Prelude.{◌≡◌, ℕ, ◌+◌, ◌-◌, ◌*◌, ◌^◌, ◌≤◌, Bool, false, nat_lt, min, max, Option, option_map, List, [], ◌∷◌, ◌++◌, map, take, drop}
+use Rattle.std.specs.List.{All, AllPairs}
+use Rattle.elf_image.specs.declared.segment.Segment.{Segment}
+use Rattle.elf_image.specs.declared.image.Image.{Image}
+use Rattle.elf_image.specs.Memory.{Area}
+use Rattle.elf_image.specs.Image.{heap_start, heap_end, stack_top}
+use Rattle.cow_pages.specs.Pages.{Space, Pages, slot_at, IsLawful}
+
+-- Addresses from one up to another, which isn't part of it, and what may be done with their bytes: the flags of a
+-- program header (System V ABI, "Segment Permissions").
+pub record Span : Type 0 where
+  pub flags : ℕ
+  pub start : ℕ
+  pub end : ℕ
+
+-- a window from a base on, its spans, and the pages on which it stands
+pub record GuestPages : Type 0 where
+  pub base : ℕ
+  pub spans : List Span
+  pub store : Pages
+
+abbrev pub guest_pages : ℕ → List Span → Pages → GuestPages
+guest_pages base spans store = record { base = base; spans = spans; store = store }
+
+-- the area of a span, whose bytes stand among those of the window
+abbrev pub area_of : ℕ → List ℕ → Span → Area
+area_of base bytes span = record { start = span.start; flags = span.flags; bytes = take (span.end - span.start) (drop (span.start - base) bytes) }
+
+-- the flat memory of these spans, where these are the bytes of the window
+unfoldable pub flat_of : ℕ → List Span → List ℕ → List Area
+flat_of base spans bytes = map (area_of base bytes) spans
+
+-- the flat memory that a guest's program sees
+abbrev pub flat : GuestPages → List Area
+flat space = flat_of space.base space.spans space.store.live.bytes
+
+-- the flat memory that is saved in a slot
+abbrev pub saved_flat : GuestPages → ℕ → Option (List Area)
+saved_flat space slot = option_map (λ (saved : Space). flat_of space.base space.spans saved.bytes) (slot_at space.store slot)
+
+-- a span lies in a window of so many pages
+abbrev pub LiesIn : ℕ → ℕ → Span → Type 0
+LiesIn base pages span = (base ≤ span.start) × (span.start ≤ span.end) × (span.end ≤ base + 4096 * pages)
+
+-- two spans share an address
+abbrev pub meet : Span → Span → Bool
+meet a b = nat_lt (max a.start b.start) (min a.end b.end)
+
+-- no two spans share one
+abbrev pub AreApart : List Span → Type 0
+AreApart spans = AllPairs (λ (a b : Span). meet a b ≡ false) spans
+
+-- what holds of every guest's memory: the window lies below 2 ^ 32, the spans lie in it apart, and the pages are lawful
+pub record IsLawfulSpace (space : GuestPages) : Type 0 where
+  pub below : space.base + 4096 * space.store.pages ≤ 2 ^ 32
+  pub within : All (LiesIn space.base space.store.pages) space.spans
+  pub apart : AreApart space.spans
+  pub store : IsLawful space.store
+
+-- the span of a segment
+abbrev pub segment_span : Segment → Span
+segment_span segment = record { flags = segment.flags; start = segment.vaddr; end = segment.vaddr + segment.memsz }
+
+-- a span that may be read and written
+abbrev pub blank_span : ℕ → ℕ → Span
+blank_span start end = record { flags = 6; start = start; end = end }
+
+-- the spans of an image: its segments, its heap and its stack
+abbrev pub spans_of : Image → List Span
+spans_of image =
+    map segment_span image.segments ++ blank_span (heap_start image) (heap_end image) ∷ blank_span (stack_top image - 65536) (stack_top image) ∷ []
