@@ -1,0 +1,62 @@
+-- The definitions at values: two pages, two saved slots.
+use Rattle.std.proofs.Common.{◌≡◌, ℕ, ◌+◌, true, false, Some, None, List, [], ◌∷◌, refl}
+use Rattle.cow_pages.specs.Pages.{Space, Pages, used_of}
+use Rattle.ckpt_ring.specs.Slots.{Slots, used_pages, without_oldest}
+use Rattle.page_line.specs.Line.{line_of, newest_of, base_without_oldest, written_pages, slots_of, with_reached}
+
+abbrev space : List ℕ → Space
+space numbers = record { numbers = numbers; bytes = [] }
+
+-- slot 1 was saved first, then the first page was written, slot 0 was saved, and the second page was written
+abbrev store : Pages
+store = record { pages = 2; frames = 6; live = space (2 ∷ 3 ∷ []); slots = Some (space (2 ∷ 1 ∷ [])) ∷ Some (space (0 ∷ 1 ∷ [])) ∷ [] }
+
+abbrev seen : Slots ℕ
+seen = slots_of (λ slot. slot + 10) 12 store (line_of (1 ∷ 0 ∷ []) (Some 0))
+
+its_slots : seen ≡ record {
+  live = 12;
+  saved = record { slot = 1; state = 11; pages = 2 } ∷ record { slot = 0; state = 10; pages = 1 } ∷ [];
+  base = Some 0;
+  written = 1;
+  count = 2;
+  pages = 2;
+  frames = 6;
+}
+its_slots = refl
+
+frames_in_use : used_of store ≡ 4
+frames_in_use = refl
+
+pages_in_use : used_pages seen ≡ 4
+pages_in_use = refl
+
+-- the second page alone was written since slot 0, and both since slot 1
+since_the_newest : written_pages store (line_of (1 ∷ 0 ∷ []) (Some 0)) ≡ false ∷ true ∷ []
+since_the_newest = refl
+
+since_the_oldest : written_pages store (line_of (1 ∷ 0 ∷ []) (Some 1)) ≡ true ∷ true ∷ []
+since_the_oldest = refl
+
+-- without slot 1
+without_it : slots_of (λ slot. slot + 10) 12 record store { slots = Some (space (2 ∷ 1 ∷ [])) ∷ None ∷ [] } (line_of (0 ∷ []) (Some 0)) ≡ without_oldest seen
+without_it = refl
+
+none_left : base_without_oldest (line_of (1 ∷ []) (Some 1)) ≡ None
+none_left = refl
+
+one_left : base_without_oldest (line_of (1 ∷ 0 ∷ []) (Some 0)) ≡ Some 0
+one_left = refl
+
+newest_is : newest_of (1 ∷ 0 ∷ []) ≡ Some 0
+newest_is = refl
+
+-- two bytes over a page's end, one byte behind it, and no byte
+over_the_end : with_reached 4095 2 (false ∷ false ∷ false ∷ []) ≡ true ∷ true ∷ false ∷ []
+over_the_end = refl
+
+behind_the_end : with_reached 4096 1 (false ∷ false ∷ true ∷ []) ≡ false ∷ true ∷ true ∷ []
+behind_the_end = refl
+
+of_nothing : with_reached 4096 0 (false ∷ false ∷ []) ≡ false ∷ false ∷ []
+of_nothing = refl

@@ -1,0 +1,17 @@
+pub mod Flags
+pub mod Starts
+pub mod Saved
+pub mod Same
+pub mod Restores
+pub mod Changes
+pub mod Saves
+pub mod Drops
+pub mod Oldest
+pub mod Frames
+pub mod Written
+pub mod Different
+pub mod Used
+pub mod Sound
+pub mod States
+pub mod Calls
+pub mod Examples

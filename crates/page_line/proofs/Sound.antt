@@ -1,0 +1,29 @@
+-- The slots of a line are sound.
+use Rattle.std.proofs.Common.{◌≡◌, ℕ, ◌<◌, Option, Some, None, IfSome, MatchOption, List, [], ◌∷◌, length, slice_get, nat_eq, All, Contains, sym, ap, subst}
+use Rattle.std.specs.List.{IsDistinct}
+use Rattle.cow_pages.specs.Pages.{Pages}
+use Rattle.ckpt_ring.specs.Slots.{AreSound, slot_numbers}
+use Rattle.page_line.specs.Line.{Line, IsLine, count_true, written_since, saved_behind, slots_of}
+use Rattle.page_line.proofs.Flags.{count_true-all}
+use Rattle.page_line.proofs.Saved.{numbers_behind}
+
+module _ {State : Type 0} (state_in : ℕ → State) where
+  oldest_whole : (store : Pages) (order : List ℕ) → IfSome (slice_get (saved_behind state_in store None order) 0) (λ one. one.pages ≡ store.pages)
+  oldest_whole store [] = tt
+  oldest_whole store (slot ∷ later) = count_true-all store.pages
+
+  base_sound : (store : Pages) (order : List ℕ) (base : Option ℕ) → MatchOption base (order ≡ []) (Contains order)
+      → MatchOption base ((saved_behind state_in store None order ≡ []) × (count_true (written_since store base store.live.numbers) ≡ store.pages)) (Contains (slot_numbers (saved_behind state_in store None order)))
+  base_sound store order None none = (ap (saved_behind state_in store None) none, count_true-all store.pages)
+  base_sound store order (Some slot) there = subst (λ xs. Contains xs slot) (sym (numbers_behind state_in store None order)) there
+
+  pub line_sound : (live : State) (store : Pages) (line : Line) → IsLine store line → AreSound (slots_of state_in live store line)
+  line_sound live store line so =
+      let numbers : slot_numbers (saved_behind state_in store None line.order) ≡ line.order = numbers_behind state_in store None line.order in
+      record {
+        distinct = subst (IsDistinct nat_eq) (sym numbers) so.distinct;
+        counted = subst (All (λ slot. slot < length store.slots)) (sym numbers) (λ k d less. (so.each_saved k d less).0);
+        oldest = oldest_whole store line.order;
+        base = base_sound store line.order line.base so.base;
+        frames = so.frames;
+      }
