@@ -1,0 +1,84 @@
+-- Digits that are written are read as the number that they were written of.
+use Rattle.std.proofs.Common.{◌≡◌, ℕ, suc, ◌+◌, ◌-◌, ◌*◌, ◌^◌, ◌/◌, ◌%◌, ◌<◌, Bool, true, false, ◌&&◌, List, [], ◌∷◌, ◌++◌, refl, ap, ◌∙◌, arith}
+use Rattle.std.specs.Char.{is_ascii_digit}
+use Rattle.std.specs.Str.{all_ascii_digits}
+use Rattle.std.specs.Fmt.{decimal}
+use Rattle.std.proofs.lemmas.Str.Parse.{IsNumeralModel, FoldsDigits, numerals_by_fold, tells_all_ascii_digits}
+use Rattle.std.proofs.lemmas.Fmt.{digits_decimal, digits_value-decimal}
+use Rattle.std.proofs.lemmas.Bool.Decides.{nat_tests}
+use Rattle.schedule_file.specs.Lines.{hex_digit, hex_digits, eight_digits}
+use Rattle.schedule_file.specs.Telling.{number_from, behind_digits, hex_value, hex_from, clipped}
+
+-- what a loop over digits has found: a number, which it tells as far as that goes
+pub record IsNumberSoFar (bytes rest : List ℕ) (told : ℕ) : Type 0 where
+  pub whole : ℕ
+  pub told_is : told ≡ clipped whole
+  pub goes_on : number_from whole rest ≡ number_from 0 bytes
+  pub behind : behind_digits rest ≡ behind_digits bytes
+
+-- ---- decimal digits
+
+abbrev read_on : ℕ → List ℕ → ℕ
+read_on n [] = n
+read_on n (c ∷ cs) = read_on (10 * n + (c - 48)) cs
+
+folds : FoldsDigits read_on
+folds = record {
+  empty = λ n. refl;
+  more = λ n c cs digit. let turned : 10 * n + (c - 48) ≡ n * 10 + (c - 48) = omega arith in ap (λ (m : ℕ). read_on m cs) turned;
+}
+
+own : IsNumeralModel (λ ds. all_ascii_digits ds ≡ true) (read_on 0)
+own = numerals_by_fold (λ ds. all_ascii_digits ds ≡ true) tells_all_ascii_digits read_on folds
+
+pub both : (a b : Bool) → (a && b) ≡ true → (a ≡ true) × (b ≡ true)
+both true b h = (refl, h)
+both false b h = absurd (cc)
+
+-- behind digits stands a byte that is none
+number_front : (n : ℕ) (digits : List ℕ) (mark : ℕ) (rest : List ℕ) → all_ascii_digits digits ≡ true → is_ascii_digit mark ≡ false → number_from n (digits ++ mark ∷ rest) ≡ read_on n digits
+number_front n [] mark rest are other = rw other refl
+number_front n (c ∷ cs) mark rest are other = let h = both (is_ascii_digit c) (all_ascii_digits cs) are in rw h.0 (number_front (10 * n + (c - 48)) cs mark rest h.1 other)
+
+behind_front : (digits : List ℕ) (mark : ℕ) (rest : List ℕ) → all_ascii_digits digits ≡ true → is_ascii_digit mark ≡ false → behind_digits (digits ++ mark ∷ rest) ≡ mark ∷ rest
+behind_front [] mark rest are other = rw other refl
+behind_front (c ∷ cs) mark rest are other = let h = both (is_ascii_digit c) (all_ascii_digits cs) are in rw h.0 (behind_front cs mark rest h.1 other)
+
+pub decimal_digits : (n : ℕ) → n < 2 ^ 64 → all_ascii_digits (decimal n) ≡ true
+decimal_digits n h = digits_decimal own n h
+
+pub number-decimal : (n mark : ℕ) (rest : List ℕ) → n < 2 ^ 64 → is_ascii_digit mark ≡ false → number_from 0 (decimal n ++ mark ∷ rest) ≡ n
+number-decimal n mark rest h other = number_front 0 (decimal n) mark rest (decimal_digits n h) other ∙ digits_value-decimal own n h
+
+pub behind-decimal : (n mark : ℕ) (rest : List ℕ) → n < 2 ^ 64 → is_ascii_digit mark ≡ false → behind_digits (decimal n ++ mark ∷ rest) ≡ mark ∷ rest
+behind-decimal n mark rest h other = behind_front (decimal n) mark rest (decimal_digits n h) other
+
+-- ---- hexadecimal digits
+
+hex_from-last : (n : ℕ) (digits : List ℕ) (d : ℕ) → hex_from n (digits ++ d ∷ []) ≡ 16 * hex_from n digits + hex_value d
+hex_from-last n [] d = refl
+hex_from-last n (c ∷ cs) d = hex_from-last (16 * n + hex_value c) cs d
+
+pub hex_value-digit : (d : ℕ) → d < 16 → hex_value (hex_digit d) ≡ d
+hex_value-digit d h = grind (arith, nat_tests)
+
+hex_step : (count n : ℕ) → hex_from 0 (hex_digits (suc count) n) ≡ 16 * hex_from 0 (hex_digits count (n / 16)) + n % 16
+hex_step count n =
+    let small : n % 16 < 16 = omega arith in
+    hex_from-last 0 (hex_digits count (n / 16)) (hex_digit (n % 16)) ∙ ap (λ v. 16 * hex_from 0 (hex_digits count (n / 16)) + v) (hex_value-digit (n % 16) small)
+
+-- one digit more, over plain variables
+eight_steps : (n a b c d e f g h v0 v1 v2 v3 v4 v5 v6 v7 : ℕ) → n < 4294967296 →
+    a ≡ n / 16 → b ≡ a / 16 → c ≡ b / 16 → d ≡ c / 16 → e ≡ d / 16 → f ≡ e / 16 → g ≡ f / 16 → h ≡ g / 16 →
+    v0 ≡ 16 * v1 + n % 16 → v1 ≡ 16 * v2 + a % 16 → v2 ≡ 16 * v3 + b % 16 → v3 ≡ 16 * v4 + c % 16 → v4 ≡ 16 * v5 + d % 16 → v5 ≡ 16 * v6 + e % 16 → v6 ≡ 16 * v7 + f % 16 → v7 ≡ 16 * 0 + g % 16 → v0 ≡ n
+eight_steps n a b c d e f g h v0 v1 v2 v3 v4 v5 v6 v7 small ha hb hc hd he hf hg hh k0 k1 k2 k3 k4 k5 k6 k7 = omega arith
+
+pub hex-eight_digits : (n : ℕ) → n < 2 ^ 32 → hex_from 0 (eight_digits n) ≡ n
+hex-eight_digits n small =
+    let a : ℕ = n / 16 in let b : ℕ = a / 16 in let c : ℕ = b / 16 in let d : ℕ = c / 16 in
+    let e : ℕ = d / 16 in let f : ℕ = e / 16 in let g : ℕ = f / 16 in let h : ℕ = g / 16 in
+    eight_steps n a b c d e f g h
+    (hex_from 0 (hex_digits 8 n)) (hex_from 0 (hex_digits 7 a)) (hex_from 0 (hex_digits 6 b)) (hex_from 0 (hex_digits 5 c))
+    (hex_from 0 (hex_digits 4 d)) (hex_from 0 (hex_digits 3 e)) (hex_from 0 (hex_digits 2 f)) (hex_from 0 (hex_digits 1 g))
+    small refl refl refl refl refl refl refl refl
+    (hex_step 7 n) (hex_step 6 a) (hex_step 5 b) (hex_step 4 c) (hex_step 3 d) (hex_step 2 e) (hex_step 1 f) (hex_step 0 g)

@@ -1,0 +1,7 @@
+pub mod Digits
+pub mod Written
+pub mod Lines
+pub mod Refusing
+pub mod Same
+pub mod Whole
+pub mod Told

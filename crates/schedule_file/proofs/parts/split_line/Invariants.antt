@@ -1,0 +1,9 @@
+use Rattle.std.proofs.Common.{◌≡◌, ◌++◌, take, drop}
+use Rattle.schedule_file.specs.Steps.{first_line, behind_line}
+use Rattle.schedule_file.proofs.parts.split_line.Given as goal
+
+abbrev pub invariant-loop-i : goal.invariant-loop-i
+invariant-loop-i l = record {
+  line : take l.i l.text ++ first_line (drop l.i l.text) ≡ first_line l.text;
+  rest : behind_line (drop l.i l.text) ≡ behind_line l.text;
+}

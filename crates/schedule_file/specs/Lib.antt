@@ -1,0 +1,7 @@
+pub mod Answers
+pub mod Laws
+pub mod Lines
+pub mod Records
+pub mod Refusals
+pub mod Steps
+pub mod Telling
