@@ -1,0 +1,3 @@
+pub mod Survival
+pub mod Words
+pub mod Lines
