@@ -72,6 +72,7 @@ impl Ring {
         ensures saved { (slot : ℕ) × (T.slots t.new ≡ saved_in_ring self.old.capacity slot (T.slots t.old)) }
         ensures base { (T.slots t.new).base ≡ newest_slot (T.slots t.new).saved }
         ensures newest { IsSomeAnd (from_newest self.new.standing 0) (λ one. one.taken ≡ T.taken_in (T.slots t.old).live) }
+        ensures fixed { T.fixed t.new ≡ T.fixed t.old }
         ensures sound { AreSound (T.slots t.new) }
     {
         self.make_room(t);
@@ -88,6 +89,7 @@ impl Ring {
         ensures restored { IsSomeAnd (from_newest (T.slots t.old).saved index) (λ one. T.slots t.new ≡ restored one (T.slots t.old)) }
         ensures same { self.now.standing ≡ checkpoints_of T.taken_in (T.slots t.new).saved }
         ensures base { (T.slots t.new).base ≡ from_newest (slot_numbers (T.slots t.new).saved) index }
+        ensures fixed { T.fixed t.new ≡ T.fixed t.old }
         ensures sound { AreSound (T.slots t.new) }
     {
         t.restore_from(self.checkpoint_at(index).slot);
@@ -100,6 +102,7 @@ impl Ring {
         requires base { (T.slots t.old).base ≡ from_newest (slot_numbers (T.slots t.old).saved) index }
         ensures ring { self.new ≡ checkpoints self.old.capacity (without_newer index self.old.standing) }
         ensures saved { T.slots t.new ≡ without_newer_slots index (T.slots t.old) }
+        ensures fixed { T.fixed t.new ≡ T.fixed t.old }
         ensures same { self.new.standing ≡ checkpoints_of T.taken_in (T.slots t.new).saved }
         ensures base { (T.slots t.new).base ≡ newest_slot (T.slots t.new).saved }
     {
@@ -115,6 +118,7 @@ impl Ring {
         ensures capacity { self.new.capacity ≡ self.old.capacity }
         ensures same { self.new.standing ≡ checkpoints_of T.taken_in (T.slots t.new).saved }
         ensures base { (T.slots t.new).base ≡ newest_slot (T.slots t.new).saved }
+        ensures fixed { T.fixed t.new ≡ T.fixed t.old }
         ensures left { (slot : ℕ) → saved_in_ring self.old.capacity slot (T.slots t.new) ≡ saved_in_ring self.old.capacity slot (T.slots t.old) }
         ensures room { has_room self.old.capacity (T.slots t.new).pages (T.slots t.new).frames (all_numbers (T.slots t.new)) ≡ true }
         ensures sound { AreSound (T.slots t.new) }
@@ -144,6 +148,7 @@ impl Ring {
         requires base { (T.slots t.old).base ≡ newest_slot (T.slots t.old).saved }
         ensures ring { self.new ≡ checkpoints self.old.capacity (drop 1 self.old.standing) }
         ensures saved { T.slots t.new ≡ without_oldest (T.slots t.old) }
+        ensures fixed { T.fixed t.new ≡ T.fixed t.old }
     {
         if let Some(oldest) = self.buffer.pop_front() {
             t.drop_slot(oldest.slot);
@@ -157,6 +162,7 @@ impl Ring {
         requires base { StandsEarlier (T.slots t.old) }
         ensures ring { self.new ≡ checkpoints self.old.capacity (without_newer 1 self.old.standing) }
         ensures saved { T.slots t.new ≡ without_newest (T.slots t.old) }
+        ensures fixed { T.fixed t.new ≡ T.fixed t.old }
     {
         if let Some(newest) = self.buffer.pop_back() {
             t.drop_slot(newest.slot);

@@ -14,6 +14,12 @@ pub trait Snapshot {
     /// How many items a state has taken.
     ghost taken_in: { State → ℕ };
 
+    /// What of it no slot holds.
+    ghost Fixed: { Type 0 };
+
+    /// It stays as it is.
+    ghost fixed: { Self → Fixed };
+
     /// Saves the live state in a slot, which is the last one then. The live state stands on it.
     fn save_to(&mut self, slot: u32)
         requires number { slot < (slots self.old).count }
@@ -21,12 +27,14 @@ pub trait Snapshot {
         requires base { (slots self.old).base ≡ newest_slot (slots self.old).saved }
         requires room { used_pages (slots self.old) + (slots self.old).pages ≤ (slots self.old).frames }
         ensures saved { slots self.new ≡ saved_to slot (slots self.old) }
+        ensures fixed { fixed self.new ≡ fixed self.old }
         ensures sound { AreSound (slots self.new) };
 
     /// Makes the live state that of a saved slot. It stands on that slot.
     fn restore_from(&mut self, slot: u32)
         requires { Contains (slot_numbers (slots self.old).saved) slot }
         ensures restored { All (λ one. one.slot ≡ slot → slots self.new ≡ restored one (slots self.old)) (slots self.old).saved }
+        ensures fixed { fixed self.new ≡ fixed self.old }
         ensures sound { AreSound (slots self.new) };
 
     /// Gives a saved slot up.
@@ -34,6 +42,7 @@ pub trait Snapshot {
         requires { IsUnusedNewest slot (slots self.old) ⊎ IsOldest slot (slots self.old) }
         ensures newest { IsUnusedNewest slot (slots self.old) → slots self.new ≡ without_newest (slots self.old) }
         ensures oldest { IsOldest slot (slots self.old) → slots self.new ≡ without_oldest (slots self.old) }
+        ensures fixed { fixed self.new ≡ fixed self.old }
         ensures sound { AreSound (slots self.new) };
 
     /// How many items the live state has taken.

@@ -1,8 +1,10 @@
-//! Tests of a guest's memory, of its calls and of single instructions: what no clause of them says.
+//! Tests of a guest, its memory, its calls and single instructions: what no clause of them says.
 #![tactic(auto)]
 
 #[cfg(test)]
 mod call_gate_tests;
+#[cfg(test)]
+mod guest_cpu_tests;
 #[cfg(test)]
 mod guest_space_tests;
 #[cfg(test)]

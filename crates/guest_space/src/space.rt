@@ -177,6 +177,22 @@ impl GuestSpace {
         self.store.restore(slot);
     }
 
+    /// How many pages the memory has.
+    pub fn pages(&self) -> u32
+        ensures pages { result ≡ self.now.store.pages }
+        ensures lawful { IsLawfulSpace self.now }
+    {
+        self.store.pages()
+    }
+
+    /// How many frames there are.
+    pub fn frames(&self) -> u32
+        ensures frames { result ≡ self.now.store.frames }
+        ensures lawful { IsLawfulSpace self.now }
+    {
+        self.store.frames()
+    }
+
     /// How many frames the saved slots have, each counted once.
     pub fn held(&self) -> u32
         ensures held { result ≡ held_of self.now.store }

@@ -141,6 +141,10 @@ impl Snapshot for CountedSnapshot {
 
     ghost taken_in = { λ taken. taken };
 
+    ghost Fixed = { ℕ };
+
+    ghost fixed = { λ t. t.count };
+
     fn save_to(&mut self, slot: u32) {
         self.saved.push_back((slot, self.live, self.written));
         self.base = Some(slot);

@@ -9,6 +9,7 @@ invariant-room g l = record {
   same : l.self.standing ≡ checkpoints_of g.T.Snapshot.taken_in (g.T.Snapshot.slots l.t).saved;
   base : (g.T.Snapshot.slots l.t).base ≡ newest_slot (g.T.Snapshot.slots l.t).saved;
   left : (slot : ℕ) → saved_in_ring l.fn.self.capacity slot (g.T.Snapshot.slots l.t) ≡ saved_in_ring l.fn.self.capacity slot (g.T.Snapshot.slots l.fn.t);
+  fixed : g.T.Snapshot.fixed l.t ≡ g.T.Snapshot.fixed l.fn.t;
 }
 
 abbrev pub decreases-room : goal.decreases-room

@@ -1,0 +1,11 @@
+pub mod TurnLemmas
+pub mod CallTurns
+pub mod HeapLemmas
+pub mod CoreLemmas
+pub mod StepTurns
+pub mod CpuLemmas
+pub mod RangeLemmas
+pub mod RecordTurns
+pub mod ChoiceLemmas
+pub mod SavedLemmas
+pub mod StartLemmas

@@ -1,0 +1,173 @@
+-- One guest with its checkpoints, when it is saved, comes back or gives one up.
+use Rattle.std.proofs.Common.{◌≡◌, ◌≢◌, inl, inr, Bool, true, ℕ, zero, suc, ◌-◌, ◌<◌, Option, Some, None, IsSome, IfSome, List, [], ◌∷◌, ◌++◌, length, set, get_or, take, drop, All, Contains, refl, sym, ap, subst, ◌∙◌, arith}
+use Rattle.std.specs.Prelude.{slice_get, slice_set, MatchOption}
+use Rattle.std.proofs.lemmas.List.{length-set, length-replicate}
+use Rattle.std.proofs.lemmas.List.Elements.{All-set, All-head, All-tail, All-contains}
+use Rattle.circular_buffer.proofs.Places.{slice_get-set_same, slice_get-set_other}
+use Rattle.block_book.specs.Heap.{SameEnds}
+use Rattle.cow_pages.specs.Pages.{Space, slot_at}
+use Rattle.guest_space.specs.Space.{GuestPages, flat, IsLawfulSpace}
+use Rattle.guest_space.specs.Access.{Saves, Releases}
+use Rattle.ckpt_ring.specs.Slots.{Slots, AreSound, slot_numbers, newest_slot, saved_to, restored, without_newest, without_oldest, IsUnusedNewest, IsOldest}
+use Rattle.page_line.specs.Line.{Line, IsLine, line_of, slots_of, frames_of, differ, written_since, written_pages, base_without_oldest}
+use Rattle.page_line.proofs.Flags.{length-differ}
+use Rattle.page_line.proofs.Saved.{line_has}
+use Rattle.page_line.proofs.Changes.{this_slot, other_slot}
+use Rattle.page_line.proofs.Saves.{line_saves}
+use Rattle.page_line.proofs.Restores.{line_restores}
+use Rattle.page_line.proofs.States.{line_drops_newest_with, line_drops_oldest_with}
+use Rattle.page_line.proofs.Sound.{line_sound}
+use Rattle.guest_cpu.specs.declared.guest_core.Core.{Core}
+use Rattle.guest_cpu.specs.Standing.{Standing, standing, AreCounted}
+use Rattle.guest_cpu.specs.Cpus.{state_in, IsCpu}
+use Rattle.guest_cpu.proofs.CpuLemmas.{same_ends}
+
+-- what a ring of checkpoints sees of a guest
+abbrev pub slots_in : Core → GuestPages → List Core → Line → Slots Standing
+slots_in core space saved line = slots_of (state_in space saved) (standing core (flat space)) space.store line
+
+pub cpu_sound : (core : Core) (space : GuestPages) (saved : List Core) (line : Line) → IsCpu core space saved line → AreSound (slots_in core space saved line)
+cpu_sound core space saved line fits = line_sound (state_in space saved) (standing core (flat space)) space.store line fits.line_is
+
+-- the store of a memory with something else in a slot
+abbrev pub with_slot_of : GuestPages → ℕ → Option Space → GuestPages
+with_slot_of space slot o = record space { store = record space.store { slots = slice_set space.store.slots slot o } }
+
+saved_as : (core : Core) (old : GuestPages) (saved : List Core) (line : Line) (slot : ℕ) → IsCpu core old saved line → slot < length old.store.slots → slot_at old.store slot ≡ None
+    → (slots_in core old saved line).base ≡ newest_slot (slots_in core old saved line).saved
+    → IsCpu core (with_slot_of old slot (Some old.store.live)) (set saved slot core) (line_of (line.order ++ slot ∷ []) (Some slot))
+    × (slots_in core (with_slot_of old slot (Some old.store.live)) (set saved slot core) (line_of (line.order ++ slot ∷ []) (Some slot)) ≡ saved_to slot (slots_in core old saved line))
+saved_as core old saved line slot fits less empty stands =
+    let new = with_slot_of old slot (Some old.store.live) in
+    let near : slot < length saved = omega (arith, less, fits.each_slot) in
+    let this : state_in new (set saved slot core) slot ≡ standing core (flat old) = rw (slice_get-set_same saved slot core near, this_slot old.store slot (Some old.store.live) less) refl in
+    let others : (other : ℕ) → other ≢ slot → state_in new (set saved slot core) other ≡ state_in old saved other =
+    λ other apart. rw (slice_get-set_other saved slot other core apart, other_slot old.store slot other (Some old.store.live) apart) refl in
+    let kept = line_saves (state_in old saved) (state_in new (set saved slot core)) (standing core (flat old)) old.store new.store line slot fits.line_is less empty stands this (λ k d near apart. others _ apart) refl in (
+      record {
+        line_is = kept.0;
+        heap = fits.heap;
+        counts = fits.counts;
+        each_slot = omega (arith, fits.each_slot, length-set saved slot core, length-set old.store.slots slot (Some old.store.live));
+        same = All-set (λ (other : Core). SameEnds core.book other.book × AreCounted other.marks) saved slot core ((refl, refl), fits.counts) fits.same;
+        few = omega (arith, fits.few, length-set old.store.slots slot (Some old.store.live));
+      },
+      kept.1,
+    )
+
+-- the guest is saved in a slot
+pub cpu_saves : (core : Core) (old new : GuestPages) (saved after : List Core) (line : Line) (slot : ℕ) → IsCpu core old saved line → slot < length old.store.slots → slot_at old.store slot ≡ None
+    → (slots_in core old saved line).base ≡ newest_slot (slots_in core old saved line).saved → Saves old slot new → after ≡ set saved slot core
+    → IsCpu core new after (line_of (line.order ++ slot ∷ []) (Some slot)) × (slots_in core new after (line_of (line.order ++ slot ∷ []) (Some slot)) ≡ saved_to slot (slots_in core old saved line))
+cpu_saves core old new saved after line slot fits less empty stands saves after_is =
+    subst (λ list. IsCpu core new list (line_of (line.order ++ slot ∷ []) (Some slot)) × (slots_in core new list (line_of (line.order ++ slot ∷ []) (Some slot)) ≡ saved_to slot (slots_in core old saved line))) (sym after_is)
+    (subst (λ space. IsCpu core space (set saved slot core) (line_of (line.order ++ slot ∷ []) (Some slot)) × (slots_in core space (set saved slot core) (line_of (line.order ++ slot ∷ []) (Some slot)) ≡ saved_to slot (slots_in core old saved line)))
+    (sym saves.store_is) (saved_as core old saved line slot fits less empty stands))
+
+-- an element of a list
+pub all_at : {X : Type 0} (P : X → Type 0) (xs : List X) (i : ℕ) (x : X) → All P xs → slice_get xs i ≡ Some x → P x
+all_at P [] i x all is = cc
+all_at P (y ∷ ys) zero x all is = let same : y ≡ x = cc in subst P same (All-head P y ys all)
+all_at P (y ∷ ys) (suc i) x all is = all_at P ys i x (All-tail P y ys all) is
+
+-- what stands at an index
+pub at_index : {X : Type 0} (xs : List X) (i : ℕ) (x : X) → i < length xs → x ≡ get_or xs i x → slice_get xs i ≡ Some x
+at_index [] i x near is = absurd (omega (arith, near))
+at_index (y ∷ ys) zero x near is = ap (λ one. Some one) (sym is)
+at_index (y ∷ ys) (suc i) x near is = at_index ys i x (omega (arith, near)) is
+
+restored_as : (core there : Core) (old : GuestPages) (saved : List Core) (line : Line) (slot : ℕ) (space : Space) → IsCpu core old saved line → Contains line.order slot → slot_at old.store slot ≡ Some space → slice_get saved slot ≡ Some there
+    → IsCpu there (record old { store = record old.store { live = space } }) saved (line_of line.order (Some slot))
+    × All (λ one. one.slot ≡ slot → slots_in there (record old { store = record old.store { live = space } }) saved (line_of line.order (Some slot)) ≡ restored one (slots_in core old saved line)) (slots_in core old saved line).saved
+restored_as core there old saved line slot space fits stands is there_is =
+    let new : GuestPages = record old { store = record old.store { live = space } } in
+    let back = line_restores (state_in old saved) (standing core (flat old)) old.store new.store line slot space fits.line_is stands is refl in
+    let live : standing there (flat new) ≡ state_in old saved slot = rw (there_is, is) refl in
+    let facts = all_at (λ (other : Core). SameEnds core.book other.book × AreCounted other.marks) saved slot there fits.same there_is in (
+      record {
+        line_is = back.0;
+        heap = rw (facts.0.0, facts.0.1) fits.heap;
+        counts = facts.1;
+        each_slot = fits.each_slot;
+        same = same_ends core there saved facts.0 fits.same;
+        few = fits.few;
+      },
+      λ k d less same. ap (λ s. slots_of (state_in old saved) s new.store (line_of line.order (Some slot))) live ∙ back.1 k d less same,
+    )
+
+-- the guest comes back from a slot
+pub cpu_restores : (core there : Core) (old new : GuestPages) (saved : List Core) (line : Line) (slot : ℕ) → IsCpu core old saved line → Contains (slot_numbers (slots_in core old saved line).saved) slot
+    → IfSome (slot_at old.store slot) (λ space. new ≡ record old { store = record old.store { live = space } }) → slice_get saved slot ≡ Some there
+    → IsCpu there new saved (line_of line.order (Some slot))
+    × All (λ one. one.slot ≡ slot → slots_in there new saved (line_of line.order (Some slot)) ≡ restored one (slots_in core old saved line)) (slots_in core old saved line).saved
+cpu_restores core there old new saved line slot fits has after there_is =
+    let stands = line_has (state_in old saved) (standing core (flat old)) old.store line slot fits.line_is has in
+    by (slot_at old.store slot) refl stands.0 stands.2 after
+  where
+    by : (o : Option Space) → slot_at old.store slot ≡ o → Contains line.order slot → IsSome o → IfSome o (λ space. new ≡ record old { store = record old.store { live = space } })
+        → IsCpu there new saved (line_of line.order (Some slot))
+        × All (λ one. one.slot ≡ slot → slots_in there new saved (line_of line.order (Some slot)) ≡ restored one (slots_in core old saved line)) (slots_in core old saved line).saved
+    by None is inside some h = cc
+    by (Some space) is inside some h =
+        subst (λ s. IsCpu there s saved (line_of line.order (Some slot))
+        × All (λ one. one.slot ≡ slot → slots_in there s saved (line_of line.order (Some slot)) ≡ restored one (slots_in core old saved line)) (slots_in core old saved line).saved) (sym h)
+        (restored_as core there old saved line slot space fits inside is there_is)
+
+-- what is saved in the other slots stays
+others_stay : (old : GuestPages) (saved : List Core) (slot : ℕ) (line : Line) → All (λ other. other ≢ slot → state_in (with_slot_of old slot None) saved other ≡ state_in old saved other) line.order
+others_stay old saved slot line = λ k d near apart. rw (other_slot old.store slot _ None apart) refl
+
+-- the newest slot is given up
+pub cpu_drops_newest : (core : Core) (old new : GuestPages) (saved : List Core) (line : Line) (slot : ℕ) → IsCpu core old saved line → IsUnusedNewest slot (slots_in core old saved line) → Releases old slot new
+    → IsCpu core new saved (line_of (take (length line.order - 1) line.order) line.base) × (slots_in core new saved (line_of (take (length line.order - 1) line.order) line.base) ≡ without_newest (slots_in core old saved line))
+cpu_drops_newest core old new saved line slot fits unused after =
+    let rest = line_of (take (length line.order - 1) line.order) line.base in
+    let dropped = line_drops_newest_with (state_in old saved) (state_in (with_slot_of old slot None) saved) (standing core (flat old)) old.store (with_slot_of old slot None).store line slot fits.line_is unused (others_stay old saved slot line) refl in
+    subst (λ s. IsCpu core s saved rest × (slots_in core s saved rest ≡ without_newest (slots_in core old saved line))) (sym after.store_is) (
+      record {
+        line_is = dropped.0;
+        heap = fits.heap;
+        counts = fits.counts;
+        each_slot = omega (arith, fits.each_slot, length-set old.store.slots slot None);
+        same = fits.same;
+        few = omega (arith, fits.few, length-set old.store.slots slot None);
+      },
+      dropped.1,
+    )
+
+-- the oldest slot is given up
+pub cpu_drops_oldest : (core : Core) (old new : GuestPages) (saved : List Core) (line : Line) (slot : ℕ) → IsCpu core old saved line → IsOldest slot (slots_in core old saved line) → Releases old slot new
+    → IsCpu core new saved (line_of (drop 1 line.order) (base_without_oldest line)) × (slots_in core new saved (line_of (drop 1 line.order) (base_without_oldest line)) ≡ without_oldest (slots_in core old saved line))
+cpu_drops_oldest core old new saved line slot fits oldest after =
+    let rest = line_of (drop 1 line.order) (base_without_oldest line) in
+    let dropped = line_drops_oldest_with (state_in old saved) (state_in (with_slot_of old slot None) saved) (standing core (flat old)) old.store (with_slot_of old slot None).store line slot fits.line_is oldest (others_stay old saved slot line) refl in
+    subst (λ s. IsCpu core s saved rest × (slots_in core s saved rest ≡ without_oldest (slots_in core old saved line))) (sym after.store_is) (
+      record {
+        line_is = dropped.0;
+        heap = fits.heap;
+        counts = fits.counts;
+        each_slot = omega (arith, fits.each_slot, length-set old.store.slots slot None);
+        same = fits.same;
+        few = omega (arith, fits.few, length-set old.store.slots slot None);
+      },
+      dropped.1,
+    )
+
+-- there is a flag for each page
+pub written_length : (space : GuestPages) (line : Line) → IsLawfulSpace space → IsLine space.store line → length (written_pages space.store line) ≡ space.store.pages
+written_length space line lawful is = by line.base is.base
+  where
+    live_many : length space.store.live.numbers ≡ space.store.pages
+    live_many = (lawful.store.spaces space.store.live (inl refl)).numbers
+
+    of_slot : (slot : ℕ) (o : Option Space) → slot_at space.store slot ≡ o → IsSome o → length (differ (frames_of o) space.store.live.numbers) ≡ space.store.pages
+    of_slot slot None found some = cc
+    of_slot slot (Some other) found some =
+        let many = (lawful.store.spaces other (inr (slot, found))).numbers in
+        length-differ other.numbers space.store.live.numbers (many ∙ sym live_many) ∙ many
+
+    by : (base : Option ℕ) → MatchOption base (line.order ≡ []) (Contains line.order) → length (written_since space.store base space.store.live.numbers) ≡ space.store.pages
+    by None none = length-replicate {A = Bool} space.store.pages true
+    by (Some slot) there =
+        let saved = All-contains (λ n. (n < length space.store.slots) × IsSome (slot_at space.store n)) line.order slot is.each_saved there in
+        of_slot slot (slot_at space.store slot) refl saved.1

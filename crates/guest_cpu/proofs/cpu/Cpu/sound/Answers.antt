@@ -1,0 +1,28 @@
+use Rattle.std.proofs.Common.{◌≡◌, length, refl, subst}
+use Rattle.ckpt_ring.specs.Slots.{AreSound}
+use Rattle.page_line.specs.Line.{count_true}
+use Rattle.run_history.specs.Served.{IsLaidOut}
+use Rattle.guest_cpu.specs.Standing.{marks_of, AreCounted}
+use Rattle.guest_cpu.specs.Cpus.{CpuState}
+use Rattle.guest_cpu.proofs.SavedLemmas.{cpu_sound, written_length}
+use Rattle.guest_cpu.proofs.cpu.Cpu.sound.Goals as goal
+
+pub returns-clause-pages : goal.returns-clause-pages
+returns-clause-pages g c =
+    subst (λ (state : CpuState _). length state.written ≡ state.slots.pages) c.self.view_is (written_length c.self.inside.space c.self.inside.line c.sound.ensures c.self.invariant.line_is)
+
+pub returns-clause-written : goal.returns-clause-written
+returns-clause-written g c = subst (λ (state : CpuState _). count_true state.written ≡ state.slots.written) c.self.view_is refl
+
+pub returns-clause-laid_out : goal.returns-clause-laid_out
+returns-clause-laid_out g c =
+    subst (λ (state : CpuState _). IsLaidOut state.slots.live.guest) c.self.view_is (record { sound = c.sound-2.ensures.heap; start = refl; end = refl; live = refl })
+
+pub returns-clause-ring : goal.returns-clause-ring
+returns-clause-ring g c =
+    subst (λ (state : CpuState _). AreSound state.slots) c.self.view_is (cpu_sound c.self.inside.core c.self.inside.space c.self.inside.saved.items c.self.inside.line c.self.invariant)
+
+pub returns-clause-counted : goal.returns-clause-counted
+returns-clause-counted g c =
+    subst (λ (state : CpuState _). AreCounted (marks_of state.slots.live)) c.self.view_is
+    (record { taken = c.self.invariant.counts.taken; since = c.self.invariant.counts.since; choices = c.self.invariant.counts.choices; sends = c.self.invariant.counts.sends })

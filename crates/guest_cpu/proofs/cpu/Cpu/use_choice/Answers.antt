@@ -1,0 +1,23 @@
+use Rattle.std.proofs.Common.{◌≡◌, subst}
+use Rattle.guest_space.specs.Space.{flat}
+use Rattle.guest_cpu.specs.Cpus.{CpuState, cpu_state, live_of}
+use Rattle.guest_cpu.specs.Recording.{live_with_choice, chosen_standing}
+use Rattle.guest_cpu.specs.Standing.{standing, size_asked, zeroed_range}
+use Rattle.guest_cpu.proofs.CpuLemmas.{moved_cpu}
+use Rattle.guest_cpu.proofs.cpu.Cpu.use_choice.Goals as goal
+
+pub invariant_of-self-2 : goal.invariant_of-self-2
+invariant_of-self-2 g c =
+    let done = rw c.if-not-choose.false at c.choose.ensures.done in
+    let wrote = rw c.if-not-choose.false at c.choose.ensures.wrote in
+    (moved_cpu c.self.inside.rule _ _ _ _ _ _ (chosen_standing c.args.choice (standing c.self.inside.core (flat c.self.inside.space))) (zeroed_range c.args.choice (size_asked c.self.inside.core))
+    c.self.invariant c.sound.ensures done wrote c.choose.ensures.keeps).2
+
+pub returns-clause-live : goal.returns-clause-live
+returns-clause-live g c =
+    let done = rw c.if-not-choose.false at c.choose.ensures.done in
+    let wrote = rw c.if-not-choose.false at c.choose.ensures.wrote in
+    subst (λ (state : CpuState _). live_of (cpu_state c.self.inside.rule c.choose.new.core c.choose.new.space c.self.inside.saved.items c.self.inside.line) ≡ live_with_choice state.base c.args.choice (live_of state))
+    c.self.view_is
+    (moved_cpu c.self.inside.rule _ _ _ _ _ _ (chosen_standing c.args.choice (standing c.self.inside.core (flat c.self.inside.space))) (zeroed_range c.args.choice (size_asked c.self.inside.core))
+    c.self.invariant c.sound.ensures done wrote c.choose.ensures.keeps).0

@@ -1,0 +1,19 @@
+use Rattle.std.proofs.Common.{ap, subst, ◌∙◌}
+use Rattle.ckpt_ring.specs.Slots.{AreSound, used_pages}
+use Rattle.guest_space.specs.Space.{flat}
+use Rattle.page_line.proofs.Used.{line_used}
+use Rattle.guest_cpu.specs.Standing.{standing}
+use Rattle.guest_cpu.specs.Cpus.{CpuState, state_in}
+use Rattle.guest_cpu.proofs.SavedLemmas.{cpu_sound}
+use Rattle.guest_cpu.proofs.snapshot.CpuSnapshot.used.Goals as goal
+
+pub returns-clause-used : goal.returns-clause-used
+returns-clause-used g c =
+    let s = c.self.inside in
+    c.used.ensures.used
+    ∙ line_used (state_in s.space s.saved.items) (standing s.core (flat s.space)) s.space.store s.line c.used.ensures.lawful.store c.self.invariant.line_is
+    ∙ ap (λ (state : CpuState _). used_pages state.slots) c.self.view_is
+
+pub returns-clause-sound : goal.returns-clause-sound
+returns-clause-sound g c =
+    subst (λ (state : CpuState _). AreSound state.slots) c.self.view_is (cpu_sound c.self.inside.core c.self.inside.space c.self.inside.saved.items c.self.inside.line c.self.invariant)

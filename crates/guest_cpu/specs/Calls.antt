@@ -1,0 +1,60 @@
+-- The turns of calls, by their arguments.
+use Rattle.std.specs.Prelude.{◌≡◌, ℕ, ◌+◌, Result, Ok, Err, not, nat_lt, List, replicate, Option, Some, None, if◌then◌else◌, ◌==◌}
+use Rattle.std.specs.declared.alloc.AllocError.{AllocError}
+use Rattle.block_book.specs.declared.choice.Choice.{Choice}
+use Rattle.block_book.specs.Heap.{Heap}
+use Rattle.alloc_env.specs.declared.env.Env.{Env}
+use Rattle.alloc_env.specs.Serving.{served_malloc, served_free}
+use Rattle.elf_image.specs.Memory.{Area, read, bytes_at, put_bytes}
+use Rattle.rv_isa.specs.declared.instr.Instr.TheVariants.{Ecall}
+use Rattle.run_history.specs.declared.answer.Cause.TheVariants.{BadFree}
+use Rattle.run_history.specs.Machine.{Machine, Effect, Goes, Emits, Fails}
+use Rattle.run_history.specs.Call.{answered, may_send, malloc, free}
+use Rattle.run_history.specs.Served.{Grant}
+use Rattle.guest_cpu.specs.declared.event.Event.{Event}
+use Rattle.guest_cpu.specs.declared.guest_core.Core.{Core}
+use Rattle.guest_cpu.specs.Standing.{Standing, standing, machine_of, moved, Turn, turn_of}
+
+-- the allocator isn't asked
+abbrev pub unasked : Heap → Option Grant
+unasked heap = Some (record { chosen = None; heap = heap })
+
+-- a send whose bytes may be read, unless it is answered before they are looked at
+abbrev pub sends : Machine → ℕ → ℕ → ℕ → Effect
+sends m conn at len =
+    if nat_lt 65535 len then Goes (answered 2 m) else
+    if not (may_send m conn) then Goes (answered 1 m) else
+    if len == 0 then Goes (answered 0 m) else
+    Emits conn (bytes_at read m.memory at len) (answered 0 m)
+
+-- an effect is a send
+abbrev pub IsSending : Effect → Type 0
+IsSending e = (conn : ℕ) × (bytes : List ℕ) × (m : Machine) × (e ≡ Emits conn bytes m)
+
+-- a send was answered, or its bytes are sent; or memory ran out for them, and nothing changed
+abbrev pub SendsBy : Effect → Core → List Area → Result (Option (ℕ × List ℕ)) AllocError → Core → Type 0
+SendsBy e old memory (Ok None) new = (e ≡ Goes (machine_of new memory)) × (standing new memory ≡ moved (machine_of new memory) old.book (standing old memory))
+SendsBy e old memory (Ok (Some (conn, bytes))) new =
+    (e ≡ Emits conn bytes (machine_of new memory)) × (standing new memory ≡ record (moved (machine_of new memory) old.book (standing old memory)) { sends = old.marks.sends + 1 })
+SendsBy e old memory (Err fault) new = (new ≡ old) × IsSending e
+
+abbrev pub sending : Standing → ℕ → ℕ → ℕ → Option (Turn Event)
+sending s conn at len = turn_of (Some Ecall) s (unasked s.guest.heap) (sends s.guest.machine conn at len)
+
+-- a memory with the bytes of a block of a size zeroed, where the choice says so
+abbrev pub with_zeros : Choice → ℕ → List Area → List Area
+with_zeros choice size memory = if choice.zeroed then put_bytes memory choice.at (replicate size 0) else memory
+
+-- malloc in an environment
+abbrev pub allocating : Env → Standing → ℕ → Option (Turn Event)
+allocating env s size =
+    let served = served_malloc env s.guest.heap size in
+    turn_of (Some Ecall) s (Some (record { chosen = Some served.choice; heap = served.heap })) (malloc (Some served.choice) s.guest.machine)
+
+-- free in an environment
+abbrev pub frees : Option Heap → Standing → Option (Turn Event)
+frees None s = turn_of (Some Ecall) s None (Fails BadFree)
+frees (Some heap) s = turn_of (Some Ecall) s (Some (record { chosen = None; heap = heap })) (free s.guest.machine)
+
+abbrev pub freeing : Env → Standing → ℕ → Option (Turn Event)
+freeing env s at = frees (served_free env s.guest.heap at) s

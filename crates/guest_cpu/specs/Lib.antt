@@ -1,0 +1,7 @@
+pub mod Standing
+pub mod Turns
+pub mod Calls
+pub mod Receiving
+pub mod Recording
+pub mod Cpus
+pub mod Running

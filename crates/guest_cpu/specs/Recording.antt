@@ -1,0 +1,64 @@
+-- What a guest does next as recorded: without a budget, an environment or a rule. The items and the answers of malloc are
+-- given from outside, and a free does what it does in the model.
+use Rattle.std.specs.Prelude.{ℕ, ◌+◌, Bool, Option, Some, None, nat_le, length, nat_lt, ◌||◌, ◌&&◌, if◌then◌else◌, ◌==◌}
+use Rattle.rv_isa.specs.declared.instr.Instr.{Instr}
+use Rattle.block_book.specs.declared.choice.Choice.{Choice}
+use Rattle.block_book.specs.Answer.{live_blocks, is_allowed}
+use Rattle.block_book.specs.Block.{live_block}
+use Rattle.block_book.specs.Heap.{Heap, is_live_at, without_block, with_block, most_blocks}
+use Rattle.run_history.specs.Machine.{register, Effect, Goes, Emits, Ends, Wants, Chooses, Fails}
+use Rattle.run_history.specs.Call.{allocated}
+use Rattle.run_history.specs.Run.{does}
+use Rattle.run_history.specs.Served.{Request, Free, request_of}
+use Rattle.run_history.specs.Touching.{instruction_at}
+use Rattle.guest_cpu.specs.declared.event.Question.{Question}
+use Rattle.guest_cpu.specs.declared.event.Question.TheVariants as question
+use Rattle.guest_cpu.specs.Standing.{Standing, Live, Turn, turn_to, moved, stored_by, zeroed_range, with_range}
+
+-- a live block at an address is gone; any other free changes nothing
+abbrev pub released : Heap → ℕ → Heap
+released heap at = if is_live_at heap at then without_block heap at else heap
+
+-- the heap after what an instruction asks of the allocator
+abbrev pub heap_after : Request → Heap → Heap
+heap_after (Free at) heap = released heap at
+heap_after _ heap = heap
+
+-- the turn of an effect of an instruction, with this heap behind it
+abbrev pub recorded_of : Option Instr → Heap → Standing → Effect → Turn Question
+recorded_of found heap s (Goes m) = turn_to None (moved m heap s) (stored_by found s.guest.machine)
+recorded_of found heap s (Emits conn bytes m) = turn_to (Some (question.Emits conn bytes)) (record (moved m heap s) { sends = s.sends + 1 }) None
+recorded_of found heap s (Ends code) = turn_to (Some (question.Exits code)) (record s { steps = s.steps + 1; ended = Some code }) None
+recorded_of found heap s Wants = turn_to (Some question.Asks) s None
+recorded_of found heap s (Chooses size) = turn_to (Some (question.Wants size)) s None
+recorded_of found heap s (Fails cause) = turn_to (Some (question.Failed cause)) s None
+
+-- what a guest does next as recorded
+abbrev pub recorded_turn : Standing → Turn Question
+recorded_turn s =
+    recorded_of (instruction_at s.guest.machine) (heap_after (request_of (instruction_at s.guest.machine) s.guest.machine) s.guest.heap) s (does None None s.guest.machine)
+
+-- the same up to so many instructions, which is tested first
+unfoldable pub recorded : ℕ → Standing → Option (Turn Question)
+recorded until s = if nat_le until s.steps then Some (turn_to (Some question.Reached) s None) else Some (recorded_turn s)
+
+-- whether an answer of malloc can be used: C allows it, and the block has room among those that stand
+abbrev pub is_usable : Standing → Choice → Bool
+is_usable s choice =
+    is_allowed s.guest.heap.start s.guest.heap.end (live_blocks s.guest.heap.blocks) (register s.guest.machine 10) choice
+    && ((choice.at == 0) || nat_lt (length s.guest.heap.blocks) most_blocks)
+
+-- the heap with a block of an answer of malloc, unless it is null
+abbrev pub heap_with : Choice → ℕ → Heap → Heap
+heap_with choice size heap = if choice.at == 0 then heap else with_block heap (live_block choice.at size 0)
+
+-- where a guest stands once malloc answered so
+abbrev pub chosen_standing : Choice → Standing → Standing
+chosen_standing choice s =
+    moved (allocated (register s.guest.machine 10) choice s.guest.machine) (heap_with choice (register s.guest.machine 10) s.guest.heap) s
+
+abbrev pub live_with_choice : ℕ → Choice → Live → Live
+live_with_choice base choice live = record {
+  standing = chosen_standing choice live.standing;
+  written = with_range base (zeroed_range choice (register live.standing.guest.machine 10)) live.written;
+}

@@ -1,0 +1,37 @@
+// Why a run stops.
+
+use block_book::Choice;
+use run_history::Cause;
+use rx_io::Bytes;
+
+/// Why a run in an environment stopped.
+#[derive(Debug, Drop)]
+pub enum Event {
+    /// It asks for an item: the recv isn't executed.
+    Asks,
+    /// It sent bytes to a connection.
+    Emits(u16, Bytes),
+    /// It called malloc, which answered so.
+    Chooses(Choice),
+    /// It ended itself with a code.
+    Exits(u32),
+    /// It failed: the instruction isn't executed.
+    Failed(Cause),
+}
+
+/// Why a run as recorded stopped.
+#[derive(Debug, Drop)]
+pub enum Question {
+    /// It asks for an item: the recv isn't executed.
+    Asks,
+    /// It sent bytes to a connection.
+    Emits(u16, Bytes),
+    /// It calls malloc for so many bytes: the call isn't executed.
+    Wants(u32),
+    /// It ended itself with a code.
+    Exits(u32),
+    /// It failed: the instruction isn't executed.
+    Failed(Cause),
+    /// It has done as many instructions as it was to do.
+    Reached,
+}

@@ -1,0 +1,73 @@
+// A guest at the start of its program.
+ghost use Rattle.std.specs.Prelude.{◌≡◌, ◌*◌, ◌/◌, ◌≤◌, length, All, IfOk};
+ghost use Rattle.guest_cpu.specs.Cpus.{IsStartCore, IsFreshCpu};
+
+use crate::guest_core::Core;
+use crate::{Cpu, Marks};
+use block_book::Book;
+use call_gate::ConnSet;
+use elf_image::Image;
+use guest_space::{AccessRule, GuestSpace};
+use page_line::SlotLine;
+use run_history::Regs;
+use std::alloc::{AllocError, Global};
+
+impl<R: AccessRule + Drop> Cpu<R> {
+    /// A guest at the start of a program, with so many slots for checkpoints, 1 to 16, and so many frames, 2 to 16 for each
+    /// page of its window. Memory for all of them is taken here.
+    pub fn make(
+        alloc: Global,
+        image: &Image,
+        slots: u32,
+        frames: u32,
+        rule: R,
+    ) -> Result<Cpu<R>, AllocError>
+        requires numbered { (1 ≤ slots) × (slots ≤ 16) }
+        requires enough { (2 * (image.now.window / 4096) ≤ frames) × (frames ≤ 16 * (image.now.window / 4096)) }
+        ensures { IfOk result (λ cpu. IsFreshCpu image.now slots frames rule cpu) }
+    {
+        Ok(Cpu {
+            rule,
+            core: Core::at_start(alloc, image)?,
+            space: GuestSpace::make(alloc, image, slots, frames)?,
+            saved: cores(alloc, image, slots)?,
+            line: SlotLine::make(alloc)?,
+        })
+    }
+}
+
+// Room for so many cores.
+fn cores(alloc: Global, image: &Image, count: u32) -> Result<Vec<Core>, AllocError>
+    ensures many { IfOk result (λ cores. length cores.items ≡ count) }
+    ensures each { IfOk result (λ cores. All (IsStartCore image.now) cores.items) }
+{
+    let mut cores = Vec::with_capacity(alloc, count as usize)?;
+    for _ in 0..count {
+        cores.push(Core::at_start(alloc, image)?)?;
+    }
+    Ok(cores)
+}
+
+impl Core {
+    // What a guest has beside its memory at the start of a program.
+    #[tactic(auto, unfolding(run_history::specs::Machine::start_machine))]
+    fn at_start(alloc: Global, image: &Image) -> Result<Core, AllocError>
+        ensures { IfOk result (IsStartCore image.now) }
+    {
+        let mut x = [0; 32];
+        x[2] = image.stack_top();
+        Ok(Core {
+            regs: Regs { pc: image.entry, x },
+            book: Book::make(alloc, image.heap_start(), image.heap_end())?,
+            connections: ConnSet::make(alloc)?,
+            marks: Marks {
+                taken: 0,
+                since: 0,
+                steps: 0,
+                choices: 0,
+                sends: 0,
+            },
+            ended: None,
+        })
+    }
+}
