@@ -9,3 +9,4 @@ pub mod RecordTurns
 pub mod ChoiceLemmas
 pub mod SavedLemmas
 pub mod StartLemmas
+pub mod ServingLemmas

@@ -5,3 +5,4 @@ pub mod Receiving
 pub mod Recording
 pub mod Cpus
 pub mod Running
+pub mod Serving

@@ -7,6 +7,7 @@ mod choosing;
 mod cpu;
 mod event;
 mod guest_core;
+pub mod laws;
 mod making;
 mod marks;
 mod receiving;
