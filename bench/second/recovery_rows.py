@@ -1,0 +1,167 @@
+"""Worked rows of recovery: environments, the table, the ring, stamps, holding and the report."""
+
+from second import guests
+from second.checks import OPENS_0, Ran, lines_in, out, piece, row, say
+from second.heap import ENVIRONMENTS, PAD
+from second.machine import MIB
+from second.outside import MemoryLink
+from second.session import Notes, Options, Session
+
+HI = b"hi\n"
+OVERRUN = b"a" * 39 + b"\n"
+ALL_FIVE = ("pad", "zero", "isolate", "delay", "all")
+
+
+def same_at(checkpoint, result, environments=ALL_FIVE):
+    return [(checkpoint, environment, result) for environment in environments]
+
+
+def told(number):
+    return b"%08x\n" % number
+
+
+@row("a word of address 0")
+def _():
+    ran = Ran("null", lines_in(HI))
+    ran.says(("GaveUp", 2, "BadAccess"), 5, b"")
+    ran.tried(2, "BadAccess", *same_at(1, "BadAccess"), *same_at(0, "BadAccess"))
+    say(len(ran.report.splitlines()), 13)
+
+
+@row("a word of address 0, with no entry")
+def _():
+    Ran("null", lines_in(HI), table=()).says(("GaveUp", 2, "BadAccess"), 5, b"")
+
+
+@row("an overrun")
+def _():
+    ran = Ran("overflow", lines_in(OVERRUN))
+    ran.says(("Finished",), 0, out((0, OVERRUN)))
+    ran.tried(2, "AssertFailed 1", (1, "pad", "survived"))
+    say(ran.report.splitlines()[2], "try 0 checkpoint 1 env pad result survived")
+    say(ran.choices(), [(ran.heap + 256, False), (ran.heap + 784, False)])
+
+
+@row("an overrun, with one entry")
+def _():
+    ran = Ran("overflow", lines_in(OVERRUN), table=(PAD,), tried=1, ring=1)
+    ran.says(("Finished",), 0, out((0, OVERRUN)))
+    say(ran.choices(), [(ran.heap + 256, False), (ran.heap + 784, False)])
+
+
+@row("a word that was never written")
+def _():
+    ran = Ran("unset", lines_in(HI))
+    ran.says(("Finished",), 0, out((0, HI)))
+    ran.tried(2, "AssertFailed 2", (1, "pad", "AssertFailed 2"), (1, "zero", "survived"))
+
+
+@row("a block that is freed twice")
+def _():
+    ran = Ran("twice", lines_in(HI))
+    ran.says(("Finished",), 0, out((0, HI)))
+    ran.tried(2, "BadFree", *same_at(1, "BadFree", ALL_FIVE[:3]), (1, "delay", "survived"))
+
+
+@row("a block that is used after it was freed")
+def _():
+    ran = Ran("stale", lines_in(b"a\n", b"b\n"))
+    ran.says(("Finished",), 0, out((0, b"a\n"), (0, b"b\n")))
+    ran.tried(3, "AssertFailed 3", *same_at(2, "AssertFailed 3"), *same_at(1, "AssertFailed 3", ALL_FIVE[:3]),
+              (1, "delay", "survived"))
+
+
+@row("an address that was told before a bad free")
+def _():
+    ran = Ran("tell_free", lines_in(b"a\n"))
+    ran.says(("Finished",), 0, out((0, told(ran.heap))))
+    ran.tried(2, "BadFree", (1, "pad", "Contradicts"), (1, "zero", "BadFree"), (1, "isolate", "Contradicts"), (1, "delay", "survived"))
+
+
+@row("an address that was told before a bad free, with no entry")
+def _():
+    ran = Ran("tell_free", lines_in(b"a\n"), table=())
+    ran.says(("GaveUp", 2, "BadFree"), 5, out((0, told(ran.heap))))
+
+
+@row("two connections, one of which was given bytes")
+def _():
+    stream = OPENS_0 + bytes.fromhex("0101000000") + piece(1, b"go\n")
+    ran = Ran("pair", stream)
+    ran.says(("Finished",), 0, out((0, b"a\n"), (1, b"b\n")))
+    ran.tried(3, "BadFree", (2, "pad", "Contradicts"), (2, "zero", "BadFree"), (2, "isolate", "Contradicts"), (2, "delay", "survived"))
+
+
+@row("two connections, with one entry")
+def _():
+    stream = OPENS_0 + bytes.fromhex("0101000000") + piece(1, b"go\n")
+    ran = Ran("pair", stream, table=(PAD,), tried=1, ring=1)
+    ran.says(("GaveUp", 3, "BadFree"), 5, out((0, b"a\n")))
+    ran.tried(3, "BadFree", (2, "pad", "Contradicts"))
+
+
+TOLD_OVER = ("Contradicts", "AssertFailed 5", "Contradicts", "AssertFailed 5", "Contradicts")
+
+
+@row("an address that was told before an overrun")
+def _():
+    ran = Ran("tell_over", lines_in(b"a\n"))
+    ran.says(("GaveUp", 2, "AssertFailed 5"), 5, out((0, told(ran.heap))))
+    ran.tried(2, "AssertFailed 5", *[(q, e, r) for q in (1, 0) for e, r in zip(ALL_FIVE, TOLD_OVER)])
+
+
+@row("an address that is held back before an overrun")
+def _():
+    ran = Ran("tell_over", lines_in(b"a\n"), hold=2)
+    ran.says(("Finished",), 0, out((0, told(ran.heap + 256))))
+    ran.tried(2, "AssertFailed 5", (1, "pad", "survived"))
+
+
+@row("an address that was told before an overrun, with one entry")
+def _():
+    ran = Ran("tell_over", lines_in(b"a\n"), table=(PAD,), tried=1, ring=1)
+    ran.says(("GaveUp", 2, "AssertFailed 5"), 5, out((0, told(ran.heap))))
+    ran.tried(2, "AssertFailed 5", (1, "pad", "Contradicts"))
+
+
+@row("a budget of three and four instructions")
+def _():
+    Ran("three", b"", budget=4).says(("Finished",), 0, b"")
+    ran = Ran("three", b"", budget=3)
+    ran.says(("GaveUp", 0, "Hang"), 5, b"")
+    expected = ["rx report 1", "failure 0 point 0 cause Hang at 0001000c"]
+    expected += ["try %d checkpoint 0 env %s result Hang" % pair for pair in enumerate(ALL_FIVE)]
+    say(ran.report.splitlines(), expected + ["end 5 taken 0 steps 3"])
+
+
+@row("a budget of three, with a report in JSON")
+def _():
+    ran = Ran("three", b"", budget=3, form="json")
+    begins = ('{"cause":"Hang","failure":0,"pc":"0001000c","point":0,"tries":[{"checkpoint":0,"env":"pad","result":"Hang"},')
+    say(ran.report.splitlines()[1][:len(begins)], begins)
+    say(ran.report.splitlines()[2], '{"end":5,"steps":3,"taken":0}')
+
+
+@row("a pool of two windows")
+def _():
+    ran = Ran("dirty", lines_in(b"a\n", b"b\n", b"c\n"), window=MIB, frames=2)
+    ran.says(("Finished",), 0, out((0, b"a\n"), (0, b"b\n"), (0, b"c\n")))
+    say(len(ran.done.session.ring), 1)
+
+
+@row("a byte that was seen before an item")
+def _():
+    ran = Ran("late", lines_in(b"x\n"))
+    ran.says(("Finished",), 0, out((0, b"a\n")))
+    ran.tried(2, "BadFree", (1, "pad", "Behind"), (1, "zero", "BadFree"), (1, "isolate", "Behind"), (1, "delay", "survived"))
+
+
+@row("an episode that can't be noted")
+def _():
+    image = guests.image("overflow")
+    events = [("opens", 0), ("piece", 0, OVERRUN)]
+    session = Session(image, Options(), MemoryLink(events), Notes(fails=[1]))
+    say(session.serve(), ("FileFault",))
+    say([entry for entry in session.journal if entry[0] == "gave"], [])
+    say(session.left()[1], [(image.heap_start + 256, False), (image.heap_start + 784, False)])
+    say(len(ENVIRONMENTS), 5)
