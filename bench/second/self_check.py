@@ -1,0 +1,1 @@
+def check(runs, seed): pass
