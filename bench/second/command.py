@@ -61,14 +61,14 @@ class Done:
         self.recorded, self.tail, self.steps, self.taken = session.left() if session else (0, [], 0, 0)
 
 
-def run_session(image, options, link, files, form="text"):
-    """A session with its files: the program was loaded."""
+def run_session(image, options, link, files, form="text", make=Session):
+    """A session with its files: the program was loaded. `make` makes the session."""
     notes = FileNotes(files, "r", "t", form)
     try:
         notes.start(options)
     except FileFault:
         return Done(("FileFault",))
-    session = Session(image, options, link, notes)
+    session = make(image, options, link, notes)
     answer = session.serve()
     if answer[0] in ENDS:
         try:
