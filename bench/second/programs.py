@@ -136,6 +136,22 @@ class Author:
     def stack(self):
         self.add("sw s3, -8(sp)", "lw t0, -8(sp)", "mul s5, s5, t0", "addi s5, s5, 7")
 
+    def lag(self):
+        """Sends a byte, where blocks stand as under Plain; else the byte is owed and sent at a later item."""
+        done, again = self.label(), self.label()
+        self.malloc(16, "s6")
+        self.free("s6")
+        self.malloc(16, "s7")
+        self.malloc(16, "s9")
+        self.free("s7")
+        self.free("s9")
+        self.add("sub t0, s6, s7", "addi t1, s9, -16", "sub t1, t1, s7", "or t1, t1, t0")
+        self.add("la s8, lagging", "lw t0, 0(s8)", "addi t0, t0, 1", "sw t0, 0(s8)", "beqz t1, %s" % again)
+        self.add("andi t0, s3, %d" % self.rng.choice([1, 1, 3]), "bnez t0, %s" % done, again + ":")
+        self.add("lw t0, 0(s8)", "beqz t0, %s" % done, "addi t0, t0, -1", "sw t0, 0(s8)")
+        self.send(0, "s8", 1)
+        self.add("j %s" % again, done + ":")
+
     # -- faults that an environment may repair
 
     def overrun(self, twice=False):
@@ -352,6 +368,8 @@ class Author:
         self.begin()
         self.receive()
         works = rng.choices(self.RIGHT, k=rng.randrange(1, 4)) + rng.choices(self.FAULTS, k=rng.choice([0, 1, 1, 2, 2]))
+        if self.later and rng.random() < 0.5:
+            works = ["lag"] * rng.choice([1, 2]) + rng.choices(["use_block", "stack"], k=1)
         rng.shuffle(works)
         for work in works:
             if work in self.FAULTS or rng.random() < 0.4:
@@ -365,7 +383,7 @@ class Author:
         if rng.random() < 0.05:
             self.sometimes("leave")
         self.add("j receive", ".data", "buffer:", ".space %d" % BUFFER, "slots:", ".space %d" % (4 * SLOTS))
-        self.add("kept:", ".space 4", "told:", ".space 4", "far:", ".space 4")
+        self.add("kept:", ".space 4", "told:", ".space 4", "far:", ".space 4", "lagging:", ".space 4")
         return "\n".join(self.lines) + "\n"
 
 

@@ -1,0 +1,214 @@
+"""What every session promises, as tests of a session that runs and of one that ended.
+
+While it runs, each attempt is run once more from the program's start instead of its checkpoint, the ring is found once more by such a
+run, and before each event and at each piece nothing may be owed but what is given. Afterwards the recorded run is run anew, on the
+received items and the recorded choices, and the served run, under the plan of environments. What clients were given is compared with
+these.
+"""
+
+import collections
+import re
+
+from second import record, report, trunk
+from second.anew import go_on, must, result_anew, ring_anew, served_machine
+from second.command import ENDS, Done, image_maker, replay
+from second.machine import MIB, recorded_machine
+from second.outside import MemorySink, MemorySource, TrunkLink
+from second.session import SURVIVED, Session
+
+
+# ---- while a session runs
+
+
+class WatchedSession(Session):
+    """A session that tests each attempt, each event and piece, and each checkpoint."""
+
+    def __init__(self, image, options, link, notes, anew):
+        super().__init__(image, options, link, notes)
+        self.anew, self.saves, self.left_by_frames = anew, 0, 0
+        self.is_ending, self.last_given, self.adoptions = False, -1, []
+
+    def to_an_end(self):
+        answer = super().to_an_end()
+        self.is_ending = True
+        return answer
+
+    def attempt(self, checkpoint, environment, point):
+        trial, result = super().attempt(checkpoint, environment, point)
+        if self.anew:
+            machine, other = result_anew(self, checkpoint.machine.taken, environment, point)
+            must(other == result, "an attempt is %s, and from the start it is %s" % (result, other))
+            must(machine.state() == trial.state() and machine.heap.blocks == trial.heap.blocks, "an attempt's state differs from the start's")
+        return trial, result
+
+    def owed(self, connection, until):
+        """How many bytes of the connection are owed and unpassed."""
+        sent = sum(len(send[1]) for send in self.survivor.sends if send[0] == connection and send[2] <= until)
+        return max(0, sent - self.passed.count(connection))
+
+    def is_open(self, connection):
+        events = [entry[1] for entry in self.journal if entry[0] == "event" and not entry[2]]
+        return ("opens", connection) in events and ("closes", connection) not in events and connection not in self.gone
+
+    def take_event(self):
+        received = len(self.items.received)
+        must(self.survivor.taken == received, "an event is taken before its item is needed")
+        for connection in {send[0] for send in self.survivor.sends}:
+            if self.is_open(connection):
+                must(self.owed(connection, received - self.options.hold) == 0, "an event is taken while bytes are owed")
+        self.last_given = -1
+        return super().take_event()
+
+    def adopt(self, checkpoint, trial, environment, point):
+        super().adopt(checkpoint, trial, environment, point)
+        self.adoptions.append((checkpoint.machine.taken, environment, point))
+        self.last_given = -1
+
+    def given(self, connection, piece, gone):
+        self.check_piece(connection, piece, gone)
+        super().given(connection, piece, gone)
+
+    def check_piece(self, connection, piece, gone):
+        """A piece is the unpassed part of one send, which is owed; pieces stand in the order of the sends."""
+        passed, place = self.passed.count(connection), 0
+        for number, (to, content, taken, _) in enumerate(self.survivor.sends):
+            if to == connection and place + len(content) > passed:
+                break
+            place += len(content) if to == connection else 0
+        rest = content[passed - place:] if passed > place else content
+        must(piece == rest or rest.startswith(piece) and (gone or self.link_failed()), "a piece isn't the unpassed part of a send")
+        last = [entry for entry in self.journal if entry[0] == "event"][-1:]
+        event = last[0][1] if last and not last[0][2] else None
+        closing = event == ("closes", connection)
+        must(taken + self.options.hold <= len(self.items.received) or closing or event == ("settles",) or self.is_ending,
+             "a piece is given before it is owed")
+        must(closing or self.is_open(connection), "a piece is given to a connection that isn't open")
+        must(number > self.last_given or closing, "pieces are out of order")
+        self.last_given = self.last_given if closing else number
+
+    def link_failed(self):
+        """Whether the link's last call was to fail."""
+        if isinstance(self.link, TrunkLink):
+            return self.link.sink.calls in self.link.sink.fails
+        return self.link.calls in self.link.fails
+
+    def save(self):
+        names = ring_anew(self) if self.anew else None
+        super().save()
+        must(not self.anew or names == [c.machine.taken for c in self.ring], "the ring has other checkpoints")
+        self.saves += 1
+        self.left_by_frames += len(self.ring) < min(self.options.ring, self.saves + 1)
+
+
+# ---- after a session
+
+
+def check_recorded_run(session, files, answer):
+    """The recorded run from the start, with the record's choices; it is returned."""
+    recorded, tail, steps, taken = session.left()
+    text = files.files["r"]
+    choices = [(int(at, 16), mark == b"z") for at, mark in re.findall(rb"^m ([0-9a-f]{8}) ([-z])\n", text, re.MULTILINE)]
+    must(len(choices) == recorded, "the record has another number of choices")
+    head = record.head_line(session.options.window // MIB, session.options.frame)
+    must(text.startswith(head + record.choice_lines(choices)), "the record doesn't begin with its head and choices")
+    machine = recorded_machine(session.image, choices + tail)
+    go_on(machine, session.items.received, steps)
+    must(machine.heap.used == len(machine.heap.choices) and machine.taken == taken, "the recorded run ends elsewhere")
+    must(machine.state() == session.survivor.state(), "the recorded run's state differs")
+    if answer[0] in ENDS:
+        must(not tail, "choices are left over")
+        must(record.read_record(text) == (session.options.window // MIB, session.options.frame, choices, steps, taken), "the record reads otherwise")
+    return machine
+
+
+def check_served_run(session):
+    """The served run from the start, under the plan; at the requests of the ring's checkpoints it is what they hold."""
+    machine = served_machine(session, session.adoptions)
+    for checkpoint in session.ring:
+        kept = checkpoint.machine
+        go_on(machine, session.items.received, kept.steps, session.adoptions)
+        must(machine.state() == kept.state() and machine.heap.blocks == kept.heap.blocks, "a checkpoint isn't the survivor's state")
+    go_on(machine, session.items.received, session.survivor.steps, session.adoptions)
+    must(machine.state() == session.survivor.state(), "the served run's state differs")
+    must(machine.heap.blocks == session.survivor.heap.blocks, "the served run's blocks differ")
+
+
+def check_passed(session, output, machine, answer):
+    """What clients were given is a prefix of what the run sends; at an end it is all, where they are open."""
+    sent = collections.defaultdict(bytes)
+    for connection, content, _, _ in machine.sends:
+        sent[connection] += content
+    for connection, content in output.items():
+        must(sent[connection].startswith(content), "connection %d was given other bytes" % connection)
+    for connection, content in session.passed.content.items():
+        must(output.get(connection, b"") == bytes(content), "connection %d got other bytes than were counted" % connection)
+    if answer[0] in ENDS:
+        for connection in sent:
+            if session.is_open(connection):
+                must(output.get(connection, b"") == sent[connection], "connection %d lacks bytes at the end" % connection)
+
+
+def check_feasible(session, machine):
+    """Before each item, the run emitted every byte that was given while at most as many items were received."""
+    for connection, marks in session.passed.stamps.items():
+        for stamp, count in marks:
+            if stamp < machine.taken:
+                sent = sum(len(s[1]) for s in machine.sends if s[0] == connection and s[2] <= stamp)
+                must(sent >= count, "bytes with stamp %d come after item %d" % (stamp, stamp))
+
+
+def check_episodes(session, answer):
+    points = [episode.point for episode in session.notes.episodes]
+    must(all(a < b for a, b in zip(points, points[1:])), "points don't rise")
+    for number, episode in enumerate(session.notes.episodes):
+        results = [tried.result for tried in episode.tries]
+        must(len(results) <= 5 * session.options.ring, "too many tries")
+        must(SURVIVED not in results[:-1], "an entry is tried after one survived")
+        gave_up = not results or results[-1] != SURVIVED
+        must(not gave_up or number == len(points) - 1, "the session goes on after every entry failed")
+        if gave_up and answer[0] in ENDS:
+            must(answer == ("GaveUp", episode.point, episode.cause), "an episode without a survivor ends otherwise")
+        must(not gave_up or len(results) == 5 * len(session.ring), "the table wasn't tried to its end")
+
+
+def check_report(session, files, answer, form):
+    if answer[0] in ENDS:
+        done = Done(answer)
+        text = report.head_text(form)
+        text += b"".join(report.episode_text(n, e, form) for n, e in enumerate(session.notes.episodes))
+        must(files.files["t"] == text + report.end_text(done.status, session.survivor.taken, session.survivor.steps, form), "the report differs")
+
+
+def check_stream(session, stream, answer):
+    """The events are those of the stream, and the answer is the one that the first refusal gives."""
+    events, refusal = trunk.events(stream)
+    taken = [entry[1] for entry in session.journal if entry[0] == "event"]
+    ended = taken[-1:] == [("ends",)]
+    taken = taken[:-1] if ended else taken
+    must(taken == events[:len(taken)], "the events aren't the stream's")
+    if answer[0] == "InputRefused":
+        must(len(taken) == len(events) and refusal == answer[1:], "the stream is refused otherwise")
+    if ended:
+        must(len(taken) == len(events) and refusal is None, "the stream hasn't ended")
+
+
+def check_replay(session, text, stream):
+    """The record's replay over the same input gives every send."""
+    sink = MemorySink()
+    done = replay(image_maker(session.image.segments, session.image.entry), text, MemorySource(stream), sink)
+    must(done.answer == ("Finished",), "the replay is %s" % (done.answer,))
+    must(sink.content == b"".join(trunk.piece_frame(s[0], s[1]) for s in session.survivor.sends), "the replay sends otherwise")
+
+
+def check_session(session, answer, files, form, output, stream):
+    """All promises of a session that ended; `output` is what went out by connection, and `stream` its input, where it was one."""
+    machine = check_recorded_run(session, files, answer)
+    check_served_run(session)
+    check_passed(session, output, machine, answer)
+    check_feasible(session, machine)
+    check_episodes(session, answer)
+    check_report(session, files, answer, form)
+    if stream is not None:
+        check_stream(session, stream, answer)
+    if stream is not None and answer[0] in ENDS:
+        check_replay(session, files.files["r"], stream)
