@@ -8,9 +8,12 @@ Without an option, programs of pseudo-random words run in both: on one connectio
 input is the opening and some messages; at times it breaks off or goes on with a wrong frame. Standard output, the status, and
 the failing point, cause, offset or code on standard error are compared.
 
+With --sessions, whole sessions run in both, with many connections and recovery; status, output, record and report are compared.
+--options says how many of the options rx has, in the order frame, budget, form, window, hold, ring, every, frames.
+
 With --self no rx is run: whole sessions of the second engine are checked against what each of them promises, and counted.
 
-usage: compare_runs.py [--runs N] [--seed N] [--self] [RX]
+usage: compare_runs.py [--runs N] [--seed N] [--self | --sessions [--options N]] [RX]
 RX is the built rx, crates/rx/out/rx unless it is given.
 """
 
@@ -24,7 +27,7 @@ import subprocess
 import sys
 import tempfile
 
-from second import instructions, self_check
+from second import beside_rx, instructions, self_check
 from second.instructions import Failure
 from second.machine import ASSERTION, EXIT, Image, Machine, RECV, SEND, executable
 from second.trunk import piece_frame
@@ -146,11 +149,15 @@ def main():
     parser.add_argument("--runs", type=int, default=1000)
     parser.add_argument("--seed", type=int, default=1)
     parser.add_argument("--self", action="store_true", dest="alone")
+    parser.add_argument("--sessions", action="store_true")
+    parser.add_argument("--options", type=int, default=len(beside_rx.OPTIONS))
     words = parser.parse_args()
+    rx = os.path.abspath(words.rx)
     if words.alone:
         sys.exit(1 if self_check.check(words.runs, words.seed) else 0)
+    if words.sessions:
+        sys.exit(1 if beside_rx.compare(rx, words.runs, words.seed, words.options) else 0)
     rng = random.Random(words.seed)
-    rx = os.path.abspath(words.rx)
     counts, replies, wrong = collections.Counter(), 0, 0
     with tempfile.TemporaryDirectory() as folder:
         for n in range(words.runs):

@@ -57,7 +57,12 @@ class WatchedSession(Session):
             if self.is_open(connection):
                 must(self.owed(connection, received - self.options.hold) == 0, "an event is taken while bytes are owed")
         self.last_given = -1
-        return super().take_event()
+        answer = super().take_event()
+        _, event, refusal = [entry for entry in self.journal if entry[0] == "event"][-1] if self.journal else (None, ("none",), None)
+        for connection in {send[0] for send in self.survivor.sends} - self.gone:
+            if not refusal and (event == ("closes", connection) or event == ("settles",) and self.is_open(connection)):
+                must(self.owed(connection, 1 << 64) == 0, "bytes are held after a settle or a close")
+        return answer
 
     def adopt(self, checkpoint, trial, environment, point):
         super().adopt(checkpoint, trial, environment, point)
