@@ -12,6 +12,7 @@ import re
 from second import record, report, trunk
 from second.anew import go_on, must, result_anew, ring_anew, served_machine
 from second.command import ENDS, Done, image_maker, replay
+from second.items import Items
 from second.machine import MIB, recorded_machine
 from second.outside import MemorySink, MemorySource, TrunkLink
 from second.session import SURVIVED, Session
@@ -53,6 +54,7 @@ class WatchedSession(Session):
     def take_event(self):
         received = len(self.items.received)
         must(self.survivor.taken == received, "an event is taken before its item is needed")
+        must(received - self.ring[-1].machine.taken < self.options.every, "a checkpoint is lacking")
         for connection in {send[0] for send in self.survivor.sends}:
             if self.is_open(connection):
                 must(self.owed(connection, received - self.options.hold) == 0, "an event is taken while bytes are owed")
@@ -98,6 +100,7 @@ class WatchedSession(Session):
         return self.link.calls in self.link.fails
 
     def save(self):
+        must(self.survivor.taken - self.ring[-1].machine.taken >= self.options.every, "a checkpoint comes early")
         names = ring_anew(self) if self.anew else None
         super().save()
         must(not self.anew or names == [c.machine.taken for c in self.ring], "the ring has other checkpoints")
@@ -151,6 +154,20 @@ def check_passed(session, output, machine, answer):
         for connection in sent:
             if session.is_open(connection):
                 must(output.get(connection, b"") == sent[connection], "connection %d lacks bytes at the end" % connection)
+
+
+def check_stamps(session):
+    """A stamp is the number of items that the events before the piece bring."""
+    options, stamps = session.options, collections.defaultdict(list)
+    items, passed = Items(options.frame, options.max_items, options.max_events), collections.Counter()
+    for entry in session.journal:
+        if entry[0] == "gave":
+            passed[entry[1]] += len(entry[2])
+            stamps[entry[1]].append((len(items.received), passed[entry[1]]))
+        elif entry[1][0] != "ends":
+            must(items.event(entry[1]) == entry[2], "an event is heeded otherwise")
+    must(items.received == session.items.received, "the journal brings other items")
+    must(stamps == session.passed.stamps, "the stamps differ")
 
 
 def check_feasible(session, machine):
@@ -210,6 +227,7 @@ def check_session(session, answer, files, form, output, stream):
     machine = check_recorded_run(session, files, answer)
     check_served_run(session)
     check_passed(session, output, machine, answer)
+    check_stamps(session)
     check_feasible(session, machine)
     check_episodes(session, answer)
     check_report(session, files, answer, form)

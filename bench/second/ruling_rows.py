@@ -1,0 +1,294 @@
+"""Rows of the places that are easy to get wrong, with small programs made for them.
+
+Each says one sentence of the rules: when the plan's environment returns, what a delayed block does later, when Hang comes before a
+survival, what happens at closed and broken connections, and which refusal goes first.
+"""
+
+from second import guests
+from second.assembler import assemble
+from second.checks import OPENS_0, Ran, lines_in, out, piece, row, say
+from second.command import image_maker, replay
+from second.heap import ALL, BadFree, DELAY, Heap, PAD, PLAIN, ZERO
+from second.items import Items
+from second.machine import Image
+from second.outside import MemoryLink, MemorySink, MemorySource
+from second.session import Notes, Options, Session
+
+RECEIVE = """
+receive:
+    la   a0, buffer
+    li   a1, 4096
+    li   a7, 1
+    ecall
+    addi s4, s4, 1
+"""
+DATA = """
+.data
+buffer:
+    .space 4096
+"""
+
+
+def image_of(text, with_data=True):
+    return Image(*assemble(text + (DATA if with_data else "")))
+
+
+def exit_code(text, stream=OPENS_0):
+    """What a program ends with, that ends after the opening."""
+    answer = Ran(image_of(RECEIVE + text + "\nli a7, 5\necall\n"), stream).done.answer
+    say(answer[0], "Exited")
+    return answer[1]
+
+
+# ---- sends and areas
+
+
+@row("what a send looks at first")
+def _():
+    send = "li a0, %d\nli a1, %d\nli a2, %d\nli a7, 2\necall"
+    cases = [((1, 0, 65536), 2), ((0, 0, 65536), 2), ((1, 0, 65535), 1), ((70000, 0, 0), 1), ((0, 0, 0), 0), ((0, 0x10000, 4), 0)]
+    for words, code in cases:
+        say(exit_code(send % words), code, "send %s" % (words,))
+    ran = Ran(image_of(RECEIVE + send % (0, 0, 1)), OPENS_0)
+    ran.says(("GaveUp", 1, "BadAccess"), 5, b"")
+
+
+@row("areas that touch")
+def _():
+    words = assemble("li t0, 0x1000e\nlw a0, 0(t0)\nli a7, 5\necall")[0][0][1]
+    image = Image([(0x10000, words[:10], 5), (0x1000A, words[10:], 5)], 0x10000)
+    say(Ran(image, b"").done.answer, ("Exited", int.from_bytes(words[14:18], "little")))
+    words = assemble("li t0, 0x10016\nsw a0, 0(t0)\nli a7, 5\necall")[0][0][1]
+    for flags, answer in ((6, ("GaveUp", 0, "BadAccess")), (7, ("GaveUp", 0, "BadAccess"))):
+        say(Ran(Image([(0x10000, words, 5), (0x10018, b"ab", flags)], 0x10000), b"").done.answer, answer)
+    image = Image([(0x10000, words, 7), (0x10018, b"ab", 6)], 0x10000)
+    say(Ran(image, b"").done.answer, ("Exited", 0))
+
+
+@row("heap blocks: delayed ones stay, and zero counts for no byte")
+def _():
+    heap = Heap(0x20000, 0x22000)
+    say(heap.malloc(ZERO, 0), (0x20000, True))
+    heap.free(DELAY, 0x20000)
+    say(heap.malloc(PLAIN, 16), (0x20010, False))
+    heap.free(DELAY, 0x20000)
+    try:
+        heap.free(PLAIN, 0x20000)
+        raise AssertionError("free of a delayed block under Plain")
+    except BadFree:
+        pass
+    say(heap.malloc(PLAIN, 0x1FF0), (0, False))
+    say(heap.find(0x20000), None)
+    padded = Heap(0x20000, 0x22000)
+    say([padded.malloc(PAD, 16)[0], padded.malloc(PLAIN, 16)[0]], [0x20100, 0x20210])
+    say(padded.malloc(ALL, 16), (0x21100, True))
+    padded.free(PLAIN, 0x20100)
+    say(padded.malloc(PLAIN, 16), (0x20000, False))
+
+
+# ---- the plan
+
+
+@row("Plain returns with the fourth item after the point")
+def _():
+    ran = Ran("overflow", lines_in(b"a" * 39 + b"\n", *[b"b\n"] * 5))
+    padded, plain = [(ran.heap + 256, False), (ran.heap + 784, False)], [(ran.heap, False), (ran.heap + 16, False)]
+    say(ran.choices(), padded * 4 + plain * 2)
+
+
+@row("a failure before the first item")
+def _():
+    spoil = """
+    li a0, 16
+    li a7, 3
+    ecall
+    mv s0, a0
+    li a0, 16
+    ecall
+    mv s1, a0
+    li t0, 7
+    sw t0, 0(s1)
+    sw zero, 16(s0)
+    lw t1, 0(s1)
+    beq t0, t1, receive
+    ebreak
+""" + RECEIVE + "li a0, 16\nli a7, 3\necall\nj receive\n"
+    ran = Ran(image_of(spoil), lines_in(b"a\n", b"b\n", b"c\n"))
+    ran.tried(0, "AssertFailed 0", (0, "pad", "survived"))
+    say([at - ran.heap for at, _ in ran.choices()], [256, 784, 1312, 1840, 2368, 2640])
+
+
+TWICE_AND_LATER = RECEIVE + """
+    li   t0, 2
+    bne  s4, t0, later
+    li   a0, 32
+    li   a7, 3
+    ecall
+    mv   s3, a0
+    li   a7, 4
+    ecall
+    mv   a0, s3
+    ecall
+    j    receive
+later:
+    li   t0, %d
+    bne  s4, t0, receive
+    mv   a0, s3
+    li   a7, 4
+    ecall
+    j    receive
+"""
+
+
+@row("a delayed block that is freed after Plain returned")
+def _():
+    stream = lines_in(*[b"a\n"] * 6)
+    ran = Ran(image_of(TWICE_AND_LATER % 5), stream)
+    say([e.point for e in ran.episodes], [2])
+    ran = Ran(image_of(TWICE_AND_LATER % 6), stream)
+    say([e.point for e in ran.episodes], [2, 6])
+    say([t[:2] for t in ran.episodes[1].tries], [(5, "pad"), (5, "zero"), (5, "isolate"), (5, "delay")])
+    ran.says(("Finished",), 0)
+
+
+# ---- attempts
+
+
+@row("a trial's last request after its budget")
+def _():
+    stream = lines_in(b"a" * 39 + b"\n")
+
+    def first_try(budget):
+        return Ran("overflow", stream, budget=budget).episodes[0].tries[0].result
+    free_budget = Session(guests.image("overflow"), Options(), MemoryLink([("opens", 0), ("piece", 0, b"a" * 39 + b"\n")]), Notes())
+    free_budget.serve()
+    needed = free_budget.survivor.since
+    say([first_try(needed + 1), first_try(needed)], ["survived", "Hang"])
+
+
+EXITS_ELSEWHERE = """
+    li   a0, 16
+    li   a7, 3
+    ecall
+    mv   s3, a0
+    li   a7, 4
+    ecall
+""" + RECEIVE + """
+    li   t0, 2
+    bne  a2, t0, receive
+    li   a0, 16
+    li   a7, 3
+    ecall
+    bne  a0, s3, leave
+    li   a7, 4
+    ecall
+    mv   a0, s3
+    ecall
+leave:
+    li   a0, 3
+    li   a7, 5
+    ecall
+"""
+
+
+@row("a trial that exits")
+def _():
+    ran = Ran(image_of(EXITS_ELSEWHERE), lines_in(b"a\n", b"b\n"))
+    ran.says(("Exited", 3), 1, b"", taken=2)
+    ran.tried(2, "BadFree", (1, "pad", "survived"))
+    say(ran.report.splitlines()[-1], "end 1 taken 2 steps %d" % ran.done.steps)
+
+
+@row("bytes that went out to a client that is gone")
+def _():
+    for count, result in ((5, "BadFree"), (6, "Contradicts")):
+        link = MemoryLink([("opens", 0), ("piece", 0, b"a\n")], gones=[(3, count)])
+        notes = Notes()
+        say(Session(guests.image("tell_free"), Options(), link, notes).serve(), ("Finished",))
+        say(notes.episodes[0].tries[0], (1, "pad", result))
+
+
+# ---- closes
+
+
+@row("bytes that are held until a close")
+def _():
+    link = MemoryLink([("opens", 0), ("piece", 0, b"a\n"), ("closes", 0)])
+    session = Session(guests.image("echo"), Options(hold=5), link, Notes())
+    say(session.serve(), ("Finished",))
+    say(dict(session.passed.stamps), {0: [(3, 2)]})
+
+
+SENDS_ELSEWHERE = """
+    li   a0, 16
+    li   a7, 3
+    ecall
+    mv   s3, a0
+    li   a7, 4
+    ecall
+""" + RECEIVE + """
+    li   t0, 1
+    beq  a2, t0, receive
+    li   t0, 3
+    beq  a2, t0, look
+    li   a0, 16
+    li   a7, 3
+    ecall
+    mv   s0, a0
+    li   a0, 16
+    ecall
+    mv   s1, a0
+    li   t0, 7
+    sw   t0, 0(s1)
+    sw   zero, 16(s0)
+    beq  s0, s3, receive
+    li   a0, 0
+    la   a1, buffer
+    li   a2, 1
+    li   a7, 2
+    ecall
+    j    receive
+look:
+    lw   t1, 0(s1)
+    li   t0, 7
+    beq  t1, t0, receive
+    ebreak
+"""
+
+
+@row("a send that the adopted run makes to a closed connection")
+def _():
+    stream = lines_in(b"x\n") + bytes.fromhex("0300000000")
+    image = image_of(SENDS_ELSEWHERE)
+    ran = Ran(image, stream)
+    ran.says(("Finished",), 0, b"", taken=3)
+    ran.tried(3, "AssertFailed 0", *[(2, e, "AssertFailed 0") for e in ("pad", "zero", "isolate", "delay", "all")], (1, "pad", "survived"))
+    sink = MemorySink()
+    done = replay(image_maker(image.segments, image.entry), ran.record.encode(), MemorySource(stream), sink)
+    say((done.answer, sink.content), (("Finished",), out((0, b"x"))))
+
+
+# ---- refused events
+
+
+@row("which limit goes first")
+def _():
+    long = ("piece", 0, b"z" * 4097)
+    items = Items("line", most_items=1, most_events=1)
+    say([items.event(("opens", 0)), items.event(long)], [None, ("LimitEvents",)])
+    items = Items("line", most_items=1)
+    say([items.event(("opens", 0)), items.event(long), items.event(("piece", 0, b"a\n")), items.event(("closes", 0))],
+        [None, ("MessageTooLong", 0), ("LimitItems",), ("LimitItems",)])
+    say(len(items.received), 1)
+
+
+@row("a piece in which a message is refused")
+def _():
+    Ran("echo", lines_in(b"ok\n" + b"z" * 4097)).says(("MessageTooLong", 0), 4, b"", taken=1)
+    Ran("echo", OPENS_0 + piece(0, b"ok\n") + piece(0, b"z" * 4096)).says(("Finished",), 0, out((0, b"ok\n")))
+
+
+@row("every third request")
+def _():
+    ran = Ran("echo", lines_in(*[b"a\n"] * 6), every=3)
+    say([checkpoint.machine.taken for checkpoint in ran.done.session.ring], [0, 3, 6])
