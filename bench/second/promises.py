@@ -12,8 +12,8 @@ import re
 from second import record, report, trunk
 from second.anew import go_on, must, result_anew, ring_anew, served_machine
 from second.command import ENDS, Done, image_maker, replay
-from second.items import Items
-from second.machine import MIB, recorded_machine
+from second.items import Items, LINE, WHOLE
+from second.machine import MESSAGE, MIB, recorded_machine
 from second.outside import MemorySink, MemorySource, TrunkLink
 from second.session import SURVIVED, Session
 
@@ -170,6 +170,34 @@ def check_stamps(session):
     must(stamps == session.passed.stamps, "the stamps differ")
 
 
+def messages_of(frame, pieces):
+    """The messages of one connection's pieces, found in their joined bytes."""
+    joined = b"".join(pieces)
+    if frame == LINE:
+        return re.findall(rb"[^\n]*\n", joined)
+    if frame == WHOLE:
+        return [piece for piece in pieces if piece]
+    found, at = [], 0
+    while at + 4 <= len(joined) and at + 4 + int.from_bytes(joined[at:at + 4], "little") <= len(joined):
+        end = at + 4 + int.from_bytes(joined[at:at + 4], "little")
+        found.append(joined[at + 4:end])
+        at = end
+    return found
+
+
+def check_messages(session):
+    """Each connection's messages are those of its pieces, in any cut."""
+    pieces, messages = collections.defaultdict(list), collections.defaultdict(list)
+    for entry in session.journal:
+        if entry[0] == "event" and entry[1][0] == "piece" and not entry[2]:
+            pieces[entry[1][1]].append(entry[1][2])
+    for kind, connection, content in session.items.received:
+        if kind == MESSAGE:
+            messages[connection].append(content)
+    for connection, of_connection in pieces.items():
+        must(messages[connection] == messages_of(session.options.frame, of_connection), "connection %d has other messages" % connection)
+
+
 def check_feasible(session, machine):
     """Before each item, the run emitted every byte that was given while at most as many items were received."""
     for connection, marks in session.passed.stamps.items():
@@ -228,6 +256,7 @@ def check_session(session, answer, files, form, output, stream):
     check_served_run(session)
     check_passed(session, output, machine, answer)
     check_stamps(session)
+    check_messages(session)
     check_feasible(session, machine)
     check_episodes(session, answer)
     check_report(session, files, answer, form)

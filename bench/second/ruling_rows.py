@@ -166,6 +166,17 @@ def _():
     say([first_try(needed + 1), first_try(needed)], ["survived", "Hang"])
 
 
+@row("a recv sets the count of instructions to zero")
+def _():
+    text = "addi a7, x0, 1\nagain:\naddi a1, x0, 0\naddi a0, x0, 0\necall\nj again\n"
+    for budget, answer in ((4, ("Finished",)), (3, ("GaveUp", 0, "Hang"))):
+        ran = Ran(image_of(text, False), OPENS_0, budget=budget)
+        say(ran.done.answer, answer)
+    text = text.replace("j again", "nop\nj again")
+    Ran(image_of(text, False), OPENS_0, budget=5).says(("Finished",), 0, taken=1, steps=8)
+    Ran(image_of(text, False), OPENS_0, budget=4).says(("GaveUp", 1, "Hang"), 5, taken=1, steps=8)
+
+
 EXITS_ELSEWHERE = """
     li   a0, 16
     li   a7, 3

@@ -7,10 +7,11 @@ import re
 from second import inputs, programs, trunk, wild
 from second.anew import Broken, must
 from second.command import run_session
+from second.heap import ENVIRONMENTS
 from second.machine import Image
 from second.outside import MemoryFiles, MemoryLink, MemoryListener, MemorySink, MemorySource, PortLink, TrunkLink
 from second.promises import WatchedSession, check_session
-from second.session import SURVIVED
+from second.session import BEHIND, CONTRADICTS, SURVIVED
 
 
 # ---- sessions at random
@@ -96,6 +97,16 @@ class Some:
         check_session(self.session, self.answer, self.files, self.form, self.output(), self.stream)
 
 
+KINDS = {
+    "answers": ["Finished", "Exited", "GaveUp", "MessageTooLong", "LimitItems", "LimitEvents", "ReadFault", "WriteFault", "FileFault"] + [
+        "InputRefused %d" % kind for kind in range(1, 7)],
+    "causes": ["BadAccess", "BadJump", "BadInstruction", "AssertFailed", "Hang", "BadFree", "BadCall"],
+    "results of tries": [SURVIVED, CONTRADICTS, BEHIND],
+    "adopted": ENVIRONMENTS,
+    "adopted at": ["the newest checkpoint", "an older one", "the start"],
+}
+
+
 class Counts:
     """How often each kind of thing was seen."""
 
@@ -114,6 +125,7 @@ class Counts:
             ("with held bytes", some.options.hold), ("whose frames dropped a checkpoint", session.left_by_frames),
             ("with a client gone", session.gone), ("with bytes past a close", self.unpassed(session))) if holds)
         of["sums"].update({"items": session.survivor.taken, "choices": len(session.survivor.choices),
+                           "null answers": sum(at == 0 for at, _ in session.survivor.choices), "episodes": len(session.notes.episodes),
                            "pieces": sum(entry[0] == "gave" for entry in session.journal),
                            "instructions": session.steps_of_all + session.survivor.steps - session.began})
         for episode in session.notes.episodes:
@@ -133,7 +145,9 @@ class Counts:
             of["adopted at"]["the newest checkpoint" if newest else "the start" if last.checkpoint == 0 else "an older one"] += 1
 
     def lines(self):
-        return ["%s: %s" % (name, ", ".join("%s %d" % pair for pair in sorted(counter.items()))) for name, counter in self.of.items()]
+        found = ["%s: %s" % (name, ", ".join("%s %d" % pair for pair in sorted(counter.items()))) for name, counter in self.of.items()]
+        lacking = ["%s (%s)" % (kind, name) for name, kinds in KINDS.items() for kind in kinds if not self.of[name][kind]]
+        return found + ["not seen: %s" % ", ".join(lacking)] * bool(lacking)
 
 
 def check(runs, seed):
