@@ -11,7 +11,7 @@ TEXT_FLAGS, DATA_FLAGS = 5, 6
 
 NAMES = ["zero", "ra", "sp", "gp", "tp", "t0", "t1", "t2", "s0", "s1"] + ["a%d" % i for i in range(8)] + [
     "s%d" % i for i in range(2, 12)] + ["t%d" % i for i in range(3, 7)]
-REGISTERS = {name: i for i, name in enumerate(NAMES)} | {"x%d" % i: i for i in range(32)} | {"fp": 8}
+REGISTERS = {"fp": 8, **{name: i for i, name in enumerate(NAMES)}, **{"x%d" % i: i for i in range(32)}}
 
 OP = {
     "add": (0, 0), "sub": (0x20, 0), "sll": (0, 1), "slt": (0, 2), "sltu": (0, 3), "xor": (0, 4), "srl": (0, 5), "sra": (0x20, 5),

@@ -6,7 +6,6 @@ from second import guests
 from second.assembler import assemble
 from second.checks import OPENS_0, Ran, lines_in, out, piece, row, say
 from second.command import drill, image_maker, replay
-from second.heap import ALL, Block, DELAY, Heap, ISOLATE, PAD, PLAIN, ZERO, reserved
 from second.machine import Image, MIB, executable
 from second.outside import MemoryFiles, MemorySink, MemorySource
 from second.record import RecordRefused, choice_lines, end_line, head_line, read_record, record_text
@@ -128,43 +127,11 @@ def _():
 # ---- allocation
 
 
-def place(heap, size, side, least):
-    """Places a block with room on both sides, at or above an address; its address or None."""
-    length = reserved(size) + 2 * side
-    start = heap.fit(length, least)
-    if start is None:
-        return None
-    heap.put(start, start + length, Block(start + side, size, True))
-    return start + side
-
-
-@row("places in a heap of 64 bytes")
-def _():
-    heap = Heap(4096, 4160)
-    say([place(heap, size, 0, 0) for size in (17, 0, 16, 1)], [4096, 4128, 4144, None])
-    heap.free(PLAIN, 4128)
-    say([place(heap, 16, 16, 0), place(heap, 16, 0, 4144), place(heap, 16, 0, 4096)], [None, None, 4128])
-
-
 @row("guest overflow with a short line")
 def _():
     ran = Ran("overflow", ROW_1)
     ran.says(("Finished",), 0, REPLY_1)
     say(ran.choices(), [(ran.heap, False), (ran.heap + 16, False)])
-
-
-@row("the heap's end in each environment")
-def _():
-    for environment in (PLAIN, PAD, ZERO, ISOLATE, DELAY, ALL):
-        heap = Heap(0x20000, 0x22000)
-        at, zeroed = heap.malloc(environment, 100)
-        start = 0x21000 if environment in (ISOLATE, ALL) else 0x20000
-        say(at, start + (256 if environment in (PAD, ALL) else 0), environment)
-        say(zeroed, environment in (ZERO, ALL), environment)
-        say(heap.malloc(environment, 0x3000), (0, False), environment)
-        heap.free(environment, at)
-        say(bool(heap.blocks), environment in (DELAY, ALL), environment)
-        say(heap.malloc(PLAIN, 0x2000), (0x20000, False), environment)
 
 
 # ---- record and replay

@@ -39,7 +39,8 @@ class WatchedSession(Session):
         if self.anew:
             machine, other = result_anew(self, checkpoint.machine.taken, environment, point)
             must(other == result, "an attempt is %s, and from the start it is %s" % (result, other))
-            must(machine.state() == trial.state() and machine.heap.blocks == trial.heap.blocks, "an attempt's state differs from the start's")
+            must(machine.state() == trial.state(), "an attempt's state differs from the start's")
+            must(machine.heap.blocks == trial.heap.blocks, "an attempt's blocks differ from the start's")
         return trial, result
 
     def owed(self, connection, until):
@@ -60,11 +61,19 @@ class WatchedSession(Session):
                 must(self.owed(connection, received - self.options.hold) == 0, "an event is taken while bytes are owed")
         self.last_given = -1
         answer = super().take_event()
-        _, event, refusal = [entry for entry in self.journal if entry[0] == "event"][-1] if self.journal else (None, ("none",), None)
+        _, event, refusal = ([entry for entry in self.journal if entry[0] == "event"] or [(None, ("none",), None)])[-1]
         for connection in {send[0] for send in self.survivor.sends} - self.gone:
             if not refusal and (event == ("closes", connection) or event == ("settles",) and self.is_open(connection)):
                 must(self.owed(connection, 1 << 64) == 0, "bytes are held after a settle or a close")
         return answer
+
+    def recover(self, cause):
+        names = [checkpoint.machine.taken for checkpoint in self.ring]
+        table = [(name, environment) for name in names[::-1] for environment in ("pad", "zero", "isolate", "delay", "all")]
+        survived = super().recover(cause)
+        tries = self.notes.episodes[-1].tries
+        must([(tried.checkpoint, tried.environment) for tried in tries] == table[:len(tries)], "entries are tried in another order")
+        return survived
 
     def adopt(self, checkpoint, trial, environment, point):
         super().adopt(checkpoint, trial, environment, point)
@@ -125,7 +134,8 @@ def check_recorded_run(session, files, answer):
     must(machine.state() == session.survivor.state(), "the recorded run's state differs")
     if answer[0] in ENDS:
         must(not tail, "choices are left over")
-        must(record.read_record(text) == (session.options.window // MIB, session.options.frame, choices, steps, taken), "the record reads otherwise")
+        reading = (session.options.window // MIB, session.options.frame, choices, steps, taken)
+        must(record.read_record(text) == reading, "the record reads otherwise")
     return machine
 
 
@@ -195,7 +205,8 @@ def check_messages(session):
         if kind == MESSAGE:
             messages[connection].append(content)
     for connection, of_connection in pieces.items():
-        must(messages[connection] == messages_of(session.options.frame, of_connection), "connection %d has other messages" % connection)
+        expected = messages_of(session.options.frame, of_connection)
+        must(messages[connection] == expected, "connection %d has other messages" % connection)
 
 
 def check_feasible(session, machine):

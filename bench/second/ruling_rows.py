@@ -8,7 +8,6 @@ from second import guests
 from second.assembler import assemble
 from second.checks import OPENS_0, Ran, lines_in, out, piece, row, say
 from second.command import image_maker, replay
-from second.heap import ALL, BadFree, DELAY, Heap, PAD, PLAIN, ZERO
 from second.items import Items
 from second.machine import Image
 from second.outside import MemoryLink, MemorySink, MemorySource
@@ -63,27 +62,6 @@ def _():
         say(Ran(Image([(0x10000, words, 5), (0x10018, b"ab", flags)], 0x10000), b"").done.answer, answer)
     image = Image([(0x10000, words, 7), (0x10018, b"ab", 6)], 0x10000)
     say(Ran(image, b"").done.answer, ("Exited", 0))
-
-
-@row("heap blocks: delayed ones stay, and zero counts for no byte")
-def _():
-    heap = Heap(0x20000, 0x22000)
-    say(heap.malloc(ZERO, 0), (0x20000, True))
-    heap.free(DELAY, 0x20000)
-    say(heap.malloc(PLAIN, 16), (0x20010, False))
-    heap.free(DELAY, 0x20000)
-    try:
-        heap.free(PLAIN, 0x20000)
-        raise AssertionError("free of a delayed block under Plain")
-    except BadFree:
-        pass
-    say(heap.malloc(PLAIN, 0x1FF0), (0, False))
-    say(heap.find(0x20000), None)
-    padded = Heap(0x20000, 0x22000)
-    say([padded.malloc(PAD, 16)[0], padded.malloc(PLAIN, 16)[0]], [0x20100, 0x20210])
-    say(padded.malloc(ALL, 16), (0x21100, True))
-    padded.free(PLAIN, 0x20100)
-    say(padded.malloc(PLAIN, 16), (0x20000, False))
 
 
 # ---- the plan
