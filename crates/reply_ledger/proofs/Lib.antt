@@ -8,3 +8,4 @@ pub mod WaitingLemmas
 pub mod EntryLemmas
 pub mod StandsLemmas
 pub mod ShowsLemmas
+pub mod PartLemmas

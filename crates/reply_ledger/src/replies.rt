@@ -2,7 +2,7 @@
 ghost use Rattle.std.specs.Prelude.{◌≡◌, ℕ, ◌+◌, ◌-◌, ◌<◌, ◌≤◌, ◌↔◌, true, None, Some, IsNone, IsSome, List, [], ◌∷◌, ◌++◌, length, take, drop, IfOk, OnOk, OnErr, IsTrue};
 ghost use Rattle.std.specs.Option.{option_map, option_copied};
 ghost use Rattle.rx_io.specs.Sends.{Send, sent_to};
-ghost use Rattle.reply_ledger.specs.Ledger.{Ledger, no_replies, connection_of, IsOpened, passed_to, stamped_to, changed, new_connection, closed_connection, gone_connection, bytes_of, NotBefore, times_of, stamps_of, with_send, with_passed, with_connection, with_change};
+ghost use Rattle.reply_ledger.specs.Ledger.{Ledger, no_replies, connection_of, IsOpened, is_open, passed_to, stamped_to, changed, new_connection, closed_connection, gone_connection, bytes_of, NotBefore, times_of, stamps_of, with_send, with_passed, with_connection, with_change};
 ghost use Rattle.reply_ledger.specs.Parts.{next_part, rest_part, shown_part};
 ghost use Rattle.reply_ledger.specs.Trials.{agree, trial_sends, with_trial_send, begun, adopted, discarded, Agrees, Covers, CoversBefore};
 ghost use Rattle.reply_ledger.specs.Trimming.{trimmed, IsLawful};
@@ -48,6 +48,13 @@ impl Model for Replies {
 }
 
 impl Replies {
+    /// What holds of every ledger, for whoever proves something of one. It does nothing.
+    pub fn sound(&self)
+        ensures lawful { IsLawful self.now }
+    {
+        let _first = self.first;
+    }
+
     /// Nothing sent, and no connection.
     pub fn make(alloc: Global) -> Result<Replies, AllocError>
         ensures { IfOk result (λ replies. replies ≡ no_replies) }
@@ -89,6 +96,13 @@ impl Replies {
     {
         accounts::leave(&mut self.accounts, conn);
         self.next = first_waiting(&self.sends, &self.accounts, self.next);
+    }
+
+    /// Whether a connection was opened, wasn't closed, and isn't gone.
+    pub fn is_open(&self, conn: u16) -> bool
+        ensures { result ≡ is_open self.now.connections conn }
+    {
+        accounts::is_open(&self.accounts, conn)
     }
 
     /// A send of the survivor, made with so many items taken. After an `Err` the handed bytes are given up.

@@ -1,6 +1,6 @@
 -- The journal of a session is lawful where each reply comes when it is owed, and no event comes before it is asked for. It is
 -- told in chapters, one for each survivor: a chapter has the entries of its survivor's time.
-use Rattle.std.specs.Prelude.{◌≡◌, ◌≢◌, ℕ, ◌<◌, List, [], ◌∷◌, ◌++◌, length, Bool, true, false, Option, None, Some, ◌⊎◌, ◌==◌}
+use Rattle.std.specs.Prelude.{◌≡◌, ◌≢◌, ℕ, ◌<◌, List, [], ◌∷◌, ◌++◌, length, Bool, true, false, Option, None, Some, ◌⊎◌, ◌==◌, ◌&&◌}
 use Rattle.rx_io.specs.declared.bytes.Item.{Item}
 use Rattle.rx_io.specs.declared.journal.Entry.{Entry}
 use Rattle.rx_io.specs.declared.journal.Entry.TheVariants as entry
@@ -9,7 +9,9 @@ use Rattle.rx_io.specs.declared.journal.LinkEvent.TheVariants as event
 use Rattle.rx_io.specs.Prefix.{Prefix}
 use Rattle.rx_io.specs.Sends.{Send, sent_to}
 use Rattle.run_history.specs.Served.{Limits, Override, Path, Served, AsksFor}
-use Rattle.session_history.specs.Heeding.{Bounds, received}
+use Rattle.rx_io.specs.Links.{events_in}
+use Rattle.session_history.specs.Heeding.{Bounds, heeded, received}
+use Rattle.session_history.specs.Opened.{closes}
 use Rattle.session_history.specs.Passing.{passed_in}
 use Rattle.session_history.specs.Owing.{Moment, journal, Latest, latest, IsOwed, IsPassed, OwesNothing, Stands}
 
@@ -44,16 +46,20 @@ is_close_of conn (event.Piece to bytes) = false
 is_close_of conn event.Settles = false
 is_close_of conn event.Ends = false
 
-abbrev pub is_closing : Option Latest → ℕ → Bool
-is_closing None conn = false
-is_closing (Some latest) conn = is_close_of conn latest.event
+abbrev pub is_closed_by : Option Latest → ℕ → Bool
+is_closed_by None conn = false
+is_closed_by (Some latest) conn = is_close_of conn latest.event
+
+-- whether a connection is closing: the last event closes it, and was heeded
+abbrev pub is_closing : Bounds → Moment → ℕ → Bool
+is_closing bounds moment conn = is_closed_by (latest moment.since) conn && closes conn (heeded bounds (events_in (journal moment)))
 
 -- of two sends of a run the first is passed before the second: those to a connection that closes go first, and else they keep
 -- the order in which they were made
-abbrev pub GoesBefore : Option Latest → {sends : List Send} → {first second : Send} → Stands sends first → Stands sends second → Type 0
-GoesBefore last {first = first} {second = second} one other =
-    ((is_closing last first.conn ≡ true) × (is_closing last second.conn ≡ false))
-    ⊎ ((is_closing last first.conn ≡ is_closing last second.conn) × (length one.earlier < length other.earlier))
+abbrev pub GoesBefore : Bounds → Moment → {sends : List Send} → {first second : Send} → Stands sends first → Stands sends second → Type 0
+GoesBefore bounds moment {first = first} {second = second} one other =
+    ((is_closing bounds moment first.conn ≡ true) × (is_closing bounds moment second.conn ≡ false))
+    ⊎ ((is_closing bounds moment first.conn ≡ is_closing bounds moment second.conn) × (length one.earlier < length other.earlier))
 
 -- A piece is some first bytes of what its connection wasn't passed of one send of the survivor: the send is owed, all before
 -- it to its connection was passed, and so was all that is owed and goes before it.
@@ -64,7 +70,7 @@ pub record IsDuePiece (rules : Rules) (sends : List Send) (moment : Moment) (con
   pub owed : IsOwed rules.bounds rules.hold moment send
   pub behind : Prefix (sent_to conn stands.earlier) (sent_to conn (passed_in rules.bounds (journal moment)))
   pub part : Prefix (sent_to conn (passed_in rules.bounds (journal moment)) ++ bytes) (sent_to conn (stands.earlier ++ send ∷ []))
-  pub in_order : (other : Send) (of_other : Stands sends other) → GoesBefore (latest moment.since) of_other stands → IsOwed rules.bounds rules.hold moment other → IsPassed rules.bounds (journal moment) sends other of_other
+  pub in_order : (other : Send) (of_other : Stands sends other) → GoesBefore rules.bounds moment of_other stands → IsOwed rules.bounds rules.hold moment other → IsPassed rules.bounds (journal moment) sends other of_other
 
 -- with this piece a connection was passed all of the send: none of it is left, and it wasn't passed before
 pub record IsWholePiece (rules : Rules) (sends : List Send) (moment : Moment) (conn : ℕ) (bytes : List ℕ) : Type 0 where

@@ -6,3 +6,7 @@ pub mod Lawful
 pub mod Account
 pub mod Serving
 pub mod Laws
+pub mod Keeping
+pub mod Giving
+pub mod Hearing
+pub mod Ends

@@ -1,0 +1,6 @@
+pub mod TurnEvents
+pub mod OneMore
+pub mod TakeLemmas
+pub mod QuietRuns
+pub mod RunLemmas
+pub mod Examples

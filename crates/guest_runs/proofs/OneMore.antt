@@ -1,0 +1,74 @@
+-- What one more instruction that takes no item changes of a run, and what it keeps.
+use Rattle.std.proofs.Common.{◌≡◌, ℕ, ◌+◌, ◌<◌, Bool, true, false, cond, [], Option, Some, None, sym, ◌∙◌, ap}
+use Rattle.std.proofs.lemmas.Option.{same_Some, none-some}
+use Rattle.block_book.specs.declared.choice.Choice.{Choice}
+use Rattle.block_book.specs.Answer.{is_allowed}
+use Rattle.alloc_env.specs.declared.env.Env.{Env}
+use Rattle.run_history.specs.Machine.{Machine, State, register, Effect, Goes, Emits, Ends, Wants, Chooses, Fails}
+use Rattle.run_history.specs.Call.{chooses, allocated}
+use Rattle.run_history.specs.Run.{does, after}
+use Rattle.run_history.specs.Served.{Limits, Path, served_next}
+use Rattle.run_history.proofs.Shapes.{Keeps, Alone, Shape, Same, Takes, Picks, does_shape}
+use Rattle.run_history.proofs.Runs.{allocated_keeps}
+use Rattle.run_history.proofs.Serves.{serves_to}
+
+-- what it changes of a state
+pub record Moves (s t : State) : Type 0 where
+  pub taken : t.machine.taken ≡ s.machine.taken
+  pub connections : t.machine.connections ≡ s.machine.connections
+  pub since : t.ended ≡ None → t.machine.since ≡ s.machine.since + 1
+
+machine_moves : (s t : State) (new : Machine) (steps : Keeps s.machine new 1) → t.machine ≡ new → Moves s t
+machine_moves s t new keeps is = record {
+  taken = ap (λ (m : Machine). m.taken) is ∙ keeps.taken;
+  connections = ap (λ (m : Machine). m.connections) is ∙ keeps.connections;
+  since = λ lives. ap (λ (m : Machine). m.since) is ∙ keeps.since;
+}
+
+-- after what an instruction does
+alone_moves : (s t : State) (e : Effect) → Alone s.machine e → after s e ≡ Some t → Moves s t
+alone_moves s t (Goes new) alone h = machine_moves s t new alone (sym (ap (λ (v : State). v.machine) (same_Some _ t h)))
+alone_moves s t (Emits conn bytes new) alone h = machine_moves s t new alone.0 (sym (ap (λ (v : State). v.machine) (same_Some _ t h)))
+alone_moves s t (Ends code) alone h =
+    let machine : t.machine ≡ s.machine = sym (ap (λ (v : State). v.machine) (same_Some _ t h)) in
+    let ended : t.ended ≡ Some code = sym (ap (λ (v : State). v.ended) (same_Some _ t h)) in
+    record { taken = ap (λ (m : Machine). m.taken) machine; connections = ap (λ (m : Machine). m.connections) machine; since = λ lives. absurd (none-some code (sym lives ∙ ended)) }
+alone_moves s t Wants alone h = absurd alone
+alone_moves s t (Chooses size) alone h = absurd alone
+alone_moves s t (Fails cause) alone h = absurd (none-some t h)
+
+-- after a malloc
+chosen_moves : (s t : State) (size : ℕ) (choice : Option Choice) → after s (chooses size s.machine choice) ≡ Some t → Moves s t
+chosen_moves s t size None h = absurd (none-some t h)
+chosen_moves s t size (Some choice) h = of_test (is_allowed s.machine.heap_start s.machine.heap_end s.machine.blocks size choice) h
+  where
+    of_test : (b : Bool) → after s (cond b (Goes (allocated size choice s.machine)) (Chooses size)) ≡ Some t → Moves s t
+    of_test true is =
+        let keeps = allocated_keeps size choice s.machine in
+        let machine : t.machine ≡ allocated size choice s.machine = sym (ap (λ (v : State). v.machine) (same_Some _ t is)) in
+        record {
+          taken = ap (λ (m : Machine). m.taken) machine ∙ keeps.taken;
+          connections = ap (λ (m : Machine). m.connections) machine ∙ keeps.connections;
+          since = λ lives. ap (λ (m : Machine). m.since) machine ∙ keeps.since;
+        }
+    of_test false is = absurd (none-some t is)
+
+does_moves : (s t : State) (choice : Option Choice) → after s (does None choice s.machine) ≡ Some t → Moves s t
+does_moves s t choice goes = of_shape (does_shape s.machine)
+  where
+    of_shape : Shape s.machine (λ item choice. does item choice s.machine) → Moves s t
+    of_shape (Same e alone is) = alone_moves s t e alone (ap (after s) (sym (is None choice)) ∙ goes)
+    of_shape (Takes may is) = absurd (none-some t (ap (after s) (sym (is None choice)) ∙ goes))
+    of_shape (Picks is) = chosen_moves s t (register s.machine 10) choice (ap (after s) (sym (is None choice)) ∙ goes)
+
+-- one more instruction of a run, without items
+pub record OneMore (limits : Limits) (path next : Path) : Type 0 where
+  pub lives : path.state.ended ≡ None
+  pub early : path.state.machine.since < limits.budget
+  pub moves : Moves path.state next.state
+  pub steps : next.steps ≡ path.steps + 1
+
+pub one_more : (limits : Limits) (env : Env) (path next : Path) → served_next limits [] env path ≡ Some next → OneMore limits path next
+one_more limits env path next goes =
+    let parts = serves_to limits [] env path next goes in
+    record { lives = parts.lives; early = parts.early; moves = does_moves path.state next.state parts.given.chosen parts.goes; steps = parts.steps }

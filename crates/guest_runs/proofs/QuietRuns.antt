@@ -1,0 +1,122 @@
+-- A run goes on by quiet turns.
+use Rattle.std.proofs.Common.{◌≡◌, ℕ, zero, suc, ◌+◌, ◌*◌, ◌≤◌, List, [], Option, Some, None, refl, sym, ◌∙◌, ap, subst, arith}
+use Rattle.std.proofs.lemmas.Option.{option_and_then_some, same_Some, none-some}
+use Rattle.rx_io.specs.declared.bytes.Item.{Item}
+use Rattle.alloc_env.specs.declared.env.Env.{Env}
+use Rattle.run_history.specs.Repeating.{repeated}
+use Rattle.run_history.specs.Served.{Limits, Override, env_at, Path, served_next, planned_next}
+use Rattle.run_history.proofs.Repeats.{repeated_join}
+use Rattle.run_history.proofs.Serves.{served_next_more}
+use Rattle.guest_cpu.specs.declared.event.Event.{Event}
+use Rattle.guest_cpu.specs.Standing.{Standing, Turn, turn, Live, live_after, quietly, unless_event, quiet_next}
+use Rattle.guest_cpu.specs.Serving.{standing_of, Follows, Adds}
+use Rattle.guest_cpu.proofs.ServingLemmas.{turns_serve}
+use Rattle.guest_runs.specs.Runs.{IsBounded, GoesOn, IsSilent}
+use Rattle.guest_runs.proofs.OneMore.{OneMore, one_more}
+use Rattle.guest_runs.proofs.TurnEvents.{Means, turn_means}
+
+-- a run goes on as itself
+pub goes_same : (limits : Limits) (items : List Item) (plan : List Override) (path : Path) → GoesOn limits items plan path path
+goes_same limits items plan path = record {
+  served = record { more = 0; ran = refl };
+  taken = refl;
+  connections = refl;
+  later = omega arith;
+  bounded = λ lives bound. bound;
+}
+
+-- and on from where it hasn't ended
+pub goes_on : (limits : Limits) (items : List Item) (plan : List Override) (first second third : Path) → GoesOn limits items plan first second → GoesOn limits items plan second third → second.state.ended ≡ None
+    → GoesOn limits items plan first third
+goes_on limits items plan first second third one other lives = record {
+  served = record {
+    more = one.served.more + other.served.more;
+    ran = repeated_join (planned_next limits items plan) first second third one.served.more other.served.more one.served.ran other.served.ran;
+  };
+  taken = other.taken ∙ one.taken;
+  connections = other.connections ∙ one.connections;
+  later = omega (arith, one.later, other.later);
+  bounded = λ last bound. other.bounded last (one.bounded lives bound);
+}
+
+-- one more instruction of a bounded run
+bounded_more : (budget taken later since after steps more : ℕ) → later ≡ taken → after ≡ since + 1 → more ≡ steps + 1 → steps ≤ taken * (budget + 1) + since → more ≤ later * (budget + 1) + after
+bounded_more budget taken later since after steps more same rises counts bound = rw same (omega arith)
+
+bounded_one : (limits : Limits) (path next : Path) → OneMore limits path next → next.state.ended ≡ None → IsBounded limits.budget path → IsBounded limits.budget next
+bounded_one limits path next one lives bound = record {
+  since = omega (arith, one.moves.since lives, one.early);
+  steps = bounded_more limits.budget path.state.machine.taken next.state.machine.taken path.state.machine.since next.state.machine.since path.steps next.steps
+      one.moves.taken (one.moves.since lives) one.steps bound.steps;
+}
+
+-- an instruction without items is one with any
+pub goes_one : (limits : Limits) (items : List Item) (plan : List Override) (env : Env) (path next : Path) → env_at plan path.state.machine.taken ≡ env → served_next limits [] env path ≡ Some next
+    → GoesOn limits items plan path next
+goes_one limits items plan env path next in_force goes =
+    let one = one_more limits env path next goes in
+    record {
+      served = record { more = 1; ran = ap (λ (e : Env). served_next limits items e path) in_force ∙ served_next_more limits [] items env path next goes };
+      taken = one.moves.taken;
+      connections = one.moves.connections;
+      later = omega (arith, one.steps);
+      bounded = bounded_one limits path next one;
+    }
+
+-- a run that goes on quietly, and hasn't ended, has come to where a guest stands
+pub record Comes (limits : Limits) (items : List Item) (plan : List Override) (first : Path) (standing : Standing) : Type 0 where
+  pub now : Path
+  pub stands : standing_of now ≡ standing
+  pub lives : now.state.ended ≡ None
+  pub goes : GoesOn limits items plan first now
+  pub silent : IsSilent first now
+
+-- a quiet turn, by its parts
+record IsQuiet (limits : Limits) (env : Env) (old new : Standing) : Type 0 where
+  last : Turn Event
+  turns : turn limits env old ≡ Some last
+  none : last.event ≡ None
+  left : new ≡ last.standing
+
+quiet_parts : (limits : Limits) (env : Env) (base : ℕ) (old new : Live) → quiet_next (turn limits env) base old ≡ Some new → IsQuiet limits env old.standing new.standing
+unfolding quiet_next
+quiet_parts limits env base old new goes = option_and_then_some (quietly base old) (turn limits env old.standing) new goes (λ t turns quiet. of_event t turns t.event refl quiet)
+  where
+    of_event : (t : Turn Event) → turn limits env old.standing ≡ Some t → (event : Option Event) → t.event ≡ event → unless_event event (live_after base old t) ≡ Some new → IsQuiet limits env old.standing new.standing
+    of_event t turns None is quiet = record { last = t; turns = turns; none = is; left = sym (ap (λ (l : Live). l.standing) (same_Some _ new quiet)) }
+    of_event t turns (Some event) is quiet = absurd (none-some new quiet)
+
+-- one quiet turn more
+comes_more : (limits : Limits) (items : List Item) (plan : List Override) (env : Env) (first : Path) (old new : Standing) → env_at plan first.state.machine.taken ≡ env → Comes limits items plan first old → IsQuiet limits env old new
+    → Comes limits items plan first new
+comes_more limits items plan env first old new in_force comes quiet =
+    of_follows
+    (turns_serve limits env comes.now quiet.last comes.lives (ap (turn limits env) comes.stands ∙ quiet.turns))
+    (turn_means limits env old quiet.last quiet.turns)
+  where
+    of_follows : Follows limits env comes.now quiet.last → Means limits env old quiet.last.event quiet.last.standing → Comes limits items plan first new
+    of_follows follows means =
+        let adds = subst (λ (e : Option Event). Adds limits env comes.now e follows.next) quiet.none follows.adds in
+        let same = subst (λ (e : Option Event). Means limits env old e quiet.last.standing) quiet.none means in
+        let ended : follows.next.state.ended ≡ None = ap (λ (s : Standing). s.ended) follows.stands ∙ same ∙ ap (λ (s : Standing). s.ended) (sym comes.stands) ∙ comes.lives in
+        record {
+          now = follows.next;
+          stands = follows.stands ∙ sym quiet.left;
+          lives = ended;
+          goes = goes_on limits items plan first comes.now follows.next comes.goes (goes_one limits items plan env comes.now follows.next (ap (env_at plan) comes.goes.taken ∙ in_force) adds.0) comes.lives;
+          silent = record { choices = adds.1 ∙ comes.silent.choices; sends = adds.2 ∙ comes.silent.sends };
+        }
+
+-- so many of them
+pub comes_quietly : (limits : Limits) (items : List Item) (plan : List Override) (env : Env) (base : ℕ) (first : Path) (old new : Live) (count : ℕ) → first.state.ended ≡ None → env_at plan first.state.machine.taken ≡ env
+    → old.standing ≡ standing_of first → repeated (quiet_next (turn limits env) base) count old ≡ Some new → Comes limits items plan first new.standing
+comes_quietly limits items plan env base first old new zero lives in_force stands ran = record {
+  now = first;
+  stands = sym stands ∙ ap (λ (l : Live). l.standing) (same_Some old new ran);
+  lives = lives;
+  goes = goes_same limits items plan first;
+  silent = record { choices = refl; sends = refl };
+}
+comes_quietly limits items plan env base first old new (suc count) lives in_force stands ran =
+    option_and_then_some (quiet_next (turn limits env) base) (repeated (quiet_next (turn limits env) base) count old) new ran (λ mid before goes.
+    comes_more limits items plan env first mid.standing new.standing in_force (comes_quietly limits items plan env base first old mid count lives in_force stands before) (quiet_parts limits env base mid new goes))

@@ -1,0 +1,42 @@
+-- What holds of every guest and of the run that it is.
+use Rattle.std.specs.Prelude.{◌≡◌, ℕ, List, Some, None, Result, slice_get}
+use Rattle.std.specs.declared.alloc.AllocError.{AllocError}
+use Rattle.rx_io.specs.declared.bytes.Item.{Item}
+use Rattle.elf_image.specs.declared.image.Image.{Image}
+use Rattle.alloc_env.specs.declared.env.Env.{Env}
+use Rattle.run_history.specs.Machine.{Wants}
+use Rattle.run_history.specs.Run.{does}
+use Rattle.run_history.specs.Served.{Limits, Override, env_at, Path, origin, AsksFor}
+use Rattle.guest_cpu.specs.declared.event.Event.{Event}
+use Rattle.guest_cpu.specs.declared.event.Event.TheVariants as event
+use Rattle.guest_cpu.specs.Standing.{Live, turn}
+use Rattle.guest_cpu.specs.Cpus.{start_standing}
+use Rattle.guest_cpu.specs.Running.{RunsBy}
+use Rattle.guest_cpu.specs.Serving.{standing_of}
+use Rattle.guest_runs.specs.Runs.{IsBounded, RunsOn, TakesOn}
+
+-- a guest at its start is the run of no instruction
+pub record IsStart (image : Image) (budget : ℕ) : Type 0 where
+  pub stands : standing_of (origin image) ≡ start_standing image
+  pub lives : (origin image).state.ended ≡ None
+  pub bounded : IsBounded budget (origin image)
+
+abbrev pub RunsStart : Type 0
+RunsStart = (image : Image) (budget : ℕ) → IsStart image budget
+
+-- a guest that runs to its next event in the environment in force is a run that goes on, whatever items were received
+abbrev pub RunsServe : Type 0
+RunsServe =
+    (limits : Limits) (items : List Item) (plan : List Override) (env : Env) (base : ℕ) (first : Path) (old new : Live) (result : Result Event AllocError) →
+    first.state.ended ≡ None → env_at plan first.state.machine.taken ≡ env → old.standing ≡ standing_of first → RunsBy event.Emits (turn limits env) base old result new →
+    RunsOn limits items plan first result new.standing
+
+-- a guest that asks for the item of a number takes it
+abbrev pub TakesServe : Type 0
+TakesServe =
+    (limits : Limits) (items : List Item) (plan : List Override) (first : Path) (item : Item) →
+    AsksFor limits plan first first.state.machine.taken → slice_get items first.state.machine.taken ≡ Some item → TakesOn limits items plan first item
+
+-- where a run asks for an item, its guest's instruction is a recv whose buffer may be written
+abbrev pub AsksWants : Type 0
+AsksWants = (limits : Limits) (plan : List Override) (path : Path) (number : ℕ) → AsksFor limits plan path number → does None None path.state.machine ≡ Wants

@@ -1,0 +1,22 @@
+//! Laws of a guest and its run, each as the contract of a function that does nothing.
+ghost use Rattle.guest_runs.specs.Laws.{AsksWants, RunsServe, RunsStart, TakesServe};
+
+/// A guest at its start is the run of no instruction.
+pub fn runs_start()
+    ensures { RunsStart }
+{}
+
+/// A guest that runs to its next event is a run that goes on.
+pub fn runs_serve()
+    ensures { RunsServe }
+{}
+
+/// A guest that asks for an item takes it.
+pub fn takes_serve()
+    ensures { TakesServe }
+{}
+
+/// Where a run asks for an item, its guest's instruction is a recv whose buffer may be written.
+pub fn asks_wants()
+    ensures { AsksWants }
+{}
