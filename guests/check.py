@@ -1,16 +1,27 @@
 #!/usr/bin/env python3
-"""Checks the shipped guests: that they are executables that rx takes, and, with a built rx, that they reply as they should.
+"""Checks the shipped guests: that they are executables that rx takes, and that they reply, fail and recover as they should.
+
+What the given rx can't run yet runs in the second engine (bench/second), and all of it where no rx is given. Each line says
+which it was.
 
 usage: check.py [RX]
 """
 
+import collections
 import os
+import re
 import struct
 import subprocess
 import sys
 import tempfile
 
 HERE = os.path.dirname(os.path.abspath(__file__))
+sys.path.insert(0, os.path.join(HERE, "..", "bench"))
+
+# pylint: disable=wrong-import-position
+from second.assembler import assemble  # noqa: E402
+from second.machine import executable  # noqa: E402
+from second.trunk import CLOSES, OPENS, frame, piece_frame  # noqa: E402
 
 # Numbers of the ELF specification (System V ABI) and of the RISC-V ELF psABI.
 ET_EXEC, EV_CURRENT, EM_RISCV = 2, 1, 243
@@ -20,7 +31,8 @@ PF_X = 1
 
 PAGE, WINDOW, STACK = 4096, 4 << 20, 65536
 
-OPEN = b"\1\0\0\0\0"
+
+# ---- executables
 
 
 def flaw_of(file):
@@ -62,21 +74,104 @@ def flaw_of_segments(length, entry, headers):
     return None
 
 
-def message(text):
-    return struct.pack("<BHH", 2, 0, len(text)) + text
+# ---- engines
+
+SECOND = [sys.executable, os.path.join(HERE, "run_second.py")]
+
+Outcome = collections.namedtuple("Outcome", "status output report")
 
 
-def run(rx, program, frames):
-    """What rx writes for a program and an input."""
+def run(engine, program, framing, frames):
+    """What comes of a program and an input in an engine, which is the first words of a command."""
     with tempfile.TemporaryDirectory() as folder:
-        words = [rx, "run", program, "--record", folder + "/record", "--report", folder + "/report", "--frame", "whole"]
-        return subprocess.run(words, input=frames, stdout=subprocess.PIPE, check=True).stdout
+        record, report = os.path.join(folder, "record"), os.path.join(folder, "report")
+        words = engine + ["run", program, "--record", record, "--report", report, "--frame", framing]
+        done = subprocess.run(words, input=frames, stdout=subprocess.PIPE, stderr=subprocess.DEVNULL, check=False)
+        text = b""
+        if os.path.exists(report):
+            with open(report, "rb") as file:
+                text = file.read()
+        return Outcome(done.returncode, done.stdout, text.decode())
 
 
-# For each guest, messages and what it replies to them. Worked out by hand.
-CONVERSATIONS = {
-    "echo": [(b"hi\n", b"hi\n"), (b"\0\xff" * 2048, b"\0\xff" * 2048), (b"x", b"x")],
-    "upper": [
+# ---- what an rx can do
+
+LINES, MALLOC, RECOVERY = "lines of several connections", "malloc and free", "recovery"
+BAD_WORDS, INPUT_REFUSED, GAVE_UP = 2, 4, 5
+
+ALLOCATES = "li a0, 16\nli a7, 3\necall\n"
+FREES_TWICE = "mv s0, a0\nli a7, 4\necall\nmv a0, s0\necall\n"
+EXITS = "li a0, 0\nli a7, 5\necall\n"
+
+
+def run_text(engine, text):
+    """What comes of an assembler text that takes no input."""
+    with tempfile.TemporaryDirectory() as folder:
+        program = os.path.join(folder, "program")
+        with open(program, "wb") as file:
+            file.write(executable(*assemble(text)))
+        return run(engine, program, "whole", b"")
+
+
+def abilities(rx):
+    """What an rx can do of the three. It can't where it refuses to; what it does wrong isn't looked at here."""
+    found = set()
+    frames = frame(OPENS, 0) + frame(OPENS, 1)
+    if run(rx, os.path.join(HERE, "echo"), "line", frames).status not in (BAD_WORDS, INPUT_REFUSED):
+        found.add(LINES)
+    if run_text(rx, ALLOCATES + EXITS).status != GAVE_UP:
+        found.add(MALLOC)
+    freed_twice = run_text(rx, ALLOCATES + FREES_TWICE + EXITS)
+    if freed_twice.status != GAVE_UP or "\ntry " in freed_twice.report:
+        found.add(RECOVERY)
+    return found
+
+
+# ---- conversations
+
+OPEN, CLOSE = "open", "close"
+
+
+class Talk:
+    """What clients do and are replied: (connection, OPEN or CLOSE or a message, the reply to it or None)."""
+
+    def __init__(self, *turns):
+        self.frames = b"".join(self.frame_of(connection, does) for connection, does, _ in turns)
+        self.replies = b"".join(piece_frame(connection, reply) for connection, _, reply in turns if reply is not None)
+
+    @staticmethod
+    def frame_of(connection, does):
+        if does in (OPEN, CLOSE):
+            return frame(OPENS if does == OPEN else CLOSES, connection)
+        return piece_frame(connection, does)
+
+
+def alone(*turns):
+    """A talk on connection 0 alone: messages and the replies to them."""
+    return Talk((0, OPEN, None), *[(0, message, reply) for message, reply in turns])
+
+
+ENVIRONMENTS = ["pad", "zero", "isolate", "delay", "all"]  # in the order in which they are tried
+
+
+def tries(result, *checkpoints):
+    """Tries of all environments at each of these checkpoints, all with this result."""
+    return [(checkpoint, environment, result) for checkpoint in checkpoints for environment in ENVIRONMENTS]
+
+
+def survives(result, checkpoint, environment):
+    """Tries at a checkpoint until one survives; those before it have this result."""
+    before = ENVIRONMENTS[:ENVIRONMENTS.index(environment)]
+    return [(checkpoint, other, result) for other in before] + [(checkpoint, environment, "survived")]
+
+
+# A guest in a conversation, with the status at the end. `failures` are (items taken, cause, tries) of each, in order.
+Guest = collections.namedtuple("Guest", "name framing needs talk status failures", defaults=(0, []))
+
+# What is said, replied and tried was worked out by hand.
+GUESTS = [
+    Guest("echo", "whole", [], alone((b"hi\n", b"hi\n"), (b"\0\xff" * 2048, b"\0\xff" * 2048), (b"x", b"x"))),
+    Guest("upper", "whole", [], alone(
         (
             b"two words\n",
             b"TWO WORDS\nmessage 1: 2 words of 4.00 letters; in all 2 words, the longest of 5, "
@@ -91,26 +186,160 @@ CONVERSATIONS = {
             b"...",
             b"...\nmessage 3: 0 words of 0.00 letters; in all 5 words, the longest of 7, "
             b"the most frequent letter E\n",
-        ),
-    ],
-}
+        ))),
+    Guest("store", "line", [LINES, MALLOC], Talk(
+        (0, OPEN, None),
+        (1, OPEN, None),
+        (0, b"set city New York\n", b"ok\n"),
+        (1, b"get city\n", b"New York\n"),
+        (1, b"set tree oak\n", b"ok\n"),
+        (0, b"count\n", b"values 2, yours 1\n"),
+        (1, b"get sea\n", b"none\n"),
+        (1, b"stats\n", b"lines 4, sets 1, found 1, missed 1\n"),
+        (0, b"set city Rome\n", b"ok\n"),
+        (1, b"get city\n", b"Rome\n"),
+        (0, b"del tree\n", b"ok\n"),
+        (0, b"del tree\n", b"none\n"),
+        (0, b"hello\n", b"error: unknown command\n"),
+        (0, b"\n", b"error: unknown command\n"),
+        (0, b"set city\n", b"error: it is set KEY VALUE\n"),
+        (0, b"get\n", b"error: a key has 1 to 24 characters\n"),
+        (0, b"set " + b"k" * 25 + b" v\n", b"error: a key has 1 to 24 characters\n"),
+        (0, b"set " + b"k" * 24 + b" v\n", b"ok\n"),
+        (0, b"set long " + b"v" * 4086 + b"\n", b"ok\n"),
+        (1, b"get long\n", b"v" * 4086 + b"\n"),
+        (1, b"count\n", b"values 3, yours 0\n"),
+        (0, CLOSE, None),
+        (1, b"get city\n", b"none\n"),
+        (1, b"count\n", b"values 0, yours 0\n"),
+        (1, CLOSE, None))),
+    # The heap holds 4096 blocks. The first is that of connection 0.
+    Guest("store", "line", [LINES, MALLOC], Talk(
+        (0, OPEN, None),
+        *[(0, b"set %d v\n" % number, b"ok\n") for number in range(4095)],
+        (0, b"set more v\n", b"error: there is no room for it\n"),
+        (0, b"set 0 w\n", b"error: there is no room for it\n"),
+        (0, b"get 0\n", b"v\n"),
+        (1, OPEN, None),
+        (1, b"get 0\n", b"error: there is no room for this connection\n"),
+        (0, b"del 0\n", b"ok\n"),
+        (0, b"set more v\n", b"ok\n"),
+        (0, b"count\n", b"values 4095, yours 4095\n"),
+        (0, CLOSE, None),
+        (2, OPEN, None),
+        (2, b"count\n", b"values 0, yours 0\n"))),
+    Guest("overrun", "line", [LINES, MALLOC, RECOVERY], alone(
+        (b"name,material,price\n", b"<tr><td>name</td><td>material</td><td>price</td></tr>\n"),
+        (b"saw 12\",steel,24.90\n", b"<tr><td>saw 12&quot;</td><td>steel</td><td>24.90</td></tr>\n"),
+        (b"hand saw 12\",steel,19.90\n", b"<tr><td>hand saw 12&quot;</td><td>steel</td><td>19.90</td></tr>\n"),
+        (b"nails,\"40 mm, \"\"zinc\"\"\",<5\n", b"<tr><td>nails</td><td>40 mm, &quot;zinc&quot;</td><td>&lt;5</td></tr>\n"),
+        (b",\n", b"<tr><td></td><td></td></tr>\n")),
+        0, [(4, "AssertFailed 1", survives("", 3, "pad"))]),
+    Guest("dangling", "line", [LINES, MALLOC, RECOVERY], Talk(
+        (0, OPEN, None),
+        (1, OPEN, None),
+        (1, b"enter garden\n", b"garden: users 1\n"),
+        (0, b"enter hall\n", b"hall: users 1\n"),
+        (0, b"enter hall\n", b"hall: users 1\n"),
+        (0, b"look\n", b"hall: users 1, looks 1\n"),
+        (1, b"look\n", b"garden: users 1, looks 1\n"),
+        (0, b"leave\n", b"left hall\n"),
+        (1, b"enter hall\n", b"hall: users 1\n"),
+        (0, b"enter hall\n", b"hall: users 2\n"),
+        (0, CLOSE, None),
+        (1, b"look\n", b"hall: users 1, looks 1\n"),
+        (1, CLOSE, None)),
+        0, [(8, "BadFree", tries("BadFree", 7, 6, 5) + survives("BadFree", 4, "delay"))]),
+    Guest("unset", "line", [LINES, MALLOC, RECOVERY], alone(
+        (b"add " + b" ".join(b"%d" % number for number in range(1, 71)) + b"\n", b"numbers 70\n"),
+        (b"show\n", b"numbers 70, least 1, most 70, mean 35.50, above it 35\n"),
+        (b"clear\n", b"numbers 0\n"),
+        (b"add 5 8\n", b"numbers 2\n"),
+        (b"show\n", b"numbers 2, least 5, most 8, mean 6.50, above it 1\n"),
+        (b"add 9\n", b"numbers 3\n"),
+        (b"show\n", b"numbers 3, least 5, most 9, mean 7.33, above it 2\n")),
+        0, [(6, "AssertFailed 1", tries("AssertFailed 1", 5) + survives("AssertFailed 1", 4, "zero"))]),
+    Guest("hopeless", "whole", [], alone(
+        (b"90 min in h\n", b"1.50 h\n"),
+        (b"1 w in d\n", b"7.00 d\n"),
+        (b"2 fortnights in d\n", b"error: it is NUMBER UNIT in UNIT\n"),
+        (b"90 min in fortnights\n", None)),
+        5, [(5, "BadAccess", tries("BadAccess", 4, 3, 2, 1, 0))]),
+]
+
+FAILURE = re.compile(r"failure \d+ point (\d+) cause (.+) at [0-9a-f]{8}")
+TRY = re.compile(r"try \d+ checkpoint (\d+) env ([a-z]+) result (.+)")
+
+
+def difference(came, expected):
+    """Where two outputs begin to differ, and how they go on there."""
+    at = len(os.path.commonprefix([came, expected]))
+    return "at byte %d of its output comes %r in place of %r" % (at, came[at:at + 60], expected[at:at + 60])
+
+
+def failures_of(report):
+    """The failures that a report tells, as of `Guest`."""
+    found = []
+    for line in report.splitlines():
+        failure, tried = FAILURE.fullmatch(line), TRY.fullmatch(line)
+        if failure:
+            found.append((int(failure.group(1)), failure.group(2), []))
+        elif tried:
+            found[-1][2].append((int(tried.group(1)), tried.group(2), tried.group(3)))
+    return found
+
+
+class Check:
+    """The checks of the guests with an rx, or with none; `wrong` counts those that don't hold."""
+
+    def __init__(self, rx):
+        self.rx, self.wrong = rx, 0
+        self.can = abilities([rx]) if rx else set()
+        for missing in [need for need in (LINES, MALLOC, RECOVERY) if rx and need not in self.can]:
+            print("this rx has no %s yet" % missing)
+
+    def say(self, name, holds, right, wrong):
+        self.wrong += not holds
+        print("%s: %s" % (name, right if holds else wrong))
+
+    def engine(self, needs):
+        """The engine for what needs this, and its name."""
+        if self.rx and self.can.issuperset(needs):
+            return [self.rx], "rx"
+        return SECOND, "the second engine"
+
+    def check_file(self, name):
+        with open(os.path.join(HERE, name), "rb") as file:
+            flaw = flaw_of(file.read())
+        self.say(name, flaw is None, "an executable that rx takes", flaw)
+
+    def check_talk(self, guest):
+        program = os.path.join(HERE, guest.name)
+        engine, where = self.engine(guest.needs)
+        came = run(engine, program, guest.framing, guest.talk.frames)
+        if came.output != guest.talk.replies:
+            wrong = difference(came.output, guest.talk.replies)
+        else:
+            wrong = "ends with status %d in place of %d" % (came.status, guest.status) if came.status != guest.status else None
+        self.say(guest.name, wrong is None, "replies as it should, in " + where, "%s, in %s" % (wrong, where))
+        if guest.failures:
+            teller, where = self.engine(guest.needs + [RECOVERY])
+            told = came if teller == engine else run(teller, program, guest.framing, guest.talk.frames)
+            failures = failures_of(told.report)
+            ends = "gives up" if guest.status else "is recovered"
+            self.say(guest.name, failures == guest.failures, "fails and %s as it should, in %s" % (ends, where),
+                     "fails so, in %s: %r" % (where, failures))
 
 
 def main(words):
-    rx = words[0] if words else None
-    wrong = 0
-    for name, conversation in CONVERSATIONS.items():
-        program = os.path.join(HERE, name)
-        with open(program, "rb") as file:
-            flaw = flaw_of(file.read())
-        print("%s: %s" % (name, flaw or "an executable that rx takes"))
-        wrong += flaw is not None
-        if rx:
-            output = run(rx, program, OPEN + b"".join(message(asked) for asked, _ in conversation))
-            right = output == b"".join(message(replied) for _, replied in conversation)
-            print("%s: %s" % (name, "replies as it should" if right else "replies %r" % output))
-            wrong += not right
-    return 1 if wrong else 0
+    check = Check(words[0] if words else None)
+    names = []
+    for guest in GUESTS:
+        if guest.name not in names:
+            names.append(guest.name)
+            check.check_file(guest.name)
+        check.check_talk(guest)
+    return 1 if check.wrong else 0
 
 
 if __name__ == "__main__":

@@ -9,6 +9,9 @@
 /* The longest message that comes as one item, and the longest reply that one send takes. */
 enum { GUEST_MOST_RECEIVED = 4096, GUEST_MOST_SENT = 65535 };
 
+/* Connections have numbers below this. */
+enum { GUEST_MOST_CONNECTIONS = 4096 };
+
 /* What an item is. */
 enum guest_kind { GUEST_OPEN = 1, GUEST_MESSAGE = 2, GUEST_CLOSE = 3 };
 
@@ -48,12 +51,45 @@ static inline enum guest_sent guest_send(unsigned connection, const void *bytes,
     return (enum guest_sent)a0;
 }
 
+/* Call 3. Allocates a block of `size` bytes and answers its address, a multiple of 16, or NULL where there is no room. What
+ * stands in the block at first isn't known. */
+static inline void *guest_malloc(unsigned size)
+{
+    register unsigned a0 __asm__("a0") = size;
+    register unsigned a7 __asm__("a7") = 3;
+
+    __asm__ volatile("ecall" : "+r"(a0) : "r"(a7) : "memory");
+    return (void *)a0;
+}
+
+/* Call 4. Frees a block that guest_malloc answered and that wasn't freed since. NULL is passed over. With any other
+ * address the program fails. */
+static inline void guest_free(void *block)
+{
+    register unsigned a0 __asm__("a0") = (unsigned)block;
+    register unsigned a7 __asm__("a7") = 4;
+
+    __asm__ volatile("ecall" : : "r"(a0), "r"(a7) : "memory");
+}
+
 /* Call 5. Ends the program with a code: 0 where all is well. */
 __attribute__((noreturn)) static inline void guest_exit(unsigned code)
 {
     register unsigned a0 __asm__("a0") = code;
     register unsigned a7 __asm__("a7") = 5;
 
+    __asm__ volatile("ecall" : : "r"(a0), "r"(a7) : "memory");
+    __builtin_unreachable();
+}
+
+/* Call 6, where `holds` is 0. The program fails by this code: what has to hold in it doesn't. Else nothing is done. */
+static inline void guest_assert(int holds, unsigned code)
+{
+    register unsigned a0 __asm__("a0") = code;
+    register unsigned a7 __asm__("a7") = 6;
+
+    if (holds)
+        return;
     __asm__ volatile("ecall" : : "r"(a0), "r"(a7) : "memory");
     __builtin_unreachable();
 }

@@ -1,0 +1,70 @@
+#!/usr/bin/env python3
+"""Runs a program as `rx run` does, in the second engine (bench/second) in place of rx.
+
+Standard input, standard output, the record, the report and the status are those of rx. The program has to be one that rx takes:
+that isn't looked at here. Options that aren't given have the values that rx gives them. All of the input is read at once.
+
+usage: run_second.py run PROGRAM --record RECORD --report REPORT [--frame line|length|whole] [--hold N] [--ring N] [--every N]
+"""
+
+import argparse
+import os
+import struct
+import sys
+
+HERE = os.path.dirname(os.path.abspath(__file__))
+sys.path.insert(0, os.path.join(HERE, "..", "bench"))
+
+# pylint: disable=wrong-import-position
+from second.command import run  # noqa: E402
+from second.items import FRAMINGS  # noqa: E402
+from second.machine import Image  # noqa: E402
+from second.outside import MemoryFiles, MemorySink, MemorySource  # noqa: E402
+from second.session import Options  # noqa: E402
+
+PT_LOAD = 1
+
+
+def image_of(file):
+    """The image of an executable that rx takes."""
+    entry, at = struct.unpack_from("<II", file, 24)
+    (count,) = struct.unpack_from("<H", file, 44)
+    segments = []
+    for k in range(count):
+        kind, offset, vaddr, _, filesz, memsz, flags, _ = struct.unpack_from("<8I", file, at + 32 * k)
+        if kind == PT_LOAD and memsz > 0:
+            segments.append((vaddr, file[offset:offset + filesz] + bytes(memsz - filesz), flags))
+    return Image(segments, entry)
+
+
+def words_of(words):
+    defaults = Options()
+    parser = argparse.ArgumentParser(prog="run_second.py", allow_abbrev=False)
+    parser.add_argument("command", choices=["run"])
+    parser.add_argument("program")
+    parser.add_argument("--record", required=True)
+    parser.add_argument("--report", required=True)
+    parser.add_argument("--frame", choices=sorted(FRAMINGS), default=defaults.frame)
+    for name in ("hold", "ring", "every"):
+        parser.add_argument("--" + name, type=int, default=getattr(defaults, name))
+    return parser.parse_args(words)
+
+
+def main(words):
+    asked = words_of(words)
+    with open(asked.program, "rb") as file:
+        image = image_of(file.read())
+    options = Options(frame=asked.frame, hold=asked.hold, ring=asked.ring, every=asked.every)
+    sink, files = MemorySink(), MemoryFiles({"p": b""})
+    done = run(image, MemorySource(sys.stdin.buffer.read()), sink, options, files)
+    for path, name in ((asked.record, "r"), (asked.report, "t")):
+        with open(path, "wb") as file:
+            file.write(files.files[name])
+    sys.stdout.buffer.write(sink.content)
+    if done.status:
+        print(*done.answer, file=sys.stderr)
+    return done.status
+
+
+if __name__ == "__main__":
+    sys.exit(main(sys.argv[1:]))
