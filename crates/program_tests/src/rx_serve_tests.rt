@@ -518,6 +518,10 @@ impl Source for LoggedSource<'_> {
 
     ghost faults = { λ _. 0 };
 
+    ghost Fixed = { Unit {0} };
+
+    ghost fixed = { λ _. tt };
+
     ghost countable = { λ _. tt };
 
     fn take(&mut self, buf: &mut [u8]) -> Result<usize, IoFault> {
@@ -537,6 +541,10 @@ impl Sink for LoggedSink<'_> {
     ghost told = { λ _. None };
 
     ghost faults = { λ _. 0 };
+
+    ghost Fixed = { Unit {0} };
+
+    ghost fixed = { λ _. tt };
 
     ghost countable = { λ _. tt };
 

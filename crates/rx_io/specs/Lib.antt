@@ -18,3 +18,4 @@ pub mod ConnectionTables
 pub mod LinkForms
 pub mod TableLaws
 pub mod MemoryLinks
+pub mod MemoryLaws

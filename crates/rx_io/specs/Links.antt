@@ -1,6 +1,6 @@
 -- What a link between clients and a session tells, and what its calls do to it. The journal of a link is one list of
 -- entries: the events that were taken from it, and the pieces that were given to its connections, in order.
-use Rattle.std.specs.Prelude.{◌≡◌, ℕ, ◌<◌, ◌≤◌, Bool, true, false, List, [], ◌∷◌, ◌++◌, length, take, Option, Some, None, IfSome, Result, Ok, Err, IsErrOf, unwrap_or, if◌then◌else◌, ◌==◌}
+use Rattle.std.specs.Prelude.{◌≡◌, ℕ, ◌<◌, ◌≤◌, Bool, true, false, List, [], ◌∷◌, ◌++◌, length, take, Option, Some, None, IfSome, IsSome, Result, Ok, Err, IsErrOf, unwrap_or, if◌then◌else◌, ◌==◌}
 use Rattle.rx_io.specs.Faults.{Rose}
 use Rattle.rx_io.specs.Prefix.{Prefix}
 use Rattle.rx_io.specs.declared.journal.Entry.{Entry}
@@ -113,6 +113,19 @@ GoesBy coming (Err (Refused kind offset)) = IfSome coming (λ next. next ≡ Ref
 GoesBy coming (Err ReadFault) = Unit {0}
 GoesBy coming (Err Memory) = Unit {0}
 GoesBy coming (Err WriteFault) = ⊥
+
+-- what comes stays as it was where a link has ended or refused
+abbrev pub StillComes : Option Coming → Result LinkEvent LinkFault → Type 0
+StillComes coming (Ok event.Ends) = IfSome coming (λ next. next ≡ Comes event.Ends)
+StillComes coming (Err (Refused kind offset)) = IfSome coming (λ next. next ≡ Refuses kind offset)
+StillComes coming _ = Unit {0}
+
+-- what comes is told after a call as before, unless reading failed or memory ran out
+abbrev pub StaysTold : Option Coming → Option Coming → Result LinkEvent LinkFault → Type 0
+StaysTold None new result = Unit {0}
+StaysTold (Some old) new (Ok event) = IsSome new
+StaysTold (Some old) new (Err (Refused kind offset)) = IsSome new
+StaysTold (Some old) new (Err other) = Unit {0}
 
 -- an event that was taken is one more entry; without one there is none
 abbrev pub Nexts : Told → Told → Result LinkEvent LinkFault → Type 0

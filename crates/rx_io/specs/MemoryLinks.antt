@@ -4,6 +4,7 @@ use Rattle.std.specs.Prelude.{ℕ, ◌+◌, ◌≤◌, min, nat_lt, ◌==◌, Bo
 use Rattle.rx_io.specs.ConnectionTables.{phases_in, is_in_order}
 use Rattle.rx_io.specs.LinkForms.{handed_by}
 use Rattle.rx_io.specs.Links.{Phases, Coming, Comes, Refuses, Counts, Handed}
+use Rattle.rx_io.specs.Prefix.{Prefix}
 use Rattle.rx_io.specs.Planned.{Plan, first_plan, fails_next, after_call, one_more}
 use Rattle.rx_io.specs.declared.journal.Entry.{Entry}
 use Rattle.rx_io.specs.declared.journal.Entry.TheVariants as entry
@@ -76,17 +77,14 @@ AnswersAs planned (Err fault) = planned ≡ Err fault
 abbrev pub after_script_call : Script → Script
 after_script_call script = record script { plan = after_call script.plan }
 
--- one more event of a list of this length was taken; past the last one there is none to take
-abbrev pub taken_after : ℕ → ℕ → ℕ
-taken_after length taken = if nat_lt taken length then taken + 1 else taken
+-- Of a list of this length one more event was taken, if `next` answered one. An Ends isn't gone past, in the list or behind it.
+abbrev pub taken_after : ℕ → ℕ → Result LinkEvent LinkFault → ℕ
+taken_after length taken (Ok event.Ends) = taken
+taken_after length taken (Ok other) = if nat_lt taken length then taken + 1 else taken
+taken_after length taken (Err fault) = taken
 
-abbrev pub after_event : Script → Script
-after_event script = record script { taken = taken_after (length script.events) script.taken }
-
--- an event is taken exactly where `next` answers one
 abbrev pub after_next : Script → Result LinkEvent LinkFault → Script
-after_next script (Ok event) = after_event (after_script_call script)
-after_next script (Err fault) = after_script_call script
+after_next script result = record (after_script_call script) { taken = taken_after (length script.events) script.taken result }
 
 abbrev pub no_faults : Counts
 no_faults = record { takes = 0; gives = 0; gones = 0 }
@@ -142,3 +140,8 @@ link_takes link = link.takes
 
 abbrev pub link_gives : MemoryLink → Bool
 link_gives link = link.gives
+
+-- the events to play stay, and the journal grew at its end
+pub record MemoryWent (old new : MemoryLink) : Type 0 where
+  pub played : new.events.items ≡ old.events.items
+  pub grew : Prefix (link_journal old) (link_journal new)

@@ -1,4 +1,8 @@
-// Objects outside that are lent.
+// Objects outside that are lent: no call changes which object the reference is to.
+ghost use Rattle.std.specs.Prelude.{◌≡◌, refl};
+ghost use Rattle.std.proofs.Common.{◌∙◌};
+ghost use Rattle.std.specs.Borrow.{GName};
+
 use crate::{Files, Given, IoFault, Link, LinkEvent, LinkFault, Listener, LoadFault, Sink, Source};
 use std::alloc::Global;
 
@@ -6,6 +10,10 @@ impl<T: Source> Source for &mut T {
     ghost told = { λ s. T.told s.now };
 
     ghost faults = { λ s. T.faults s.now };
+
+    ghost Fixed = { GName × T.Fixed };
+
+    ghost fixed = { λ s. (s.ghost_name, T.fixed s.now) };
 
     ghost countable = { λ s. T.countable s.now };
 
@@ -19,6 +27,10 @@ impl<T: Sink> Sink for &mut T {
 
     ghost faults = { λ s. T.faults s.now };
 
+    ghost Fixed = { GName × T.Fixed };
+
+    ghost fixed = { λ s. (s.ghost_name, T.fixed s.now) };
+
     ghost countable = { λ s. T.countable s.now };
 
     fn give(&mut self, bytes: &[u8]) -> Result<usize, IoFault> {
@@ -30,6 +42,10 @@ impl<T: Files> Files for &mut T {
     ghost told = { λ s. T.told s.now };
 
     ghost faults = { λ s. T.faults s.now };
+
+    ghost Fixed = { GName × T.Fixed };
+
+    ghost fixed = { λ s. (s.ghost_name, T.fixed s.now) };
 
     fn load(&mut self, alloc: Global, name: &str, limit: u64) -> Result<Vec<u8>, LoadFault> {
         Files::load(&mut **self, alloc, name, limit)
@@ -52,6 +68,10 @@ impl<T: Listener> Listener for &mut T {
     ghost faults = { λ s. T.faults s.now };
 
     ghost connection_faults = { λ s. T.connection_faults s.now };
+
+    ghost Fixed = { GName × T.Fixed };
+
+    ghost fixed = { λ s. (s.ghost_name, T.fixed s.now) };
 
     fn bind(&mut self, port: u16) -> Result<(), IoFault> {
         Listener::bind(&mut **self, port)
@@ -94,6 +114,12 @@ impl<T: Link> Link for &mut T {
     ghost gives_open = { λ s. T.gives_open s.now };
 
     ghost below = { λ s. T.below s.now };
+
+    ghost Went = { λ old new. (new.ghost_name ≡ old.ghost_name) × T.Went old.now new.now };
+
+    ghost went_same = { λ s. (refl, T.went_same s.now) };
+
+    ghost went_on = { λ first second third one two. (two.0 ∙ one.0, T.went_on first.now second.now third.now one.1 two.1) };
 
     fn next(&mut self) -> Result<LinkEvent, LinkFault> {
         Link::next(&mut **self)

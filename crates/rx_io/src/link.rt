@@ -1,6 +1,6 @@
 // What a session talks to: events in, pieces of output out, over many connections.
 ghost use Rattle.std.specs.Prelude.{◌≡◌, ◌^◌, ◌<◌, ℕ, Bool, true, length, Option, is_ok};
-ghost use Rattle.rx_io.specs.Links.{Phases, Open, Enters, Told, Nexts, Gives, Coming, GoesBy, Handed, TellsHanded, Counts, HasTakeCause, HasGiveCause, GivesAtClose};
+ghost use Rattle.rx_io.specs.Links.{Phases, Open, Enters, Told, Nexts, Gives, Coming, GoesBy, StillComes, StaysTold, Handed, TellsHanded, Counts, HasTakeCause, HasGiveCause, GivesAtClose};
 
 use crate::{Given, LinkEvent, LinkFault};
 
@@ -31,6 +31,9 @@ pub trait Link {
     /// How often taking and giving have failed, and how often a connection was gone. No count falls.
     ghost counts: { Self → Counts };
 
+    /// How a link goes on: a relation between a link and itself later, which every call keeps.
+    ghost Went: { Self → Self → Type 0 };
+
     /// Takes the next event, which is in order for its connection; `Ends` says that none is left. After an `Err` no event
     /// was taken, and none is taken any more.
     ///
@@ -43,11 +46,14 @@ pub trait Link {
         ensures told { Nexts (told self.old) (told self.new) result }
         ensures order { Enters (phases self.old) (phases self.new) result }
         ensures grammar { GoesBy (coming self.old) result }
+        ensures last { StillComes (coming self.new) result }
+        ensures coming { StaysTold (coming self.old) (coming self.new) result }
         ensures cause { HasTakeCause (counts self.old) (counts self.new) result }
         ensures closing { GivesAtClose (gives_to self.new) result }
         ensures handed { handed self.new ≡ handed self.old }
         ensures takes { takes self.new ≡ is_ok result }
-        ensures gives { gives self.new ≡ gives self.old };
+        ensures gives { gives self.new ≡ gives self.old }
+        ensures went { Went self.old self.new };
 
     /// Gives 1 to 65,535 bytes to a connection, to which the link gives. A link gives to a connection from its opening until it is
     /// asked for an event after its close. `Gone(n)`: the first n bytes went out, and the connection is gone. After an `Err`
@@ -68,11 +74,18 @@ pub trait Link {
         ensures gives_to { (other : ℕ) → gives_to self.new other ≡ gives_to self.old other }
         ensures coming { coming self.new ≡ coming self.old }
         ensures takes { takes self.new ≡ takes self.old }
-        ensures gives { gives self.new ≡ is_ok result };
+        ensures gives { gives self.new ≡ is_ok result }
+        ensures went { Went self.old self.new };
 
     /// A link gives to each connection that is open.
     ghost gives_open: { (link : Self) (conn : ℕ) → phases link conn ≡ Open → gives_to link conn ≡ true };
 
     /// Each connection that is open is below 4096.
     ghost below: { (link : Self) (conn : ℕ) → phases link conn ≡ Open → conn < 4096 };
+
+    /// A link without a call between has gone on.
+    ghost went_same: { (link : Self) → Went link link };
+
+    /// A link that went on twice has gone on.
+    ghost went_on: { (first second third : Self) → Went first second → Went second third → Went first third };
 }

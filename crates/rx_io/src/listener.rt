@@ -20,10 +20,17 @@ pub trait Listener {
     /// How often a `take` or a `give` has failed. It never falls.
     ghost connection_faults: { Self → ℕ };
 
+    /// What of it no call changes.
+    ghost Fixed: { Type 0 };
+
+    /// It stays as it is.
+    ghost fixed: { Self → Fixed };
+
     /// Listens at this port of the address 127.0.0.1.
     fn bind(&mut self, port: u16) -> Result<(), IoFault>
         ensures call { Binds (told self.old) (told self.new) port result }
         ensures present { present self.new ≡ present self.old }
+        ensures fixed { fixed self.new ≡ fixed self.old }
         ensures cause { HasCause (faults self.old) (faults self.new) result }
         ensures other { connection_faults self.new ≡ connection_faults self.old };
 
@@ -31,6 +38,7 @@ pub trait Listener {
     fn accept(&mut self) -> Result<(), IoFault>
         ensures call { Accepts (told self.old) (told self.new) result }
         ensures present { IsPresentAfter (present self.old) (present self.new) result }
+        ensures fixed { fixed self.new ≡ fixed self.old }
         ensures cause { HasCause (faults self.old) (faults self.new) result }
         ensures other { connection_faults self.new ≡ connection_faults self.old };
 
@@ -42,6 +50,7 @@ pub trait Listener {
         ensures count { IfOk result (λ n. n ≤ length buf.old) }
         ensures call { ListenTakes (told self.old) (told self.new) result buf.new }
         ensures present { present self.new ≡ true }
+        ensures fixed { fixed self.new ≡ fixed self.old }
         ensures cause { HasCause (connection_faults self.old) (connection_faults self.new) result }
         ensures other { faults self.new ≡ faults self.old };
 
@@ -54,6 +63,7 @@ pub trait Listener {
         ensures count { IfOk result (λ n. n ≤ length bytes.now) }
         ensures call { ListenGives (told self.old) (told self.new) result bytes.now }
         ensures present { present self.new ≡ true }
+        ensures fixed { fixed self.new ≡ fixed self.old }
         ensures cause { HasCause (connection_faults self.old) (connection_faults self.new) result }
         ensures other { faults self.new ≡ faults self.old };
 
@@ -62,6 +72,7 @@ pub trait Listener {
         requires { present self.old ≡ true }
         ensures call { Logs (told self.old) (told self.new) closed }
         ensures present { present self.new ≡ false }
+        ensures fixed { fixed self.new ≡ fixed self.old }
         ensures faults { faults self.new ≡ faults self.old }
         ensures other { connection_faults self.new ≡ connection_faults self.old };
 }

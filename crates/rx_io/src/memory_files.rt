@@ -47,6 +47,10 @@ impl Files for MemoryFiles {
 
     ghost faults = { λ s. (memory_files_plan s).faults };
 
+    ghost Fixed = { Unit {0} };
+
+    ghost fixed = { λ _. tt };
+
     fn load(&mut self, alloc: Global, name: &str, limit: u64) -> Result<Vec<u8>, LoadFault>
         ensures within { IfOk result (λ bytes. vec_len bytes ≤ limit) }
         ensures bytes { Loads (Some (memory_contents self.old)) name.now limit result }

@@ -1,5 +1,5 @@
 // A link in memory that plays a list of events, and of which certain calls fail.
-ghost use Rattle.std.specs.Prelude.{◌≡◌, ◌^◌, ◌<◌, ◌≤◌, ◌+◌, ℕ, nat_lt, Option, Some, None, [], length, drop, true, Ok, IfOk, is_ok, if◌then◌else◌};
+ghost use Rattle.std.specs.Prelude.{◌≡◌, ◌^◌, ◌<◌, ◌≤◌, ◌+◌, ℕ, nat_lt, Option, Some, None, [], length, drop, true, Ok, IfOk};
 ghost use Rattle.rx_io.specs.Links.{Enters};
 ghost use Rattle.rx_io.specs.ConnectionTables.{phases_in, is_in_order};
 ghost use Rattle.rx_io.specs.MemoryLinks.{event_or_ends, gone_at, given_of, IsWithin, AnswersAs, taken_after, counts_in, counts_after_next, counts_after_give, after_taking, after_giving};
@@ -100,7 +100,7 @@ fn take_next(
 ) -> Result<LinkEvent, LinkFault>
     requires { is_in_order (phases_in table.old) (event_or_ends (drop taken.old events.now)) ≡ true }
     ensures answer { AnswersAs (Ok (event_or_ends (drop taken.old events.now))) result }
-    ensures taken { taken.new ≡ (if is_ok result then taken_after (length events.now) taken.old else taken.old) }
+    ensures taken { taken.new ≡ taken_after (length events.now) taken.old result }
     ensures order { Enters (phases_in table.old) (phases_in table.new) result }
     ensures journal { journal.new.items ≡ after_taking journal.old.items result }
 {
@@ -114,8 +114,13 @@ fn take_next(
         return Err(LinkFault::Memory);
     };
     table.enter(&event);
-    if *taken < events.len() {
-        *taken += 1;
+    match &event {
+        LinkEvent::Ends => {}
+        _ => {
+            if *taken < events.len() {
+                *taken += 1;
+            }
+        }
     }
     Ok(event)
 }
@@ -256,8 +261,9 @@ impl MemoryLink {
 impl Link for MemoryLink {
     ghost use Rattle.std.specs.Prelude.{◌≡◌, ◌<◌, ◌^◌, ℕ, Some, true, length, is_ok};
     ghost use Rattle.rx_io.specs.LinkForms.{told_by, gives_below_4096};
-    ghost use Rattle.rx_io.specs.Links.{Nexts, Enters, GoesBy, HasTakeCause, GivesAtClose, Gives, TellsHanded, HasGiveCause};
-    ghost use Rattle.rx_io.specs.MemoryLinks.{link_script, link_journal, link_phases, link_coming, link_counts, link_handed, link_takes, link_gives, planned_next, planned_give, AnswersAs, after_next, after_script_call, after_taking, after_giving, counts_after_next, counts_after_give};
+    ghost use Rattle.rx_io.specs.Links.{Nexts, Enters, GoesBy, StillComes, StaysTold, HasTakeCause, GivesAtClose, Gives, TellsHanded, HasGiveCause};
+    ghost use Rattle.rx_io.specs.MemoryLinks.{link_script, link_journal, link_phases, link_coming, link_counts, link_handed, link_takes, link_gives, planned_next, planned_give, AnswersAs, after_next, after_script_call, after_taking, after_giving, counts_after_next, counts_after_give, MemoryWent};
+    ghost use Rattle.rx_io.specs.MemoryLaws.{memory_same, memory_on};
     ghost use Rattle.rx_io.specs.TableLaws.{open_gives, open_below};
 
     ghost told = { λ link. told_by (link_journal link) };
@@ -280,18 +286,27 @@ impl Link for MemoryLink {
 
     ghost below = { λ link. open_below link.table };
 
+    ghost Went = { MemoryWent };
+
+    ghost went_same = { memory_same };
+
+    ghost went_on = { memory_on };
+
     /// Takes the next event of the list, or `Ends` behind its last. An event that isn't in order for its connection, or whose
-    /// connection is 4096 or above, is refused by kind 4 with its place in the list, counted from 0.
+    /// connection is 4096 or above, is refused by kind 4 with its place in the list, counted from 0. `Ends` isn't gone past.
     fn next(&mut self) -> Result<LinkEvent, LinkFault>
         requires { link_takes self.old ≡ true }
         ensures told { Nexts (told_by (link_journal self.old)) (told_by (link_journal self.new)) result }
         ensures order { Enters (link_phases self.old) (link_phases self.new) result }
         ensures grammar { GoesBy (Some (link_coming self.old)) result }
+        ensures last { StillComes (Some (link_coming self.new)) result }
+        ensures coming { StaysTold (Some (link_coming self.old)) (Some (link_coming self.new)) result }
         ensures cause { HasTakeCause (link_counts self.old) (link_counts self.new) result }
         ensures closing { GivesAtClose gives_below_4096 result }
         ensures handed { link_handed self.new ≡ link_handed self.old }
         ensures takes { link_takes self.new ≡ is_ok result }
         ensures gives { link_gives self.new ≡ link_gives self.old }
+        ensures went { MemoryWent self.old self.new }
         ensures answer { AnswersAs (planned_next (link_phases self.old) (link_script self.old)) result }
         ensures script { link_script self.new ≡ after_next (link_script self.old) result }
         ensures journal { link_journal self.new ≡ after_taking (link_journal self.old) result }
@@ -317,6 +332,7 @@ impl Link for MemoryLink {
         ensures coming { Some (link_coming self.new) ≡ Some (link_coming self.old) }
         ensures takes { link_takes self.new ≡ link_takes self.old }
         ensures gives { link_gives self.new ≡ is_ok result }
+        ensures went { MemoryWent self.old self.new }
         ensures answer { AnswersAs (planned_give (length bytes.now) (link_script self.old)) result }
         ensures script { link_script self.new ≡ after_script_call (link_script self.old) }
         ensures journal { link_journal self.new ≡ after_giving conn bytes.now (link_journal self.old) result }

@@ -48,6 +48,10 @@ impl Sink for MemorySink {
 
     ghost faults = { λ s. (memory_sink_plan s).faults };
 
+    ghost Fixed = { Unit {0} };
+
+    ghost fixed = { λ _. tt };
+
     ghost countable = { memory_sink_countable };
 
     /// A call that doesn't fail takes as many of the bytes as `most` allows, or none where memory ran out.

@@ -41,6 +41,10 @@ impl Source for MemorySource {
 
     ghost faults = { λ s. (memory_plan s).faults };
 
+    ghost Fixed = { Unit {0} };
+
+    ghost fixed = { λ _. tt };
+
     ghost countable = { memory_countable };
 
     /// A call that doesn't fail gives as much as `most`, the buffer and the bytes left allow.

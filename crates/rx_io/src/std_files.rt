@@ -106,6 +106,10 @@ impl<R: rt::Files> Files for StdFiles<'_, R> {
 
     ghost faults = { λ s. s.faults };
 
+    ghost Fixed = { Unit {0} };
+
+    ghost fixed = { λ _. tt };
+
     fn load(&mut self, alloc: Global, name: &str, limit: u64) -> Result<Vec<u8>, LoadFault> {
         let result = load_from(self.rt, alloc, name, limit);
         if let Err(LoadFault::Failed) = result {

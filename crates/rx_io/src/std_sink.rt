@@ -25,6 +25,10 @@ impl<R: Print> Sink for StdSink<'_, R> {
 
     ghost faults = { λ s. s.faults };
 
+    ghost Fixed = { Unit {0} };
+
+    ghost fixed = { λ _. tt };
+
     ghost countable = { λ _. tt };
 
     fn give(&mut self, bytes: &[u8]) -> Result<usize, IoFault> {

@@ -24,6 +24,10 @@ impl<R: Input> Source for StdSource<'_, R> {
 
     ghost faults = { λ s. s.faults };
 
+    ghost Fixed = { Unit {0} };
+
+    ghost fixed = { λ _. tt };
+
     ghost countable = { λ _. tt };
 
     fn take(&mut self, buf: &mut [u8]) -> Result<usize, IoFault> {

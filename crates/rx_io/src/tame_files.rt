@@ -41,6 +41,10 @@ impl Files for TameFiles {
 
     ghost faults = { λ s. 0 };
 
+    ghost Fixed = { Unit {0} };
+
+    ghost fixed = { λ _. tt };
+
     fn load(&mut self, alloc: Global, name: &str, limit: u64) -> Result<Vec<u8>, LoadFault>
         ensures within { IfOk result (λ bytes. vec_len bytes ≤ limit) }
         ensures bytes { Loads (Some (tame_contents self.old)) name.now limit result }

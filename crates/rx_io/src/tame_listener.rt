@@ -64,6 +64,10 @@ impl Listener for TameListener {
 
     ghost connection_faults = { λ s. 0 };
 
+    ghost Fixed = { Unit {0} };
+
+    ghost fixed = { λ _. tt };
+
     fn bind(&mut self, port: u16) -> Result<(), IoFault>
         ensures call { Binds (Some (tame_calls self.old)) (Some (tame_calls self.new)) port result }
         ensures present { tame_present self.new ≡ tame_present self.old }

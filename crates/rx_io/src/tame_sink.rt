@@ -47,6 +47,10 @@ impl Sink for TameSink {
 
     ghost faults = { λ s. 0 };
 
+    ghost Fixed = { Unit {0} };
+
+    ghost fixed = { λ _. tt };
+
     ghost countable = { tame_sink_countable };
 
     /// It takes as many of the bytes as `most` allows, or none where memory ran out.

@@ -48,6 +48,10 @@ impl Source for TameSource {
 
     ghost faults = { λ s. 0 };
 
+    ghost Fixed = { Unit {0} };
+
+    ghost fixed = { λ _. tt };
+
     ghost countable = { tame_countable };
 
     /// It gives as much as `most`, the buffer and the bytes left allow.

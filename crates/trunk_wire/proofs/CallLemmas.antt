@@ -3,7 +3,7 @@ use Rattle.std.proofs.Common.{◌≡◌, ℕ, ◌+◌, ◌<◌, ◌≤◌, Resul
 use Rattle.std.proofs.lemmas.List.{take-append-le, length-take-le, take-append-drop}
 use Rattle.std.proofs.Math.Seq.{take-append-add}
 use borrow.Rule.Slice.PartMut.{put_mid, post_of}
-use Rattle.rx_io.proofs.Composing.{took_nothing, took_more, took_same, gave_nothing, gave_more, gave_same}
+use Rattle.rx_io.proofs.Composing.{took_same, gave_same}
 use Rattle.rx_io.specs.Outside.{Stream, Took}
 use Rattle.std.specs.Io.KnownBytes.{Appends, Keeps}
 use Rattle.rx_io.specs.Prefix.{Prefix}
@@ -14,6 +14,7 @@ use Rattle.rx_io.specs.declared.journal.LinkEvent.{LinkEvent}
 use Rattle.rx_io.specs.declared.journal.LinkEvent.TheVariants as event
 use Rattle.rx_io.specs.declared.journal.LinkFault.{LinkFault}
 use Rattle.rx_io.specs.declared.journal.LinkFault.TheVariants.{Refused, ReadFault, WriteFault, Memory}
+use Rattle.trunk_wire.specs.CallLaws.{reads_more}
 use Rattle.trunk_wire.specs.Calls.{Reads, Writes, count_after, Brings, IsRefused, TakesBy, WritesBy, Behind, read_fault, write_fault}
 use Rattle.trunk_wire.specs.Frames.{header_bytes, IsFrameOf, piece_frame}
 use Rattle.trunk_wire.specs.Grammar.{Part, front, header_refusal, event_of}
@@ -34,21 +35,6 @@ put_mid_room a k n xs ys within short =
 
 pub split_whole : (n : ℕ) (front rest whole : List ℕ) → front ++ rest ≡ whole → (front ++ take n rest) ++ drop n rest ≡ whole
 split_whole n front rest whole e = append_assoc front (take n rest) (drop n rest) ∙ ap (λ l. front ++ l) (take-append-drop n rest) ∙ e
-
-count_nothing : (count : ℕ) → count ≡ count_after count 0
-count_nothing count = omega arith
-
-count_more : (before mid now m n : ℕ) → mid ≡ count_after before m → now ≡ count_after mid n → now ≡ count_after before (m + n)
-count_more before mid now m n first second = omega arith
-
-pub reads_nothing : (source : Option Stream) (count : ℕ) → Reads source source count count []
-reads_nothing source count = record { took = took_nothing source; count = count_nothing count }
-
-pub reads_more : (old mid new : Option Stream) (before between now : ℕ) (bytes more : List ℕ) → Reads old mid before between bytes → Reads mid new between now more → Reads old new before now (bytes ++ more)
-reads_more old mid new before between now bytes more first second = record {
-  took = took_more old mid new bytes more first.took second.took;
-  count = count_more before between now (length bytes) (length more) first.count second.count ∙ ap (count_after before) (sym (length-append bytes more));
-}
 
 -- a call took none
 pub reads_same : (old mid new : Option Stream) (before now : ℕ) (bytes : List ℕ) → Reads old mid before now bytes → Took mid new [] → Reads old new before now bytes
@@ -107,15 +93,6 @@ takes_as phases Taken Other drained (Err WriteFault) as_other taken = absurd tak
 pub reads_behind : (old mid new : Option Stream) (before between now : ℕ) (first bytes : List ℕ) → Reads old mid before between first → Behind first (Reads mid new between now) bytes → Reads old new before now bytes
 reads_behind old mid new before between now first bytes read (rest, is, taken) =
     subst (Reads old new before now) (sym is) (reads_more old mid new before between now first rest read taken)
-
-pub writes_nothing : (sink : Option (List ℕ)) (count : ℕ) → Writes sink sink count count []
-writes_nothing sink count = record { wrote = gave_nothing sink; count = count_nothing count }
-
-pub writes_more : (old mid new : Option (List ℕ)) (before between now : ℕ) (bytes more : List ℕ) → Writes old mid before between bytes → Writes mid new between now more → Writes old new before now (bytes ++ more)
-writes_more old mid new before between now bytes more first second = record {
-  wrote = gave_more old mid new bytes more first.wrote second.wrote;
-  count = count_more before between now (length bytes) (length more) first.count second.count ∙ ap (count_after before) (sym (length-append bytes more));
-}
 
 -- a call gave none
 pub writes_same : (old mid new : Option (List ℕ)) (before now : ℕ) (bytes : List ℕ) → Writes old mid before now bytes → Keeps mid new → Writes old new before now bytes

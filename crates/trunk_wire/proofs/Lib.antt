@@ -5,4 +5,5 @@ pub mod PieceLemmas
 pub mod TellingLemmas
 pub mod LinkLemmas
 pub mod GiveLemmas
+pub mod GoingLemmas
 pub mod StreamLaws

@@ -14,6 +14,7 @@ use Rattle.trunk_wire.specs.Grammar.{Whole, Part, Bad, front, coming_of, event_a
 use Rattle.trunk_wire.specs.Parts.{last_bytes}
 use Rattle.trunk_wire.specs.Pieces.{whole_event, events, fresh}
 use Rattle.trunk_wire.specs.Tellings.{is_in_step, told_events, told_coming, trunk_told}
+use Rattle.trunk_wire.specs.declared.refusal.Refusal.{Refusal}
 use Rattle.trunk_wire.proofs.GrammarLemmas.{frame-accepted, front-accepted, front-bad}
 use Rattle.trunk_wire.proofs.TellingLemmas.{InStep, StepsTo, in_step_from, step_frame, step_none, step_part}
 
@@ -120,38 +121,38 @@ coming_cut : (phases : Phases) (offset : ℕ) (bytes : List ℕ) → 0 < length 
 coming_cut phases offset [] some is = absurd (omega arith)
 coming_cut phases offset (byte ∷ bytes) some is = ap (coming_of offset) is
 
-frame_comes : (old new : Option Stream) (took : ℕ) (phases : Phases) (event : LinkEvent) (bytes : List ℕ) → Took old new bytes → IsFrameOf event bytes → IsInOrder phases event
-    → IfSome (told_coming old took phases true) (λ next. next ≡ Comes event)
-frame_comes None new took phases event bytes read is order = tt
-frame_comes (Some old) None took phases event bytes read is order = absurd read
-frame_comes (Some old) (Some new) took phases event bytes read is order =
+frame_comes : (old new : Option Stream) (took : ℕ) (phases : Phases) (refused : Option Refusal) (event : LinkEvent) (bytes : List ℕ) → Took old new bytes → IsFrameOf event bytes → IsInOrder phases event
+    → IfSome (told_coming old took phases true refused) (λ next. next ≡ Comes event)
+frame_comes None new took phases refused event bytes read is order = tt
+frame_comes (Some old) None took phases refused event bytes read is order = absurd read
+frame_comes (Some old) (Some new) took phases refused event bytes read is order =
     coming_whole phases took old.left event
     (ap (front phases) read.1 ∙ front-accepted phases event bytes new.left (frame-accepted phases event bytes is order))
 
-end_comes : (old new : Option Stream) (took : ℕ) (phases : Phases) (bytes : List ℕ) → Took old new bytes → bytes ≡ [] → IsDrained new → IfSome (told_coming old took phases true) (λ next. next ≡ Comes event.Ends)
-end_comes None new took phases bytes read is drained = tt
-end_comes (Some old) None took phases bytes read is drained = absurd read
-end_comes (Some old) (Some new) took phases bytes read is drained = ap (event_at phases took) (read.1 ∙ ap (λ l. l ++ new.left) is ∙ drained)
+end_comes : (old new : Option Stream) (took : ℕ) (phases : Phases) (refused : Option Refusal) (bytes : List ℕ) → Took old new bytes → bytes ≡ [] → IsDrained new → IfSome (told_coming old took phases true refused) (λ next. next ≡ Comes event.Ends)
+end_comes None new took phases refused bytes read is drained = tt
+end_comes (Some old) None took phases refused bytes read is drained = absurd read
+end_comes (Some old) (Some new) took phases refused bytes read is drained = ap (event_at phases took) (read.1 ∙ ap (λ l. l ++ new.left) is ∙ drained)
 
-refusal_comes : (old new : Option Stream) (took kind offset : ℕ) (phases : Phases) (bytes : List ℕ) → Took old new bytes → IsRefused phases (IsDrained new) kind bytes → offset ≡ took
-    → IfSome (told_coming old took phases true) (λ next. next ≡ Refuses kind offset)
-refusal_comes None new took kind offset phases bytes read refused is = tt
-refusal_comes (Some old) None took kind offset phases bytes read refused is = absurd read
-refusal_comes (Some old) (Some new) took kind offset phases bytes read (inl bad) is =
+refusal_comes : (old new : Option Stream) (took kind offset : ℕ) (phases : Phases) (refused : Option Refusal) (bytes : List ℕ) → Took old new bytes → IsRefused phases (IsDrained new) kind bytes → offset ≡ took
+    → IfSome (told_coming old took phases true refused) (λ next. next ≡ Refuses kind offset)
+refusal_comes None new took kind offset phases refused bytes read refusal is = tt
+refusal_comes (Some old) None took kind offset phases refused bytes read refusal is = absurd read
+refusal_comes (Some old) (Some new) took kind offset phases refused bytes read (inl bad) is =
     coming_bad phases took kind old.left (ap (front phases) read.1 ∙ front-bad phases bytes new.left kind bad.0) ∙ ap (Refuses kind) (sym is)
-refusal_comes (Some old) (Some new) took kind offset phases bytes read (inr cut) is =
+refusal_comes (Some old) (Some new) took kind offset phases refused bytes read (inr cut) is =
     let all : old.left ≡ bytes = read.1 ∙ ap (λ l. bytes ++ l) cut.3 ∙ append-nil bytes in
     ap (event_at phases took) all ∙ coming_cut phases took bytes cut.2 cut.1 ∙ rw (is, cut.0) refl
 
 -- an answer is the grammar's
-pub next_goes_by : (old new : Option Stream) (took now : ℕ) (phases next : Phases) (result : Result LinkEvent LinkFault) → TakesBy phases (Reads old new took now) (IsDrained new) result → Enters phases next result
-    → HasOffset took result → GoesBy (told_coming old took phases true) result
-next_goes_by old new took now phases next (Ok (event.Opens conn)) taken order offset = frame_comes old new took phases (event.Opens conn) taken.0 taken.1.took taken.2 order.0
-next_goes_by old new took now phases next (Ok (event.Piece conn bytes)) taken order offset = frame_comes old new took phases (event.Piece conn bytes) taken.0 taken.1.took taken.2 order.0
-next_goes_by old new took now phases next (Ok (event.Closes conn)) taken order offset = frame_comes old new took phases (event.Closes conn) taken.0 taken.1.took taken.2 order.0
-next_goes_by old new took now phases next (Ok event.Settles) taken order offset = frame_comes old new took phases event.Settles taken.0 taken.1.took taken.2 order.0
-next_goes_by old new took now phases next (Ok event.Ends) taken order offset = end_comes old new took phases taken.0 taken.1.took taken.2.0 taken.2.1
-next_goes_by old new took now phases next (Err (Refused kind offset)) taken order at_offset = refusal_comes old new took kind offset phases taken.0 taken.1.took taken.2 at_offset
-next_goes_by old new took now phases next (Err ReadFault) taken order offset = tt
-next_goes_by old new took now phases next (Err Memory) taken order offset = tt
-next_goes_by old new took now phases next (Err WriteFault) taken order offset = absurd taken
+pub next_goes_by : (old new : Option Stream) (took now : ℕ) (phases next : Phases) (refused : Option Refusal) (result : Result LinkEvent LinkFault) → TakesBy phases (Reads old new took now) (IsDrained new) result → Enters phases next result
+    → HasOffset took result → GoesBy (told_coming old took phases true refused) result
+next_goes_by old new took now phases next refused (Ok (event.Opens conn)) taken order offset = frame_comes old new took phases refused (event.Opens conn) taken.0 taken.1.took taken.2 order.0
+next_goes_by old new took now phases next refused (Ok (event.Piece conn bytes)) taken order offset = frame_comes old new took phases refused (event.Piece conn bytes) taken.0 taken.1.took taken.2 order.0
+next_goes_by old new took now phases next refused (Ok (event.Closes conn)) taken order offset = frame_comes old new took phases refused (event.Closes conn) taken.0 taken.1.took taken.2 order.0
+next_goes_by old new took now phases next refused (Ok event.Settles) taken order offset = frame_comes old new took phases refused event.Settles taken.0 taken.1.took taken.2 order.0
+next_goes_by old new took now phases next refused (Ok event.Ends) taken order offset = end_comes old new took phases refused taken.0 taken.1.took taken.2.0 taken.2.1
+next_goes_by old new took now phases next refused (Err (Refused kind offset)) taken order at_offset = refusal_comes old new took kind offset phases refused taken.0 taken.1.took taken.2 at_offset
+next_goes_by old new took now phases next refused (Err ReadFault) taken order offset = tt
+next_goes_by old new took now phases next refused (Err Memory) taken order offset = tt
+next_goes_by old new took now phases next refused (Err WriteFault) taken order offset = absurd taken

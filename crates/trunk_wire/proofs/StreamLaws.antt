@@ -1,12 +1,14 @@
 -- Laws of streams of frames: what whole frames bring in, what pieces take out, and that bytes have one reading.
 use Rattle.std.proofs.Common.{◌≡◌, ℕ, ◌+◌, ◌*◌, ◌/◌, ◌%◌, ◌<◌, false, List, [], ◌∷◌, ◌++◌, length, take, drop, None, arith, append_assoc, append-nil, refl, sym, ap, ◌∙◌, subst}
-use Rattle.std.specs.List.{AllByRecursion}
+use Rattle.std.specs.List.{All, AllByRecursion}
+use Rattle.std.proofs.lemmas.List.Elements.{All-head, All-tail}
 use Rattle.std.proofs.Math.Seq.{take-append_seam, drop-append_seam}
 use Rattle.rx_io.specs.Links.{Phases, IsInOrder, phases_after, Piece, pieces_in, cut_entries}
 use Rattle.rx_io.specs.Prefix.{Prefix}
 use Rattle.rx_io.specs.declared.journal.LinkEvent.{LinkEvent}
 use Rattle.rx_io.specs.declared.journal.LinkEvent.TheVariants as event
 use Rattle.trunk_wire.specs.Frames.{header_of, IsFrame, IsFrameOf, AreFramesOf, piece_frame, frames}
+use Rattle.trunk_wire.specs.Going.{AreInOrder, IsFramed}
 use Rattle.trunk_wire.specs.Grammar.{front, event_of}
 use Rattle.trunk_wire.specs.Parts.{put_bytes}
 use Rattle.trunk_wire.specs.Pieces.{whole_event, event_reader, read_from, events, cut_piece, piece_reader, pieces, given_to, payload}
@@ -44,11 +46,6 @@ pub events-part : (phases : Phases) (bytes more : List ℕ) → HoldsFrames phas
 events-part phases bytes more holds none =
     ap (λ progress. progress.whole)
     (read_on phases bytes more holds ∙ put_bytes-part event_reader events_steady (events phases bytes) (read_from phases bytes).state [] more none)
-
--- events in order, one after another
-abbrev pub AreInOrder : Phases → List LinkEvent → Type 0
-AreInOrder phases [] = Unit {0}
-AreInOrder phases (first ∷ events) = IsInOrder phases first × AreInOrder (phases_after first phases) events
 
 read_all : (phases : Phases) (before list : List LinkEvent) (bytes : List ℕ) → AreInOrder phases list → AreFramesOf list bytes
     → (put_bytes event_reader (record { whole = before; state = phases; part = [] }) bytes).whole ≡ before ++ list
@@ -129,6 +126,13 @@ pub record IsSent (piece : Piece) : Type 0 where
   pub conn : piece.conn < 65536
   pub few : length piece.bytes < 65536
   pub whole : piece.gone ≡ false
+
+-- what a trunk wrote are such pieces
+pub framed_sent : (list : List Piece) → All IsFramed list → AllByRecursion IsSent list
+framed_sent [] all = tt
+framed_sent (piece ∷ list) all =
+    let framed = All-head IsFramed piece list all in
+    (record { conn = omega (arith, framed.below); few = omega (arith, framed.few); whole = framed.whole }, framed_sent list (All-tail IsFramed piece list all))
 
 written_frames : (before list : List Piece) → AllByRecursion IsSent list → put_bytes piece_reader (record { whole = before; state = tt; part = [] }) (frames list) ≡ record { whole = before ++ list; state = tt; part = [] }
 written_frames before [] all = ap (λ l. record { whole = l; state = tt; part = [] }) (sym (append-nil before))

@@ -3,5 +3,8 @@ pub mod Grammar
 pub mod Parts
 pub mod Pieces
 pub mod Calls
+pub mod CallLaws
 pub mod Tellings
+pub mod Going
 pub mod TrunkLinks
+pub mod GoingLaws

@@ -1,10 +1,13 @@
 -- What a trunk tells of the bytes that it took and wrote.
-use Rattle.std.specs.Prelude.{ℕ, zero, suc, nat_le, Bool, true, false, ◌&&◌, List, [], ◌∷◌, length, Option, None, Some, option_map, if◌then◌else◌}
-use Rattle.rx_io.specs.Links.{Phase, Unopened, Open, Closed, Phases, Told, Coming, Piece}
+use Rattle.std.specs.Prelude.{ℕ, zero, suc, nat_le, Bool, true, false, ◌&&◌, List, [], ◌∷◌, length, Option, None, Some, Result, Ok, Err, option_map, if◌then◌else◌}
+use Rattle.rx_io.specs.Links.{Phase, Unopened, Open, Closed, Phases, Told, Coming, Refuses, Piece}
 use Rattle.rx_io.specs.Outside.{Stream}
 use Rattle.rx_io.specs.declared.journal.LinkEvent.{LinkEvent}
+use Rattle.rx_io.specs.declared.journal.LinkFault.{LinkFault}
+use Rattle.rx_io.specs.declared.journal.LinkFault.TheVariants.{Refused}
 use Rattle.trunk_wire.specs.Grammar.{event_at}
 use Rattle.trunk_wire.specs.Parts.{last_bytes}
+use Rattle.trunk_wire.specs.declared.refusal.Refusal.{Refusal}
 use Rattle.trunk_wire.specs.Pieces.{read_from, events, fresh, written, pieces}
 
 abbrev pub same_phase : Phase → Phase → Bool
@@ -43,10 +46,18 @@ abbrev pub told_pieces : Option (List ℕ) → ℕ → Bool → Option (List Pie
 told_pieces None wrote gives = None
 told_pieces (Some bytes) wrote gives = if is_whole wrote gives bytes then Some (pieces (last_bytes wrote bytes)) else None
 
--- what comes next, while events may be taken: the grammar at what the source tells as left
-abbrev pub told_coming : Option Stream → ℕ → Phases → Bool → Option Coming
-told_coming None took phases takes = None
-told_coming (Some stream) took phases takes = if takes then Some (event_at phases took stream.left) else None
+-- the refusal in an answer, if it is one
+abbrev pub refusal_in : Result LinkEvent LinkFault → Option Refusal
+refusal_in (Ok event) = None
+refusal_in (Err (Refused kind offset)) = Some (record { kind = kind; offset = offset })
+refusal_in (Err other) = None
+
+-- What comes next: the grammar at what the source tells as left, while events may be taken, and behind a refusal that refusal
+-- again. Behind another fault nothing is told.
+abbrev pub told_coming : Option Stream → ℕ → Phases → Bool → Option Refusal → Option Coming
+told_coming None took phases takes refused = None
+told_coming (Some stream) took phases takes refused =
+    if takes then Some (event_at phases took stream.left) else option_map (λ (refusal : Refusal). Refuses refusal.kind refusal.offset) refused
 
 -- events and pieces are told where source and sink tell their bytes, and no order of both
 abbrev pub trunk_told : Option (List LinkEvent) → Option (List Piece) → Told

@@ -1,10 +1,12 @@
 -- What a trunk link has.
-use Rattle.std.specs.Prelude.{ℕ, Bool, List, Option}
+use Rattle.std.specs.Prelude.{◌≡◌, ℕ, Bool, List, Option}
 use Rattle.rx_io.specs.ConnectionTables.{phases_in}
 use Rattle.rx_io.specs.Links.{Phases, Handed, Told, Coming, Counts}
 use Rattle.rx_io.specs.LinkForms.{handed_by}
 use Rattle.rx_io.specs.Outside.{Stream}
 use Rattle.trunk_wire.specs.Tellings.{told_events, told_pieces, told_coming, trunk_told}
+use Rattle.trunk_wire.specs.Going.{Intake, Output, TakesOn, GivesOn}
+use Rattle.trunk_wire.specs.declared.refusal.Refusal.{Refusal}
 use Rattle.trunk_wire.specs.declared.trunk_link.TrunkLink.{TrunkLink}
 
 module _ {S K : Type 0} where
@@ -33,13 +35,30 @@ module _ {S K : Type 0} where
   abbrev pub trunk_gives : TrunkLink S K → Bool
   trunk_gives link = link.gives
 
+  -- the refusal behind which the link takes no events
+  abbrev pub trunk_refused : TrunkLink S K → Option Refusal
+  trunk_refused link = link.refused
+
   -- what the link tells, comes to and counts, by what its source and its sink tell and count
   abbrev pub told_of : (S → Option Stream) → (K → Option (List ℕ)) → TrunkLink S K → Told
   told_of source_told sink_told link =
       trunk_told (told_events (source_told link.source) link.took (phases_in link.table) link.takes) (told_pieces (sink_told link.sink) link.wrote link.gives)
 
   abbrev pub coming_of : (S → Option Stream) → TrunkLink S K → Option Coming
-  coming_of source_told link = told_coming (source_told link.source) link.took (phases_in link.table) link.takes
+  coming_of source_told link = told_coming (source_told link.source) link.took (phases_in link.table) link.takes link.refused
 
   abbrev pub counts_of : (S → ℕ) → (K → ℕ) → TrunkLink S K → Counts
   counts_of source_faults sink_faults link = record { takes = source_faults link.source; gives = sink_faults link.sink; gones = 0 }
+
+  abbrev pub intake_of : (S → Option Stream) → TrunkLink S K → Intake
+  intake_of source_told link = record { told = source_told link.source; took = link.took; phases = phases_in link.table; takes = link.takes; refused = link.refused }
+
+  abbrev pub output_of : (K → Option (List ℕ)) → TrunkLink S K → Output
+  output_of sink_told link = record { told = sink_told link.sink; wrote = link.wrote; gives = link.gives }
+
+-- a link goes on over the same source and the same sink, takes frames and writes frames
+pub record TrunkWent {S K F G : Type 0} (source_fixed : S → F) (source_told : S → Option Stream) (sink_fixed : K → G) (sink_told : K → Option (List ℕ)) (old new : TrunkLink S K) : Type 0 where
+  pub source : source_fixed new.source ≡ source_fixed old.source
+  pub sink : sink_fixed new.sink ≡ sink_fixed old.sink
+  pub taken : TakesOn old.takes (intake_of source_told old) (intake_of source_told new)
+  pub given : GivesOn old.gives (output_of sink_told old) (output_of sink_told new)

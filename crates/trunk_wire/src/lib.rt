@@ -3,6 +3,7 @@
 
 mod header;
 mod reading;
+mod refusal;
 mod trunk_link;
 mod writing;
 

@@ -32,6 +32,7 @@ fn truncated(offset: u64) -> LinkFault
 fn fill<S: Source>(source: &mut S, took: &mut u64, buffer: &mut [u8]) -> Result<usize, IoFault>
     ensures count { IfOk result (λ n. n ≤ length buffer.old) }
     ensures bytes { Fills (S.told source.old) (S.told source.new) took.old took.new buffer.new result }
+    ensures fixed { S.fixed source.new ≡ S.fixed source.old }
     ensures cause { HasCause (S.faults source.old) (S.faults source.new) result }
 {
     let mut filled = 0;
@@ -57,6 +58,7 @@ fn read_payload<S: Source>(
     length: usize,
 ) -> Result<Option<Vec<u8>>, IoFault>
     ensures read { ReadsPayload length (S.told source.old) (S.told source.new) took.old took.new result }
+    ensures fixed { S.fixed source.new ≡ S.fixed source.old }
     ensures cause { HasCause (S.faults source.old) (S.faults source.new) result }
 {
     if length == 0 {
@@ -91,6 +93,7 @@ fn take_rest<S: Source>(
     ensures order { Enters (phases_in table.old) (phases_in table.new) result }
     ensures offset { HasOffset offset result }
     ensures later { S.faults source.old ≤ S.faults source.new }
+    ensures fixed { S.fixed source.new ≡ S.fixed source.old }
     ensures cause { IsErrOf result LinkFault.ReadFault → Rose (S.faults source.old) (S.faults source.new) }
 {
     if let Some(kind) = header_refusal(table, header) {
@@ -117,6 +120,7 @@ pub fn take_event<S: Source>(
     ensures order { Enters (phases_in table.old) (phases_in table.new) result }
     ensures offset { HasOffset took.old result }
     ensures later { S.faults source.old ≤ S.faults source.new }
+    ensures fixed { S.fixed source.new ≡ S.fixed source.old }
     ensures cause { IsErrOf result LinkFault.ReadFault → Rose (S.faults source.old) (S.faults source.new) }
 {
     let offset = *took;

@@ -1,5 +1,6 @@
 // A link whose events are frames of a source, and whose pieces go out as frames of a sink.
 use crate::reading::take_event;
+use crate::refusal::{Refusal, refusal_in};
 use crate::writing::write_frame;
 use rx_io::{ConnectionTable, Given, Link, LinkEvent, LinkFault, Sink, Source};
 use std::alloc::Global;
@@ -16,13 +17,14 @@ pub struct TrunkLink<S, K> {
     wrote: u64,
     handed: Option<(u16, usize)>,
     takes: bool,
+    refused: Option<Refusal>,
     gives: bool,
 }
 
 impl<S: Source, K: Sink> TrunkLink<S, K> {
     ghost use Rattle.std.specs.Prelude.{◌≡◌, None, true};
     ghost use Rattle.rx_io.specs.Links.{IsFresh};
-    ghost use Rattle.trunk_wire.specs.TrunkLinks.{source_of, sink_of, took_of, wrote_of, trunk_phases, trunk_handed, trunk_takes, trunk_gives, told_of};
+    ghost use Rattle.trunk_wire.specs.TrunkLinks.{source_of, sink_of, took_of, wrote_of, trunk_phases, trunk_handed, trunk_takes, trunk_gives, trunk_refused, told_of};
     ghost use Rattle.trunk_wire.specs.Tellings.{told_nothing};
 
     /// No byte was taken and none was written. It takes no memory; `alloc` is for the payloads to come.
@@ -34,6 +36,7 @@ impl<S: Source, K: Sink> TrunkLink<S, K> {
         ensures phases { IsFresh (trunk_phases result) }
         ensures handed { trunk_handed result ≡ None }
         ensures takes { trunk_takes result ≡ true }
+        ensures refused { trunk_refused result ≡ None }
         ensures gives { trunk_gives result ≡ true }
         ensures told { told_of S.told K.told result ≡ told_nothing (S.told source) (K.told sink) }
     {
@@ -46,11 +49,13 @@ impl<S: Source, K: Sink> TrunkLink<S, K> {
             wrote: 0,
             handed: None,
             takes: true,
+            refused: None,
             gives: true,
         }
     }
 
-    /// The source and the sink, as the link left them.
+    /// The source and the sink, as the link left them. Where they are references, a caller knows more of what is behind them if it
+    /// drops the link.
     pub fn into_parts(self) -> (S, K)
         ensures source { result.0 ≡ source_of self }
         ensures sink { result.1 ≡ sink_of self }
@@ -62,11 +67,13 @@ impl<S: Source, K: Sink> TrunkLink<S, K> {
 
 impl<S: Source, K: Sink> Link for TrunkLink<S, K> {
     ghost use Rattle.std.specs.Prelude.{◌≡◌, ◌<◌, ◌^◌, ℕ, Some, true, length, is_ok};
-    ghost use Rattle.rx_io.specs.Links.{Nexts, Enters, GoesBy, HasTakeCause, GivesAtClose, Gives, TellsHanded, HasGiveCause};
+    ghost use Rattle.rx_io.specs.Links.{Nexts, Enters, GoesBy, StillComes, StaysTold, HasTakeCause, GivesAtClose, Gives, TellsHanded, HasGiveCause};
     ghost use Rattle.rx_io.specs.LinkForms.{gives_below_4096, handed_by};
     ghost use Rattle.rx_io.specs.TableLaws.{open_gives, open_below};
     ghost use Rattle.trunk_wire.specs.Calls.{TakesFrame, WritesFrame, HasOffset};
-    ghost use Rattle.trunk_wire.specs.TrunkLinks.{source_of, sink_of, took_of, wrote_of, trunk_phases, trunk_handed, trunk_takes, trunk_gives, told_of, coming_of, counts_of};
+    ghost use Rattle.trunk_wire.specs.TrunkLinks.{source_of, sink_of, took_of, wrote_of, trunk_phases, trunk_handed, trunk_takes, trunk_gives, trunk_refused, told_of, coming_of, counts_of, TrunkWent};
+    ghost use Rattle.trunk_wire.specs.Tellings.{refusal_in};
+    ghost use Rattle.trunk_wire.specs.GoingLaws.{trunk_same, trunk_on};
 
     ghost told = { told_of S.told K.told };
 
@@ -88,6 +95,12 @@ impl<S: Source, K: Sink> Link for TrunkLink<S, K> {
 
     ghost below = { λ link. open_below link.table };
 
+    ghost Went = { TrunkWent S.fixed S.told K.fixed K.told };
+
+    ghost went_same = { trunk_same S.fixed S.told K.fixed K.told };
+
+    ghost went_on = { trunk_on S.fixed S.told K.fixed K.told };
+
     /// Takes the next frame, and no byte behind it: at an event the whole frame, at a refused header its five bytes, at a frame
     /// that is cut short all that is left. After a fault of the source or want of memory a part of one frame was taken.
     fn next(&mut self) -> Result<LinkEvent, LinkFault>
@@ -95,6 +108,8 @@ impl<S: Source, K: Sink> Link for TrunkLink<S, K> {
         ensures told { Nexts (told_of S.told K.told self.old) (told_of S.told K.told self.new) result }
         ensures order { Enters (trunk_phases self.old) (trunk_phases self.new) result }
         ensures grammar { GoesBy (coming_of S.told self.old) result }
+        ensures last { StillComes (coming_of S.told self.new) result }
+        ensures coming { StaysTold (coming_of S.told self.old) (coming_of S.told self.new) result }
         ensures cause { HasTakeCause (counts_of S.faults K.faults self.old) (counts_of S.faults K.faults self.new) result }
         ensures closing { GivesAtClose gives_below_4096 result }
         ensures handed { trunk_handed self.new ≡ trunk_handed self.old }
@@ -104,6 +119,8 @@ impl<S: Source, K: Sink> Link for TrunkLink<S, K> {
         ensures offset { HasOffset (took_of self.old) result }
         ensures sink { sink_of self.new ≡ sink_of self.old }
         ensures wrote { wrote_of self.new ≡ wrote_of self.old }
+        ensures refused { trunk_refused self.new ≡ refusal_in result }
+        ensures went { TrunkWent S.fixed S.told K.fixed K.told self.old self.new }
     {
         let answer = take_event(
             self.alloc,
@@ -112,6 +129,7 @@ impl<S: Source, K: Sink> Link for TrunkLink<S, K> {
             &mut self.table,
         );
         self.takes = answer.is_ok();
+        self.refused = refusal_in(&answer);
         answer
     }
 
@@ -133,6 +151,8 @@ impl<S: Source, K: Sink> Link for TrunkLink<S, K> {
         ensures last { trunk_handed self.new ≡ handed_by (Some (conn, length bytes.now)) }
         ensures source { source_of self.new ≡ source_of self.old }
         ensures took { took_of self.new ≡ took_of self.old }
+        ensures refused { trunk_refused self.new ≡ trunk_refused self.old }
+        ensures went { TrunkWent S.fixed S.told K.fixed K.told self.old self.new }
     {
         self.handed = Some((conn, bytes.len()));
         let answer = write_frame(&mut self.sink, &mut self.wrote, conn, bytes);

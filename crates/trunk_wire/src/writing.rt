@@ -19,6 +19,7 @@ fn write_fault(fault: IoFault) -> LinkFault
 // Gives all of the bytes.
 fn write_all<K: Sink>(sink: &mut K, wrote: &mut u64, bytes: &[u8]) -> Result<(), IoFault>
     ensures bytes { WritesAll (Writes (K.told sink.old) (K.told sink.new) wrote.old wrote.new) bytes.now result }
+    ensures fixed { K.fixed sink.new ≡ K.fixed sink.old }
     ensures cause { HasCause (K.faults sink.old) (K.faults sink.new) result }
 {
     let mut rest = bytes;
@@ -43,6 +44,7 @@ pub fn write_frame<K: Sink>(
     requires { length bytes.now < 2 ^ 16 }
     ensures frame { WritesBy (Writes (K.told sink.old) (K.told sink.new) wrote.old wrote.new) conn bytes.now result }
     ensures later { K.faults sink.old ≤ K.faults sink.new }
+    ensures fixed { K.fixed sink.new ≡ K.fixed sink.old }
     ensures cause { IsErrOf result LinkFault.WriteFault → Rose (K.faults sink.old) (K.faults sink.new) }
 {
     let header = bytes_from(Header {

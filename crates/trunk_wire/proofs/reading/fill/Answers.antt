@@ -1,7 +1,8 @@
 use Rattle.std.proofs.Common.{◌-◌, ◌≡◌, ◌≤◌, length, arith, subst, sym}
 use Rattle.std.proofs.lemmas.List.{length-take-le}
+use Rattle.trunk_wire.specs.CallLaws.{reads_more}
 use Rattle.trunk_wire.specs.Calls.{Reads, count_after}
-use Rattle.trunk_wire.proofs.CallLemmas.{take-put_mid_front, put_mid_room, reads_more, reads_counted}
+use Rattle.trunk_wire.proofs.CallLemmas.{take-put_mid_front, put_mid_room, reads_counted}
 use Rattle.trunk_wire.proofs.reading.fill.Goals as goal
 
 pub fill-preserved : goal.fill-preserved
@@ -12,5 +13,6 @@ fill-preserved g c =
       bytes = subst (Reads (g.S.Source.told c.args.source.now) (g.S.Source.told c.take.new.self) c.args.took.now c.saturating_add.result)
           (sym (take-put_mid_front c.fill.filled (length c.fill.buffer - c.fill.filled) c.in-Ok.count c.fill.buffer c.take.new.buf c.fill.invariant.within short))
           (reads_more _ _ _ _ _ _ _ _ c.fill.invariant.bytes (reads_counted _ _ c.fill.took c.saturating_add.result _ c.in-Ok.count c.in-Ok.ensures.bytes.0 (length-take-le c.in-Ok.count c.take.new.buf short) counted));
+      fixed = cc;
       later = omega (arith, c.fill.invariant.later, c.in-Ok.ensures.cause.later);
     }

@@ -1,4 +1,4 @@
-use Rattle.std.proofs.Common.{◌≤◌, ◌-◌, length, take}
+use Rattle.std.proofs.Common.{◌≡◌, ◌≤◌, ◌-◌, length, take}
 use Rattle.trunk_wire.specs.Calls.{Reads}
 use Rattle.trunk_wire.proofs.reading.fill.Given as goal
 
@@ -6,6 +6,7 @@ abbrev pub invariant-fill : goal.invariant-fill
 invariant-fill g l = record {
   within : l.filled ≤ length l.buffer;
   bytes : Reads (g.S.Source.told l.fn.source) (g.S.Source.told l.source) l.fn.took l.took (take l.filled l.buffer);
+  fixed : g.S.Source.fixed l.source ≡ g.S.Source.fixed l.fn.source;
   later : g.S.Source.faults l.fn.source ≤ g.S.Source.faults l.source;
 }
 

@@ -1,7 +1,8 @@
 use Rattle.std.proofs.Common.{◌≡◌, ◌≤◌, ◌++◌, length, take, arith}
 use Rattle.std.proofs.lemmas.List.{length-take-le}
+use Rattle.trunk_wire.specs.CallLaws.{writes_more}
 use Rattle.trunk_wire.specs.Calls.{count_after}
-use Rattle.trunk_wire.proofs.CallLemmas.{split_whole, writes_more, writes_counted}
+use Rattle.trunk_wire.proofs.CallLemmas.{split_whole, writes_counted}
 use Rattle.trunk_wire.proofs.writing.write_all.Goals as goal
 
 pub give-preserved : goal.give-preserved
@@ -12,5 +13,6 @@ give-preserved g c =
       whole = rw c.split_at.ensures.back (split_whole c.in-Ok.count c.give.invariant.front c.give.rest.now c.args.bytes.now c.give.invariant.whole);
       written = writes_more _ _ _ _ _ _ _ _ c.give.invariant.written
           (writes_counted _ _ c.give.wrote c.saturating_add.result _ c.in-Ok.count c.in-Ok.ensures.bytes (length-take-le c.in-Ok.count c.give.rest.now short) counted);
+      fixed = cc;
       later = omega (arith, c.give.invariant.later, c.in-Ok.ensures.cause.later);
     }

@@ -7,6 +7,7 @@ invariant-give g l = record {
   front : List ℕ;
   whole : front ++ l.rest ≡ l.bytes;
   written : Writes (g.K.Sink.told l.fn.sink) (g.K.Sink.told l.sink) l.fn.wrote l.wrote front;
+  fixed : g.K.Sink.fixed l.sink ≡ g.K.Sink.fixed l.fn.sink;
   later : g.K.Sink.faults l.fn.sink ≤ g.K.Sink.faults l.sink;
 }
 
