@@ -1,9 +1,8 @@
-//! A plain interpreter of RV32IM with rx's memory and guest calls: what `speed.py` sets rx's speed beside.
+//! A tight plain interpreter of RV32IM with rx's memory and guest calls: what `speed.py` sets rx's speed beside.
 //!
-//! It has the form of rx's machine: each instruction is fetched, decoded to an enum and dispatched once; memory is a
-//! list of areas with permissions, which an access walks; there is a budget and a count of instructions; and what runs
-//! for each instruction is inlined. It isn't proved, it recovers nothing, and it looks for no fault in the file and in
-//! the frames.
+//! An instruction is decoded and done at once. The program counter and the rest of the budget are locals, and so are the
+//! registers. Memory is a window of bytes and the spans of it that may be touched; where the last fetch, load and store were
+//! is tried first. It isn't proved, it recovers nothing, and it looks for no fault in the file and in the frames.
 //!
 //! usage: interpreter PROGRAM < FRAMES > FRAMES
 //! On standard error it says how many instructions it did.
@@ -21,271 +20,170 @@ const STACK: u32 = 65536;
 const BUDGET: u64 = 1_000_000;
 const CONNECTIONS: usize = 4096;
 
-#[derive(Clone, Copy)]
-enum BranchOp {
-    Beq,
-    Bne,
-    Blt,
-    Bge,
-    Bltu,
-    Bgeu,
+type Registers = [u32; 32];
+
+fn rd(word: u32) -> usize {
+    (word >> 7 & 31) as usize
 }
 
-#[derive(Clone, Copy)]
-enum LoadOp {
-    Lb,
-    Lh,
-    Lw,
-    Lbu,
-    Lhu,
+fn rs1(word: u32) -> usize {
+    (word >> 15 & 31) as usize
 }
 
-#[derive(Clone, Copy)]
-enum StoreOp {
-    Sb,
-    Sh,
-    Sw,
+fn rs2(word: u32) -> usize {
+    (word >> 20 & 31) as usize
 }
 
-#[derive(Clone, Copy)]
-enum RegOp {
-    Add,
-    Sub,
-    Sll,
-    Slt,
-    Sltu,
-    Xor,
-    Srl,
-    Sra,
-    Or,
-    And,
-    Mul,
-    Mulh,
-    Mulhsu,
-    Mulhu,
-    Div,
-    Divu,
-    Rem,
-    Remu,
+fn funct3(word: u32) -> u32 {
+    word >> 12 & 7
 }
 
-/// An instruction. The immediate forms of the operations on registers have the same operations.
-#[derive(Clone, Copy)]
-enum Instr {
-    Lui { rd: u8, imm: u32 },
-    Auipc { rd: u8, imm: u32 },
-    Jal { rd: u8, imm: u32 },
-    Jalr { rd: u8, rs1: u8, imm: u32 },
-    Branch { op: BranchOp, rs1: u8, rs2: u8, imm: u32 },
-    Load { op: LoadOp, rd: u8, rs1: u8, imm: u32 },
-    Store { op: StoreOp, rs1: u8, rs2: u8, imm: u32 },
-    OpImm { op: RegOp, rd: u8, rs1: u8, imm: u32 },
-    Op { op: RegOp, rd: u8, rs1: u8, rs2: u8 },
-    Fence,
-    Ecall,
-    Ebreak,
+fn funct7(word: u32) -> u32 {
+    word >> 25
 }
 
+fn imm_i(word: u32) -> u32 {
+    (word as i32 >> 20) as u32
+}
+
+fn imm_s(word: u32) -> u32 {
+    (word as i32 >> 25 << 5) as u32 | word >> 7 & 31
+}
+
+fn imm_b(word: u32) -> u32 {
+    (word as i32 >> 19) as u32 & 0xffff_f000 | word << 4 & 0x800 | word >> 20 & 0x7e0 | word >> 7 & 0x1e
+}
+
+fn imm_j(word: u32) -> u32 {
+    (word as i32 >> 11) as u32 & 0xfff0_0000 | word & 0xf_f000 | word >> 9 & 0x800 | word >> 20 & 0x7fe
+}
+
+/// What an operation on two registers gives.
 #[inline(always)]
-fn decode(word: u32) -> Option<Instr> {
-    let signed = word as i32;
-    let rd = (word >> 7 & 31) as u8;
-    let rs1 = (word >> 15 & 31) as u8;
-    let rs2 = (word >> 20 & 31) as u8;
-    let funct3 = word >> 12 & 7;
-    let funct7 = word >> 25;
-    let imm_i = (signed >> 20) as u32;
-    Some(match word & 0x7f {
-        0x37 => Instr::Lui { rd, imm: word & !0xfff },
-        0x17 => Instr::Auipc { rd, imm: word & !0xfff },
-        0x6f => {
-            let imm = (signed >> 11) as u32 & 0xfff0_0000 | word & 0xf_f000 | word >> 9 & 0x800 | word >> 20 & 0x7fe;
-            Instr::Jal { rd, imm }
-        }
-        0x67 if funct3 == 0 => Instr::Jalr { rd, rs1, imm: imm_i },
-        0x63 => {
-            let op = match funct3 {
-                0 => BranchOp::Beq,
-                1 => BranchOp::Bne,
-                4 => BranchOp::Blt,
-                5 => BranchOp::Bge,
-                6 => BranchOp::Bltu,
-                7 => BranchOp::Bgeu,
-                _ => return None,
-            };
-            let imm = (signed >> 19) as u32 & 0xffff_f000 | word << 4 & 0x800 | word >> 20 & 0x7e0 | word >> 7 & 0x1e;
-            Instr::Branch { op, rs1, rs2, imm }
-        }
-        0x03 => {
-            let op = match funct3 {
-                0 => LoadOp::Lb,
-                1 => LoadOp::Lh,
-                2 => LoadOp::Lw,
-                4 => LoadOp::Lbu,
-                5 => LoadOp::Lhu,
-                _ => return None,
-            };
-            Instr::Load { op, rd, rs1, imm: imm_i }
-        }
-        0x23 => {
-            let op = match funct3 {
-                0 => StoreOp::Sb,
-                1 => StoreOp::Sh,
-                2 => StoreOp::Sw,
-                _ => return None,
-            };
-            let imm = (signed >> 20) as u32 & !31 | word >> 7 & 31;
-            Instr::Store { op, rs1, rs2, imm }
-        }
-        0x13 => match funct3 {
-            1 if funct7 != 0 => return None,
-            5 if funct7 & !32 != 0 => return None,
-            1 | 5 => Instr::OpImm { op: base_op(funct3, funct7)?, rd, rs1, imm: imm_i & 31 },
-            _ => Instr::OpImm { op: base_op(funct3, 0)?, rd, rs1, imm: imm_i },
-        },
-        0x33 if funct7 == 1 => Instr::Op { op: multiply_op(funct3), rd, rs1, rs2 },
-        0x33 => Instr::Op { op: base_op(funct3, funct7)?, rd, rs1, rs2 },
-        0x0f if funct3 == 0 => Instr::Fence,
-        _ => match word {
-            0x0000_0073 => Instr::Ecall,
-            0x0010_0073 => Instr::Ebreak,
+fn op(word: u32, a: u32, b: u32) -> Option<u32> {
+    let (signed_a, signed_b) = (a as i32, b as i32);
+    if word < 1 << 25 {
+        return Some(match funct3(word) {
+            0 => a.wrapping_add(b),
+            1 => a << (b & 31),
+            2 => (signed_a < signed_b) as u32,
+            3 => (a < b) as u32,
+            4 => a ^ b,
+            5 => a >> (b & 31),
+            6 => a | b,
+            _ => a & b,
+        });
+    }
+    Some(match funct7(word) {
+        32 => match funct3(word) {
+            0 => a.wrapping_sub(b),
+            5 => (signed_a >> (b & 31)) as u32,
             _ => return None,
         },
+        1 => match funct3(word) {
+            0 => a.wrapping_mul(b),
+            1 => (i64::from(signed_a) * i64::from(signed_b) >> 32) as u32,
+            2 => (i64::from(signed_a) * i64::from(b) >> 32) as u32,
+            3 => (u64::from(a) * u64::from(b) >> 32) as u32,
+            4 if b == 0 => u32::MAX,
+            4 => signed_a.wrapping_div(signed_b) as u32,
+            5 => a.checked_div(b).unwrap_or(u32::MAX),
+            6 if b == 0 => a,
+            6 => signed_a.wrapping_rem(signed_b) as u32,
+            _ => a.checked_rem(b).unwrap_or(a),
+        },
+        _ => return None,
     })
 }
 
+/// What an operation on a register and an immediate gives.
 #[inline(always)]
-fn base_op(funct3: u32, funct7: u32) -> Option<RegOp> {
-    Some(match (funct7, funct3) {
-        (0, 0) => RegOp::Add,
-        (32, 0) => RegOp::Sub,
-        (0, 1) => RegOp::Sll,
-        (0, 2) => RegOp::Slt,
-        (0, 3) => RegOp::Sltu,
-        (0, 4) => RegOp::Xor,
-        (0, 5) => RegOp::Srl,
-        (32, 5) => RegOp::Sra,
-        (0, 6) => RegOp::Or,
-        (0, 7) => RegOp::And,
+fn op_imm(word: u32, a: u32) -> Option<u32> {
+    let b = imm_i(word);
+    Some(match funct3(word) {
+        0 => a.wrapping_add(b),
+        1 if funct7(word) == 0 => a << (b & 31),
+        2 => ((a as i32) < b as i32) as u32,
+        3 => (a < b) as u32,
+        4 => a ^ b,
+        5 if funct7(word) == 0 => a >> (b & 31),
+        5 if funct7(word) == 32 => (a as i32 >> (b & 31)) as u32,
+        6 => a | b,
+        7 => a & b,
         _ => return None,
     })
 }
 
 #[inline(always)]
-fn multiply_op(funct3: u32) -> RegOp {
-    match funct3 {
-        0 => RegOp::Mul,
-        1 => RegOp::Mulh,
-        2 => RegOp::Mulhsu,
-        3 => RegOp::Mulhu,
-        4 => RegOp::Div,
-        5 => RegOp::Divu,
-        6 => RegOp::Rem,
-        _ => RegOp::Remu,
-    }
+fn is_taken(word: u32, a: u32, b: u32) -> Option<bool> {
+    Some(match funct3(word) {
+        0 => a == b,
+        1 => a != b,
+        4 => (a as i32) < b as i32,
+        5 => a as i32 >= b as i32,
+        6 => a < b,
+        7 => a >= b,
+        _ => return None,
+    })
 }
 
-#[inline(always)]
-fn alu(op: RegOp, a: u32, b: u32) -> u32 {
-    let (signed_a, signed_b) = (a as i32, b as i32);
-    match op {
-        RegOp::Add => a.wrapping_add(b),
-        RegOp::Sub => a.wrapping_sub(b),
-        RegOp::Sll => a << (b & 31),
-        RegOp::Slt => (signed_a < signed_b) as u32,
-        RegOp::Sltu => (a < b) as u32,
-        RegOp::Xor => a ^ b,
-        RegOp::Srl => a >> (b & 31),
-        RegOp::Sra => (signed_a >> (b & 31)) as u32,
-        RegOp::Or => a | b,
-        RegOp::And => a & b,
-        RegOp::Mul => a.wrapping_mul(b),
-        RegOp::Mulh => (i64::from(signed_a) * i64::from(signed_b) >> 32) as u32,
-        RegOp::Mulhsu => (i64::from(signed_a) * i64::from(b) >> 32) as u32,
-        RegOp::Mulhu => (u64::from(a) * u64::from(b) >> 32) as u32,
-        RegOp::Div if b == 0 => u32::MAX,
-        RegOp::Div => signed_a.wrapping_div(signed_b) as u32,
-        RegOp::Divu => a.checked_div(b).unwrap_or(u32::MAX),
-        RegOp::Rem if b == 0 => a,
-        RegOp::Rem => signed_a.wrapping_rem(signed_b) as u32,
-        RegOp::Remu => a.checked_rem(b).unwrap_or(a),
-    }
-}
-
-#[inline(always)]
-fn is_taken(op: BranchOp, a: u32, b: u32) -> bool {
-    match op {
-        BranchOp::Beq => a == b,
-        BranchOp::Bne => a != b,
-        BranchOp::Blt => (a as i32) < b as i32,
-        BranchOp::Bge => a as i32 >= b as i32,
-        BranchOp::Bltu => a < b,
-        BranchOp::Bgeu => a >= b,
-    }
-}
-
-/// Bytes from an address on, and what may be done with them.
-struct Area {
+/// Addresses from one up to another, and what may be done with their bytes.
+struct Span {
     start: u32,
+    end: u32,
     flags: u32,
-    bytes: Vec<u8>,
 }
 
-impl Area {
-    /// Where the address is in the area, if so many bytes from there are in it, and it permits this.
-    #[inline(always)]
-    fn place(&self, flag: u32, at: u32, size: usize) -> Option<usize> {
-        let place = at.wrapping_sub(self.start) as usize;
-        (self.flags & flag != 0 && place < self.bytes.len() && size <= self.bytes.len() - place).then_some(place)
+impl Span {
+    fn has(&self, flag: u32, at: u32) -> bool {
+        self.flags & flag != 0 && self.start <= at && at < self.end
     }
 }
 
+/// Addresses from each of which on one span has four bytes: so many, from a start on.
+#[derive(Clone, Copy, Default)]
+struct Stretch {
+    start: u32,
+    count: u32,
+}
+
+/// A window of bytes, and its spans.
 struct Memory {
-    areas: Vec<Area>,
+    base: u32,
+    window: Vec<u8>,
+    spans: Vec<Span>,
 }
 
 impl Memory {
-    /// So many bytes from an address on. An access that spans two areas goes byte by byte.
+    /// So many bytes from an address on, at most four, by the stretch of the last access of this kind.
     #[inline(always)]
-    fn get<const N: usize>(&self, flag: u32, at: u32) -> Option<[u8; N]> {
-        for area in &self.areas {
-            if let Some(place) = area.place(flag, at, N) {
-                return area.bytes[place..place + N].try_into().ok();
-            }
+    fn part<const N: usize>(&mut self, flag: u32, stretch: &mut Stretch, at: u32) -> Option<&mut [u8; N]> {
+        if at.wrapping_sub(stretch.start) >= stretch.count {
+            *stretch = self.stretch_at(flag, at)?;
         }
-        self.read(flag, at, N)?.try_into().ok()
+        let place = at.wrapping_sub(self.base) as usize;
+        self.window.get_mut(place..place + N)?.try_into().ok()
     }
 
-    #[inline(always)]
-    fn set<const N: usize>(&mut self, at: u32, bytes: [u8; N]) -> Option<()> {
-        for area in &mut self.areas {
-            if let Some(place) = area.place(WRITE, at, N) {
-                area.bytes[place..place + N].copy_from_slice(&bytes);
-                return Some(());
-            }
-        }
-        self.permits(WRITE, at, N).then(|| self.write(at, &bytes))
-    }
-
-    fn byte(&self, flag: u32, at: u32) -> Option<u8> {
-        self.areas.iter().find_map(|area| Some(area.bytes[area.place(flag, at, 1)?]))
-    }
-
-    fn read(&self, flag: u32, at: u32, len: usize) -> Option<Vec<u8>> {
-        at.checked_add((len as u32).saturating_sub(1))?;
-        (0..len as u32).map(|k| self.byte(flag, at + k)).collect()
+    #[cold]
+    fn stretch_at(&self, flag: u32, at: u32) -> Option<Stretch> {
+        let span = self.spans.iter().find(|span| span.has(flag, at) && span.end - at >= 4)?;
+        Some(Stretch { start: span.start, count: span.end - 3 - span.start })
     }
 
     fn permits(&self, flag: u32, at: u32, len: usize) -> bool {
-        self.read(flag, at, len).is_some()
+        let one = |k| at.checked_add(k).is_some_and(|at| self.spans.iter().any(|span| span.has(flag, at)));
+        (0..len as u32).all(one)
+    }
+
+    fn read(&self, flag: u32, at: u32, len: usize) -> Option<&[u8]> {
+        let place = at.wrapping_sub(self.base) as usize;
+        self.permits(flag, at, len).then(|| &self.window[place..place + len])
     }
 
     fn write(&mut self, at: u32, bytes: &[u8]) {
-        for (k, byte) in (0..).zip(bytes) {
-            if let Some(area) = self.areas.iter_mut().find(|area| area.place(WRITE, at + k, 1).is_some()) {
-                area.bytes[(at + k - area.start) as usize] = *byte;
-            }
-        }
+        let place = at.wrapping_sub(self.base) as usize;
+        self.window[place..place + bytes.len()].copy_from_slice(bytes);
     }
 }
 
@@ -299,107 +197,173 @@ enum Stop {
 const BAD_ACCESS: Stop = Stop::Failed("bad access");
 
 struct Machine<I, O> {
-    pc: u32,
-    registers: [u32; 32],
     memory: Memory,
     open: [bool; CONNECTIONS],
     steps: u64,
-    since: u64,
     input: I,
     output: O,
 }
 
+#[inline(always)]
+fn load(memory: &mut Memory, stretch: &mut Stretch, word: u32, at: u32) -> Option<u32> {
+    Some(match funct3(word) {
+        0 => i8::from_le_bytes(*memory.part(READ, stretch, at)?) as u32,
+        1 => i16::from_le_bytes(*memory.part(READ, stretch, at)?) as u32,
+        2 => u32::from_le_bytes(*memory.part(READ, stretch, at)?),
+        4 => u8::from_le_bytes(*memory.part(READ, stretch, at)?).into(),
+        5 => u16::from_le_bytes(*memory.part(READ, stretch, at)?).into(),
+        _ => return None,
+    })
+}
+
+#[inline(always)]
+fn store(memory: &mut Memory, stretch: &mut Stretch, word: u32, at: u32, value: u32) -> Option<()> {
+    match funct3(word) {
+        0 => *memory.part(WRITE, stretch, at)? = (value as u8).to_le_bytes(),
+        1 => *memory.part(WRITE, stretch, at)? = (value as u16).to_le_bytes(),
+        2 => *memory.part(WRITE, stretch, at)? = value.to_le_bytes(),
+        _ => return None,
+    }
+    Some(())
+}
+
+/// Where the last load and the last store were.
+#[derive(Default)]
+struct Accesses {
+    loads: Stretch,
+    stores: Stretch,
+}
+
+#[inline(always)]
+fn put(x: &mut Registers, word: u32, value: u32) {
+    x[rd(word)] = value;
+    x[0] = 0;
+}
+
+#[inline(always)]
+fn jump(target: u32) -> Option<u32> {
+    (target % 4 == 0).then_some(target)
+}
+
+/// Does the instruction of a word. The answer is where the next one is; none, and nothing was done, where it is a call or
+/// where it fails.
+#[inline(always)]
+fn step(memory: &mut Memory, accesses: &mut Accesses, x: &mut Registers, pc: u32, word: u32) -> Option<u32> {
+    let next = pc.wrapping_add(4);
+    match word & 0x7f {
+        0x37 => put(x, word, word & !0xfff),
+        0x17 => put(x, word, pc.wrapping_add(word & !0xfff)),
+        0x6f => {
+            let target = jump(pc.wrapping_add(imm_j(word)))?;
+            put(x, word, next);
+            return Some(target);
+        }
+        0x67 if funct3(word) == 0 => {
+            let target = jump(x[rs1(word)].wrapping_add(imm_i(word)) & !1)?;
+            put(x, word, next);
+            return Some(target);
+        }
+        0x63 => {
+            if is_taken(word, x[rs1(word)], x[rs2(word)])? {
+                return jump(pc.wrapping_add(imm_b(word)));
+            }
+        }
+        0x03 => {
+            let value = load(memory, &mut accesses.loads, word, x[rs1(word)].wrapping_add(imm_i(word)))?;
+            put(x, word, value);
+        }
+        0x23 => store(memory, &mut accesses.stores, word, x[rs1(word)].wrapping_add(imm_s(word)), x[rs2(word)])?,
+        0x13 => {
+            let value = op_imm(word, x[rs1(word)])?;
+            put(x, word, value);
+        }
+        0x33 => {
+            let value = op(word, x[rs1(word)], x[rs2(word)])?;
+            put(x, word, value);
+        }
+        0x0f if funct3(word) == 0 => {}
+        _ => return None,
+    }
+    Some(next)
+}
+
+#[inline(always)]
+fn word_of(memory: &mut Memory, stretch: &mut Stretch, pc: u32) -> Option<u32> {
+    Some(u32::from_le_bytes(*memory.part(EXECUTE, stretch, pc)?))
+}
+
+/// Does instructions from an address on, at most so many, up to one that `step` doesn't do. The answer is where that is, and
+/// how many are left.
+#[inline(never)]
+fn run_on(memory: &mut Memory, x: &mut Registers, mut pc: u32, mut left: u64) -> (u32, u64) {
+    let mut words = Stretch::default();
+    let mut accesses = Accesses::default();
+    while left > 0 {
+        let next = word_of(memory, &mut words, pc).and_then(|word| step(memory, &mut accesses, x, pc, word));
+        let Some(next) = next else {
+            break;
+        };
+        pc = next;
+        left -= 1;
+    }
+    (pc, left)
+}
+
+/// Why an instruction that is no call fails.
+#[cold]
+fn cause(word: u32) -> &'static str {
+    match word & 0x7f {
+        0x73 if word == 0x0010_0073 => "assertion",
+        0x03 if funct3(word) < 6 && funct3(word) != 3 => "bad access",
+        0x23 if funct3(word) < 3 => "bad access",
+        0x63 if funct3(word) & 6 != 2 => "bad jump",
+        0x67 if funct3(word) == 0 => "bad jump",
+        0x6f => "bad jump",
+        _ => "bad instruction",
+    }
+}
+
 impl<I: Read, O: Write> Machine<I, O> {
-    #[inline(always)]
-    fn value(&self, register: u8) -> u32 {
-        self.registers[register as usize]
-    }
-
-    #[inline(always)]
-    fn put(&mut self, register: u8, value: u32) {
-        if register != 0 {
-            self.registers[register as usize] = value;
+    /// Runs from an address on until it stops. The answer is why, and where.
+    fn run(&mut self, mut pc: u32, mut x: Registers) -> (Stop, u32) {
+        let mut left = BUDGET;
+        loop {
+            (pc, left) = run_on(&mut self.memory, &mut x, pc, left);
+            if left == 0 {
+                return (Stop::Failed("hang"), pc);
+            }
+            let Some(word) = word_of(&mut self.memory, &mut Stretch::default(), pc) else {
+                return (BAD_ACCESS, pc);
+            };
+            if word != 0x0000_0073 {
+                return (Stop::Failed(cause(word)), pc);
+            }
+            let takes = x[17] == 1;
+            if let Err(stop) = self.call(&mut x) {
+                self.steps += BUDGET - left;
+                return (stop, pc);
+            }
+            left -= 1;
+            if takes {
+                self.steps += BUDGET - left;
+                left = BUDGET;
+            }
+            pc = pc.wrapping_add(4);
         }
     }
 
-    #[inline(always)]
-    fn load(&self, op: LoadOp, at: u32) -> Option<u32> {
-        Some(match op {
-            LoadOp::Lb => i8::from_le_bytes(self.memory.get(READ, at)?) as u32,
-            LoadOp::Lh => i16::from_le_bytes(self.memory.get(READ, at)?) as u32,
-            LoadOp::Lw => u32::from_le_bytes(self.memory.get(READ, at)?),
-            LoadOp::Lbu => u8::from_le_bytes(self.memory.get(READ, at)?).into(),
-            LoadOp::Lhu => u16::from_le_bytes(self.memory.get(READ, at)?).into(),
-        })
-    }
-
-    #[inline(always)]
-    fn store(&mut self, op: StoreOp, at: u32, value: u32) -> Option<()> {
-        match op {
-            StoreOp::Sb => self.memory.set(at, (value as u8).to_le_bytes()),
-            StoreOp::Sh => self.memory.set(at, (value as u16).to_le_bytes()),
-            StoreOp::Sw => self.memory.set(at, value.to_le_bytes()),
-        }
-    }
-
-    /// Does one instruction.
-    #[inline(always)]
-    fn step(&mut self) -> Result<(), Stop> {
-        if self.since >= BUDGET {
-            return Err(Stop::Failed("hang"));
-        }
-        let word = u32::from_le_bytes(self.memory.get(EXECUTE, self.pc).ok_or(BAD_ACCESS)?);
-        let next = self.pc.wrapping_add(4);
-        let mut target = next;
-        self.since += 1;
-        match decode(word).ok_or(Stop::Failed("bad instruction"))? {
-            Instr::Lui { rd, imm } => self.put(rd, imm),
-            Instr::Auipc { rd, imm } => self.put(rd, self.pc.wrapping_add(imm)),
-            Instr::Jal { rd, imm } => {
-                target = self.pc.wrapping_add(imm);
-                self.put(rd, next);
-            }
-            Instr::Jalr { rd, rs1, imm } => {
-                target = self.value(rs1).wrapping_add(imm) & !1;
-                self.put(rd, next);
-            }
-            Instr::Branch { op, rs1, rs2, imm } => {
-                if is_taken(op, self.value(rs1), self.value(rs2)) {
-                    target = self.pc.wrapping_add(imm);
-                }
-            }
-            Instr::Load { op, rd, rs1, imm } => {
-                let value = self.load(op, self.value(rs1).wrapping_add(imm)).ok_or(BAD_ACCESS)?;
-                self.put(rd, value);
-            }
-            Instr::Store { op, rs1, rs2, imm } => {
-                self.store(op, self.value(rs1).wrapping_add(imm), self.value(rs2)).ok_or(BAD_ACCESS)?;
-            }
-            Instr::OpImm { op, rd, rs1, imm } => self.put(rd, alu(op, self.value(rs1), imm)),
-            Instr::Op { op, rd, rs1, rs2 } => self.put(rd, alu(op, self.value(rs1), self.value(rs2))),
-            Instr::Fence => {}
-            Instr::Ecall => self.call()?,
-            Instr::Ebreak => return Err(Stop::Failed("assertion")),
-        }
-        if target % 4 != 0 {
-            return Err(Stop::Failed("bad jump"));
-        }
-        self.pc = target;
-        self.steps += 1;
-        Ok(())
-    }
-
-    fn call(&mut self) -> Result<(), Stop> {
-        match self.registers[17] {
-            1 => self.recv(),
-            2 => self.send(),
-            5 => Err(Stop::Exit(self.registers[10])),
+    #[inline(never)]
+    fn call(&mut self, x: &mut Registers) -> Result<(), Stop> {
+        match x[17] {
+            1 => self.recv(x),
+            2 => self.send(x),
+            5 => Err(Stop::Exit(x[10])),
             _ => Err(Stop::Failed("bad call")),
         }
     }
 
-    fn recv(&mut self) -> Result<(), Stop> {
-        let (at, len) = (self.registers[10], self.registers[11] as usize);
+    fn recv(&mut self, x: &mut Registers) -> Result<(), Stop> {
+        let (at, len) = (x[10], x[11] as usize);
         if !self.memory.permits(WRITE, at, len) {
             return Err(BAD_ACCESS);
         }
@@ -414,16 +378,15 @@ impl<I: Read, O: Write> Machine<I, O> {
         self.input.read_exact(&mut bytes).map_err(|_| Stop::Failed("read"))?;
         self.memory.write(at, &bytes[..len.min(bytes.len())]);
         self.open[usize::from(conn)] = kind != 3;
-        self.registers[10] = bytes.len() as u32;
-        self.registers[11] = conn.into();
-        self.registers[12] = kind.into();
-        self.since = 0;
+        x[10] = bytes.len() as u32;
+        x[11] = conn.into();
+        x[12] = kind.into();
         Ok(())
     }
 
-    fn send(&mut self) -> Result<(), Stop> {
-        let (conn, at, len) = (self.registers[10], self.registers[11], self.registers[12]);
-        self.registers[10] = if len > 65535 {
+    fn send(&mut self, x: &mut Registers) -> Result<(), Stop> {
+        let (conn, at, len) = (x[10], x[11], x[12]);
+        x[10] = if len > 65535 {
             2
         } else if !self.open.get(conn as usize).is_some_and(|open| *open) {
             1
@@ -432,7 +395,7 @@ impl<I: Read, O: Write> Machine<I, O> {
             let [c0, c1, ..] = conn.to_le_bytes();
             let [l0, l1, ..] = len.to_le_bytes();
             if len > 0 {
-                let frame = [&[2, c0, c1, l0, l1], &bytes[..]].concat();
+                let frame = [&[2, c0, c1, l0, l1], bytes].concat();
                 self.output.write_all(&frame).map_err(|_| Stop::Failed("write"))?;
             }
             0
@@ -449,28 +412,32 @@ fn word_at(file: &[u8], at: usize) -> u32 {
     u32::from_le_bytes(file[at..at + 4].try_into().unwrap())
 }
 
-/// The areas of an executable: its segments, the heap and the stack; and the stack's top.
-fn areas_of(file: &[u8]) -> (Vec<Area>, u32) {
-    let mut areas = Vec::new();
+/// The memory of an executable: its segments, the heap and the stack; and the stack's top.
+fn memory_of(file: &[u8]) -> (Memory, u32) {
+    let mut spans = Vec::new();
+    let mut filled = Vec::new();
     for k in 0..half_at(file, 44) {
         let header = word_at(file, 28) as usize + 32 * k;
         let field = |n: usize| word_at(file, header + 4 * n);
         let (kind, offset, start, filesz, memsz, flags) =
-            (field(0), field(1) as usize, field(2), field(4) as usize, field(5) as usize, field(6));
+            (field(0), field(1) as usize, field(2), field(4) as usize, field(5), field(6));
         if kind == 1 && memsz > 0 {
-            let mut bytes = file[offset..offset + filesz].to_vec();
-            bytes.resize(memsz, 0);
-            areas.push(Area { start, flags, bytes });
+            spans.push(Span { start, end: start + memsz, flags });
+            filled.push((start, &file[offset..offset + filesz]));
         }
     }
-    let lowest = areas.iter().map(|area| area.start).min().unwrap();
-    let highest = areas.iter().map(|area| area.start + area.bytes.len() as u32).max().unwrap();
-    let top = lowest / PAGE * PAGE + WINDOW;
+    let base = spans.iter().map(|span| span.start).min().unwrap() / PAGE * PAGE;
+    let highest = spans.iter().map(|span| span.end).max().unwrap();
+    let top = base + WINDOW;
     let heap = highest.div_ceil(PAGE) * PAGE;
     for (start, end) in [(heap, top - STACK - PAGE), (top - STACK, top)] {
-        areas.push(Area { start, flags: READ | WRITE, bytes: vec![0; (end - start) as usize] });
+        spans.push(Span { start, end, flags: READ | WRITE });
     }
-    (areas, top)
+    let mut memory = Memory { base, window: vec![0; WINDOW as usize], spans };
+    for (start, bytes) in filled {
+        memory.write(start, bytes);
+    }
+    (memory, top)
 }
 
 fn main() {
@@ -479,29 +446,23 @@ fn main() {
         exit(2);
     };
     let file = std::fs::read(name).expect("the program can be read");
-    let (areas, top) = areas_of(&file);
+    let (memory, top) = memory_of(&file);
     let mut machine = Machine {
-        pc: word_at(&file, 24),
-        registers: [0; 32],
-        memory: Memory { areas },
+        memory,
         open: [false; CONNECTIONS],
         steps: 0,
-        since: 0,
         input: io::stdin().lock(),
         output: io::BufWriter::new(io::stdout().lock()),
     };
-    machine.registers[2] = top;
-    let stop = loop {
-        if let Err(stop) = machine.step() {
-            break stop;
-        }
-    };
+    let mut registers = [0; 32];
+    registers[2] = top;
+    let (stop, pc) = machine.run(word_at(&file, 24), registers);
     machine.output.flush().expect("the output can be written");
     match stop {
         Stop::Finished => eprintln!("{}", machine.steps),
         Stop::Exit(code) => exit((code != 0).into()),
         Stop::Failed(cause) => {
-            eprintln!("{} at {:08x}", cause, machine.pc);
+            eprintln!("{} at {:08x}", cause, pc);
             exit(5);
         }
     }

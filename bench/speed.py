@@ -3,23 +3,25 @@
 
 A program does a loop of nine instructions, a load and a store among them, 100,000 times for each of 112 messages. That
 is 100.8 million instructions, fewer than a million between two items. It is run twice: with the words that it loads and
-stores in a data segment, and on the stack. Each run's replies are checked. The times are processor times, the best of
-three runs; the runs of both take turns.
+stores in a data segment, and on the stack. Each run's replies are checked.
 
-With --count it tells instead how many instructions of the host each of the two does for one of the guest, as valgrind's
-callgrind counts them: that doesn't move with what else the machine does. It is the difference between a run of six
-messages and one of two.
+It tells how many instructions of the host each of the two does for one of the guest, as valgrind's callgrind counts them:
+that doesn't move with what else the machine does. It is the difference between a run of six messages and one of two.
+Then it tells processor times. The runs of both take turns, and each run of rx is set beside the interpreter's run that
+follows it: of these ratios it tells the middle one, the lowest and the highest. With --count it tells no times.
 
 usage: speed.py [--runs N] [--messages N] [--count] [RX]
 
 RX is the built rx, crates/rx/out/rx unless it is given. The interpreter is compiled by `rustc -O`; where there is no
-rustc, rx is measured alone. Programs and input are made in a temporary folder.
+rustc, rx is measured alone, and where there is no valgrind, nothing is counted. Programs and input are made in a temporary
+folder.
 """
 
 import argparse
 import os
 import re
 import shutil
+import statistics
 import struct
 import subprocess
 import sys
@@ -189,6 +191,13 @@ def report(name, what, steps, seconds):
     print("%-13s %-12s %7.1f million a second  (%s seconds)" % (name, what, steps / min(seconds) / 1e6, listed))
 
 
+def compare(name, of_rx, of_interpreter):
+    """The ratios of the times of runs that took turns."""
+    ratios = sorted(one / other for one, other in zip(of_rx, of_interpreter))
+    middle = statistics.median(ratios)
+    print("%-13s %-12s %7.2f times the interpreter's time (%.2f to %.2f)" % (name, "rx", middle, ratios[0], ratios[-1]))
+
+
 def measure(name, program, runs, messages, rx, interpreter, folder):
     path = os.path.join(folder, "program")
     with open(path, "wb") as file:
@@ -207,7 +216,7 @@ def measure(name, program, runs, messages, rx, interpreter, folder):
     report(name, "rx", steps, of_rx)
     if interpreter:
         report(name, "interpreter", steps, of_interpreter)
-        print("%-13s %-12s %7.2f times the interpreter's time" % (name, "rx", min(of_rx) / min(of_interpreter)))
+        compare(name, of_rx, of_interpreter)
 
 
 def host_instructions(words, frames):
@@ -244,7 +253,7 @@ def compiled(folder):
 
 def main():
     parser = argparse.ArgumentParser(description="Measures how many instructions a second rx does.")
-    parser.add_argument("--runs", type=int, default=3)
+    parser.add_argument("--runs", type=int, default=5)
     parser.add_argument("--messages", type=int, default=112)
     parser.add_argument("--count", action="store_true")
     parser.add_argument("rx", nargs="?", default=os.path.join(HERE, "..", "crates", "rx", "out", "rx"))
@@ -252,9 +261,9 @@ def main():
     with tempfile.TemporaryDirectory() as folder:
         interpreter = compiled(folder)
         for name, program in PROGRAMS:
-            if words.count:
+            if shutil.which("valgrind"):
                 count(name, program, os.path.abspath(words.rx), interpreter, folder)
-            else:
+            if not words.count:
                 measure(name, program, words.runs, words.messages, os.path.abspath(words.rx), interpreter, folder)
 
 

@@ -10,3 +10,4 @@ pub mod ChoiceLemmas
 pub mod SavedLemmas
 pub mod StartLemmas
 pub mod ServingLemmas
+pub mod QuietLemmas

@@ -6,3 +6,4 @@ pub mod Recording
 pub mod Cpus
 pub mod Running
 pub mod Serving
+pub mod Quiet

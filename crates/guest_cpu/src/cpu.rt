@@ -15,13 +15,14 @@ ghost use Rattle.guest_cpu.specs.Cpus.{live_of, with_live};
 
 use crate::choosing::choose;
 use crate::guest_core::Core;
+use crate::quiet::go_quietly;
 use crate::receiving::receive;
 use crate::recorded::advance_as_recorded;
 use crate::turning::advance;
 use crate::{Event, Marks, Question};
 use alloc_env::Env;
 use block_book::Choice;
-use guest_space::{AccessRule, GuestSpace};
+use guest_space::{AccessRule, AllMapped, GuestSpace};
 use page_line::SlotLine;
 use rx_io::{Item, Steps};
 use std::alloc::{AllocError, Global};
@@ -94,6 +95,8 @@ impl<R: AccessRule> Cpu<R> {
     {
         self.space.sound();
         'run: loop {
+            let most = u64::from(budget).saturating_sub(self.core.marks.since);
+            go_quietly(&mut self.core, &mut self.space, &self.rule, most, steps);
             match advance(
                 alloc,
                 &mut self.core,
@@ -142,6 +145,8 @@ impl<R: AccessRule> Cpu<R> {
     {
         self.space.sound();
         'run: loop {
+            let most = until.saturating_sub(self.core.marks.steps);
+            go_quietly(&mut self.core, &mut self.space, &AllMapped, most, steps);
             match advance_as_recorded(alloc, &mut self.core, &mut self.space, until, steps) {
                 Ok(None) => {}
                 Ok(Some(question)) => return Ok(question),

@@ -10,6 +10,7 @@ mod guest_core;
 pub mod laws;
 mod making;
 mod marks;
+mod quiet;
 mod receiving;
 mod recorded;
 mod snapshot;

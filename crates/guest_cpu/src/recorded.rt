@@ -23,7 +23,7 @@ use std::sync::ledger::Ledger;
 
 /// Does one instruction, or meets a question, up to so many instructions. Memory is taken for a send's bytes alone, before
 /// anything changes.
-#[inline(always)]
+#[inline(never)]
 pub fn advance_as_recorded<L: Ledger>(
     alloc: Global,
     core: &mut Core,

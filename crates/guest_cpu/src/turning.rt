@@ -19,7 +19,7 @@ use std::sync::ledger::Ledger;
 
 /// Does one instruction, or meets an event. Hang is tested first. Memory is taken for a send's bytes alone, before anything
 /// changes.
-#[inline(always)]
+#[inline(never)]
 pub fn advance<R: AccessRule, L: Ledger>(
     alloc: Global,
     core: &mut Core,

@@ -2,3 +2,4 @@ pub mod FlatLemmas
 pub mod SpaceLemmas
 pub mod FillLemmas
 pub mod StartLemmas
+pub mod StretchLemmas

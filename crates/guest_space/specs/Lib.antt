@@ -2,3 +2,4 @@ pub mod Space
 pub mod Access
 pub mod Ranges
 pub mod Filling
+pub mod Stretches

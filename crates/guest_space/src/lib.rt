@@ -6,7 +6,9 @@ mod bad_access;
 mod filling;
 mod space;
 mod span;
+mod stretch;
 
 pub use access_rule::{AccessRule, AllMapped};
 pub use bad_access::BadAccess;
 pub use space::GuestSpace;
+pub use stretch::{Stretch, Stretches};

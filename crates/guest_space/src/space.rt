@@ -1,16 +1,17 @@
 // The memory of a guest: spans of a window of pages.
-ghost use Rattle.std.specs.Prelude.{◌≡◌, ◌+◌, ◌-◌, ◌*◌, ◌/◌, ◌%◌, ◌^◌, ◌<◌, ◌≤◌, length, take, drop, replicate, true, None, is_some, IsSome, IfOk, IfSome, MatchBool, slice_set, if◌then◌else◌};
-ghost use Rattle.std.specs.Bool.{OnFalse};
+ghost use Rattle.std.specs.Prelude.{◌≡◌, ◌==◌, ◌+◌, ◌-◌, ◌*◌, ◌/◌, ◌%◌, ◌^◌, ◌<◌, ◌≤◌, length, take, drop, replicate, true, None, is_some, IsSome, IfOk, Ok, IfSome, MatchBool, slice_set, if◌then◌else◌};
+ghost use Rattle.std.specs.Bool.{OnFalse, OnTrue};
 ghost use Rattle.rv_isa.specs.Words.{little_bytes, little_number};
 ghost use Rattle.elf_image.specs.Memory.{permitted, bytes_at};
 ghost use Rattle.cow_pages.specs.Pages.{slot_at, used_of, held_of};
 ghost use Rattle.guest_space.specs.Space.{flat, IsLawfulSpace};
 ghost use Rattle.guest_space.specs.Access.{IsStart, Reads, Puts, Stores, Saves, Releases, Restores};
 ghost use Rattle.guest_space.specs.Ranges.{AreHeld};
+ghost use Rattle.guest_space.specs.Stretches.{IsOpen};
 
-use crate::BadAccess;
 use crate::filling::{fill, spans_of};
-use crate::span::{EXECUTE, READ, Span, WRITE, are_held, each_has, one_has};
+use crate::span::{EXECUTE, READ, Span, WRITE, are_held, each_has, one_has, stretch_at};
+use crate::{BadAccess, Stretch};
 use cow_pages::PageStore;
 use elf_image::Image;
 use std::alloc::{AllocError, Global};
@@ -109,6 +110,62 @@ impl GuestSpace {
             return Ok(());
         }
         self.store_each(at, size, value)
+    }
+
+    /// Whether the window begins at a multiple of 4.
+    #[inline(always)]
+    pub fn is_whole(&self) -> bool
+        ensures { result ≡ (self.now.base % 4 == 0) }
+    {
+        self.base % 4 == 0
+    }
+
+    /// The instruction word at an address that is a multiple of 4, as the window's start is, found by a stretch, which is moved
+    /// there where it doesn't have the address. None where it may not be fetched, and also where its bytes are in two spans.
+    #[inline(always)]
+    pub fn fetch_by(&self, stretch: &mut Stretch, at: u32) -> Option<u32>
+        requires base { self.now.base % 4 ≡ 0 }
+        requires whole { at % 4 ≡ 0 }
+        requires holds { IsOpen 1 self.now.spans stretch.old }
+        ensures holds { IsOpen 1 self.now.spans stretch.new }
+        ensures value { IfSome result (λ word. Reads 1 (flat self.now) at 4 (Ok word)) }
+    {
+        if !self.reaches(EXECUTE, stretch, at) {
+            return None;
+        }
+        Some(self.whole_word(at))
+    }
+
+    /// The number of one, two or four bytes from an address on, the lowest first, found by a stretch as `fetch_by` does.
+    /// None also where the bytes are in two pages.
+    #[inline(always)]
+    pub fn load_by(&self, stretch: &mut Stretch, at: u32, size: u32) -> Option<u32>
+        requires some { 0 < size }
+        requires small { size ≤ 4 }
+        requires holds { IsOpen 4 self.now.spans stretch.old }
+        ensures holds { IsOpen 4 self.now.spans stretch.new }
+        ensures value { IfSome result (λ value. Reads 4 (flat self.now) at size (Ok value)) }
+        ensures few { IfSome result (λ value. value < 2 ^ (8 * size)) }
+    {
+        if !self.reaches(READ, stretch, at) {
+            return None;
+        }
+        self.number_in_page(READ, at, size)
+    }
+
+    /// Puts the low bytes of a number, one, two or four, from an address on, the lowest first, found by a stretch as
+    /// `fetch_by` does. Else nothing changed.
+    #[inline(always)]
+    pub fn store_by(&mut self, stretch: &mut Stretch, at: u32, size: u32, value: u32) -> bool
+        requires small { size ≤ 4 }
+        requires holds { IsOpen 2 self.old.spans stretch.old }
+        ensures holds { IsOpen 2 self.old.spans stretch.new }
+        ensures stored { MatchBool result ((permitted 2 (flat self.old) at size ≡ true) × Puts self.old at (little_bytes size value) self.new) (self.new ≡ self.old) }
+    {
+        if !self.reaches(WRITE, stretch, at) {
+            return false;
+        }
+        self.put_number(at, size, value)
     }
 
     /// So many bytes from an address on. It requires that they may be read, which `allows` tests, and refuses nothing: the
@@ -248,6 +305,34 @@ impl GuestSpace {
             Some(value) => Ok(value),
             None => self.number_of_each(flag, at, size),
         }
+    }
+
+    // Whether the four bytes from an address on may be touched so, by a stretch, which is moved there where it doesn't have
+    // the address.
+    #[inline(always)]
+    fn reaches(&self, flag: u32, stretch: &mut Stretch, at: u32) -> bool
+        requires kind { 0 < flag }
+        requires holds { IsOpen flag self.now.spans stretch.old }
+        ensures holds { IsOpen flag self.now.spans stretch.new }
+        ensures held { OnTrue result (AreHeld flag self.now.spans at 4) }
+    {
+        let _base = self.base;
+        if stretch.has(at) {
+            return true;
+        }
+        *stretch = stretch_at(&self.spans, flag, at);
+        stretch.has(at)
+    }
+
+    // The word at a multiple of 4, which lies in one page.
+    #[inline(always)]
+    fn whole_word(&self, at: u32) -> u32
+        requires base { self.now.base % 4 ≡ 0 }
+        requires whole { at % 4 ≡ 0 }
+        requires held { AreHeld 1 self.now.spans at 4 }
+        ensures { Reads 1 (flat self.now) at 4 (Ok result) }
+    {
+        self.store.word_at(at - self.base)
     }
 
     // The number of one, two or four bytes that lie in one page.

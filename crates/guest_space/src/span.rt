@@ -1,9 +1,11 @@
 // One span of a guest's memory.
-ghost use Rattle.std.specs.Prelude.{◌≡◌, ◌<◌, ◌+◌, ◌^◌, ◌≤◌, MatchBool};
+ghost use Rattle.std.specs.Prelude.{◌≡◌, ◌<◌, ◌+◌, ◌-◌, ◌^◌, ◌≤◌, MatchBool};
 ghost use Rattle.std.specs.Bool.{OnTrue};
 ghost use Rattle.guest_space.specs.Space.{blank_span, segment_span};
 ghost use Rattle.guest_space.specs.Ranges.{has_address, has_range, some_has, AreHeld};
+ghost use Rattle.guest_space.specs.Stretches.{IsOpen};
 
+use crate::Stretch;
 use elf_image::Segment;
 use std::marker::Model;
 
@@ -50,6 +52,35 @@ impl Span {
             && self.start <= at
             && u64::from(at) + u64::from(size) <= u64::from(self.end)
     }
+
+    /// The addresses from each of which on it has four bytes.
+    #[inline(always)]
+    fn stretch(&self) -> Stretch
+        requires { self.now.start + 4 ≤ self.now.end }
+        ensures value { result ≡ record { start = self.now.start; count = self.now.end - 3 - self.now.start } }
+        ensures below { self.now.end ≤ 2 ^ 32 }
+    {
+        Stretch {
+            start: self.start,
+            count: self.end - 3 - self.start,
+        }
+    }
+}
+
+/// The stretch of a span that permits this and has the four bytes from an address on; where there is none, that of no
+/// address.
+#[cold]
+#[inline(never)]
+pub fn stretch_at(spans: &[Span], flag: u32, at: u32) -> Stretch
+    requires { 0 < flag }
+    ensures { IsOpen flag spans.now result }
+{
+    for span in spans {
+        if span.has_range(flag, at, 4) {
+            return span.stretch();
+        }
+    }
+    Stretch::none()
 }
 
 /// Whether a span has the address and permits this.

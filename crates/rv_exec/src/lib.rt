@@ -2,7 +2,9 @@
 #![tactic(auto)]
 
 mod executing;
+mod quick;
 mod registers;
 mod stepping;
 
+pub use quick::run_on;
 pub use stepping::{next_instr, step};

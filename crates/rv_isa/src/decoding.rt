@@ -26,52 +26,58 @@ ghost use Rattle.rv_isa.specs.Table.{
 
 use crate::{BranchOp, ImmOp, Instr, LoadOp, RegOp, StoreOp};
 
+/// The opcode of a word, which tells its format.
 #[inline(always)]
 #[tactic(auto, unfolding(crate::specs::Words::opcode))]
-fn opcode_of(word: u32) -> u8
+pub fn opcode_of(word: u32) -> u8
     ensures { result ≡ opcode word }
 {
     (word & 0x7f) as u8
 }
 
+/// The register that a word names as its destination.
 #[inline(always)]
 #[tactic(auto, unfolding(crate::specs::Words::rd))]
-fn rd_of(word: u32) -> u8
+pub fn rd_of(word: u32) -> u8
     ensures value { result ≡ rd word }
     ensures in_range { IsRegister result }
 {
     (word >> 7 & 0x1f) as u8
 }
 
+/// The three bits of a word that tell operations of an opcode apart.
 #[inline(always)]
 #[tactic(auto, unfolding(crate::specs::Words::funct3))]
-fn funct3_of(word: u32) -> u8
+pub fn funct3_of(word: u32) -> u8
     ensures { result ≡ funct3 word }
 {
     (word >> 12 & 7) as u8
 }
 
+/// The register that a word names as its first source.
 #[inline(always)]
 #[tactic(auto, unfolding(crate::specs::Words::rs1))]
-fn rs1_of(word: u32) -> u8
+pub fn rs1_of(word: u32) -> u8
     ensures value { result ≡ rs1 word }
     ensures in_range { IsRegister result }
 {
     (word >> 15 & 0x1f) as u8
 }
 
+/// The register that a word names as its second source, or the amount of a shift.
 #[inline(always)]
 #[tactic(auto, unfolding(crate::specs::Words::rs2))]
-fn rs2_of(word: u32) -> u8
+pub fn rs2_of(word: u32) -> u8
     ensures value { result ≡ rs2 word }
     ensures in_range { IsRegister result }
 {
     (word >> 20 & 0x1f) as u8
 }
 
+/// The highest seven bits of a word, which tell further operations apart.
 #[inline(always)]
 #[tactic(auto, unfolding(crate::specs::Words::funct7))]
-fn funct7_of(word: u32) -> u8
+pub fn funct7_of(word: u32) -> u8
     ensures { result ≡ funct7 word }
 {
     (word >> 25) as u8
@@ -94,27 +100,30 @@ fn signed_21(bits: u32) -> i32
     bits as i32 - ((bits >> 20) << 21) as i32
 }
 
+/// The immediate of the I format.
 #[inline(always)]
 #[tactic(auto, unfolding(crate::specs::Words::imm_i))]
-fn imm_i_of(word: u32) -> i32
+pub fn imm_i_of(word: u32) -> i32
     ensures value { result ≡ imm_i word }
     ensures in_range { IsImmediate 12 1 result }
 {
     word.cast_signed() >> 20
 }
 
+/// The immediate of the S format.
 #[inline(always)]
 #[tactic(auto, unfolding(crate::specs::Words::imm_s))]
-fn imm_s_of(word: u32) -> i32
+pub fn imm_s_of(word: u32) -> i32
     ensures value { result ≡ imm_s word }
     ensures in_range { IsImmediate 12 1 result }
 {
     (word.cast_signed() >> 25 << 5) + (word >> 7 & 0x1f) as i32
 }
 
+/// The immediate of the B format.
 #[inline(always)]
 #[tactic(auto, unfolding(crate::specs::Words::imm_b))]
-fn imm_b_of(word: u32) -> i32
+pub fn imm_b_of(word: u32) -> i32
     ensures value { result ≡ imm_b word }
     ensures in_range { IsImmediate 13 2 result }
 {
@@ -126,18 +135,20 @@ fn imm_b_of(word: u32) -> i32
     )
 }
 
+/// The immediate of the U format.
 #[inline(always)]
 #[tactic(auto, unfolding(crate::specs::Words::imm_u))]
-fn imm_u_of(word: u32) -> i32
+pub fn imm_u_of(word: u32) -> i32
     ensures value { result ≡ imm_u word }
     ensures in_range { IsImmediate 32 4096 result }
 {
     (word >> 12 << 12).cast_signed()
 }
 
+/// The immediate of the J format.
 #[inline(always)]
 #[tactic(auto, unfolding(crate::specs::Words::imm_j))]
-fn imm_j_of(word: u32) -> i32
+pub fn imm_j_of(word: u32) -> i32
     ensures value { result ≡ imm_j word }
     ensures in_range { IsImmediate 21 2 result }
 {

@@ -2,13 +2,18 @@
 //! the word of each instruction, and what each operation gives.
 #![tactic(auto)]
 
+mod at_once;
 mod decoding;
 mod encoding;
 mod instr;
 mod laws;
 mod meaning;
 
-pub use decoding::decode;
+pub use at_once::{branch_taken, imm_value, op_value};
+pub use decoding::{
+    decode, funct3_of, imm_b_of, imm_i_of, imm_j_of, imm_s_of, imm_u_of, opcode_of, rd_of, rs1_of,
+    rs2_of,
+};
 pub use encoding::encode;
 pub use instr::{BranchOp, ImmOp, Instr, LoadOp, RegOp, StoreOp};
 pub use laws::{decode_of_encode, table_is_the_listing};

@@ -1,0 +1,43 @@
+-- Stretches of spans.
+use Rattle.std.proofs.Common.{◌≡◌, ℕ, ◌+◌, ◌-◌, ◌^◌, ◌<◌, ◌≤◌, Bool, true, false, List, length, get_or, sym, subst, arith}
+use Rattle.std.specs.Bool.{OnTrue}
+use Rattle.std.proofs.lemmas.Bool.Decides.{nat_tests}
+use Rattle.cow_pages.specs.Pages.{Pages}
+use Rattle.guest_space.specs.declared.stretch.Stretch.{Stretch}
+use Rattle.guest_space.specs.Space.{Span, GuestPages, guest_pages}
+use Rattle.guest_space.specs.Ranges.{has_range, AreHeld}
+use Rattle.guest_space.specs.Stretches.{IsOpen}
+use Rattle.guest_space.proofs.FlatLemmas.{range_held}
+
+-- what one span has
+range_parts : (flag at : ℕ) (span : Span) → has_range flag at 4 span ≡ true → (span.start ≤ at) × (at + 4 ≤ span.end)
+range_parts flag at span h = grind (arith, nat_tests)
+
+range_elsewhere : (flag at other : ℕ) (span : Span) → has_range flag at 4 span ≡ true → span.start ≤ other → other + 4 ≤ span.end → has_range flag other 4 span ≡ true
+range_elsewhere flag at other span h from to = grind (arith, nat_tests)
+
+pub range_long : (flag at : ℕ) (span : Span) → has_range flag at 4 span ≡ true → span.start + 4 ≤ span.end
+range_long flag at span h = let parts = range_parts flag at span h in omega arith
+
+pub stretch_open : (flag at i : ℕ) (spans : List Span) (span : Span) (stretch : Stretch) → i < length spans → span ≡ get_or spans i span → has_range flag at 4 span ≡ true → span.end ≤ 2 ^ 32
+    → stretch ≡ record { start = span.start; count = span.end - 3 - span.start } → IsOpen flag spans stretch
+stretch_open flag at i spans span stretch less is h end made =
+    let parts = range_parts flag at span h in
+    subst (IsOpen flag spans) (sym made) record {
+      below = omega arith;
+      held = λ other from to. range_held flag other 4 i spans span less is (range_elsewhere flag at other span h from (omega arith));
+    }
+
+-- fewer bytes
+pub held_fewer : (flag : ℕ) (spans : List Span) (at size : ℕ) → size ≤ 4 → AreHeld flag spans at 4 → AreHeld flag spans at size
+held_fewer flag spans at size small held = λ k less. held k (omega arith)
+
+-- a stretch of a space that is seen as its parts
+pub parts_open : (flag base : ℕ) (spans seen : List Span) (store : Pages) (space : GuestPages) (stretch : Stretch) → guest_pages base spans store ≡ space → seen ≡ spans → IsOpen flag seen stretch → IsOpen flag space.spans stretch
+parts_open flag base spans seen store space stretch is same h =
+    subst (λ (s : GuestPages). IsOpen flag s.spans stretch) is (subst (λ xs. IsOpen flag xs stretch) same h)
+
+-- an address of a stretch
+pub stretch_held : (flag : ℕ) (spans : List Span) (stretch : Stretch) (at : ℕ) (b : Bool) → IsOpen flag spans stretch → OnTrue b ((stretch.start ≤ at) × (at < stretch.start + stretch.count)) → OnTrue b (AreHeld flag spans at 4)
+stretch_held flag spans stretch at true is h = is.held at h.0 h.1
+stretch_held flag spans stretch at false is h = h
