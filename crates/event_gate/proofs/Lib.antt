@@ -5,3 +5,4 @@ pub mod Knowing
 pub mod Answering
 pub mod Connecting
 pub mod ItemLemmas
+pub mod ComingLemmas

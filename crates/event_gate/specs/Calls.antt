@@ -1,12 +1,12 @@
 -- What a session hears of its link.
-use Rattle.std.specs.Prelude.{◌≡◌, ℕ, ◌≤◌, List, [], ◌∷◌, ◌++◌, length, None, Option, Result, Ok, Err, IfSome, IsErrOf, ◌⊎◌}
+use Rattle.std.specs.Prelude.{◌≡◌, ℕ, ◌≤◌, List, [], ◌∷◌, ◌++◌, length, None, Some, Option, Result, Ok, Err, IfSome, IsSome, IsErrOf, ◌⊎◌}
 use Rattle.rx_io.specs.declared.journal.Entry.{Entry}
 use Rattle.rx_io.specs.declared.journal.Entry.TheVariants as entry
 use Rattle.rx_io.specs.declared.journal.LinkEvent.{LinkEvent}
 use Rattle.rx_io.specs.declared.journal.LinkEvent.TheVariants as event
 use Rattle.rx_io.specs.Faults.{Rose}
 use Rattle.rx_io.specs.Sends.{Send}
-use Rattle.rx_io.specs.Links.{Phases, Told, Tells, Coming, Refuses, Counts, events_in}
+use Rattle.rx_io.specs.Links.{Phases, Told, Tells, Coming, Comes, Refuses, Counts, events_in}
 use Rattle.item_log.specs.Log.{Log, IsPieceOf}
 use Rattle.reply_ledger.specs.Ledger.{Ledger, stamped_to}
 use Rattle.session_history.specs.Heeding.{Bounds, Unheeded}
@@ -46,6 +46,20 @@ HearsBy bounds entries sends log ledger phases events coming old new (Err fault.
     (event : LinkEvent) × Takes old new event × IsUnheeded bounds entries sends event unheeded.LimitItems ledger
 HearsBy bounds entries sends log ledger phases events coming old new (Err fault.Memory) =
     Tells old new [] ⊎ ((event : LinkEvent) × Takes old new event × IsHeeded bounds entries event)
+
+-- What comes is told after an event as before, also after one that a session refuses, unless reading failed or memory ran out.
+abbrev pub ComesOn : Option Coming → Option Coming → Result Heard HearFault → Type 0
+ComesOn None new result = Unit {0}
+ComesOn (Some old) new (Ok answer) = IsSome new
+ComesOn (Some old) new (Err fault.ReadFault) = Unit {0}
+ComesOn (Some old) new (Err fault.Memory) = Unit {0}
+ComesOn (Some old) new (Err other) = IsSome new
+
+-- what comes stays as it was where a link has ended or refused
+abbrev pub ComesLast : Option Coming → Result Heard HearFault → Type 0
+ComesLast coming (Ok heard.Ends) = IfSome coming (λ next. next ≡ Comes event.Ends)
+ComesLast coming (Err (fault.Refused kind offset)) = IfSome coming (λ next. next ≡ Refuses kind offset)
+ComesLast coming _ = Unit {0}
 
 -- what a log, a ledger and a link's phases know of a journal
 pub record Knows (log : Log) (ledger : Ledger) (phases : Phases) (events most : ℕ) : Type 0 where

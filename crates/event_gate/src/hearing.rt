@@ -8,7 +8,7 @@ ghost use Rattle.session_history.specs.Heeding.{Bounds};
 ghost use Rattle.session_history.specs.Keeping.{KeepsReplies, KeepsItems, KeepsPhases};
 ghost use Rattle.rx_io.specs.declared.journal.LinkFault.TheVariants.{WriteFault};
 ghost use Rattle.event_gate.specs.Taking.{IsFaultOf};
-ghost use Rattle.event_gate.specs.Calls.{Knows, HearsBy, HasHearCause, HasSameReplies, Stays};
+ghost use Rattle.event_gate.specs.Calls.{Knows, HearsBy, ComesOn, ComesLast, HasHearCause, HasSameReplies, Stays};
 
 use crate::taking::take_or_end;
 use crate::{HearFault, Heard};
@@ -43,7 +43,10 @@ pub fn hear<K: Link>(
     ensures events { events.new ≤ max_events }
     ensures cause { HasHearCause (K.counts link.old) (K.counts link.new) result }
     ensures takes { IfOk result (λ _. K.takes link.new ≡ true) }
+    ensures last { ComesLast (K.coming link.new) result }
+    ensures coming { ComesOn (K.coming link.old) (K.coming link.new) result }
     ensures gives { K.gives link.new ≡ K.gives link.old }
+    ensures went { K.Went link.old link.new }
 {
     match link.next() {
         Ok(event) => take_or_end(&event, log, replies, events, max_events),

@@ -42,6 +42,7 @@ pub fn pass_until<K: Link>(
     ensures coming { K.coming link.new ≡ K.coming link.old }
     ensures takes { K.takes link.new ≡ K.takes link.old }
     ensures gives { IfOk result (λ _. K.gives link.new ≡ true) }
+    ensures went { K.Went link.old link.new }
 {
     'pieces: while let Some((conn, bytes)) = replies.next_piece(until) {
         replies.sound();
@@ -83,6 +84,7 @@ pub fn pass_rest<K: Link>(
     ensures coming { K.coming link.new ≡ K.coming link.old }
     ensures takes { K.takes link.new ≡ K.takes link.old }
     ensures gives { IfOk result (λ _. K.gives link.new ≡ true) }
+    ensures went { K.Went link.old link.new }
 {
     'pieces: while replies.is_open(conn) {
         let Some(bytes) = replies.rest_of(conn) else {

@@ -3,6 +3,7 @@ use Rattle.rx_io.specs.Links.{events_in}
 use Rattle.event_gate.proofs.Ordering.{in_order_shown}
 use Rattle.event_gate.proofs.Answering.{event_is_new, hears_taken}
 use Rattle.event_gate.proofs.Connecting.{stays_of, fault_stays, stood_below, counted_most, same_replies, connected_behind}
+use Rattle.event_gate.proofs.ComingLemmas.{comes_on, comes_last, fault_comes_on, fault_comes_last}
 use Rattle.event_gate.proofs.hearing.hear.Goals as goal
 
 pub take_or_end-requires-clause-in_order : goal.take_or_end-requires-clause-in_order
@@ -57,3 +58,17 @@ returns-in-Ok-clause-stays g c =
 
 pub returns-in-Err-clause-stays : goal.returns-in-Err-clause-stays
 returns-in-Err-clause-stays g c = fault_stays c.args.log.now c.args.replies.now c.args.events.now c.fault_of.result
+
+pub returns-in-Ok-clause-last : goal.returns-in-Ok-clause-last
+returns-in-Ok-clause-last g c =
+    comes_last c.in-Ok.event c.args.log.now c.take_or_end.new.log c.args.replies.now c.take_or_end.new.replies c.args.events.now c.take_or_end.new.events c.args.max_events (g.K.Link.coming c.next.new.self) c.take_or_end.result
+    c.in-Ok.ensures.last c.take_or_end.ensures
+
+pub returns-in-Err-clause-last : goal.returns-in-Err-clause-last
+returns-in-Err-clause-last g c = fault_comes_last c.in-Err.fault (g.K.Link.coming c.next.new.self) c.fault_of.result c.fault_of.ensures c.in-Err.ensures.last
+
+pub returns-in-Ok-clause-coming : goal.returns-in-Ok-clause-coming
+returns-in-Ok-clause-coming g c = comes_on c.in-Ok.event (g.K.Link.coming c.args.link.now) (g.K.Link.coming c.next.new.self) c.take_or_end.result c.in-Ok.ensures.coming
+
+pub returns-in-Err-clause-coming : goal.returns-in-Err-clause-coming
+returns-in-Err-clause-coming g c = fault_comes_on c.in-Err.fault (g.K.Link.coming c.args.link.now) (g.K.Link.coming c.next.new.self) c.fault_of.result c.fault_of.ensures c.in-Err.ensures.coming

@@ -22,6 +22,7 @@ pieces-init g c = record {
   coming = refl;
   takes = refl;
   gives = c.requires.gives;
+  went = g.met.K.Link.went_same c.args.link.now;
 }
 
 pub returns-in_default-clause-passes : goal.returns-in_default-clause-passes
@@ -72,6 +73,7 @@ pieces-preserved g c =
       coming = c.give-given.ensures.coming ∙ c.pieces.invariant.coming;
       takes = c.give-given.ensures.takes ∙ c.pieces.invariant.takes;
       gives = c.give-given.ensures.gives ∙ noted_gives c.args.stamp c.args.conn count c.pieces.replies c.note.new.replies c.give-given.result c.in-Ok.field-0 c.in-Ok.ensures;
+      went = g.met.K.Link.went_on c.args.link.now c.pieces.link c.give-given.new.self c.pieces.invariant.went c.give-given.ensures.went;
     }
 
 pub returns-in-Err-clause-passes : goal.returns-in-Err-clause-passes

@@ -24,6 +24,7 @@ invariant-pieces g l = record {
   coming : g.K.Link.coming l.link ≡ g.K.Link.coming l.fn.link;
   takes : g.K.Link.takes l.link ≡ g.K.Link.takes l.fn.link;
   gives : g.K.Link.gives l.link ≡ true;
+  went : g.K.Link.Went l.fn.link l.link;
 }
 
 abbrev pub decreases-pieces : goal.decreases-pieces

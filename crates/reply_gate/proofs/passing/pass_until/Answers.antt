@@ -56,6 +56,7 @@ pieces-preserved g c =
       coming = c.give-given.ensures.coming ∙ c.pieces.invariant.coming;
       takes = c.give-given.ensures.takes ∙ c.pieces.invariant.takes;
       gives = c.give-given.ensures.gives ∙ noted_gives c.args.stamp c.in-Some.conn count c.pieces.replies c.note.new.replies c.give-given.result c.in-Ok.field-0 c.in-Ok.ensures;
+      went = g.met.K.Link.went_on c.args.link.now c.pieces.link c.give-given.new.self c.pieces.invariant.went c.give-given.ensures.went;
     }
 
 pub returns-in-Err-clause-passes : goal.returns-in-Err-clause-passes
