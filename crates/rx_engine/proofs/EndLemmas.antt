@@ -1,0 +1,211 @@
+-- The end of a session: what is left is passed, and there is an account of it all.
+use Rattle.std.proofs.Common.{◌≡◌, ℕ, Bool, true, false, List, [], ◌∷◌, ◌++◌, Option, refl, sym, ◌∙◌, ap, subst, append-nil, append_assoc}
+use Rattle.rx_io.specs.declared.bytes.Item.{Item}
+use Rattle.rx_io.specs.declared.journal.Entry.{Entry}
+use Rattle.rx_io.specs.declared.journal.Entry.TheVariants as entry
+use Rattle.rx_io.specs.Links.{Told, Tells, Coming}
+use Rattle.elf_image.specs.declared.image.Image.{Image}
+use Rattle.run_history.specs.declared.answer.Answer.{Answer}
+use Rattle.run_history.specs.declared.answer.Answer.TheVariants as answer
+use Rattle.run_history.specs.Served.{Served}
+use Rattle.session_history.specs.Heeding.{items_in}
+use Rattle.session_history.specs.Owing.{Moment, OwesNothing}
+use Rattle.session_history.specs.Lawful.{Rules, Survivor, entries_of, IsDue, IsDueAt, then_entry, IsDuePiece}
+use Rattle.session_history.specs.Account.{Session, journal_of, IsAccount, IsBroken}
+use Rattle.session_history.specs.Giving.{AreDuePieces, then_entries}
+use Rattle.session_history.specs.Serving.{ending_at, Ending}
+use Rattle.session_history.specs.Ends.{IsEnd, StandsAt, EndsBy, before_end, OwesNothingAtEnd, HasServed}
+use Rattle.session_history.proofs.Heeding.{items_in-gave}
+use Rattle.session_history.proofs.Paths.{served_same}
+use Rattle.session_history.proofs.Endings.{ending_none, ending_piece, ending_account, broken_account}
+use Rattle.rx_engine.specs.Sessions.{SessionState}
+use Rattle.rx_engine.specs.Standing.{Story, entries, moment, sends, IsTold, AnswersFor, IsEnding, IsBrokenOff}
+use Rattle.session_history.proofs.Sessions.{serving_account}
+use Rattle.rx_engine.proofs.TellLemmas.{tells_on}
+use Rattle.rx_engine.proofs.PieceLemmas.{pieces}
+use Rattle.rx_engine.proofs.PieceLemmas as piece
+
+-- the moment of a story that has come to its end
+abbrev pub end_of : Story → Moment
+end_of story = ending_at story.earlier story.since true
+
+-- a session at its end, with its survivor on its way
+record Stood (rules : Rules) (image : Image) (story : Story) (ending : List Entry) : Type 0 where
+  at : Ending rules image story.earlier story.survivor story.since ending true
+  way : Served rules.limits (items_in rules.bounds (entries_of story.earlier ++ (story.since ++ ending))) story.survivor.plan story.survivor.begun story.survivor.now
+
+-- one piece
+one_last : (rules : Rules) (image : Image) (story : Story) (ending : List Entry) (conn : ℕ) (bytes : List ℕ) (gone : Bool) → Stood rules image story ending
+    → IsDueAt rules story.survivor.plan story.survivor.now (ending_at story.earlier (story.since ++ ending) true) (entry.Gave conn bytes gone) → Stood rules image story (ending ++ entry.Gave conn bytes gone ∷ [])
+one_last rules image story ending conn bytes gone stood due =
+    let survivor : Survivor = story.survivor in
+    let more : List Entry = entry.Gave conn bytes gone ∷ [] in
+    let items : List Item = items_in rules.bounds (entries_of story.earlier ++ (story.since ++ ending)) in
+    let whole : IsDue rules items survivor (ending_at story.earlier (story.since ++ ending) true) (entry.Gave conn bytes gone) =
+    record { way = record { path = survivor.now; from = stood.way; on = served_same rules.limits items survivor.plan survivor.now }; due = due } in
+    let same : (entries_of story.earlier ++ (story.since ++ ending)) ++ more ≡ entries_of story.earlier ++ (story.since ++ (ending ++ more)) =
+    append_assoc (entries_of story.earlier) (story.since ++ ending) more ∙ ap (λ es. entries_of story.earlier ++ es) (append_assoc story.since ending more) in
+    record {
+      at = ending_piece rules image story.earlier survivor story.since ending true conn bytes gone stood.at whole;
+      way =
+          subst (λ its. Served rules.limits its survivor.plan survivor.begun survivor.now)
+          (sym (items_in-gave rules.bounds (entries_of story.earlier ++ (story.since ++ ending)) conn bytes gone) ∙ ap (items_in rules.bounds) same) stood.way;
+    }
+
+-- the moment behind one piece more
+moved_on : (P : Moment → Type 0) (story : Story) (ending : List Entry) (e : Entry) → P (then_entry (ending_at story.earlier (story.since ++ ending) true) e) → P (ending_at story.earlier (story.since ++ (ending ++ e ∷ [])) true)
+moved_on P story ending e h = subst (λ (since : List Entry). P (ending_at story.earlier since true)) (append_assoc story.since ending (e ∷ [])) h
+
+-- several pieces
+last_pieces : (rules : Rules) (image : Image) (story : Story) (ending more : List Entry) → Stood rules image story ending → AreDuePieces rules (sends story) (ending_at story.earlier (story.since ++ ending) true) more
+    → Stood rules image story (ending ++ more)
+last_pieces rules image story ending [] stood due = subst (Stood rules image story) (sym (append-nil ending)) stood
+last_pieces rules image story ending (entry.Gave conn bytes false ∷ more) stood due =
+    let e : Entry = entry.Gave conn bytes false in
+    subst (Stood rules image story) (append_assoc ending (e ∷ []) more)
+    (last_pieces rules image story (ending ++ e ∷ []) more (one_last rules image story ending conn bytes false stood due.0) (moved_on (λ m. AreDuePieces rules (sends story) m more) story ending e due.1))
+last_pieces rules image story ending (entry.Gave conn bytes true ∷ more) stood due =
+    let e : Entry = entry.Gave conn bytes true in
+    subst (Stood rules image story) (append_assoc ending (e ∷ []) more)
+    (last_pieces rules image story (ending ++ e ∷ []) more (one_last rules image story ending conn bytes true stood due.0) (moved_on (λ m. AreDuePieces rules (sends story) m more) story ending e due.1))
+last_pieces rules image story ending (entry.Took event ∷ more) stood due = absurd due
+
+-- a story that has come to its end, with pieces that were passed there
+abbrev pub ended_account : Story → List Entry → List Entry → Session
+ended_account story ending broken = record { earlier = story.earlier; survivor = story.survivor; since = story.since; ending = ending; broken = broken }
+
+-- at one of the seven ends that is what its row asks
+ends_end : (rules : Rules) (coming : Option Coming) (session : Session) (end : Answer) → IsEnd end → StandsAt rules (before_end session) coming session.survivor end → OwesNothingAtEnd rules session → session.broken ≡ [] → EndsBy rules coming session end
+ends_end rules coming session answer.Finished is stands owes none = (stands, owes, none)
+ends_end rules coming session (answer.Exited code) is stands owes none = (stands, owes, none)
+ends_end rules coming session (answer.GaveUp point cause) is stands owes none = (stands, owes, none)
+ends_end rules coming session (answer.InputRefused kind offset) is stands owes none = (stands, owes, none)
+ends_end rules coming session (answer.MessageTooLong conn) is stands owes none = (stands, owes, none)
+ends_end rules coming session answer.LimitItems is stands owes none = (stands, owes, none)
+ends_end rules coming session answer.LimitEvents is stands owes none = (stands, owes, none)
+ends_end rules coming session _ is stands owes none = absurd is
+
+-- its last piece was broken off
+account_broken : (rules : Rules) (image : Image) (story : Story) (more broken : List Entry) → Stood rules image story more → IsBroken rules (sends story) (then_entries (end_of story) more) broken → IsAccount rules image (ended_account story more broken) true
+account_broken rules image story more [] stood part = ending_account rules image story.earlier story.survivor story.since more true stood.at
+account_broken rules image story more (entry.Gave conn bytes false ∷ []) stood part = broken_account rules image story.earlier story.survivor story.since more true conn bytes stood.at part stood.way
+account_broken rules image story more (entry.Gave conn bytes true ∷ []) stood part = absurd part
+account_broken rules image story more (entry.Gave conn bytes false ∷ next ∷ rest) stood part = absurd part
+account_broken rules image story more (entry.Gave conn bytes true ∷ next ∷ rest) stood part = absurd part
+account_broken rules image story more (entry.Took event ∷ rest) stood part = absurd part
+
+-- a story with more pieces, of which the last was broken off
+abbrev pub off_account : Story → List Entry → List Entry → Session
+off_account story more broken = record { earlier = story.earlier; survivor = story.survivor; since = story.since ++ more; ending = []; broken = broken }
+
+off_is : (rules : Rules) (image : Image) (story : Story) (more broken : List Entry) → piece.Stood rules image story.earlier story.survivor (story.since ++ more) → IsBroken rules (sends story) (then_entries (moment story) more) broken
+    → IsAccount rules image (off_account story more broken) false
+off_is rules image story more [] stood part = serving_account rules image story.earlier story.survivor (story.since ++ more) false stood.serving
+off_is rules image story more (entry.Gave conn bytes false ∷ []) stood part =
+    let none : story.since ++ more ≡ (story.since ++ more) ++ [] = sym (append-nil (story.since ++ more)) in
+    broken_account rules image story.earlier story.survivor (story.since ++ more) [] false conn bytes (ending_none rules image story.earlier story.survivor (story.since ++ more) false stood.serving)
+    (subst (λ (since : List Entry). IsDuePiece rules (sends story) (ending_at story.earlier since false) conn bytes) none part)
+    (subst (λ (since : List Entry). Served rules.limits (items_in rules.bounds (entries_of story.earlier ++ since)) story.survivor.plan story.survivor.begun story.survivor.now) none stood.way)
+off_is rules image story more (entry.Gave conn bytes true ∷ []) stood part = absurd part
+off_is rules image story more (entry.Gave conn bytes false ∷ next ∷ rest) stood part = absurd part
+off_is rules image story more (entry.Gave conn bytes true ∷ next ∷ rest) stood part = absurd part
+off_is rules image story more (entry.Took event ∷ rest) stood part = absurd part
+
+module _ {R : Type 0} where
+  stood_end : (rules : Rules) (image : Image) (began now : Told) (coming : Option Coming) (session : SessionState R) (end : Answer) (e : IsEnding rules image began now coming session end) → Stood rules image e.story []
+  stood_end rules image began now coming session end e =
+      let story : Story = e.story in
+      record {
+        at = ending_none rules image story.earlier story.survivor story.since true e.told.serving;
+        way = subst (λ its. Served rules.limits its story.survivor.plan story.survivor.begun story.survivor.now) (ap (λ es. items_in rules.bounds (entries_of story.earlier ++ es)) (sym (append-nil story.since))) e.told.way;
+      }
+
+  -- with these pieces
+  stood_pieces : (rules : Rules) (image : Image) (began now : Told) (coming : Option Coming) (session : SessionState R) (end : Answer) (e : IsEnding rules image began now coming session end) (more : List Entry)
+      → AreDuePieces rules (sends e.story) (end_of e.story) more → Stood rules image e.story more
+  stood_pieces rules image began now coming session end e more due =
+      let story : Story = e.story in
+      last_pieces rules image story [] more (stood_end rules image began now coming session end e)
+      (subst (λ (since : List Entry). AreDuePieces rules (sends story) (ending_at story.earlier since true) more) (sym (append-nil story.since)) due)
+
+  -- what was told in all
+  told_end : (rules : Rules) (image : Image) (began before now : Told) (coming : Option Coming) (session : SessionState R) (end : Answer) (e : IsEnding rules image began before coming session end) (more broken : List Entry)
+      → Tells before now (more ++ broken) → Tells began now (journal_of (ended_account e.story more broken))
+  told_end rules image began before now coming session end e more broken tells =
+      let story : Story = e.story in
+      subst (Tells began now) (append_assoc (entries_of story.earlier) story.since (more ++ broken)) (tells_on began before now (entries story) (more ++ broken) e.told.tells tells)
+
+  -- all was passed
+  pub served_end : (rules : Rules) (image : Image) (began before now : Told) (coming later : Option Coming) (session : SessionState R) (end : Answer) (e : IsEnding rules image began before coming session end) (more : List Entry)
+      → later ≡ coming → AreDuePieces rules (sends e.story) (end_of e.story) more → Tells before now more → OwesNothing rules.bounds rules.hold (then_entries (end_of e.story) more) (sends e.story)
+      → HasServed rules image began now later end session.choices session.taken session.steps
+  served_end rules image began before now coming later session end e more same due tells owes =
+      let story : Story = e.story in
+      let stands : StandsAt rules (entries story) later story.survivor end = subst (λ (c : Option Coming). StandsAt rules (entries story) c story.survivor end) (sym same) e.stands in
+      record {
+        session = ended_account story more [];
+        at_end = true;
+        tells = told_end rules image began before now coming session end e more [] (subst (Tells before now) (sym (append-nil more)) tells);
+        account = ending_account rules image story.earlier story.survivor story.since more true (stood_pieces rules image began before coming session end e more due).at;
+        alone = record { first = e.told.first; plain = e.told.plain };
+        comes = λ is. record { end = end; is_end = e.is_end; stands = stands };
+        ends = ends_end rules later (ended_account story more []) end e.is_end stands owes refl;
+        choices_are = sym e.answers.choices;
+        taken_is = sym e.answers.taken;
+        steps_are = sym e.answers.steps;
+      }
+
+  -- a fault came while it was passed
+  pub served_broken : (rules : Rules) (image : Image) (began before now : Told) (coming later : Option Coming) (session : SessionState R) (end fault : Answer) (e : IsEnding rules image began before coming session end) (more broken : List Entry)
+      → later ≡ coming → AreDuePieces rules (sends e.story) (end_of e.story) more → IsBroken rules (sends e.story) (then_entries (end_of e.story) more) broken → Tells before now (more ++ broken)
+      → EndsBy rules later (ended_account e.story more broken) fault → HasServed rules image began now later fault session.choices session.taken session.steps
+  served_broken rules image began before now coming later session end fault e more broken same due part tells ends =
+      let story : Story = e.story in
+      let stands : StandsAt rules (entries story) later story.survivor end = subst (λ (c : Option Coming). StandsAt rules (entries story) c story.survivor end) (sym same) e.stands in
+      record {
+        session = ended_account story more broken;
+        at_end = true;
+        tells = told_end rules image began before now coming session end e more broken tells;
+        account = account_broken rules image story more broken (stood_pieces rules image began before coming session end e more due) part;
+        alone = record { first = e.told.first; plain = e.told.plain };
+        comes = λ is. record { end = end; is_end = e.is_end; stands = stands };
+        ends = ends;
+        choices_are = sym e.answers.choices;
+        taken_is = sym e.answers.taken;
+        steps_are = sym e.answers.steps;
+      }
+
+  -- a session that was broken off has served
+  pub served_off : (rules : Rules) (image : Image) (began now : Told) (coming : Option Coming) (session : SessionState R) (end : Answer) → IsBrokenOff rules image began now coming session end → HasServed rules image began now coming end session.choices session.taken session.steps
+  served_off rules image began now coming session end off = record {
+    session = off.account;
+    at_end = false;
+    tells = off.tells;
+    account = off.is_account;
+    alone = off.alone;
+    comes = λ is. absurd (let no : ⊥ = cc in no);
+    ends = off.ends;
+    choices_are = sym off.choices;
+    taken_is = sym off.taken;
+    steps_are = sym off.steps;
+  }
+
+  -- a fault came while what is due was passed
+  pub off_pieces : (rules : Rules) (image : Image) (began before now : Told) (coming : Option Coming) (story : Story) (session : SessionState R) (fault : Answer) (more broken : List Entry) → IsTold rules image began before story → AnswersFor story session
+      → AreDuePieces rules (sends story) (moment story) more → IsBroken rules (sends story) (then_entries (moment story) more) broken → Tells before now (more ++ broken)
+      → EndsBy rules coming (off_account story more broken) fault → (IsEnd fault → ⊥) → IsBrokenOff rules image began now coming session fault
+  off_pieces rules image began before now coming story session fault more broken told answers due part tells ends no_end =
+      let stood = pieces rules image story.earlier story.survivor story.since more (record { serving = told.serving; way = told.way }) due in
+      record {
+        account = off_account story more broken;
+        tells =
+            subst (Tells began now) (append_assoc (entries_of story.earlier) story.since (more ++ broken) ∙ ap (λ es. entries_of story.earlier ++ es) (sym (append_assoc story.since more broken)))
+            (tells_on began before now (entries story) (more ++ broken) told.tells tells);
+        is_account = off_is rules image story more broken stood part;
+        ends = ends;
+        no_end = no_end;
+        alone = record { first = told.first; plain = told.plain };
+        choices = answers.choices;
+        taken = answers.taken;
+        steps = answers.steps;
+      }

@@ -1,0 +1,14 @@
+-- What a session allows where its options and its access rule stay.
+use Rattle.std.proofs.Common.{◌≡◌, ℕ, Bool, ap}
+use Rattle.block_book.specs.Heap.{Heap}
+use Rattle.guest_cpu.specs.Cpus.{CpuState}
+use Rattle.rx_engine.specs.Options.{rules_of}
+use Rattle.rx_engine.specs.Sessions.{SessionState}
+use Rattle.rx_engine.specs.Serving.{HasSameGuest, HasSameFrame}
+
+module _ {R : Type 0} where
+  pub guest_frame : (old new : SessionState R) → HasSameGuest old new → HasSameFrame old new
+  guest_frame old new same = record { options = same.options; rule = ap (λ (cpu : CpuState R). cpu.rule) same.cpu }
+
+  pub same_rules : (permits : R → Heap → ℕ → ℕ → Bool) (old new : SessionState R) → HasSameFrame old new → rules_of new.options (permits new.cpu.rule) ≡ rules_of old.options (permits old.cpu.rule)
+  same_rules permits old new same = λ i. rules_of (same.options i) (permits (same.rule i))

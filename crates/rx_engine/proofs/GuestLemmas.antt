@@ -1,0 +1,194 @@
+-- What an event of the guest makes of a session.
+use Rattle.std.proofs.Common.{◌≡◌, ℕ, ◌+◌, ◌≤◌, true, false, List, [], ◌∷◌, ◌++◌, length, Option, None, Ok, sym, ◌∙◌, ap, subst, arith}
+use Rattle.std.specs.Prelude.{slice_get, unwrap_or}
+use Rattle.block_book.specs.declared.choice.Choice.{Choice}
+use Rattle.item_log.specs.Log.{Log}
+use Rattle.item_log.specs.Log as logs
+use Rattle.rx_io.specs.Links.{Coming, Tells}
+use Rattle.rx_io.specs.declared.journal.LinkEvent.{LinkEvent}
+use Rattle.item_log.specs.Heard.{items_of}
+use Rattle.item_log.proofs.Shown.{shown_items}
+use Rattle.run_history.specs.declared.answer.Answer.{Answer}
+use Rattle.run_history.specs.declared.answer.Answer.TheVariants as answer
+use Rattle.run_history.specs.declared.answer.Cause.{Cause}
+use Rattle.guest_cpu.specs.Standing.{Standing}
+use Rattle.session_history.specs.Serving.{gone_on}
+use Rattle.session_history.specs.Ends.{IsEnd, StandsAt, EndsBy}
+use Rattle.session_history.proofs.Sessions.{serving_account}
+use Rattle.rx_io.specs.Links.{Phases, Told, events_in}
+use Rattle.rx_io.specs.Sends.{Send}
+use Rattle.rx_io.specs.declared.journal.Entry.{Entry}
+use Rattle.elf_image.specs.declared.image.Image.{Image}
+use Rattle.reply_ledger.specs.Ledger.{Ledger}
+use Rattle.run_history.specs.Machine.{Machine}
+use Rattle.run_history.specs.Call.{may_send}
+use Rattle.run_history.specs.Served.{Path, AsksFor}
+use Rattle.guest_cpu.specs.declared.event.Event.TheVariants as event
+use Rattle.guest_cpu.specs.Serving.{standing_of}
+use Rattle.guest_runs.specs.Runs.{GoesOn, IsSilent, RunsOn}
+use Rattle.session_history.specs.Heeding.{Bounds, items_in, received}
+use Rattle.session_history.specs.Opened.{is_open}
+use Rattle.session_history.specs.Owing.{Stands, IsPassed}
+use Rattle.session_history.specs.Lawful.{Rules}
+use Rattle.session_history.specs.Keeping.{KeepsReplies, KeepsItems}
+use Rattle.rx_engine.specs.Sessions.{SessionState}
+use Rattle.rx_engine.specs.Standing.{Story, entries, moment, IsTold, AnswersFor, GoesWith, IsLatestDone, IsLatestBefore, HasPassedDue, HasPassed, IsGoing, IsBetween, IsWaitingFor, IsEnding, IsBrokenOff}
+use Rattle.rx_engine.specs.Serving.{IsCounted}
+use Rattle.rx_engine.proofs.StoryLemmas.{on_story, told_on, account_of, journal_of_story}
+
+-- a log received as many items as its journal has
+pub received_is : (bounds : Bounds) (entries : List Entry) (log : Log) → KeepsItems bounds entries log → logs.received log ≡ received bounds entries
+received_is bounds entries log keeps = (shown_items bounds.framing (events_in entries) log keeps.shows).0 ∙ ap (λ (events : List LinkEvent). length (items_of bounds.framing events)) (sym keeps.all_heeded)
+
+-- who may be sent to is told by the machine's connections
+may_send_by : (m n : Machine) (conn : ℕ) → n.connections ≡ m.connections → may_send n conn ≡ true → may_send m conn ≡ true
+may_send_by m n conn same may = ap (λ connections. unwrap_or (slice_get connections conn) false) (sym same) ∙ may
+
+-- the survivor takes no item: it is still in the received ones
+pub still_received : (rules : Rules) (image : Image) (began now : Told) (story : Story) (to : Path) → IsTold rules image began now story → to.state.machine.taken ≡ story.survivor.now.state.machine.taken
+    → to.state.machine.taken ≤ received rules.bounds (entries story)
+still_received rules image began now story to told same = subst (λ taken. taken ≤ received rules.bounds (entries story)) (sym same) told.serving.carries.taken
+
+-- a survivor that sent nothing has passed what it had
+pub has_passed : (rules : Rules) (story : Story) (old new : Ledger) (to : Path) → HasPassed rules story old → new ≡ old → to.state.sends ≡ story.survivor.now.state.sends → HasPassed rules (on_story story to) new
+has_passed rules story old new to passed same none = record {
+  replies = subst (λ (ledger : Ledger). KeepsReplies rules.bounds (entries story) None to.state.sends ledger) (sym same) (subst (λ all. KeepsReplies rules.bounds (entries story) None all old) (sym none) passed.replies);
+  no_trial = ap (λ (ledger : Ledger). ledger.trial) same ∙ passed.no_trial;
+  done = subst (λ all. IsLatestDone rules (moment story) all) (sym none) passed.done;
+}
+
+-- what was due is passed still, where the survivor sent nothing and took no item
+pub due_still : (rules : Rules) (story : Story) (to : Path) → to.state.sends ≡ story.survivor.now.state.sends → to.state.machine.taken ≡ story.survivor.now.state.machine.taken → HasPassedDue rules story → HasPassedDue rules (on_story story to)
+due_still rules story to none same due =
+    subst
+    (λ (all : List Send). (send : Send) (stands : Stands all send) → is_open rules.bounds (entries story) send.conn ≡ true → send.taken + rules.hold ≤ to.state.machine.taken → IsPassed rules.bounds (entries story) all send stands)
+    (sym none) (λ send stands still early. due send stands still (subst (λ n. send.taken + rules.hold ≤ n) same early))
+
+module _ {R : Type 0} where
+  -- all but the guest, the counts and the answers of malloc is the same
+  pub record HasSameParts (old new : SessionState R) : Type 0 where
+    pub log : new.log ≡ old.log
+    pub replies : new.replies ≡ old.replies
+    pub events : new.events ≡ old.events
+
+  -- it answers for a run that its guest is
+  pub answers_for : (story : Story) (session : SessionState R) (to : Path) → session.choices ≡ to.choices → IsCounted session → session.cpu.slots.live ≡ standing_of to → AnswersFor (on_story story to) session
+  answers_for story session to chosen counted stands = record {
+    choices = chosen;
+    taken = counted.taken ∙ ap (λ (s : Standing). s.guest.machine.taken) stands;
+    steps = counted.steps ∙ ap (λ (s : Standing). s.steps) stands;
+  }
+
+  -- a guest that went on is the survivor that goes on
+  pub goes_with : (rules : Rules) (story : Story) (old new : SessionState R) (phases : Phases) (to : Path) → GoesWith rules story old phases → new.log ≡ old.log → new.events ≡ old.events
+      → GoesOn rules.limits (items_in rules.bounds (entries story)) story.survivor.plan story.survivor.now to → to.state.ended ≡ None → new.cpu.slots.live ≡ standing_of to → GoesWith rules (on_story story to) new phases
+  goes_with rules story old new phases to with log events goes lives guest = record {
+    lives = lives;
+    guest = guest;
+    bounded = goes.bounded lives with.bounded;
+    few = subst (λ taken. taken ≤ rules.bounds.max_items) (sym goes.taken) with.few;
+    within = λ conn may. with.within conn (may_send_by story.survivor.now.state.machine to.state.machine conn goes.connections may);
+    items = subst (KeepsItems rules.bounds (entries story)) (sym log) with.items;
+    whole = ap (λ (l : Log). l.first) log ∙ with.whole;
+    events = events ∙ with.events;
+    phases_are = with.phases_are;
+  }
+
+  -- where the survivor goes on, used these answers of malloc and sent nothing, the session goes on
+  pub going_on : (rules : Rules) (image : Image) (began now : Told) (phases : Phases) (old new : SessionState R) (g : IsGoing rules image began now phases old) (to : Path) → HasSameParts old new → new.choices ≡ to.choices → IsCounted new
+      → GoesOn rules.limits (items_in rules.bounds (entries g.story)) g.story.survivor.plan g.story.survivor.now to → to.state.ended ≡ None → new.cpu.slots.live ≡ standing_of to → to.state.sends ≡ g.story.survivor.now.state.sends
+      → IsGoing rules image began now phases new
+  going_on rules image began now phases old new g to same chosen counted goes lives stands none =
+      record {
+        story = on_story g.story to;
+        told = told_on rules image began now g.story to g.told goes.served (still_received rules image began now g.story to g.told goes.taken);
+        answers = answers_for g.story new to chosen counted stands;
+        goes = goes_with rules g.story old new phases to g.goes same.log same.events goes lives stands;
+        passed = has_passed rules g.story old.replies new.replies to g.passed same.replies none;
+        latest = subst (IsLatestBefore rules (moment g.story)) (sym goes.taken) g.latest;
+      }
+
+  -- malloc was answered
+  pub chooses_between : (rules : Rules) (image : Image) (began now : Told) (phases : Phases) (choice : Choice) (old new : SessionState R) (b : IsBetween rules image began now phases old) → HasSameParts old new → new.choices ≡ old.choices ++ choice ∷ []
+      → IsCounted new → RunsOn rules.limits (items_in rules.bounds (entries b.going.story)) b.going.story.survivor.plan b.going.story.survivor.now (Ok (event.Chooses choice)) new.cpu.slots.live → IsBetween rules image began now phases new
+  unfolding going_on
+  chooses_between rules image began now phases choice old new b same chosen counted runs =
+      let comes = runs.comes in
+      record {
+        going =
+            going_on rules image began now phases old new b.going runs.now same (chosen ∙ (ap (λ cs. cs ++ choice ∷ []) b.going.answers.choices ∙ sym comes.0)) counted runs.goes comes.2 (sym runs.stands) comes.1;
+        due = due_still rules b.going.story runs.now comes.1 runs.goes.taken b.due;
+      }
+
+  -- it waits for an item
+  pub asks_waits : (rules : Rules) (image : Image) (began now : Told) (phases : Phases) (old new : SessionState R) (b : IsBetween rules image began now phases old) → HasSameParts old new → new.choices ≡ old.choices → IsCounted new
+      → RunsOn rules.limits (items_in rules.bounds (entries b.going.story)) b.going.story.survivor.plan b.going.story.survivor.now (Ok event.Asks) new.cpu.slots.live → IsWaitingFor rules image began now phases new
+  unfolding going_on
+  asks_waits rules image began now phases old new b same chosen counted runs =
+      let story : Story = b.going.story in
+      let to : Path = runs.now in
+      let asks : AsksFor rules.limits story.survivor.plan to story.survivor.now.state.machine.taken = runs.comes.1 in
+      let silent : IsSilent story.survivor.now to = runs.comes.0 in
+      let going = going_on rules image began now phases old new b.going to same (chosen ∙ (b.going.answers.choices ∙ sym silent.choices)) counted runs.goes asks.lives (sym runs.stands) silent.sends in
+      record {
+        hearing = record {
+          story = going.story;
+          told = going.told;
+          answers = going.answers;
+          goes = going.goes;
+          passed = going.passed;
+          asks = subst (AsksFor rules.limits story.survivor.plan to) (sym runs.goes.taken) asks;
+          latest = λ last is. let before = going.latest last is in omega (arith, before);
+        };
+        due = due_still rules story to silent.sends runs.goes.taken b.due;
+      }
+
+  -- a session whose survivor has come to an end, and sent nothing on the way
+  comes_ending : (rules : Rules) (image : Image) (began now : Told) (phases : Phases) (coming : Option Coming) (old new : SessionState R) (g : IsGoing rules image began now phases old) (to : Path) (end : Answer) → HasSameParts old new
+      → new.choices ≡ old.choices → IsCounted new → GoesOn rules.limits (items_in rules.bounds (entries g.story)) g.story.survivor.plan g.story.survivor.now to → IsSilent g.story.survivor.now to → new.cpu.slots.live ≡ standing_of to → IsEnd end
+      → StandsAt rules (entries g.story) coming (gone_on g.story.survivor to) end → IsEnding rules image began now coming new end
+  comes_ending rules image began now phases coming old new g to end same chosen counted goes silent stands is_end cause =
+      let passed = has_passed rules g.story old.replies new.replies to g.passed same.replies silent.sends in
+      record {
+        story = on_story g.story to;
+        told = told_on rules image began now g.story to g.told goes.served (still_received rules image began now g.story to g.told goes.taken);
+        answers = answers_for g.story new to (chosen ∙ (g.answers.choices ∙ sym silent.choices)) counted stands;
+        received_are = ap (λ (log : Log). logs.received log) same.log ∙ received_is rules.bounds (entries g.story) old.log g.goes.items;
+        replies = passed.replies;
+        no_trial = passed.no_trial;
+        closed = λ send stands closing owed. passed.done send stands owed;
+        is_end = is_end;
+        stands = cause;
+      }
+
+  -- it ended itself
+  pub exits_ending : (rules : Rules) (image : Image) (began now : Told) (phases : Phases) (coming : Option Coming) (code : ℕ) (old new : SessionState R) (b : IsBetween rules image began now phases old) → HasSameParts old new → new.choices ≡ old.choices
+      → IsCounted new → RunsOn rules.limits (items_in rules.bounds (entries b.going.story)) b.going.story.survivor.plan b.going.story.survivor.now (Ok (event.Exits code)) new.cpu.slots.live
+      → IsEnding rules image began now coming new (answer.Exited code)
+  exits_ending rules image began now phases coming code old new b same chosen counted runs =
+      comes_ending rules image began now phases coming old new b.going runs.now (answer.Exited code) same chosen counted runs.goes runs.comes.0 (sym runs.stands) tt runs.comes.1
+
+  -- it failed
+  pub fails_ending : (rules : Rules) (image : Image) (began now : Told) (phases : Phases) (coming : Option Coming) (cause : Cause) (point : ℕ) (old new : SessionState R) (b : IsBetween rules image began now phases old) → HasSameParts old new
+      → new.choices ≡ old.choices → IsCounted new → point ≡ new.taken
+      → RunsOn rules.limits (items_in rules.bounds (entries b.going.story)) b.going.story.survivor.plan b.going.story.survivor.now (Ok (event.Failed cause)) new.cpu.slots.live
+      → IsEnding rules image began now coming new (answer.GaveUp point cause)
+  fails_ending rules image began now phases coming cause point old new b same chosen counted at runs =
+      comes_ending rules image began now phases coming old new b.going runs.now (answer.GaveUp point cause) same chosen counted runs.goes runs.comes.0 (sym runs.stands) tt
+      (runs.comes.1, ap (λ (s : Standing). s.guest.machine.taken) runs.stands ∙ (sym counted.taken ∙ sym at))
+
+  -- a session that is broken off where it stood has an account
+  pub broken_off : (rules : Rules) (image : Image) (began now : Told) (coming : Option Coming) (session : SessionState R) (story : Story) (end : Answer) → IsTold rules image began now story → AnswersFor story session
+      → EndsBy rules coming (account_of story) end → (IsEnd end → ⊥) → IsBrokenOff rules image began now coming session end
+  broken_off rules image began now coming session story end told answers ends no_end =
+      record {
+        account = account_of story;
+        tells = subst (Tells began now) (sym (journal_of_story story)) told.tells;
+        is_account = serving_account rules image story.earlier story.survivor story.since false told.serving;
+        ends = ends;
+        no_end = no_end;
+        alone = record { first = told.first; plain = told.plain };
+        choices = answers.choices;
+        taken = answers.taken;
+        steps = answers.steps;
+      }

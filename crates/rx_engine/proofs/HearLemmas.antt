@@ -1,0 +1,82 @@
+-- What a session makes of an event that it heard.
+use Rattle.std.proofs.Common.{◌≡◌, ℕ, ◌≤◌, true, List, [], ◌∷◌, ◌++◌, length, sym, ◌∙◌, ap, subst, arith, append_assoc}
+use Rattle.rx_io.specs.declared.journal.Entry.{Entry}
+use Rattle.rx_io.specs.declared.journal.Entry.TheVariants as entry
+use Rattle.rx_io.specs.declared.journal.LinkEvent.{LinkEvent}
+use Rattle.rx_io.specs.Links.{Phases, Told, Tells, events_in}
+use Rattle.elf_image.specs.declared.image.Image.{Image}
+use Rattle.run_history.specs.Served.{AsksFor}
+use Rattle.session_history.specs.Heeding.{Bounds, heeded, received}
+use Rattle.session_history.specs.Opened.{opens}
+use Rattle.session_history.specs.Lawful.{Rules, entries_of}
+use Rattle.session_history.specs.Keeping.{KeepsItems, KeepsPhases}
+use Rattle.session_history.specs.Hearing.{IsHeard}
+use Rattle.session_history.proofs.Heeding.{events_in-append}
+use Rattle.rx_engine.specs.Sessions.{SessionState}
+use Rattle.rx_engine.specs.Standing.{Story, entries, sends, then_story, IsTold, AnswersFor, GoesWith, IsWaitingFor}
+use Rattle.rx_engine.proofs.EventLemmas.{owes_nothing, told_event, opens_more}
+
+-- the entries of a story with more behind them
+pub more_entries : (story : Story) (more : List Entry) → entries story ++ more ≡ entries (then_story story more)
+more_entries story more = append_assoc (entries_of story.earlier) story.since more
+
+-- who was open to sends before more entries is so behind them
+pub opens_still : (bounds : Bounds) (before after : List Entry) (more : List Entry) (conn : ℕ) → after ≡ before ++ more → heeded bounds (events_in before) ≡ events_in before → heeded bounds (events_in after) ≡ events_in after
+    → opens conn (heeded bounds (events_in before)) ≡ true → opens conn (heeded bounds (events_in after)) ≡ true
+opens_still bounds before after more conn is first second open_before =
+    let longer : events_in after ≡ events_in before ++ events_in more = ap events_in is ∙ events_in-append before more in
+    ap (opens conn) (second ∙ longer) ∙ opens_more conn (events_in before) (events_in more) (ap (opens conn) (sym first) ∙ open_before)
+
+module _ {R : Type 0} where
+  -- but for log, replies and the count of events, nothing of a session changed; and the log gave nothing up
+  pub record HasSameRun (old new : SessionState R) : Type 0 where
+    pub cpu : new.cpu ≡ old.cpu
+    pub choices : new.choices ≡ old.choices
+    pub taken : new.taken ≡ old.taken
+    pub steps : new.steps ≡ old.steps
+    pub first : new.log.first ≡ old.log.first
+
+  pub answers_still : (story : Story) (old new : SessionState R) (more : List Entry) → HasSameRun old new → AnswersFor story old → AnswersFor (then_story story more) new
+  answers_still story old new more same answers = record { choices = same.choices ∙ answers.choices; taken = same.taken ∙ answers.taken; steps = same.steps ∙ answers.steps }
+
+  -- the guest, the items and the phases behind more entries
+  pub goes_then : (rules : Rules) (story : Story) (old new : SessionState R) (phases later : Phases) (more : List Entry) → HasSameRun old new → GoesWith rules story old phases → KeepsItems rules.bounds (entries (then_story story more)) new.log
+      → new.events ≡ length (events_in (entries (then_story story more))) → KeepsPhases (entries (then_story story more)) later → GoesWith rules (then_story story more) new later
+  goes_then rules story old new phases later more same goes items events knows = record {
+    lives = goes.lives;
+    guest = ap (λ cpu. cpu.slots.live) same.cpu ∙ goes.guest;
+    bounded = goes.bounded;
+    few = goes.few;
+    within = λ conn may. opens_still rules.bounds (entries story) (entries (then_story story more)) more conn (sym (more_entries story more)) goes.items.all_heeded items.all_heeded (goes.within conn may);
+    items = items;
+    whole = same.first ∙ goes.whole;
+    events = events;
+    phases_are = knows;
+  }
+
+  -- what is known behind an event that was heard, but for the replies
+  pub record HasHeard (rules : Rules) (image : Image) (began now : Told) (phases : Phases) (story : Story) (session : SessionState R) : Type 0 where
+    pub told : IsTold rules image began now story
+    pub answers : AnswersFor story session
+    pub goes : GoesWith rules story session phases
+    pub asks : AsksFor rules.limits story.survivor.plan story.survivor.now story.survivor.now.state.machine.taken
+
+  pub has_heard : (rules : Rules) (image : Image) (began before now : Told) (phases later : Phases) (event : LinkEvent) (old new : SessionState R) (w : IsWaitingFor rules image began before phases old)
+      → received rules.bounds (entries w.hearing.story) ≤ w.hearing.story.survivor.now.state.machine.taken → HasSameRun old new → Tells before now (entry.Took event ∷ [])
+      → IsHeard rules.bounds (entries w.hearing.story) (sends w.hearing.story) event new.log new.replies → KeepsPhases (entries w.hearing.story ++ entry.Took event ∷ []) later
+      → new.events ≡ length (events_in (entries w.hearing.story ++ entry.Took event ∷ [])) → HasHeard rules image began now later (then_story w.hearing.story (entry.Took event ∷ [])) new
+  has_heard rules image began before now phases later event old new w all same tells heard knows events =
+      let story : Story = w.hearing.story in
+      let is = more_entries story (entry.Took event ∷ []) in
+      let exact : received rules.bounds (entries story) ≡ story.survivor.now.state.machine.taken = let low = w.hearing.told.serving.carries.taken in omega (arith, low, all) in
+      let asks = w.hearing.asks in
+      record {
+        told =
+            told_event rules image began before now story event heard.more w.hearing.told (subst (AsksFor rules.limits story.survivor.plan story.survivor.now) (sym exact) asks) (owes_nothing rules story all w.due w.hearing.passed.done) tells
+            heard.brings;
+        answers = answers_still story old new (entry.Took event ∷ []) same w.hearing.answers;
+        goes =
+            goes_then rules story old new phases later (entry.Took event ∷ []) same w.hearing.goes (subst (λ es. KeepsItems rules.bounds es new.log) is heard.items) (events ∙ ap (λ es. length (events_in es)) is)
+            (subst (λ (es : List Entry). KeepsPhases es later) is knows);
+        asks = asks;
+      }

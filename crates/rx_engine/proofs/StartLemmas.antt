@@ -1,0 +1,133 @@
+-- Where a session stands at its begin, and after each turn.
+use Rattle.std.proofs.Common.{◌≡◌, ℕ, zero, suc, ◌+◌, ◌≤◌, Bool, true, false, List, [], ◌∷◌, ◌++◌, None, refl, sym, ◌∙◌, ap, subst, arith}
+use Rattle.block_book.specs.Heap.{Heap}
+use Rattle.rx_io.specs.Links.{Phases, Told, IsFresh, Counts}
+use Rattle.elf_image.specs.declared.image.Image.{Image}
+use Rattle.item_log.specs.Log as logs
+use Rattle.reply_ledger.specs.Ledger.{Ledger, no_replies}
+use Rattle.reply_ledger.specs.Inside as I
+use Rattle.reply_ledger.specs.Shows as S
+use Rattle.reply_ledger.specs.Ledger as ledgers
+use Rattle.run_history.specs.Served.{origin}
+use Rattle.guest_cpu.specs.Standing.{Standing}
+use Rattle.guest_runs.specs.Laws.{IsStart}
+use Rattle.guest_runs.proofs.RunLemmas.{runs_start}
+use Rattle.std.specs.Option.{unwrap_or}
+use Rattle.std.specs.Prelude.{replicate, slice_get}
+use Rattle.run_history.specs.Machine.{no_connections}
+use Rattle.run_history.specs.Machine as M
+use Rattle.rx_io.specs.Sends.{Send}
+use Rattle.session_history.specs.Heeding as H
+use Rattle.session_history.specs.Heeding.{Bounds, items_in}
+use Rattle.session_history.specs.Keeping.{KeepsReplies}
+use Rattle.session_history.specs.Owing.{Stands}
+use Rattle.session_history.specs.Lawful.{Rules}
+use Rattle.session_history.proofs.Paths.{served_same}
+use Rattle.session_history.proofs.Sessions.{serving_first}
+use Rattle.rx_engine.specs.Options.{rules_of}
+use Rattle.rx_engine.specs.Sessions.{SessionState, IsBegun}
+use Rattle.rx_engine.specs.Standing.{Story, IsBetween}
+use Rattle.rx_engine.proofs.TellLemmas.{tells_same}
+use Rattle.rx_engine.specs.Serving.{CanGive, IsCounted, HasSameFrame}
+
+-- the story of no event
+abbrev first_story : Image → Story
+first_story image = record { earlier = []; survivor = record { plan = []; begun = origin image; now = origin image }; since = [] }
+
+-- of no send there is none
+none_stands : (send : Send) → Stands [] send → ⊥
+none_stands send stands = by stands.earlier stands.split
+  where
+    by : (earlier : List Send) → [] ≡ earlier ++ send ∷ stands.later → ⊥
+    by [] same = cc
+    by (first ∷ more) same = cc
+
+-- where no connection is open, none is
+none_open : (count conn : ℕ) → unwrap_or (slice_get (replicate count false) conn) false ≡ false
+none_open zero conn = refl
+none_open (suc count) zero = refl
+none_open (suc count) (suc conn) = none_open count conn
+
+none_known : (conn : ℕ) → unwrap_or (slice_get no_connections conn) false ≡ false
+unfolding no_connections
+none_known conn = none_open 4096 conn
+
+-- a ledger without replies is that of an empty journal
+first_replies : (bounds : Bounds) → KeepsReplies bounds [] None [] no_replies
+unfolding H.heeded_behind I.earlier_at S.stamped_of ledgers.connection_of ledgers.stamped_to ledgers.is_open
+first_replies bounds = record {
+  shows = record { counted = omega arith; kept = refl; opened = λ conn none. refl; earlier = λ conn. refl; passed = λ conn. refl };
+  opened = λ conn. refl;
+  may = λ conn. refl;
+  gone = λ conn is. absurd (let no : ⊥ = cc in no);
+  given_up = λ conn may. omega arith;
+  sendable = tt;
+}
+
+module _ {R : Type 0} where
+  pub starts_between : (permits : R → Heap → ℕ → ℕ → Bool) (image : Image) (now : Told) (phases : Phases) (session : SessionState R) → IsBegun image session.options session.cpu.rule session → IsFresh phases
+      → IsBetween (rules_of session.options (permits session.cpu.rule)) image now now phases session
+  unfolding M.start M.start_machine H.heeded_behind
+  starts_between permits image now phases session begun fresh =
+      let rules : Rules = rules_of session.options (permits session.cpu.rule) in
+      let start : IsStart image rules.limits.budget = runs_start image rules.limits.budget in
+      record {
+        going = record {
+          story = first_story image;
+          told = record {
+            serving = serving_first rules image;
+            way = served_same rules.limits (items_in rules.bounds []) [] (origin image);
+            tells = tells_same now;
+            first = refl;
+            plain = refl;
+          };
+          answers = record { choices = begun.no_choices; taken = begun.no_items; steps = begun.no_steps };
+          goes = record {
+            lives = start.lives;
+            guest = begun.cpu.live_is ∙ sym start.stands;
+            bounded = start.bounded;
+            few = omega arith;
+            within = λ conn may. absurd (let none : unwrap_or (slice_get no_connections conn) false ≡ false = none_known conn in let no : ⊥ = cc in no);
+            items = record { all_heeded = refl; shows = begun.shows; most = ap (λ (log : logs.Log). log.max_items) begun.log };
+            whole = ap (λ (log : logs.Log). log.first) begun.log;
+            events = begun.no_events;
+            phases_are = fresh;
+          };
+          passed = record { replies = subst (λ (ledger : Ledger). KeepsReplies rules.bounds [] None [] ledger) (sym begun.replies) (first_replies rules.bounds); no_trial = ap (λ (ledger : Ledger). ledger.trial) begun.replies; done = λ send stands due. absurd due };
+          latest = λ last found. absurd (let no : ⊥ = cc in no);
+        };
+        due = λ send stands is taken. absurd (none_stands send stands);
+      }
+
+  -- how far a session has come that serves
+  pub record HasTurned (Went : Type 0) (permits : R → Heap → ℕ → ℕ → Bool) (before now : Told) (phases : Phases) (from to : Counts) (takes gives : Bool) (gives_to : ℕ → Bool) (first last : ℕ) (old new : SessionState R) : Type 0 where
+    pub stands : (image : Image) → IsBegun image old.options old.cpu.rule old → IsBetween (rules_of old.options (permits old.cpu.rule)) image before now phases new
+    pub frame : HasSameFrame old new
+    pub takes_still : takes ≡ true
+    pub can_give : CanGive gives gives_to new.replies
+    pub marked : IsCounted new
+    pub counted : last ≡ first + new.cpu.slots.live.steps
+    pub no_takes_fell : from.takes ≤ to.takes
+    pub no_gives_fell : from.gives ≤ to.gives
+    pub went : Went
+
+  -- it gives to each connection that is open: none was opened
+  pub starts_giving : (image : Image) (session : SessionState R) (gives : Bool) (gives_to : ℕ → Bool) → IsBegun image session.options session.cpu.rule session → gives ≡ true → CanGive gives gives_to session.replies
+  unfolding ledgers.is_open ledgers.connection_of
+  starts_giving image session gives gives_to begun still = record {
+    gives_still = still;
+    connected = λ conn is. absurd (let none : ledgers.is_open session.replies.connections conn ≡ false = ap (λ (ledger : Ledger). ledgers.is_open ledger.connections conn) begun.replies in let no : ⊥ = cc in no);
+  }
+
+  pub starts_counted : (image : Image) (session : SessionState R) → IsBegun image session.options session.cpu.rule session → IsCounted session
+  unfolding M.start M.start_machine
+  starts_counted image session begun = record {
+    taken = begun.no_items ∙ sym (ap (λ (s : Standing). s.guest.machine.taken) begun.cpu.live_is);
+    steps = begun.no_steps ∙ sym (ap (λ (s : Standing). s.steps) begun.cpu.live_is);
+  }
+
+  pub frame_then : (old mid new : SessionState R) → HasSameFrame old mid → HasSameFrame mid new → HasSameFrame old new
+  frame_then old mid new first second = record { options = second.options ∙ first.options; rule = second.rule ∙ first.rule }
+
+  pub between_under : {image : Image} {began now : Told} {phases : Phases} {session : SessionState R} (first second : Rules) → first ≡ second → IsBetween first image began now phases session → IsBetween second image began now phases session
+  between_under {image = image} {began = began} {now = now} {phases = phases} {session = session} first second same = subst (λ (rules : Rules). IsBetween rules image began now phases session) same

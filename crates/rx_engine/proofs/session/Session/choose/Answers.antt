@@ -1,0 +1,17 @@
+use Rattle.std.proofs.Common.{[], ◌∷◌, ◌++◌, refl, sym, ◌∙◌, ap, subst}
+use Rattle.rx_engine.specs.Options.{rules_of}
+use Rattle.rx_engine.specs.Sessions.{SessionState}
+use Rattle.rx_engine.specs.Standing.{IsBetween}
+use Rattle.rx_engine.proofs.ServeLemmas.{run_breaks, run_chooses}
+use Rattle.rx_engine.proofs.session.Session.choose.Goals as goal
+
+pub returns-in-Err-clause-turns : goal.returns-in-Err-clause-turns
+returns-in-Err-clause-turns g c image began now phases coming h =
+    run_breaks _ image began now phases coming _ c.args.self.now _ h (c.in-Err.ensures.items ∙ ap (λ (s : SessionState _). s.choices) c.self.view_is) (ap (λ (s : SessionState _). s.taken) c.self.view_is)
+    (ap (λ (s : SessionState _). s.steps) c.self.view_is)
+
+pub returns-clause-turns : goal.returns-clause-turns
+returns-clause-turns g c image began now phases coming h =
+    subst (λ (s : SessionState _). IsBetween (rules_of c.args.self.now.options (g.R.AccessRule.rule c.args.self.now.cpu.rule)) image began now phases s) (sym c.count_run.ensures)
+    (run_chooses _ image began now phases c.args.choice c.args.self.now _ h (ap (λ (s : SessionState _). s.log) c.self.view_is) (ap (λ (s : SessionState _). s.replies) c.self.view_is) (ap (λ (s : SessionState _). s.events) c.self.view_is)
+    (ap (λ (s : SessionState _). s.cpu) c.self.view_is) (c.in_default.ensures.items ∙ ap (λ (s : SessionState _). s.choices ++ c.args.choice ∷ []) c.self.view_is) (record { taken = refl; steps = refl }))

@@ -1,0 +1,35 @@
+use Rattle.std.proofs.Common.{◌≤◌, sym, ◌∙◌, subst, arith}
+use Rattle.rx_engine.specs.Options.{rules_of}
+use Rattle.rx_engine.specs.Sessions.{SessionState}
+use Rattle.rx_engine.specs.Standing.{sends, IsEnding}
+use Rattle.rx_engine.specs.Serving.{CanPass}
+use Rattle.rx_engine.proofs.EndLemmas.{end_of}
+use Rattle.rx_engine.proofs.PassLemmas.{stamped_by, sendable_kept}
+use Rattle.rx_engine.proofs.PassingLemmas.{ending_can, ending_ready, finish_ok, finish_fault}
+use Rattle.rx_engine.proofs.session.Session.finish.Goals as goal
+
+pub pass_until-requires-clause-stamped : goal.pass_until-requires-clause-stamped
+pass_until-requires-clause-stamped g c =
+    let can = subst (λ (s : SessionState _). CanPass s) (sym c.self.view_is) (ending_can _ _ _ _ _ _ _ c.requires.ends.is) in
+    subst (λ n. Rattle.reply_gate.specs.Faults.AreStampedBy n c.self.inside.replies) (sym can.received_are ∙ sym c.received-stamp.ensures.count)
+    (stamped_by _ can.sends _ c.self.inside.replies can.replies.shows can.ordered)
+
+pub pass_until-requires-clause-sendable : goal.pass_until-requires-clause-sendable
+pass_until-requires-clause-sendable g c =
+    let can = subst (λ (s : SessionState _). CanPass s) (sym c.self.view_is) (ending_can _ _ _ _ _ _ _ c.requires.ends.is) in
+    sendable_kept can.sends _ c.self.inside.replies can.replies.shows can.replies.sendable
+
+pub returns-in-Err-clause-served : goal.returns-in-Err-clause-served
+returns-in-Err-clause-served g c image began ends =
+    let rules = rules_of c.args.self.now.options (g.R.AccessRule.rule c.args.self.now.cpu.rule) in
+    let e = subst (λ (s : SessionState _). IsEnding rules image began (g.K.Link.told c.args.link.now) (g.K.Link.coming c.args.link.now) s c.args.answer) (sym c.self.view_is) ends in
+    finish_fault rules image began _ (g.K.Link.told c.pass_until.new.link) _ (g.K.Link.coming c.pass_until.new.link) _ c.args.answer 18446744073709551615 c.pass_until.new.replies c.in-Err.fault c.answer_to.result e c.in-Err.ensures.coming c.answer_to.ensures
+    (c.in-Err.ensures.passes rules (sends e.story) (end_of e.story) (sym e.received_are ∙ sym c.received-stamp.ensures.count) (ending_ready rules image began _ _ _ c.args.answer 18446744073709551615 e))
+
+pub returns-clause-served : goal.returns-clause-served
+returns-clause-served g c image began ends =
+    let rules = rules_of c.args.self.now.options (g.R.AccessRule.rule c.args.self.now.cpu.rule) in
+    let e = subst (λ (s : SessionState _). IsEnding rules image began (g.K.Link.told c.args.link.now) (g.K.Link.coming c.args.link.now) s c.args.answer) (sym c.self.view_is) ends in
+    let low : c.self.inside.taken ≤ 18446744073709551615 = omega (arith, c.self.ranges) in
+    finish_ok rules image began _ (g.K.Link.told c.pass_until.new.link) _ (g.K.Link.coming c.pass_until.new.link) _ c.args.answer 18446744073709551615 c.pass_until.new.replies c.in_default.field-0 e c.in_default.ensures.coming low
+    (c.in_default.ensures.passes rules (sends e.story) (end_of e.story) (sym e.received_are ∙ sym c.received-stamp.ensures.count) (ending_ready rules image began _ _ _ c.args.answer 18446744073709551615 e))

@@ -1,0 +1,207 @@
+use Rattle.std.proofs.Common.{◌≤◌, [], ◌∷◌, Ok, Err, refl, sym, ◌∙◌, ap, subst, arith}
+use Rattle.item_log.specs.Log.{received}
+use Rattle.rx_io.specs.declared.journal.Entry.TheVariants as entry
+use Rattle.rx_io.specs.declared.journal.LinkEvent.TheVariants as event
+use Rattle.event_gate.specs.Calls.{ComesLast}
+use Rattle.session_history.specs.Lawful.{Rules}
+use Rattle.rx_engine.specs.Sessions.{SessionState}
+use Rattle.rx_engine.specs.Options.{rules_of}
+use Rattle.rx_engine.specs.Standing.{Story, entries, sends, then_story}
+use Rattle.rx_engine.proofs.GuestLemmas.{received_is}
+use Rattle.rx_engine.proofs.HearingLemmas.{moved, items_heard, close_heard, settle_heard, end_heard, heard_can, heard_opened, heard_closing, heard_settled, heard_last, story_heard, items_hearing, waits_due, waits_closed, waits_settled, due_unless, story_unless, if_ok, all_taken, one_counted, quiet_event, stops_by, ends_by}
+use Rattle.rx_engine.proofs.session.Session.hear.Goals as goal
+
+pub pass_due-requires-clause-can : goal.pass_due-requires-clause-can
+pass_due-requires-clause-can g c =
+    let rules : Rules = rules_of c.args.self.now.options (g.R.AccessRule.rule c.args.self.now.cpu.rule) in
+    let k = c.requires.waits in
+    let w = moved (sym c.self.view_is) k.is in
+    let none_left = subst (λ (s : SessionState _). received s.log ≤ s.taken) (sym c.self.view_is) c.requires.none_left in
+    let limit = ap (λ (s : SessionState _). s.options.max_events) (sym c.self.view_is) in
+    let h = c.in-Ok-Items.ensures.hears rules.bounds (entries w.hearing.story) (sends w.hearing.story) limit w.hearing.goes.events w.hearing.goes.items w.hearing.passed.replies w.hearing.goes.phases_are in
+    let e = items_heard rules.bounds _ _ (g.K.Link.told c.args.link.now) (g.K.Link.told c.hear.new.link) (g.K.Link.phases c.hear.new.link) (g.K.Link.coming c.args.link.now) c.hear.new.log c.hear.new.replies c.hear.new.events _ h c.in-Ok-Items.field-0-is in
+    heard_can rules k.image k.began (g.K.Link.told c.args.link.now) (g.K.Link.told c.hear.new.link) (g.K.Link.phases c.args.link.now) (g.K.Link.phases c.hear.new.link) _ c.hear.new.log c.hear.new.replies c.hear.new.events e.0 w none_left c.in-Ok-Items.ensures.first c.in-Ok-Items.ensures.replies.trial e.2
+
+pub returns-in-Ok-Items-clause-hears : goal.returns-in-Ok-Items-clause-hears
+returns-in-Ok-Items-clause-hears g c image began waits =
+    let rules : Rules = rules_of c.args.self.now.options (g.R.AccessRule.rule c.args.self.now.cpu.rule) in
+    let w = moved (sym c.self.view_is) waits in
+    let none_left = subst (λ (s : SessionState _). received s.log ≤ s.taken) (sym c.self.view_is) c.requires.none_left in
+    let limit = ap (λ (s : SessionState _). s.options.max_events) (sym c.self.view_is) in
+    let h = c.in-Ok-Items.ensures.hears rules.bounds (entries w.hearing.story) (sends w.hearing.story) limit w.hearing.goes.events w.hearing.goes.items w.hearing.passed.replies w.hearing.goes.phases_are in
+    let e = items_heard rules.bounds _ _ (g.K.Link.told c.args.link.now) (g.K.Link.told c.hear.new.link) (g.K.Link.phases c.hear.new.link) (g.K.Link.coming c.args.link.now) c.hear.new.log c.hear.new.replies c.hear.new.events _ h c.in-Ok-Items.field-0-is in
+    let hearing = items_hearing rules image began (g.K.Link.told c.args.link.now) (g.K.Link.told c.hear.new.link) (g.K.Link.phases c.args.link.now) (g.K.Link.phases c.hear.new.link) _ c.hear.new.log c.hear.new.replies c.hear.new.events e.0 w none_left c.in-Ok-Items.ensures.first c.in-Ok-Items.ensures.replies.trial e.1 e.2 in
+    let passes = c.pass_due.ensures.passes rules image began hearing.story (ap (λ (s : SessionState _). s.options.hold) (sym c.self.view_is)) hearing.told hearing.answers (received_is rules.bounds (entries hearing.story) c.hear.new.log hearing.goes.items) hearing.passed in
+    waits_due rules image began (g.K.Link.told c.hear.new.link) (g.K.Link.told c.pass_due.new.link) (g.K.Link.phases c.hear.new.link) (g.K.Link.phases c.pass_due.new.link) (g.K.Link.coming c.pass_due.new.link) _ c.pass_due.new.self hearing c.pass_due.result c.pass_due.ensures.same c.pass_due.ensures.only.phases passes
+
+pub returns-in-Ok-Items-clause-gives : goal.returns-in-Ok-Items-clause-gives
+returns-in-Ok-Items-clause-gives g c =
+    let rules : Rules = rules_of c.args.self.now.options (g.R.AccessRule.rule c.args.self.now.cpu.rule) in
+    let k = c.requires.waits in
+    let w = moved (sym c.self.view_is) k.is in
+    let none_left = subst (λ (s : SessionState _). received s.log ≤ s.taken) (sym c.self.view_is) c.requires.none_left in
+    let limit = ap (λ (s : SessionState _). s.options.max_events) (sym c.self.view_is) in
+    let h = c.in-Ok-Items.ensures.hears rules.bounds (entries w.hearing.story) (sends w.hearing.story) limit w.hearing.goes.events w.hearing.goes.items w.hearing.passed.replies w.hearing.goes.phases_are in
+    let e = items_heard rules.bounds _ _ (g.K.Link.told c.args.link.now) (g.K.Link.told c.hear.new.link) (g.K.Link.phases c.hear.new.link) (g.K.Link.coming c.args.link.now) c.hear.new.log c.hear.new.replies c.hear.new.events _ h c.in-Ok-Items.field-0-is in
+    let hearing = items_hearing rules k.image k.began (g.K.Link.told c.args.link.now) (g.K.Link.told c.hear.new.link) (g.K.Link.phases c.args.link.now) (g.K.Link.phases c.hear.new.link) _ c.hear.new.log c.hear.new.replies c.hear.new.events e.0 w none_left c.in-Ok-Items.ensures.first c.in-Ok-Items.ensures.replies.trial e.1 e.2 in
+    let passes = c.pass_due.ensures.passes rules k.image k.began hearing.story (ap (λ (s : SessionState _). s.options.hold) (sym c.self.view_is)) hearing.told hearing.answers (received_is rules.bounds (entries hearing.story) c.hear.new.log hearing.goes.items) hearing.passed in
+    due_unless rules k.image k.began (g.K.Link.told c.pass_due.new.link) (g.K.Link.coming c.pass_due.new.link) hearing.story c.pass_due.new.self c.pass_due.result _ passes c.pass_due.ensures.gives
+
+pub returns-in-Ok-Items-clause-later : goal.returns-in-Ok-Items-clause-later
+returns-in-Ok-Items-clause-later g c =
+    let rules : Rules = rules_of c.args.self.now.options (g.R.AccessRule.rule c.args.self.now.cpu.rule) in
+    let k = c.requires.waits in
+    let w = moved (sym c.self.view_is) k.is in
+    let limit = ap (λ (s : SessionState _). s.options.max_events) (sym c.self.view_is) in
+    let h = c.in-Ok-Items.ensures.hears rules.bounds (entries w.hearing.story) (sends w.hearing.story) limit w.hearing.goes.events w.hearing.goes.items w.hearing.passed.replies w.hearing.goes.phases_are in
+    let e = items_heard rules.bounds _ _ (g.K.Link.told c.args.link.now) (g.K.Link.told c.hear.new.link) (g.K.Link.phases c.hear.new.link) (g.K.Link.coming c.args.link.now) c.hear.new.log c.hear.new.replies c.hear.new.events _ h c.in-Ok-Items.field-0-is in
+    if_ok _ c.pass_due.result (one_counted (entries w.hearing.story) e.0 _ _ (quiet_event e.0 e.1) (ap (λ (s : SessionState _). s.events) (sym c.self.view_is) ∙ w.hearing.goes.events) (ap (λ (s : SessionState _). s.events) c.pass_due.ensures.same ∙ e.2.counted))
+
+pub close-requires-clause-stands : goal.close-requires-clause-stands
+close-requires-clause-stands g c =
+    let rules : Rules = rules_of c.args.self.now.options (g.R.AccessRule.rule c.args.self.now.cpu.rule) in
+    let k = c.requires.waits in
+    let w = moved (sym c.self.view_is) k.is in
+    let none_left = subst (λ (s : SessionState _). received s.log ≤ s.taken) (sym c.self.view_is) c.requires.none_left in
+    let limit = ap (λ (s : SessionState _). s.options.max_events) (sym c.self.view_is) in
+    let h = c.in-Ok-Closes.ensures.hears rules.bounds (entries w.hearing.story) (sends w.hearing.story) limit w.hearing.goes.events w.hearing.goes.items w.hearing.passed.replies w.hearing.goes.phases_are in
+    let e = close_heard rules.bounds _ _ (g.K.Link.told c.args.link.now) (g.K.Link.told c.hear.new.link) (g.K.Link.phases c.hear.new.link) (g.K.Link.coming c.args.link.now) c.hear.new.log c.hear.new.replies c.hear.new.events _ h c.in-Ok-Closes.conn c.in-Ok-Closes.field-0-is in
+    let after : Story = then_story w.hearing.story (entry.Took (event.Closes c.in-Ok-Closes.conn) ∷ []) in
+    let known = story_heard rules k.image k.began (g.K.Link.told c.args.link.now) (g.K.Link.told c.hear.new.link) (g.K.Link.phases c.args.link.now) (g.K.Link.phases c.hear.new.link) _ c.hear.new.log c.hear.new.replies c.hear.new.events (event.Closes c.in-Ok-Closes.conn) w none_left c.in-Ok-Closes.ensures.first e in
+    let closing = heard_closing rules k.image k.began (g.K.Link.told c.args.link.now) (g.K.Link.told c.hear.new.link) (g.K.Link.phases c.args.link.now) (g.K.Link.phases c.hear.new.link) _ c.hear.new.log c.hear.new.replies c.hear.new.events c.in-Ok-Closes.conn w none_left c.in-Ok-Closes.ensures.first e in
+    record {
+      rules = rules;
+      image = k.image;
+      began = k.began;
+      story = after;
+      told = known.told;
+      received_are = received_is rules.bounds (entries after) c.hear.new.log known.goes.items;
+      closing = closing;
+      no_trial = c.in-Ok-Closes.ensures.replies.trial ∙ w.hearing.passed.no_trial;
+    }
+
+pub close-requires-clause-opened : goal.close-requires-clause-opened
+close-requires-clause-opened g c =
+    let rules : Rules = rules_of c.args.self.now.options (g.R.AccessRule.rule c.args.self.now.cpu.rule) in
+    let k = c.requires.waits in
+    let w = moved (sym c.self.view_is) k.is in
+    let limit = ap (λ (s : SessionState _). s.options.max_events) (sym c.self.view_is) in
+    let h = c.in-Ok-Closes.ensures.hears rules.bounds (entries w.hearing.story) (sends w.hearing.story) limit w.hearing.goes.events w.hearing.goes.items w.hearing.passed.replies w.hearing.goes.phases_are in
+    let e = close_heard rules.bounds _ _ (g.K.Link.told c.args.link.now) (g.K.Link.told c.hear.new.link) (g.K.Link.phases c.hear.new.link) (g.K.Link.coming c.args.link.now) c.hear.new.log c.hear.new.replies c.hear.new.events _ h c.in-Ok-Closes.conn c.in-Ok-Closes.field-0-is in
+    heard_opened rules k.image k.began (g.K.Link.told c.args.link.now) (g.K.Link.told c.hear.new.link) (g.K.Link.phases c.args.link.now) (g.K.Link.phases c.hear.new.link) _ c.hear.new.log c.hear.new.replies c.hear.new.events c.in-Ok-Closes.conn w e
+
+pub returns-in-Ok-Closes-clause-hears : goal.returns-in-Ok-Closes-clause-hears
+returns-in-Ok-Closes-clause-hears g c image began waits =
+    let rules : Rules = rules_of c.args.self.now.options (g.R.AccessRule.rule c.args.self.now.cpu.rule) in
+    let w = moved (sym c.self.view_is) waits in
+    let none_left = subst (λ (s : SessionState _). received s.log ≤ s.taken) (sym c.self.view_is) c.requires.none_left in
+    let limit = ap (λ (s : SessionState _). s.options.max_events) (sym c.self.view_is) in
+    let h = c.in-Ok-Closes.ensures.hears rules.bounds (entries w.hearing.story) (sends w.hearing.story) limit w.hearing.goes.events w.hearing.goes.items w.hearing.passed.replies w.hearing.goes.phases_are in
+    let e = close_heard rules.bounds _ _ (g.K.Link.told c.args.link.now) (g.K.Link.told c.hear.new.link) (g.K.Link.phases c.hear.new.link) (g.K.Link.coming c.args.link.now) c.hear.new.log c.hear.new.replies c.hear.new.events _ h c.in-Ok-Closes.conn c.in-Ok-Closes.field-0-is in
+    let after : Story = then_story w.hearing.story (entry.Took (event.Closes c.in-Ok-Closes.conn) ∷ []) in
+    let known = story_heard rules image began (g.K.Link.told c.args.link.now) (g.K.Link.told c.hear.new.link) (g.K.Link.phases c.args.link.now) (g.K.Link.phases c.hear.new.link) _ c.hear.new.log c.hear.new.replies c.hear.new.events (event.Closes c.in-Ok-Closes.conn) w none_left c.in-Ok-Closes.ensures.first e in
+    let closing = heard_closing rules image began (g.K.Link.told c.args.link.now) (g.K.Link.told c.hear.new.link) (g.K.Link.phases c.args.link.now) (g.K.Link.phases c.hear.new.link) _ c.hear.new.log c.hear.new.replies c.hear.new.events c.in-Ok-Closes.conn w none_left c.in-Ok-Closes.ensures.first e in
+    let passes = c.close.ensures.passes rules image began after (ap (λ (s : SessionState _). s.options.hold) (sym c.self.view_is)) known.told known.answers (received_is rules.bounds (entries after) c.hear.new.log known.goes.items) closing in
+    waits_closed rules image began (g.K.Link.told c.hear.new.link) (g.K.Link.told c.close.new.link) (g.K.Link.phases c.hear.new.link) (g.K.Link.phases c.close.new.link) (g.K.Link.coming c.close.new.link) after _ c.close.new.self known c.close.result
+    (heard_last rules image began (g.K.Link.told c.args.link.now) (g.K.Link.phases c.args.link.now) _ (event.Closes c.in-Ok-Closes.conn) w none_left tt) c.close.ensures.same c.close.ensures.only.phases passes
+
+pub returns-in-Ok-Closes-clause-gives : goal.returns-in-Ok-Closes-clause-gives
+returns-in-Ok-Closes-clause-gives g c =
+    let rules : Rules = rules_of c.args.self.now.options (g.R.AccessRule.rule c.args.self.now.cpu.rule) in
+    let k = c.requires.waits in
+    let w = moved (sym c.self.view_is) k.is in
+    let none_left = subst (λ (s : SessionState _). received s.log ≤ s.taken) (sym c.self.view_is) c.requires.none_left in
+    let limit = ap (λ (s : SessionState _). s.options.max_events) (sym c.self.view_is) in
+    let h = c.in-Ok-Closes.ensures.hears rules.bounds (entries w.hearing.story) (sends w.hearing.story) limit w.hearing.goes.events w.hearing.goes.items w.hearing.passed.replies w.hearing.goes.phases_are in
+    let e = close_heard rules.bounds _ _ (g.K.Link.told c.args.link.now) (g.K.Link.told c.hear.new.link) (g.K.Link.phases c.hear.new.link) (g.K.Link.coming c.args.link.now) c.hear.new.log c.hear.new.replies c.hear.new.events _ h c.in-Ok-Closes.conn c.in-Ok-Closes.field-0-is in
+    let after : Story = then_story w.hearing.story (entry.Took (event.Closes c.in-Ok-Closes.conn) ∷ []) in
+    let known = story_heard rules k.image k.began (g.K.Link.told c.args.link.now) (g.K.Link.told c.hear.new.link) (g.K.Link.phases c.args.link.now) (g.K.Link.phases c.hear.new.link) _ c.hear.new.log c.hear.new.replies c.hear.new.events (event.Closes c.in-Ok-Closes.conn) w none_left c.in-Ok-Closes.ensures.first e in
+    let closing = heard_closing rules k.image k.began (g.K.Link.told c.args.link.now) (g.K.Link.told c.hear.new.link) (g.K.Link.phases c.args.link.now) (g.K.Link.phases c.hear.new.link) _ c.hear.new.log c.hear.new.replies c.hear.new.events c.in-Ok-Closes.conn w none_left c.in-Ok-Closes.ensures.first e in
+    let passes = c.close.ensures.passes rules k.image k.began after (ap (λ (s : SessionState _). s.options.hold) (sym c.self.view_is)) known.told known.answers (received_is rules.bounds (entries after) c.hear.new.log known.goes.items) closing in
+    due_unless rules k.image k.began (g.K.Link.told c.close.new.link) (g.K.Link.coming c.close.new.link) after c.close.new.self c.close.result _ passes c.close.ensures.gives
+
+pub returns-in-Ok-Closes-clause-later : goal.returns-in-Ok-Closes-clause-later
+returns-in-Ok-Closes-clause-later g c =
+    let rules : Rules = rules_of c.args.self.now.options (g.R.AccessRule.rule c.args.self.now.cpu.rule) in
+    let k = c.requires.waits in
+    let w = moved (sym c.self.view_is) k.is in
+    let limit = ap (λ (s : SessionState _). s.options.max_events) (sym c.self.view_is) in
+    let h = c.in-Ok-Closes.ensures.hears rules.bounds (entries w.hearing.story) (sends w.hearing.story) limit w.hearing.goes.events w.hearing.goes.items w.hearing.passed.replies w.hearing.goes.phases_are in
+    let e = close_heard rules.bounds _ _ (g.K.Link.told c.args.link.now) (g.K.Link.told c.hear.new.link) (g.K.Link.phases c.hear.new.link) (g.K.Link.coming c.args.link.now) c.hear.new.log c.hear.new.replies c.hear.new.events _ h c.in-Ok-Closes.conn c.in-Ok-Closes.field-0-is in
+    if_ok _ c.close.result (one_counted (entries w.hearing.story) (event.Closes c.in-Ok-Closes.conn) _ _ refl (ap (λ (s : SessionState _). s.events) (sym c.self.view_is) ∙ w.hearing.goes.events) (ap (λ (s : SessionState _). s.events) c.close.ensures.same ∙ e.counted))
+
+pub pass-requires-clause-can : goal.pass-requires-clause-can
+pass-requires-clause-can g c =
+    let rules : Rules = rules_of c.args.self.now.options (g.R.AccessRule.rule c.args.self.now.cpu.rule) in
+    let k = c.requires.waits in
+    let w = moved (sym c.self.view_is) k.is in
+    let none_left = subst (λ (s : SessionState _). received s.log ≤ s.taken) (sym c.self.view_is) c.requires.none_left in
+    let limit = ap (λ (s : SessionState _). s.options.max_events) (sym c.self.view_is) in
+    let h = c.in-Ok-Settles.ensures.hears rules.bounds (entries w.hearing.story) (sends w.hearing.story) limit w.hearing.goes.events w.hearing.goes.items w.hearing.passed.replies w.hearing.goes.phases_are in
+    let e = settle_heard rules.bounds _ _ (g.K.Link.told c.args.link.now) (g.K.Link.told c.hear.new.link) (g.K.Link.phases c.hear.new.link) (g.K.Link.coming c.args.link.now) c.hear.new.log c.hear.new.replies c.hear.new.events _ h c.in-Ok-Settles.field-0-is in
+    heard_can rules k.image k.began (g.K.Link.told c.args.link.now) (g.K.Link.told c.hear.new.link) (g.K.Link.phases c.args.link.now) (g.K.Link.phases c.hear.new.link) _ c.hear.new.log c.hear.new.replies c.hear.new.events event.Settles w none_left c.in-Ok-Settles.ensures.first c.in-Ok-Settles.ensures.replies.trial e
+
+pub returns-in-Ok-Settles-clause-hears : goal.returns-in-Ok-Settles-clause-hears
+returns-in-Ok-Settles-clause-hears g c image began waits =
+    let rules : Rules = rules_of c.args.self.now.options (g.R.AccessRule.rule c.args.self.now.cpu.rule) in
+    let w = moved (sym c.self.view_is) waits in
+    let none_left = subst (λ (s : SessionState _). received s.log ≤ s.taken) (sym c.self.view_is) c.requires.none_left in
+    let limit = ap (λ (s : SessionState _). s.options.max_events) (sym c.self.view_is) in
+    let h = c.in-Ok-Settles.ensures.hears rules.bounds (entries w.hearing.story) (sends w.hearing.story) limit w.hearing.goes.events w.hearing.goes.items w.hearing.passed.replies w.hearing.goes.phases_are in
+    let e = settle_heard rules.bounds _ _ (g.K.Link.told c.args.link.now) (g.K.Link.told c.hear.new.link) (g.K.Link.phases c.hear.new.link) (g.K.Link.coming c.args.link.now) c.hear.new.log c.hear.new.replies c.hear.new.events _ h c.in-Ok-Settles.field-0-is in
+    let after : Story = then_story w.hearing.story (entry.Took event.Settles ∷ []) in
+    let known = story_heard rules image began (g.K.Link.told c.args.link.now) (g.K.Link.told c.hear.new.link) (g.K.Link.phases c.args.link.now) (g.K.Link.phases c.hear.new.link) _ c.hear.new.log c.hear.new.replies c.hear.new.events event.Settles w none_left c.in-Ok-Settles.ensures.first e in
+    let ready = heard_settled rules image began (g.K.Link.told c.args.link.now) (g.K.Link.told c.hear.new.link) (g.K.Link.phases c.args.link.now) (g.K.Link.phases c.hear.new.link) _ c.hear.new.log c.hear.new.replies c.hear.new.events 18446744073709551615 w none_left c.in-Ok-Settles.ensures.first e in
+    let passes = c.pass.ensures.passes rules image began after known.told known.answers (received_is rules.bounds (entries after) c.hear.new.log known.goes.items) ready in
+    let few = w.hearing.goes.few in
+    let most = c.self.invariant.few_items in
+    let same = ap (λ (s : SessionState _). s.options.max_items) (sym c.self.view_is) in
+    waits_settled rules image began (g.K.Link.told c.hear.new.link) (g.K.Link.told c.pass.new.link) (g.K.Link.phases c.hear.new.link) (g.K.Link.phases c.pass.new.link) (g.K.Link.coming c.pass.new.link) w.hearing.story 18446744073709551615 _ c.pass.new.self known c.pass.result (omega (arith, few, most, same))
+    (all_taken rules image began (g.K.Link.told c.args.link.now) (g.K.Link.phases c.args.link.now) _ w none_left) c.pass.ensures.same c.pass.ensures.no_trial c.pass.ensures.only.phases passes
+
+pub returns-in-Ok-Settles-clause-gives : goal.returns-in-Ok-Settles-clause-gives
+returns-in-Ok-Settles-clause-gives g c =
+    let rules : Rules = rules_of c.args.self.now.options (g.R.AccessRule.rule c.args.self.now.cpu.rule) in
+    let k = c.requires.waits in
+    let w = moved (sym c.self.view_is) k.is in
+    let none_left = subst (λ (s : SessionState _). received s.log ≤ s.taken) (sym c.self.view_is) c.requires.none_left in
+    let limit = ap (λ (s : SessionState _). s.options.max_events) (sym c.self.view_is) in
+    let h = c.in-Ok-Settles.ensures.hears rules.bounds (entries w.hearing.story) (sends w.hearing.story) limit w.hearing.goes.events w.hearing.goes.items w.hearing.passed.replies w.hearing.goes.phases_are in
+    let e = settle_heard rules.bounds _ _ (g.K.Link.told c.args.link.now) (g.K.Link.told c.hear.new.link) (g.K.Link.phases c.hear.new.link) (g.K.Link.coming c.args.link.now) c.hear.new.log c.hear.new.replies c.hear.new.events _ h c.in-Ok-Settles.field-0-is in
+    let after : Story = then_story w.hearing.story (entry.Took event.Settles ∷ []) in
+    let known = story_heard rules k.image k.began (g.K.Link.told c.args.link.now) (g.K.Link.told c.hear.new.link) (g.K.Link.phases c.args.link.now) (g.K.Link.phases c.hear.new.link) _ c.hear.new.log c.hear.new.replies c.hear.new.events event.Settles w none_left c.in-Ok-Settles.ensures.first e in
+    let ready = heard_settled rules k.image k.began (g.K.Link.told c.args.link.now) (g.K.Link.told c.hear.new.link) (g.K.Link.phases c.args.link.now) (g.K.Link.phases c.hear.new.link) _ c.hear.new.log c.hear.new.replies c.hear.new.events 18446744073709551615 w none_left c.in-Ok-Settles.ensures.first e in
+    let passes = c.pass.ensures.passes rules k.image k.began after known.told known.answers (received_is rules.bounds (entries after) c.hear.new.log known.goes.items) ready in
+    story_unless rules k.image k.began (g.K.Link.told c.pass.new.link) (g.K.Link.coming c.pass.new.link) after 18446744073709551615 c.pass.new.self c.pass.result _ passes c.pass.ensures.gives
+
+pub returns-in-Ok-Settles-clause-later : goal.returns-in-Ok-Settles-clause-later
+returns-in-Ok-Settles-clause-later g c =
+    let rules : Rules = rules_of c.args.self.now.options (g.R.AccessRule.rule c.args.self.now.cpu.rule) in
+    let k = c.requires.waits in
+    let w = moved (sym c.self.view_is) k.is in
+    let limit = ap (λ (s : SessionState _). s.options.max_events) (sym c.self.view_is) in
+    let h = c.in-Ok-Settles.ensures.hears rules.bounds (entries w.hearing.story) (sends w.hearing.story) limit w.hearing.goes.events w.hearing.goes.items w.hearing.passed.replies w.hearing.goes.phases_are in
+    let e = settle_heard rules.bounds _ _ (g.K.Link.told c.args.link.now) (g.K.Link.told c.hear.new.link) (g.K.Link.phases c.hear.new.link) (g.K.Link.coming c.args.link.now) c.hear.new.log c.hear.new.replies c.hear.new.events _ h c.in-Ok-Settles.field-0-is in
+    if_ok _ c.pass.result (one_counted (entries w.hearing.story) event.Settles _ _ refl (ap (λ (s : SessionState _). s.events) (sym c.self.view_is) ∙ w.hearing.goes.events) (ap (λ (s : SessionState _). s.events) c.pass.ensures.same ∙ e.counted))
+
+pub returns-in-Ok-Ends-clause-hears : goal.returns-in-Ok-Ends-clause-hears
+returns-in-Ok-Ends-clause-hears g c image began waits =
+    let rules : Rules = rules_of c.args.self.now.options (g.R.AccessRule.rule c.args.self.now.cpu.rule) in
+    let w = moved (sym c.self.view_is) waits in
+    let none_left = subst (λ (s : SessionState _). received s.log ≤ s.taken) (sym c.self.view_is) c.requires.none_left in
+    let limit = ap (λ (s : SessionState _). s.options.max_events) (sym c.self.view_is) in
+    let h = c.in-Ok-Ends.ensures.hears rules.bounds (entries w.hearing.story) (sends w.hearing.story) limit w.hearing.goes.events w.hearing.goes.items w.hearing.passed.replies w.hearing.goes.phases_are in
+    let last : ComesLast (g.K.Link.coming c.hear.new.link) (Ok c.in-Ok-Ends.field-0) = c.in-Ok-Ends.ensures.last in
+    let e = end_heard rules.bounds _ _ (g.K.Link.told c.args.link.now) (g.K.Link.told c.hear.new.link) (g.K.Link.phases c.hear.new.link) (g.K.Link.coming c.args.link.now) c.hear.new.log c.hear.new.replies c.hear.new.events _ h c.in-Ok-Ends.field-0-is in
+    ends_by rules image began (g.K.Link.told c.args.link.now) (g.K.Link.told c.hear.new.link) (g.K.Link.phases c.args.link.now) (g.K.Link.phases c.hear.new.link) (g.K.Link.coming c.hear.new.link) _ c.hear.new.log c.hear.new.replies c.hear.new.events w none_left c.in-Ok-Ends.ensures.first c.in-Ok-Ends.ensures.replies.trial e
+    (subst (λ shown. ComesLast (g.K.Link.coming c.hear.new.link) (Ok shown)) c.in-Ok-Ends.field-0-is last)
+
+pub returns-in-Err-clause-hears : goal.returns-in-Err-clause-hears
+returns-in-Err-clause-hears g c image began waits =
+    let rules : Rules = rules_of c.args.self.now.options (g.R.AccessRule.rule c.args.self.now.cpu.rule) in
+    let w = moved (sym c.self.view_is) waits in
+    let none_left = subst (λ (s : SessionState _). received s.log ≤ s.taken) (sym c.self.view_is) c.requires.none_left in
+    let limit = ap (λ (s : SessionState _). s.options.max_events) (sym c.self.view_is) in
+    let h = c.in-Err.ensures.hears rules.bounds (entries w.hearing.story) (sends w.hearing.story) limit w.hearing.goes.events w.hearing.goes.items w.hearing.passed.replies w.hearing.goes.phases_are in
+    let last : ComesLast (g.K.Link.coming c.hear.new.link) (Err c.in-Err.fault) = c.in-Err.ensures.last in
+    stops_by rules image began (g.K.Link.told c.args.link.now) (g.K.Link.told c.hear.new.link) (g.K.Link.phases c.args.link.now) (g.K.Link.phases c.hear.new.link) (g.K.Link.coming c.hear.new.link) (g.K.Link.coming c.args.link.now) _ c.hear.new.log c.hear.new.replies c.hear.new.events c.in-Err.fault c.stop_at.result w none_left c.in-Err.ensures.first c.in-Err.ensures.replies.trial c.in-Err.ensures.stays last h c.stop_at.ensures

@@ -1,0 +1,85 @@
+use Rattle.std.proofs.Common.{◌≡◌, refl, sym, ◌∙◌, subst, arith}
+use Rattle.session_history.specs.Lawful.{Rules}
+use Rattle.rx_engine.specs.Options.{rules_of}
+use Rattle.rx_engine.specs.declared.stop.Stop.TheVariants.{Breaks, Ends}
+use Rattle.rx_engine.specs.Serving.{StopsBy}
+use Rattle.rx_engine.proofs.EndLemmas.{served_off}
+use Rattle.rx_engine.proofs.FrameLemmas.{same_rules}
+use Rattle.rx_engine.proofs.HearingLemmas.{cause_then, stops_under}
+use Rattle.rx_engine.proofs.StartLemmas.{starts_between, starts_counted, starts_giving, frame_then, between_under}
+use Rattle.rx_engine.proofs.session.Session.serve.Goals as goal
+
+pub turns-init : goal.turns-init
+turns-init g c =
+    let begun = c.requires.begun.begun in
+    let marked = starts_counted c.requires.begun.image c.args.self.now begun in
+    let none : c.args.self.now.cpu.slots.live.steps ≡ 0 = sym marked.steps ∙ begun.no_steps in
+    record {
+      stands = λ image is. starts_between g.R.AccessRule.rule image (g.K.Link.told c.args.link.now) (g.K.Link.phases c.args.link.now) c.args.self.now is c.requires.fresh;
+      frame = record { options = refl; rule = refl };
+      takes_still = c.requires.takes;
+      can_give = starts_giving c.requires.begun.image c.args.self.now _ _ begun c.requires.gives;
+      marked = marked;
+      counted = omega (arith, none);
+      no_takes_fell = omega arith;
+      no_gives_fell = omega arith;
+      went = g.met.K.Link.went_same c.args.link.now;
+    }
+
+pub turn-requires-clause-stands : goal.turn-requires-clause-stands
+turn-requires-clause-stands g c =
+    let rules : Rules = rules_of c.args.self.now.options (g.R.AccessRule.rule c.args.self.now.cpu.rule) in
+    let here : Rules = rules_of c.turns.self.options (g.R.AccessRule.rule c.turns.self.cpu.rule) in
+    let same = same_rules g.R.AccessRule.rule c.args.self.now c.turns.self c.turns.invariant.frame in
+    record { image = c.requires.begun.image; began = g.K.Link.told c.args.link.now; is = between_under rules here (sym same) (c.turns.invariant.stands c.requires.begun.image c.requires.begun.begun) }
+
+pub turns-preserved : goal.turns-preserved
+turns-preserved g c =
+    let rules : Rules = rules_of c.args.self.now.options (g.R.AccessRule.rule c.args.self.now.cpu.rule) in
+    let here : Rules = rules_of c.turns.self.options (g.R.AccessRule.rule c.turns.self.cpu.rule) in
+    let same = same_rules g.R.AccessRule.rule c.args.self.now c.turns.self c.turns.invariant.frame in
+    let cause = cause_then (g.K.Link.counts c.args.link.now) (g.K.Link.counts c.turns.link) (g.K.Link.counts c.turn.new.link) _ c.turns.invariant.no_takes_fell c.turns.invariant.no_gives_fell c.in-Ok.ensures.cause in
+    let counted = c.in-Ok.ensures.counted in
+    let before = c.turns.invariant.counted in
+    record {
+      stands = λ image is. between_under here rules same (c.in-Ok.ensures.turns image (g.K.Link.told c.args.link.now) (between_under rules here (sym same) (c.turns.invariant.stands image is)));
+      frame = frame_then c.args.self.now c.turns.self c.turn.new.self c.turns.invariant.frame c.in-Ok.ensures.frame;
+      takes_still = c.in-Ok.ensures.takes;
+      can_give = c.in-Ok.ensures.gives;
+      marked = c.in-Ok.ensures.marked;
+      counted = omega (arith, counted, before);
+      no_takes_fell = cause.takes;
+      no_gives_fell = cause.gives;
+      went = g.met.K.Link.went_on c.args.link.now c.turns.link c.turn.new.link c.turns.invariant.went c.in-Ok.ensures.went;
+    }
+
+pub returns-in-Err-Breaks-clause-served : goal.returns-in-Err-Breaks-clause-served
+returns-in-Err-Breaks-clause-served g c image is =
+    let rules : Rules = rules_of c.args.self.now.options (g.R.AccessRule.rule c.args.self.now.cpu.rule) in
+    let here : Rules = rules_of c.turns.self.options (g.R.AccessRule.rule c.turns.self.cpu.rule) in
+    let same = same_rules g.R.AccessRule.rule c.args.self.now c.turns.self c.turns.invariant.frame in
+    let off = stops_under image (g.K.Link.told c.args.link.now) (g.K.Link.told c.turn.new.link) (g.K.Link.coming c.turn.new.link) c.turn.new.self (Breaks c.in-Err-Breaks.answer) here rules same
+    (subst (λ why. StopsBy here image (g.K.Link.told c.args.link.now) (g.K.Link.told c.turn.new.link) (g.K.Link.coming c.turn.new.link) c.turn.new.self why) c.in-Err-Breaks.field-0-is
+    (c.in-Err-Breaks.ensures.turns image (g.K.Link.told c.args.link.now) (between_under rules here (sym same) (c.turns.invariant.stands image is)))) in
+    served_off rules image (g.K.Link.told c.args.link.now) (g.K.Link.told c.turn.new.link) (g.K.Link.coming c.turn.new.link) c.turn.new.self c.in-Err-Breaks.answer off
+
+pub finish-requires-clause-ends : goal.finish-requires-clause-ends
+finish-requires-clause-ends g c =
+    let rules : Rules = rules_of c.args.self.now.options (g.R.AccessRule.rule c.args.self.now.cpu.rule) in
+    let here : Rules = rules_of c.turns.self.options (g.R.AccessRule.rule c.turns.self.cpu.rule) in
+    let later : Rules = rules_of c.turn.new.self.options (g.R.AccessRule.rule c.turn.new.self.cpu.rule) in
+    let same = same_rules g.R.AccessRule.rule c.args.self.now c.turns.self c.turns.invariant.frame in
+    let then = same_rules g.R.AccessRule.rule c.turns.self c.turn.new.self c.in-Err-Ends.ensures.frame in
+    let image = c.requires.begun.image in
+    let began = g.K.Link.told c.args.link.now in
+    record {
+      image = image;
+      began = began;
+      is = stops_under image began (g.K.Link.told c.turn.new.link) (g.K.Link.coming c.turn.new.link) c.turn.new.self (Ends c.in-Err-Ends.answer) here later (sym then)
+          (subst (λ why. StopsBy here image began (g.K.Link.told c.turn.new.link) (g.K.Link.coming c.turn.new.link) c.turn.new.self why) c.in-Err-Ends.field-0-is
+          (c.in-Err-Ends.ensures.turns image began (between_under rules here (sym same) (c.turns.invariant.stands image c.requires.begun.begun))));
+    }
+
+pub returns-in-Err-Ends-clause-went : goal.returns-in-Err-Ends-clause-went
+returns-in-Err-Ends-clause-went g c =
+    g.met.K.Link.went_on c.args.link.now c.turn.new.link c.finish.new.link (g.met.K.Link.went_on c.args.link.now c.turns.link c.turn.new.link c.turns.invariant.went c.in-Err-Ends.ensures.went) c.finish.ensures.went

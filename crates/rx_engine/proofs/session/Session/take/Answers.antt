@@ -1,0 +1,21 @@
+use Rattle.std.proofs.Common.{◌≡◌, None, sym, ap, subst}
+use Rattle.item_log.specs.Log.{IsItemOf}
+use Rattle.guest_cpu.specs.Standing.{Live}
+use Rattle.run_history.specs.Machine.{Wants}
+use Rattle.run_history.specs.Run.{does}
+use Rattle.rx_engine.specs.Sessions.{SessionState}
+use Rattle.rx_engine.proofs.TakeLemmas.{waits_wants, waits_short, taken_going}
+use Rattle.rx_engine.proofs.session.Session.take.Goals as goal
+
+pub take_item-requires-clause-asks : goal.take_item-requires-clause-asks
+take_item-requires-clause-asks g c =
+    subst (λ (s : SessionState _). does None None s.cpu.slots.live.guest.machine ≡ Wants) (sym c.self.view_is) (waits_wants _ _ _ _ _ c.args.self.now c.requires.waits.2.is)
+
+pub take_item-requires-clause-short : goal.take_item-requires-clause-short
+take_item-requires-clause-short g c =
+    waits_short _ _ _ _ _ c.args.self.now c.item.result.now c.requires.waits.2.is (subst (λ (s : SessionState _). IsItemOf s.log s.taken c.item.result.now) c.self.view_is c.item.ensures.of_events)
+
+pub returns-clause-going : goal.returns-clause-going
+returns-clause-going g c image began now phases w =
+    taken_going _ image began now phases c.item.result.now c.args.self.now _ c.count_run.new.self c.take_item.new.self w c.self.view_is c.item.ensures.of_events c.requires.there
+    (ap (λ (live : Live). live.standing) c.take_item.ensures.live) c.count_run.ensures

@@ -1,0 +1,4 @@
+pub mod Options
+pub mod Sessions
+pub mod Standing
+pub mod Serving

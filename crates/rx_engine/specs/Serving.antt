@@ -1,0 +1,192 @@
+-- What the parts of a session's code make of it.
+use Rattle.std.specs.Prelude.{◌≡◌, ℕ, ◌≤◌, List, [], ◌∷◌, Bool, true, Option, None, Result, Ok, Err, IsErrOf}
+use Rattle.rx_io.specs.declared.journal.Entry.{Entry}
+use Rattle.rx_io.specs.declared.journal.Entry.TheVariants as entry
+use Rattle.rx_io.specs.Faults.{Rose}
+use Rattle.rx_io.specs.Links.{Phases, Told, Coming, Counts}
+use Rattle.rx_io.specs.Sends.{Send}
+use Rattle.elf_image.specs.declared.image.Image.{Image}
+use Rattle.item_log.specs.Log as logs
+use Rattle.reply_ledger.specs.Ledger.{Ledger, is_open}
+use Rattle.reply_ledger.specs.Parts.{next_part}
+use Rattle.run_history.specs.declared.answer.Answer.{Answer}
+use Rattle.run_history.specs.declared.answer.Answer.TheVariants as answer
+use Rattle.guest_cpu.specs.declared.event.Event.{Event}
+use Rattle.guest_cpu.specs.declared.event.Event.TheVariants as step
+use Rattle.guest_runs.specs.Runs.{RunsOn}
+use Rattle.session_history.specs.Heeding.{Bounds, items_in, received}
+use Rattle.session_history.specs.Passing.{passed_in, AreInOrder}
+use Rattle.session_history.specs.Lawful.{Rules}
+use Rattle.session_history.specs.Keeping.{KeepsReplies}
+use Rattle.session_history.specs.Giving.{IsClosing}
+use Rattle.reply_gate.specs.declared.pass_fault.PassFault.{PassFault}
+use Rattle.reply_gate.specs.declared.pass_fault.PassFault.TheVariants as fault
+use Rattle.event_gate.specs.declared.heard.HearFault.{HearFault}
+use Rattle.event_gate.specs.declared.heard.HearFault.TheVariants as hear
+use Rattle.rx_engine.specs.declared.stop.Stop.{Stop}
+use Rattle.rx_engine.specs.declared.stop.Stop.TheVariants as stop
+use Rattle.rx_engine.specs.Sessions.{SessionState, IsBegun}
+use Rattle.rx_engine.specs.Standing.{Story, entries, moment, sends, then_story, IsTold, HasPassed, HasPassedDue, IsBetween, IsWaitingFor, IsEnding, IsBrokenOff}
+
+-- a fault of passing is this answer
+abbrev pub IsAnswerTo : PassFault → Answer → Type 0
+IsAnswerTo fault.WriteFault end = end ≡ answer.WriteFault
+IsAnswerTo fault.Memory end = end ≡ answer.Memory
+
+-- an answer of malloc was noted, or memory ran out
+abbrev pub IsOkOrMemory : Result (Unit {0}) Stop → Type 0
+IsOkOrMemory (Ok done) = Unit {0}
+IsOkOrMemory (Err why) = why ≡ stop.Breaks answer.Memory
+
+-- no count of failed calls of a link falls, and a fault is answered only where its own rose
+pub record HasAnswerCause (before now : Counts) (end : Answer) : Type 0 where
+  pub takes : before.takes ≤ now.takes
+  pub gives : before.gives ≤ now.gives
+  pub read_fault : end ≡ answer.ReadFault → Rose before.takes now.takes
+  pub write_fault : end ≡ answer.WriteFault → Rose before.gives now.gives
+
+-- what an event that wasn't heard means for a session
+abbrev pub IsStopAt : HearFault → Stop → Type 0
+IsStopAt (hear.Refused kind offset) why = why ≡ stop.Ends (answer.InputRefused kind offset)
+IsStopAt hear.LimitEvents why = why ≡ stop.Ends answer.LimitEvents
+IsStopAt (hear.TooLong conn) why = why ≡ stop.Ends (answer.MessageTooLong conn)
+IsStopAt hear.LimitItems why = why ≡ stop.Ends answer.LimitItems
+IsStopAt hear.ReadFault why = why ≡ stop.Breaks answer.ReadFault
+IsStopAt hear.Memory why = why ≡ stop.Breaks answer.Memory
+
+-- each of some entries is a piece
+abbrev pub AreGiven : List Entry → Type 0
+AreGiven [] = Unit {0}
+AreGiven (entry.Gave conn bytes gone ∷ more) = AreGiven more
+AreGiven (entry.Took event ∷ more) = ⊥
+
+-- a link gives, and to each connection that a ledger has as open
+pub record CanGive (gives : Bool) (gives_to : ℕ → Bool) (ledger : Ledger) : Type 0 where
+  pub gives_still : gives ≡ true
+  pub connected : (conn : ℕ) → is_open ledger.connections conn ≡ true → gives_to conn ≡ true
+
+-- giving changes nothing else of a link
+pub record OnlyGives (old new : Phases) (takes still : Bool) (coming later : Option Coming) : Type 0 where
+  pub phases : (conn : ℕ) → new conn ≡ old conn
+  pub takes_still : still ≡ takes
+  pub coming_still : later ≡ coming
+
+-- no count of failed calls falls, and a fault is answered only where its own rose
+pub record HasStopCause {X : Type 0} (before now : Counts) (result : Result X Stop) : Type 0 where
+  pub takes : before.takes ≤ now.takes
+  pub gives : before.gives ≤ now.gives
+  pub read_fault : IsErrOf result (stop.Breaks answer.ReadFault) → Rose before.takes now.takes
+  pub write_fault : IsErrOf result (stop.Breaks answer.WriteFault) → Rose before.gives now.gives
+
+-- what holds unless a session was broken off
+abbrev pub UnlessBroken : {X : Type 0} → Result X Stop → Type 0 → Type 0
+UnlessBroken (Ok done) P = P
+UnlessBroken (Err (stop.Ends end)) P = P
+UnlessBroken (Err (stop.Breaks end)) P = Unit {0}
+
+module _ {R : Type 0} where
+  -- a ledger has the replies of a journal, of which the log has as many items
+  pub record CanPass (session : SessionState R) : Type 0 where
+    pub bounds : Bounds
+    pub entries : List Entry
+    pub closing : Option ℕ
+    pub sends : List Send
+    pub replies : KeepsReplies bounds entries closing sends session.replies
+    pub no_trial : session.replies.trial ≡ None
+    pub ordered : AreInOrder (received bounds entries) (passed_in bounds entries)
+    pub received_are : logs.received session.log ≡ received bounds entries
+
+  -- a session came to one of its ends, or was broken off
+  abbrev pub StopsBy : Rules → Image → Told → Told → Option Coming → SessionState R → Stop → Type 0
+  StopsBy rules image began now coming session (stop.Ends end) = IsEnding rules image began now coming session end
+  StopsBy rules image began now coming session (stop.Breaks end) = IsBrokenOff rules image began now coming session end
+
+  -- it was broken off
+  abbrev pub BreaksBy : Rules → Image → Told → Told → Option Coming → SessionState R → Stop → Type 0
+  BreaksBy rules image began now coming session (stop.Ends end) = ⊥
+  BreaksBy rules image began now coming session (stop.Breaks end) = IsBrokenOff rules image began now coming session end
+
+  -- pieces were passed, up to where nothing is left of what was sent with so many items taken; or the session was broken off
+  abbrev pub PassesStory : Rules → Image → Told → Told → Option Coming → Story → ℕ → SessionState R → Result (Unit {0}) Stop → Type 0
+  PassesStory rules image began now coming story until session (Ok done) =
+      (more : List Entry) × AreGiven more × IsTold rules image began now (then_story story more)
+      × KeepsReplies rules.bounds (entries (then_story story more)) None (sends story) session.replies × (next_part session.replies until ≡ None)
+  PassesStory rules image began now coming story until session (Err why) = BreaksBy rules image began now coming session why
+
+  -- all that is due was passed, or the session was broken off
+  abbrev pub PassesDue : Rules → Image → Told → Told → Option Coming → Story → SessionState R → Result (Unit {0}) Stop → Type 0
+  PassesDue rules image began now coming story session (Ok done) =
+      (more : List Entry) × AreGiven more × IsTold rules image began now (then_story story more) × HasPassed rules (then_story story more) session.replies × HasPassedDue rules (then_story story more)
+  PassesDue rules image began now coming story session (Err why) = BreaksBy rules image began now coming session why
+
+  -- the guest still waits for an item
+  abbrev pub WaitsBy : Rules → Image → Told → Told → Phases → Option Coming → SessionState R → Result (Unit {0}) Stop → Type 0
+  WaitsBy rules image began now phases coming session (Ok done) = IsWaitingFor rules image began now phases session
+  WaitsBy rules image began now phases coming session (Err why) = StopsBy rules image began now coming session why
+
+  -- the session stands between two events of its guest
+  abbrev pub ComesBetween : Rules → Image → Told → Told → Phases → Option Coming → SessionState R → Result (Unit {0}) Stop → Type 0
+  ComesBetween rules image began now phases coming session (Ok done) = IsBetween rules image began now phases session
+  ComesBetween rules image began now phases coming session (Err why) = StopsBy rules image began now coming session why
+
+  -- its guest is where it was, and so are the answers of malloc, and what it answers for
+  pub record HasSameGuest (old new : SessionState R) : Type 0 where
+    pub options : new.options ≡ old.options
+    pub cpu : new.cpu ≡ old.cpu
+    pub choices : new.choices ≡ old.choices
+    pub taken : new.taken ≡ old.taken
+    pub steps : new.steps ≡ old.steps
+
+  -- its guest ran from where the session stood between two events to this event
+  pub record HasRun (rules : Rules) (image : Image) (began now : Told) (phases : Phases) (happened : Event) (session : SessionState R) : Type 0 where
+    pub before : SessionState R
+    pub between : IsBetween rules image began now phases before
+    pub same : session ≡ record before { cpu = session.cpu }
+    pub runs : RunsOn rules.limits (items_in rules.bounds (entries between.going.story)) between.going.story.survivor.plan between.going.story.survivor.now (Ok happened) session.cpu.slots.live
+
+  -- it stands so for some image, since some time
+  pub record StandsBetween (rules : Rules) (now : Told) (phases : Phases) (session : SessionState R) : Type 0 where
+    pub image : Image
+    pub began : Told
+    pub is : IsBetween rules image began now phases session
+
+  pub record StandsWaiting (rules : Rules) (now : Told) (phases : Phases) (session : SessionState R) : Type 0 where
+    pub image : Image
+    pub began : Told
+    pub is : IsWaitingFor rules image began now phases session
+
+  pub record StandsEmitting (rules : Rules) (now : Told) (phases : Phases) (conn : ℕ) (bytes : List ℕ) (session : SessionState R) : Type 0 where
+    pub image : Image
+    pub began : Told
+    pub is : HasRun rules image began now phases (step.Emits conn bytes) session
+
+  pub record StandsEnding (rules : Rules) (now : Told) (coming : Option Coming) (end : Answer) (session : SessionState R) : Type 0 where
+    pub image : Image
+    pub began : Told
+    pub is : IsEnding rules image began now coming session end
+
+  -- it has heard the close of this connection, for some rules and some image, since some time
+  pub record StandsClosing (now : Told) (conn : ℕ) (session : SessionState R) : Type 0 where
+    pub rules : Rules
+    pub image : Image
+    pub began : Told
+    pub story : Story
+    pub told : IsTold rules image began now story
+    pub received_are : logs.received session.log ≡ received rules.bounds (entries story)
+    pub closing : IsClosing rules (sends story) (moment story) conn session.replies
+    pub no_trial : session.replies.trial ≡ None
+
+  -- its counts are those of its guest
+  pub record IsCounted (session : SessionState R) : Type 0 where
+    pub taken : session.taken ≡ session.cpu.slots.live.guest.machine.taken
+    pub steps : session.steps ≡ session.cpu.slots.live.steps
+
+  -- its options and its access rule stay
+  pub record HasSameFrame (old new : SessionState R) : Type 0 where
+    pub options : new.options ≡ old.options
+    pub rule : new.cpu.rule ≡ old.cpu.rule
+
+  -- it was begun for some image
+  pub record IsReadyToServe (session : SessionState R) : Type 0 where
+    pub image : Image
+    pub begun : IsBegun image session.options session.cpu.rule session

@@ -1,0 +1,36 @@
+-- What a contract sees of a session.
+use Rattle.std.specs.Prelude.{◌≡◌, ℕ, ◌*◌, ◌/◌, List, []}
+use Rattle.block_book.specs.declared.choice.Choice.{Choice}
+use Rattle.elf_image.specs.declared.image.Image.{Image}
+use Rattle.guest_cpu.specs.Cpus.{CpuState, IsFreshCpu}
+use Rattle.item_log.specs.Log.{Log, empty_log}
+use Rattle.item_log.specs.Log as logs
+use Rattle.reply_ledger.specs.Ledger.{Ledger, no_replies}
+use Rattle.rx_engine.specs.declared.options.Options.{Options}
+use Rattle.rx_engine.specs.Options.{AreInRange}
+
+-- a session: its options, its guest, the items and the replies; how many events came; and of the run that it answers for the answers of
+-- malloc, the items taken and the instructions
+pub record SessionState (R : Type 0) : Type 0 where
+  pub options : Options
+  pub cpu : CpuState R
+  pub log : Log
+  pub replies : Ledger
+  pub events : ℕ
+  pub choices : List Choice
+  pub taken : ℕ
+  pub steps : ℕ
+
+-- a session that was begun and hasn't served
+pub record IsBegun {R : Type 0} (image : Image) (options : Options) (rule : R) (session : SessionState R) : Type 0 where
+  pub options_are : session.options ≡ options
+  pub in_range : AreInRange options
+  pub window : options.window ≡ image.window
+  pub cpu : IsFreshCpu image options.ring (options.frames * (image.window / 4096)) rule session.cpu
+  pub log : session.log ≡ empty_log options.frame options.max_items
+  pub shows : logs.Shows options.frame [] session.log
+  pub replies : session.replies ≡ no_replies
+  pub no_events : session.events ≡ 0
+  pub no_choices : session.choices ≡ []
+  pub no_items : session.taken ≡ 0
+  pub no_steps : session.steps ≡ 0

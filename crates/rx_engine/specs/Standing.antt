@@ -1,0 +1,147 @@
+-- Where a session stands between two events of its guest.
+use Rattle.std.specs.Prelude.{◌≡◌, ℕ, ◌+◌, ◌<◌, ◌≤◌, List, [], ◌++◌, length, true, false, Option, None, Some}
+use Rattle.rx_io.specs.declared.journal.Entry.{Entry}
+use Rattle.rx_io.specs.Links.{Phases, Told, Tells, Coming, events_in}
+use Rattle.rx_io.specs.Sends.{Send}
+use Rattle.elf_image.specs.declared.image.Image.{Image}
+use Rattle.reply_ledger.specs.Ledger.{Ledger}
+use Rattle.run_history.specs.declared.answer.Answer.{Answer}
+use Rattle.run_history.specs.Call.{may_send}
+use Rattle.run_history.specs.Served.{Served, AsksFor}
+use Rattle.guest_cpu.specs.Serving.{standing_of}
+use Rattle.guest_runs.specs.Runs.{IsBounded}
+use Rattle.session_history.specs.Heeding.{heeded, items_in, received}
+use Rattle.item_log.specs.Log as logs
+use Rattle.session_history.specs.Opened.{opens, is_open}
+use Rattle.session_history.specs.Owing.{Moment, journal, Latest, latest, received_before, Stands, IsDueBy, IsPassed}
+use Rattle.session_history.specs.Lawful.{Rules, Survivor, is_closing, Chapter, entries_of}
+use Rattle.session_history.specs.Account.{Session, journal_of, IsAccount}
+use Rattle.session_history.specs.Serving.{moment_of, Serving}
+use Rattle.session_history.specs.Keeping.{KeepsReplies, KeepsItems, KeepsPhases}
+use Rattle.session_history.specs.Ends.{IsEnd, StandsAt, EndsBy, IsAlone}
+use Rattle.rx_engine.specs.Sessions.{SessionState}
+
+-- a session so far, as data: the chapters of earlier survivors, the survivor, and the entries of its time
+pub record Story : Type 0 where
+  pub earlier : List Chapter
+  pub survivor : Survivor
+  pub since : List Entry
+
+abbrev pub entries : Story → List Entry
+entries story = entries_of story.earlier ++ story.since
+
+abbrev pub moment : Story → Moment
+moment story = moment_of story.earlier story.since
+
+abbrev pub sends : Story → List Send
+sends story = story.survivor.now.state.sends
+
+-- the story with more entries
+abbrev pub then_story : Story → List Entry → Story
+then_story story more = record story { since = story.since ++ more }
+
+-- it is told by one account, and by what the link told since the session began
+pub record IsTold (rules : Rules) (image : Image) (began now : Told) (story : Story) : Type 0 where
+  pub serving : Serving rules image story.earlier story.survivor story.since
+  pub way : Served rules.limits (items_in rules.bounds (entries story)) story.survivor.plan story.survivor.begun story.survivor.now
+  pub tells : Tells began now (entries story)
+  pub first : story.earlier ≡ []
+  pub plain : story.survivor.plan ≡ []
+
+module _ {R : Type 0} where
+  -- a session answers for the survivor's run
+  pub record AnswersFor (story : Story) (session : SessionState R) : Type 0 where
+    pub choices : session.choices ≡ story.survivor.now.choices
+    pub taken : session.taken ≡ story.survivor.now.state.machine.taken
+    pub steps : session.steps ≡ story.survivor.now.steps
+
+  -- its guest is the survivor, its log has the items of the journal, and it knows the link's phases
+  pub record GoesWith (rules : Rules) (story : Story) (session : SessionState R) (phases : Phases) : Type 0 where
+    pub lives : story.survivor.now.state.ended ≡ None
+    pub guest : session.cpu.slots.live ≡ standing_of story.survivor.now
+    pub bounded : IsBounded rules.limits.budget story.survivor.now
+    pub few : story.survivor.now.state.machine.taken ≤ rules.bounds.max_items
+    pub within : (conn : ℕ) → may_send story.survivor.now.state.machine conn ≡ true → opens conn (heeded rules.bounds (events_in (entries story))) ≡ true
+    pub items : KeepsItems rules.bounds (entries story) session.log
+    pub whole : session.log.first ≡ 0
+    pub events : session.events ≡ length (events_in (entries story))
+    pub phases_are : KeepsPhases (entries story) phases
+
+-- what the latest event makes owed was passed
+abbrev pub IsLatestDone : Rules → Moment → List Send → Type 0
+IsLatestDone rules moment sends =
+    (send : Send) (stands : Stands sends send) → IsDueBy rules.bounds moment send.conn send.taken (latest moment.since) → IsPassed rules.bounds (journal moment) sends send stands
+
+-- fewer items than this number were received before the latest event
+abbrev pub IsLatestBefore : Rules → Moment → ℕ → Type 0
+IsLatestBefore rules moment number = (last : Latest) → latest moment.since ≡ Some last → received_before rules.bounds moment last < number
+
+-- what is due with the items that the survivor has taken was passed
+abbrev pub HasPassedDue : Rules → Story → Type 0
+HasPassedDue rules story =
+    (send : Send) (stands : Stands (sends story) send) → is_open rules.bounds (entries story) send.conn ≡ true → send.taken + rules.hold ≤ story.survivor.now.state.machine.taken → IsPassed rules.bounds (entries story) (sends story) send stands
+
+-- what the close of a connection, the latest event, makes owed was passed
+abbrev pub IsCloseDone : Rules → Moment → List Send → Type 0
+IsCloseDone rules moment sends =
+    (send : Send) (stands : Stands sends send) → is_closing rules.bounds moment send.conn ≡ true → IsDueBy rules.bounds moment send.conn send.taken (latest moment.since) → IsPassed rules.bounds (journal moment) sends send stands
+
+-- the ledger of a session beside its story: it has the survivor's sends, and what was due is passed
+pub record HasPassed (rules : Rules) (story : Story) (ledger : Ledger) : Type 0 where
+  pub replies : KeepsReplies rules.bounds (entries story) None (sends story) ledger
+  pub no_trial : ledger.trial ≡ None
+  pub done : IsLatestDone rules (moment story) (sends story)
+
+module _ {R : Type 0} where
+  -- a session that goes on, of which what is due may still have to be passed
+  pub record IsGoing (rules : Rules) (image : Image) (began now : Told) (phases : Phases) (session : SessionState R) : Type 0 where
+    pub story : Story
+    pub told : IsTold rules image began now story
+    pub answers : AnswersFor story session
+    pub goes : GoesWith rules story session phases
+    pub passed : HasPassed rules story session.replies
+    pub latest : IsLatestBefore rules (moment story) story.survivor.now.state.machine.taken
+
+  -- between two events of the guest: what is due was passed
+  pub record IsBetween (rules : Rules) (image : Image) (began now : Told) (phases : Phases) (session : SessionState R) : Type 0 where
+    pub going : IsGoing rules image began now phases session
+    pub due : HasPassedDue rules going.story
+
+  -- where the guest waits for an item, of which what is due may still have to be passed
+  pub record IsHearing (rules : Rules) (image : Image) (began now : Told) (phases : Phases) (session : SessionState R) : Type 0 where
+    pub story : Story
+    pub told : IsTold rules image began now story
+    pub answers : AnswersFor story session
+    pub goes : GoesWith rules story session phases
+    pub passed : HasPassed rules story session.replies
+    pub asks : AsksFor rules.limits story.survivor.plan story.survivor.now story.survivor.now.state.machine.taken
+    pub latest : IsLatestBefore rules (moment story) (story.survivor.now.state.machine.taken + 1)
+
+  -- where it waits for an item, and what is due was passed
+  pub record IsWaitingFor (rules : Rules) (image : Image) (began now : Told) (phases : Phases) (session : SessionState R) : Type 0 where
+    pub hearing : IsHearing rules image began now phases session
+    pub due : HasPassedDue rules hearing.story
+
+  -- at one of its ends, before what is left is passed
+  pub record IsEnding (rules : Rules) (image : Image) (began now : Told) (coming : Option Coming) (session : SessionState R) (end : Answer) : Type 0 where
+    pub story : Story
+    pub told : IsTold rules image began now story
+    pub answers : AnswersFor story session
+    pub received_are : logs.received session.log ≡ received rules.bounds (entries story)
+    pub replies : KeepsReplies rules.bounds (entries story) None (sends story) session.replies
+    pub no_trial : session.replies.trial ≡ None
+    pub closed : IsCloseDone rules (moment story) (sends story)
+    pub is_end : IsEnd end
+    pub stands : StandsAt rules (entries story) coming story.survivor end
+
+  -- a session that was broken off, by no end of its own
+  pub record IsBrokenOff (rules : Rules) (image : Image) (began now : Told) (coming : Option Coming) (session : SessionState R) (end : Answer) : Type 0 where
+    pub account : Session
+    pub tells : Tells began now (journal_of account)
+    pub is_account : IsAccount rules image account false
+    pub ends : EndsBy rules coming account end
+    pub no_end : IsEnd end → ⊥
+    pub alone : IsAlone account
+    pub choices : session.choices ≡ account.survivor.now.choices
+    pub taken : session.taken ≡ account.survivor.now.state.machine.taken
+    pub steps : session.steps ≡ account.survivor.now.steps

@@ -1,0 +1,181 @@
+// A session from its begin to its end.
+ghost use Rattle.std.specs.Prelude.{◌≡◌, ℕ, ◌+◌, ◌<◌, true, Option, IfOk};
+ghost use Rattle.rx_io.specs.Links.{Told, Phases, Coming, IsFresh};
+ghost use Rattle.elf_image.specs.declared.image.Image.{Image};
+ghost use Rattle.item_log.specs.Log.{received};
+ghost use Rattle.guest_cpu.specs.declared.event.Event.TheVariants as event;
+ghost use Rattle.session_history.specs.Ends.{IsEnd, HasServed};
+ghost use Rattle.rx_engine.specs.Options.{rules_of};
+ghost use Rattle.rx_engine.specs.Sessions.{IsBegun};
+ghost use Rattle.rx_engine.specs.Standing.{IsGoing, IsBetween, IsWaitingFor, IsEnding};
+ghost use Rattle.rx_engine.specs.Serving.{CanGive, HasStopCause, HasAnswerCause, UnlessBroken, IsCounted, IsOkOrMemory, HasSameFrame, HasRun, StandsBetween, StandsWaiting, StandsEmitting, StandsEnding, ComesBetween, IsReadyToServe};
+
+use crate::Session;
+use crate::giving::answer_to;
+use crate::stop::Stop;
+use alloc_env::Env;
+use block_book::Choice;
+use guest_cpu::Event;
+use guest_space::AccessRule;
+use reply_gate::pass_until;
+use run_history::Answer;
+use rx_io::{Bytes, Link, Steps};
+use std::sync::ledger::Ledger;
+
+impl<R: AccessRule> Session<R> {
+    /// Serves a link to which no connection was opened yet, from the start of the program to an end, a fault or want of memory, and
+    /// answers how it ended. At an end all that is held back is passed.
+    pub fn serve<K: Link, L: Ledger>(&mut self, link: &mut K, steps: &mut Steps<L>) -> Answer
+        requires begun { IsReadyToServe self.old }
+        requires fresh { IsFresh (K.phases link.old) }
+        requires takes { K.takes link.old ≡ true }
+        requires gives { K.gives link.old ≡ true }
+        ensures served { (image : Image) → IsBegun image self.old.options self.old.cpu.rule self.old
+            → HasServed (rules_of self.old.options (R.rule self.old.cpu.rule)) image (K.told link.old) (K.told link.new) (K.coming link.new) result self.new.choices self.new.taken self.new.steps }
+        ensures cause { HasAnswerCause (K.counts link.old) (K.counts link.new) result }
+        ensures counted { IsEnd result → steps.new ≡ steps.old + self.new.steps }
+        ensures went { K.Went link.old link.new }
+    {
+        'turns: loop {
+            match self.turn(link, steps) {
+                Ok(()) => {}
+                Err(Stop::Breaks(answer)) => return answer,
+                Err(Stop::Ends(answer)) => return self.finish(link, answer),
+            }
+        }
+    }
+
+    // At an end: passes what is held back.
+    fn finish<K: Link>(&mut self, link: &mut K, answer: Answer) -> Answer
+        requires ends { StandsEnding (rules_of self.old.options (R.rule self.old.cpu.rule)) (K.told link.old) (K.coming link.old) answer self.old }
+        requires gives { CanGive (K.gives link.old) (K.gives_to link.old) self.old.replies }
+        ensures served { (image : Image) (began : Told) → IsEnding (rules_of self.old.options (R.rule self.old.cpu.rule)) image began (K.told link.old) (K.coming link.old) self.old answer
+            → HasServed (rules_of self.old.options (R.rule self.old.cpu.rule)) image began (K.told link.new) (K.coming link.new) result self.new.choices self.new.taken self.new.steps }
+        ensures cause { HasAnswerCause (K.counts link.old) (K.counts link.new) result }
+        ensures same { self.new ≡ record self.old { replies = self.new.replies } }
+        ensures went { K.Went link.old link.new }
+    {
+        let stamp = self.log.received();
+        if let Err(fault) = pass_until(&mut self.replies, link, u64::MAX, stamp) {
+            return answer_to(fault);
+        }
+        answer
+    }
+
+    // Runs the guest to its next event, and does what the event asks for.
+    fn turn<K: Link, L: Ledger>(&mut self, link: &mut K, steps: &mut Steps<L>) -> Result<(), Stop>
+        requires stands { StandsBetween (rules_of self.old.options (R.rule self.old.cpu.rule)) (K.told link.old) (K.phases link.old) self.old }
+        requires takes { K.takes link.old ≡ true }
+        requires gives { CanGive (K.gives link.old) (K.gives_to link.old) self.old.replies }
+        ensures turns { (image : Image) (began : Told) → IsBetween (rules_of self.old.options (R.rule self.old.cpu.rule)) image began (K.told link.old) (K.phases link.old) self.old
+            → ComesBetween (rules_of self.old.options (R.rule self.old.cpu.rule)) image began (K.told link.new) (K.phases link.new) (K.coming link.new) self.new result }
+        ensures frame { HasSameFrame self.old self.new }
+        ensures takes { IfOk result (λ _. K.takes link.new ≡ true) }
+        ensures gives { UnlessBroken result (CanGive (K.gives link.new) (K.gives_to link.new) self.new.replies) }
+        ensures marked { UnlessBroken result (IsCounted self.new) }
+        ensures later { IfOk result (λ _. self.old.cpu.slots.live.steps < self.new.cpu.slots.live.steps) }
+        ensures counted { steps.new + self.old.cpu.slots.live.steps ≡ steps.old + self.new.cpu.slots.live.steps }
+        ensures cause { HasStopCause (K.counts link.old) (K.counts link.new) result }
+        ensures went { K.Went link.old link.new }
+    {
+        match self
+            .cpu
+            .run_to_event(self.alloc, Env::Plain, self.options.budget, steps)
+        {
+            Ok(Event::Asks) => {
+                self.count_run();
+                self.ask(link, steps)
+            }
+            Ok(Event::Emits(conn, bytes)) => self.send(link, conn, bytes),
+            Ok(Event::Chooses(choice)) => self.choose(choice),
+            Ok(Event::Exits(code)) => {
+                self.count_run();
+                Err(Stop::Ends(Answer::Exited(code)))
+            }
+            Ok(Event::Failed(cause)) => {
+                self.count_run();
+                let point = self.taken;
+                Err(Stop::Ends(Answer::GaveUp { point, cause }))
+            }
+            Err(_) => Err(Stop::Breaks(Answer::Memory)),
+        }
+    }
+
+    // The guest waits for an item: it comes, and is taken.
+    fn ask<K: Link, L: Ledger>(&mut self, link: &mut K, steps: &mut Steps<L>) -> Result<(), Stop>
+        requires waits { StandsWaiting (rules_of self.old.options (R.rule self.old.cpu.rule)) (K.told link.old) (K.phases link.old) self.old }
+        requires takes { K.takes link.old ≡ true }
+        requires gives { CanGive (K.gives link.old) (K.gives_to link.old) self.old.replies }
+        requires marked { IsCounted self.old }
+        ensures turns { (image : Image) (began : Told) → IsWaitingFor (rules_of self.old.options (R.rule self.old.cpu.rule)) image began (K.told link.old) (K.phases link.old) self.old
+            → ComesBetween (rules_of self.old.options (R.rule self.old.cpu.rule)) image began (K.told link.new) (K.phases link.new) (K.coming link.new) self.new result }
+        ensures frame { HasSameFrame self.old self.new }
+        ensures takes { IfOk result (λ _. K.takes link.new ≡ true) }
+        ensures gives { UnlessBroken result (CanGive (K.gives link.new) (K.gives_to link.new) self.new.replies) }
+        ensures marked { UnlessBroken result (IsCounted self.new) }
+        ensures later { IfOk result (λ _. self.old.cpu.slots.live.steps < self.new.cpu.slots.live.steps) }
+        ensures counted { steps.new + self.old.cpu.slots.live.steps ≡ steps.old + self.new.cpu.slots.live.steps }
+        ensures cause { HasStopCause (K.counts link.old) (K.counts link.new) result }
+        ensures went { K.Went link.old link.new }
+    {
+        if let Err(stop) = self.await_item(link) {
+            return Err(stop);
+        }
+        self.take(steps);
+        self.pass_due(link)
+    }
+
+    // The guest takes the item that it waits for, which is there.
+    fn take<L: Ledger>(&mut self, steps: &mut Steps<L>)
+        requires waits { (told : Told) × (phases : Phases) × StandsWaiting (rules_of self.old.options (R.rule self.old.cpu.rule)) told phases self.old }
+        requires there { self.old.taken < received self.old.log }
+        ensures going { (image : Image) (began now : Told) (phases : Phases) → IsWaitingFor (rules_of self.old.options (R.rule self.old.cpu.rule)) image began now phases self.old
+            → IsGoing (rules_of self.old.options (R.rule self.old.cpu.rule)) image began now phases self.new }
+        ensures frame { HasSameFrame self.old self.new }
+        ensures replies { self.new.replies ≡ self.old.replies }
+        ensures marked { IsCounted self.new }
+        ensures one { self.new.cpu.slots.live.steps ≡ self.old.cpu.slots.live.steps + 1 }
+        ensures counted { steps.new ≡ steps.old + 1 }
+    {
+        self.cpu.take_item(self.log.item(self.taken), steps);
+        self.count_run();
+    }
+
+    // The guest sent bytes to a connection.
+    fn send<K: Link>(&mut self, link: &mut K, conn: u16, bytes: Bytes) -> Result<(), Stop>
+        requires emits { StandsEmitting (rules_of self.old.options (R.rule self.old.cpu.rule)) (K.told link.old) (K.phases link.old) conn bytes self.old }
+        requires gives { CanGive (K.gives link.old) (K.gives_to link.old) self.old.replies }
+        ensures turns { (image : Image) (began : Told) → HasRun (rules_of self.old.options (R.rule self.old.cpu.rule)) image began (K.told link.old) (K.phases link.old) (event.Emits conn bytes) self.old
+            → ComesBetween (rules_of self.old.options (R.rule self.old.cpu.rule)) image began (K.told link.new) (K.phases link.new) (K.coming link.new) self.new result }
+        ensures options { self.new.options ≡ self.old.options }
+        ensures cpu { self.new.cpu ≡ self.old.cpu }
+        ensures takes { K.takes link.new ≡ K.takes link.old }
+        ensures gives { UnlessBroken result (CanGive (K.gives link.new) (K.gives_to link.new) self.new.replies) }
+        ensures marked { UnlessBroken result (IsCounted self.new) }
+        ensures cause { HasStopCause (K.counts link.old) (K.counts link.new) result }
+        ensures went { K.Went link.old link.new }
+    {
+        if let Err(_) = self.replies.sent(conn, bytes, self.taken) {
+            return Err(Stop::Breaks(Answer::Memory));
+        }
+        self.count_run();
+        self.pass_due(link)
+    }
+
+    // Malloc was answered.
+    fn choose(&mut self, choice: Choice) -> Result<(), Stop>
+        ensures turns { (image : Image) (began now : Told) (phases : Phases) (coming : Option Coming) → HasRun (rules_of self.old.options (R.rule self.old.cpu.rule)) image began now phases (event.Chooses choice) self.old
+            → ComesBetween (rules_of self.old.options (R.rule self.old.cpu.rule)) image began now phases coming self.new result }
+        ensures options { self.new.options ≡ self.old.options }
+        ensures cpu { self.new.cpu ≡ self.old.cpu }
+        ensures replies { self.new.replies ≡ self.old.replies }
+        ensures marked { UnlessBroken result (IsCounted self.new) }
+        ensures broken { IsOkOrMemory result }
+    {
+        if let Err(_) = self.choices.push(choice) {
+            return Err(Stop::Breaks(Answer::Memory));
+        }
+        self.count_run();
+        Ok(())
+    }
+}

@@ -1,0 +1,100 @@
+// A session of a program over a link.
+ghost use Rattle.std.specs.Prelude.{◌≡◌, ◌≤◌, IfOk};
+ghost use Rattle.rx_engine.specs.Options.{AreInRange};
+ghost use Rattle.rx_engine.specs.Sessions.{IsBegun};
+
+use crate::Options;
+use block_book::Choice;
+use elf_image::Image;
+use guest_cpu::Cpu;
+use guest_space::AccessRule;
+use item_log::ItemLog;
+use reply_ledger::Replies;
+use std::alloc::{AllocError, Global};
+use std::marker::Model;
+
+const PAGE: u32 = 4096;
+
+/// A session of a program over a link.
+#[derive(Drop)]
+pub struct Session<R: AccessRule> {
+    pub(crate) alloc: Global,
+    pub(crate) options: Options,
+    pub(crate) cpu: Cpu<R>,
+    pub(crate) log: ItemLog,
+    pub(crate) replies: Replies,
+    pub(crate) events: u64,
+    pub(crate) choices: Vec<Choice>,
+    pub(crate) taken: u64,
+    pub(crate) steps: u64,
+}
+
+impl<R: AccessRule> Model for Session<R> {
+    ghost use Rattle.rx_engine.specs.Options.{AreInRange};
+    ghost use Rattle.rx_engine.specs.Sessions.{SessionState};
+
+    ghost Value = { SessionState R };
+
+    ghost view = { λ s. record { options = s.options; cpu = s.cpu; log = s.log; replies = s.replies; events = s.events; choices = s.choices.items; taken = s.taken; steps = s.steps } };
+
+    ghost invariant = { λ s. AreInRange s.options };
+}
+
+impl<R: AccessRule + Drop> Session<R> {
+    /// A session at the start of a program. Memory for the program's pages, its checkpoints and their blocks is taken here.
+    pub fn begin(
+        alloc: Global,
+        image: &Image,
+        options: &Options,
+        rule: R,
+    ) -> Result<Session<R>, AllocError>
+        requires in_range { AreInRange options.now }
+        requires window { options.now.window ≡ image.now.window }
+        ensures { IfOk result (IsBegun image.now options.now rule) }
+    {
+        let frames = options.frames * (options.window / PAGE);
+        Ok(Session {
+            alloc,
+            options: *options,
+            cpu: Cpu::make(alloc, image, options.ring, frames, rule)?,
+            log: ItemLog::make(alloc, options.frame, options.max_items)?,
+            replies: Replies::make(alloc)?,
+            events: 0,
+            choices: Vec::new(alloc),
+            taken: 0,
+            steps: 0,
+        })
+    }
+}
+
+impl<R: AccessRule> Session<R> {
+    /// How many items the run has taken that the session answers for.
+    pub fn taken(&self) -> u64
+        ensures { result ≡ self.now.taken }
+    {
+        self.taken
+    }
+
+    /// How many instructions that run has.
+    pub fn steps(&self) -> u64
+        ensures { result ≡ self.now.steps }
+    {
+        self.steps
+    }
+
+    /// The answers of malloc that it used, in their order.
+    pub fn choices(&self) -> &[Choice]
+        ensures { result.now ≡ self.now.choices }
+    {
+        self.choices.as_slice()
+    }
+
+    /// The counts of the guest's run are those that the session answers for.
+    pub(crate) fn count_run(&mut self)
+        ensures { self.new ≡ record self.old { taken = self.old.cpu.slots.live.guest.machine.taken; steps = self.old.cpu.slots.live.steps } }
+    {
+        let marks = self.cpu.marks();
+        self.taken = marks.taken;
+        self.steps = marks.steps;
+    }
+}
