@@ -45,7 +45,7 @@ use Rattle.rx_engine.specs.declared.stop.Stop.TheVariants as stop
 use Rattle.rx_engine.specs.Options.{rules_of}
 use Rattle.rx_engine.specs.Sessions.{SessionState}
 use Rattle.rx_engine.specs.Standing.{Story, entries, moment, sends, then_story, IsTold, IsLatestBefore, HasPassed, HasPassedDue, IsHearing, IsWaitingFor, IsEnding}
-use Rattle.rx_engine.specs.Serving.{IsStopAt, AreGiven, UnlessBroken, CanGive, HasStopCause, HasSameGuest, CanPass, StopsBy, PassesStory, PassesDue, WaitsBy}
+use Rattle.rx_engine.specs.Serving.{IsStopAt, AreGiven, UnlessBroken, StaysKnown, CanGive, HasStopCause, HasSameGuest, CanPass, StopsBy, PassesStory, PassesDue, WaitsBy}
 use Rattle.rx_engine.proofs.EventLemmas.{IsNoEnd}
 use Rattle.rx_engine.proofs.GuestLemmas.{received_is}
 use Rattle.rx_engine.proofs.GivenLemmas.{latest-given}
@@ -446,9 +446,10 @@ module _ {R : Type 0} where
       ending_ended rules image began before now phases coming old (with_heard old log ledger events) w (all_taken rules image began before phases old w none_left) h.tells h.heard (run_of old log ledger events first) (trial ∙ w.hearing.passed.no_trial) last
 
   -- how far a session has come that heard its link, and still waits
-  pub record HasAwaited (Went : Type 0) (rules : Rules) (before now : Told) (phases later : Phases) (from to : Counts) (takes gives : Bool) (gives_to : ℕ → Bool) (old new : SessionState R) : Type 0 where
+  pub record HasAwaited (Went : Type 0) (rules : Rules) (before now : Told) (phases later : Phases) (coming upcoming : Option Coming) (from to : Counts) (takes gives : Bool) (gives_to : ℕ → Bool) (old new : SessionState R) : Type 0 where
     pub hears : (image : Image) (began : Told) → IsWaitingFor rules image began before phases old → IsWaitingFor rules image began now later new
     pub same : HasSameGuest old new
+    pub known : StaysKnown coming upcoming
     pub takes_still : takes ≡ true
     pub can_give : CanGive gives gives_to new.replies
     pub no_takes_fell : from.takes ≤ to.takes

@@ -20,3 +20,4 @@ pub mod FrameLemmas
 pub mod HearingLemmas
 pub mod TurnLemmas
 pub mod StartLemmas
+pub mod KnownLemmas

@@ -1,7 +1,7 @@
 -- Where a session stands at its begin, and after each turn.
-use Rattle.std.proofs.Common.{◌≡◌, ℕ, zero, suc, ◌+◌, ◌≤◌, Bool, true, false, List, [], ◌∷◌, ◌++◌, None, refl, sym, ◌∙◌, ap, subst, arith}
+use Rattle.std.proofs.Common.{◌≡◌, ℕ, zero, suc, ◌+◌, ◌≤◌, Bool, true, false, List, [], ◌∷◌, ◌++◌, Option, None, refl, sym, ◌∙◌, ap, subst, arith}
 use Rattle.block_book.specs.Heap.{Heap}
-use Rattle.rx_io.specs.Links.{Phases, Told, IsFresh, Counts}
+use Rattle.rx_io.specs.Links.{Phases, Told, Coming, IsFresh, Counts}
 use Rattle.elf_image.specs.declared.image.Image.{Image}
 use Rattle.item_log.specs.Log as logs
 use Rattle.reply_ledger.specs.Ledger.{Ledger, no_replies}
@@ -28,7 +28,7 @@ use Rattle.rx_engine.specs.Options.{rules_of}
 use Rattle.rx_engine.specs.Sessions.{SessionState, IsBegun}
 use Rattle.rx_engine.specs.Standing.{Story, IsBetween}
 use Rattle.rx_engine.proofs.TellLemmas.{tells_same}
-use Rattle.rx_engine.specs.Serving.{CanGive, IsCounted, HasSameFrame}
+use Rattle.rx_engine.specs.Serving.{CanGive, StaysKnown, IsCounted, HasSameFrame}
 
 -- the story of no event
 abbrev first_story : Image → Story
@@ -100,9 +100,10 @@ module _ {R : Type 0} where
       }
 
   -- how far a session has come that serves
-  pub record HasTurned (Went : Type 0) (permits : R → Heap → ℕ → ℕ → Bool) (before now : Told) (phases : Phases) (from to : Counts) (takes gives : Bool) (gives_to : ℕ → Bool) (first last : ℕ) (old new : SessionState R) : Type 0 where
+  pub record HasTurned (Went : Type 0) (permits : R → Heap → ℕ → ℕ → Bool) (before now : Told) (phases : Phases) (coming upcoming : Option Coming) (from to : Counts) (takes gives : Bool) (gives_to : ℕ → Bool) (first last : ℕ) (old new : SessionState R) : Type 0 where
     pub stands : (image : Image) → IsBegun image old.options old.cpu.rule old → IsBetween (rules_of old.options (permits old.cpu.rule)) image before now phases new
     pub frame : HasSameFrame old new
+    pub known : StaysKnown coming upcoming
     pub takes_still : takes ≡ true
     pub can_give : CanGive gives gives_to new.replies
     pub marked : IsCounted new

@@ -63,6 +63,18 @@ module _ {R : Type 0} where
       let later : b.going.story.survivor.now.steps ≤ runs.now.steps = runs.goes.later in
       omega (arith, from, to, later)
 
+  -- and the session answers for no more of them
+  pub ran_low : (permits : R → Heap → ℕ → ℕ → Bool) (image : Image) (began now : Told) (phases : Phases) (old inside : SessionState R) (cpu : CpuState R) (result : Result Event AllocError) → inside ≡ old
+      → IsBetween (rules_of old.options (permits old.cpu.rule)) image began now phases old → Ran permits inside cpu result → inside.steps ≤ cpu.slots.live.steps
+  ran_low permits image began now phases old inside cpu result same b ran =
+      let first : Path = b.going.story.survivor.now in
+      let runs = runs_serve (limits_of old.options.budget (permits old.cpu.rule)) (items_in (rules_of old.options (permits old.cpu.rule)).bounds (entries b.going.story)) b.going.story.survivor.plan Plain old.cpu.base first (live_of old.cpu) (live_of cpu)
+      result b.going.goes.lives (ap (λ (plan : List Override). env_at plan first.state.machine.taken) b.going.told.plain) b.going.goes.guest (subst (λ (s : SessionState R). Ran permits s cpu result) same ran) in
+      let answers : inside.steps ≡ first.steps = ap (λ (s : SessionState R). s.steps) same ∙ b.going.answers.steps in
+      let to : runs.now.steps ≡ cpu.slots.live.steps = ap (λ (s : Standing). s.steps) runs.stands in
+      let later : first.steps ≤ runs.now.steps = runs.goes.later in
+      omega (arith, answers, to, later)
+
   -- and grew by a send
   pub emits_later : (permits : R → Heap → ℕ → ℕ → Bool) (image : Image) (began now : Told) (phases : Phases) (old inside : SessionState R) (cpu : CpuState R) (conn : ℕ) (bytes : List ℕ) (found : Event) → inside ≡ old → found ≡ step.Emits conn bytes
       → IsBetween (rules_of old.options (permits old.cpu.rule)) image began now phases old → Ran permits inside cpu (Ok found) → old.cpu.slots.live.steps < cpu.slots.live.steps

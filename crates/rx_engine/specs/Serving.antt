@@ -1,5 +1,5 @@
 -- What the parts of a session's code make of it.
-use Rattle.std.specs.Prelude.{◌≡◌, ℕ, ◌≤◌, List, [], ◌∷◌, Bool, true, Option, None, Result, Ok, Err, IsErrOf}
+use Rattle.std.specs.Prelude.{◌≡◌, ◌≢◌, ℕ, ◌≤◌, List, [], ◌∷◌, Bool, true, Option, None, Some, IsSome, Result, Ok, Err, IsErrOf}
 use Rattle.rx_io.specs.declared.journal.Entry.{Entry}
 use Rattle.rx_io.specs.declared.journal.Entry.TheVariants as entry
 use Rattle.rx_io.specs.Faults.{Rose}
@@ -83,6 +83,15 @@ abbrev pub UnlessBroken : {X : Type 0} → Result X Stop → Type 0 → Type 0
 UnlessBroken (Ok done) P = P
 UnlessBroken (Err (stop.Ends end)) P = P
 UnlessBroken (Err (stop.Breaks end)) P = Unit {0}
+
+-- what holds unless memory ran out
+abbrev pub UnlessMemory : {X : Type 0} → Result X Stop → Type 0 → Type 0
+UnlessMemory result P = result ≢ Err (stop.Breaks answer.Memory) → P
+
+-- where it was told what a link's grammar has next, it is told still
+abbrev pub StaysKnown : Option Coming → Option Coming → Type 0
+StaysKnown None new = Unit {0}
+StaysKnown (Some old) new = IsSome new
 
 module _ {R : Type 0} where
   -- a ledger has the replies of a journal, of which the log has as many items

@@ -5,7 +5,7 @@ ghost use Rattle.elf_image.specs.declared.image.Image.{Image};
 ghost use Rattle.item_log.specs.Log.{received};
 ghost use Rattle.rx_engine.specs.Options.{rules_of};
 ghost use Rattle.rx_engine.specs.Standing.{IsWaitingFor};
-ghost use Rattle.rx_engine.specs.Serving.{IsStopAt, CanGive, HasStopCause, UnlessBroken, HasSameGuest, StandsWaiting, WaitsBy};
+ghost use Rattle.rx_engine.specs.Serving.{IsStopAt, CanGive, HasStopCause, UnlessBroken, StaysKnown, HasSameGuest, StandsWaiting, WaitsBy};
 
 use crate::Session;
 use crate::stop::Stop;
@@ -42,6 +42,7 @@ impl<R: AccessRule> Session<R> {
         ensures gives { UnlessBroken result (CanGive (K.gives link.new) (K.gives_to link.new) self.new.replies) }
         ensures later { IfOk result (λ _. self.old.events < self.new.events) }
         ensures most { self.new.events ≤ self.old.options.max_events }
+        ensures coming { UnlessBroken result (StaysKnown (K.coming link.old) (K.coming link.new)) }
         ensures cause { HasStopCause (K.counts link.old) (K.counts link.new) result }
         ensures went { K.Went link.old link.new }
     {
@@ -71,6 +72,7 @@ impl<R: AccessRule> Session<R> {
         ensures same { HasSameGuest self.old self.new }
         ensures takes { IfOk result (λ _. K.takes link.new ≡ true) }
         ensures gives { UnlessBroken result (CanGive (K.gives link.new) (K.gives_to link.new) self.new.replies) }
+        ensures coming { UnlessBroken result (StaysKnown (K.coming link.old) (K.coming link.new)) }
         ensures cause { HasStopCause (K.counts link.old) (K.counts link.new) result }
         ensures went { K.Went link.old link.new }
     {

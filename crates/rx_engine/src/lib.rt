@@ -3,10 +3,12 @@
 
 mod giving;
 mod hearing;
+mod left;
 mod options;
 mod serving;
 mod session;
 mod stop;
 
+pub use left::Left;
 pub use options::Options;
 pub use session::Session;

@@ -1,14 +1,15 @@
 // A session from its begin to its end.
-ghost use Rattle.std.specs.Prelude.{◌≡◌, ℕ, ◌+◌, ◌<◌, true, Option, IfOk};
+ghost use Rattle.std.specs.Prelude.{◌≡◌, ◌≢◌, ℕ, ◌+◌, ◌<◌, ◌≤◌, true, Option, IfOk};
 ghost use Rattle.rx_io.specs.Links.{Told, Phases, Coming, IsFresh};
 ghost use Rattle.elf_image.specs.declared.image.Image.{Image};
 ghost use Rattle.item_log.specs.Log.{received};
+ghost use Rattle.run_history.specs.declared.answer.Answer.TheVariants as answer;
 ghost use Rattle.guest_cpu.specs.declared.event.Event.TheVariants as event;
 ghost use Rattle.session_history.specs.Ends.{IsEnd, HasServed};
 ghost use Rattle.rx_engine.specs.Options.{rules_of};
 ghost use Rattle.rx_engine.specs.Sessions.{IsBegun};
 ghost use Rattle.rx_engine.specs.Standing.{IsGoing, IsBetween, IsWaitingFor, IsEnding};
-ghost use Rattle.rx_engine.specs.Serving.{CanGive, HasStopCause, HasAnswerCause, UnlessBroken, IsCounted, IsOkOrMemory, HasSameFrame, HasRun, StandsBetween, StandsWaiting, StandsEmitting, StandsEnding, ComesBetween, IsReadyToServe};
+ghost use Rattle.rx_engine.specs.Serving.{CanGive, HasStopCause, HasAnswerCause, UnlessBroken, UnlessMemory, StaysKnown, IsCounted, IsOkOrMemory, HasSameFrame, HasRun, StandsBetween, StandsWaiting, StandsEmitting, StandsEnding, ComesBetween, IsReadyToServe};
 
 use crate::Session;
 use crate::giving::answer_to;
@@ -33,7 +34,10 @@ impl<R: AccessRule> Session<R> {
         ensures served { (image : Image) → IsBegun image self.old.options self.old.cpu.rule self.old
             → HasServed (rules_of self.old.options (R.rule self.old.cpu.rule)) image (K.told link.old) (K.told link.new) (K.coming link.new) result self.new.choices self.new.taken self.new.steps }
         ensures cause { HasAnswerCause (K.counts link.old) (K.counts link.new) result }
-        ensures counted { IsEnd result → steps.new ≡ steps.old + self.new.steps }
+        ensures gives { IsEnd result → K.gives link.new ≡ true }
+        ensures coming { IsEnd result → StaysKnown (K.coming link.old) (K.coming link.new) }
+        ensures counted { result ≢ answer.Memory → steps.new ≡ steps.old + self.new.steps }
+        ensures counted_at_least { steps.old + self.new.steps ≤ steps.new }
         ensures went { K.Went link.old link.new }
     {
         'turns: loop {
@@ -53,6 +57,8 @@ impl<R: AccessRule> Session<R> {
             → HasServed (rules_of self.old.options (R.rule self.old.cpu.rule)) image began (K.told link.new) (K.coming link.new) result self.new.choices self.new.taken self.new.steps }
         ensures cause { HasAnswerCause (K.counts link.old) (K.counts link.new) result }
         ensures same { self.new ≡ record self.old { replies = self.new.replies } }
+        ensures gives { IsEnd result → K.gives link.new ≡ true }
+        ensures coming { K.coming link.new ≡ K.coming link.old }
         ensures went { K.Went link.old link.new }
     {
         let stamp = self.log.received();
@@ -72,7 +78,9 @@ impl<R: AccessRule> Session<R> {
         ensures frame { HasSameFrame self.old self.new }
         ensures takes { IfOk result (λ _. K.takes link.new ≡ true) }
         ensures gives { UnlessBroken result (CanGive (K.gives link.new) (K.gives_to link.new) self.new.replies) }
-        ensures marked { UnlessBroken result (IsCounted self.new) }
+        ensures coming { UnlessBroken result (StaysKnown (K.coming link.old) (K.coming link.new)) }
+        ensures marked { UnlessMemory result (IsCounted self.new) }
+        ensures low { self.new.steps ≤ self.new.cpu.slots.live.steps }
         ensures later { IfOk result (λ _. self.old.cpu.slots.live.steps < self.new.cpu.slots.live.steps) }
         ensures counted { steps.new + self.old.cpu.slots.live.steps ≡ steps.old + self.new.cpu.slots.live.steps }
         ensures cause { HasStopCause (K.counts link.old) (K.counts link.new) result }
@@ -112,7 +120,8 @@ impl<R: AccessRule> Session<R> {
         ensures frame { HasSameFrame self.old self.new }
         ensures takes { IfOk result (λ _. K.takes link.new ≡ true) }
         ensures gives { UnlessBroken result (CanGive (K.gives link.new) (K.gives_to link.new) self.new.replies) }
-        ensures marked { UnlessBroken result (IsCounted self.new) }
+        ensures coming { UnlessBroken result (StaysKnown (K.coming link.old) (K.coming link.new)) }
+        ensures marked { IsCounted self.new }
         ensures later { IfOk result (λ _. self.old.cpu.slots.live.steps < self.new.cpu.slots.live.steps) }
         ensures counted { steps.new + self.old.cpu.slots.live.steps ≡ steps.old + self.new.cpu.slots.live.steps }
         ensures cause { HasStopCause (K.counts link.old) (K.counts link.new) result }
@@ -150,8 +159,10 @@ impl<R: AccessRule> Session<R> {
         ensures options { self.new.options ≡ self.old.options }
         ensures cpu { self.new.cpu ≡ self.old.cpu }
         ensures takes { K.takes link.new ≡ K.takes link.old }
+        ensures coming { K.coming link.new ≡ K.coming link.old }
         ensures gives { UnlessBroken result (CanGive (K.gives link.new) (K.gives_to link.new) self.new.replies) }
-        ensures marked { UnlessBroken result (IsCounted self.new) }
+        ensures marked { UnlessMemory result (IsCounted self.new) }
+        ensures low { self.old.steps ≤ self.old.cpu.slots.live.steps → self.new.steps ≤ self.new.cpu.slots.live.steps }
         ensures cause { HasStopCause (K.counts link.old) (K.counts link.new) result }
         ensures went { K.Went link.old link.new }
     {
@@ -169,7 +180,8 @@ impl<R: AccessRule> Session<R> {
         ensures options { self.new.options ≡ self.old.options }
         ensures cpu { self.new.cpu ≡ self.old.cpu }
         ensures replies { self.new.replies ≡ self.old.replies }
-        ensures marked { UnlessBroken result (IsCounted self.new) }
+        ensures marked { UnlessMemory result (IsCounted self.new) }
+        ensures low { self.old.steps ≤ self.old.cpu.slots.live.steps → self.new.steps ≤ self.new.cpu.slots.live.steps }
         ensures broken { IsOkOrMemory result }
     {
         if let Err(_) = self.choices.push(choice) {

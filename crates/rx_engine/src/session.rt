@@ -3,8 +3,8 @@ ghost use Rattle.std.specs.Prelude.{◌≡◌, ◌≤◌, IfOk};
 ghost use Rattle.rx_engine.specs.Options.{AreInRange};
 ghost use Rattle.rx_engine.specs.Sessions.{IsBegun};
 
-use crate::Options;
-use block_book::Choice;
+use crate::{Left, Options};
+use block_book::{Choice, Choices};
 use elf_image::Image;
 use guest_cpu::Cpu;
 use guest_space::AccessRule;
@@ -64,6 +64,27 @@ impl<R: AccessRule + Drop> Session<R> {
             taken: 0,
             steps: 0,
         })
+    }
+
+    /// What the session leaves. It takes no memory, and records nothing: all of the run's answers of malloc are in the tail.
+    pub fn into_end(self) -> Left
+        ensures recorded { result.recorded ≡ 0 }
+        ensures tail { result.tail ≡ self.choices }
+        ensures steps { result.steps ≡ self.steps }
+        ensures taken { result.taken ≡ self.taken }
+    {
+        let Session {
+            choices,
+            taken,
+            steps,
+            ..
+        } = self;
+        Left {
+            recorded: 0,
+            tail: Choices::from_vec(choices),
+            steps,
+            taken,
+        }
     }
 }
 

@@ -6,6 +6,7 @@ use Rattle.rx_engine.proofs.GuestLemmas.{received_is}
 use Rattle.rx_engine.proofs.NeedLemmas.{going_can}
 use Rattle.rx_engine.proofs.DueLemmas.{comes_between, unless_due}
 use Rattle.rx_engine.proofs.FrameLemmas.{guest_frame, same_rules}
+use Rattle.rx_engine.proofs.KnownLemmas.{known_on, counted_same}
 use Rattle.rx_engine.proofs.session.Session.ask.Goals as goal
 
 pub take-requires-clause-waits : goal.take-requires-clause-waits
@@ -44,3 +45,10 @@ returns-clause-gives g c =
     let hold = sym (ap (λ (o : Options). o.hold) (c.take.ensures.frame.options ∙ c.await_item.ensures.same.options)) in
     unless_due rules image began (g.K.Link.told c.pass_due.new.link) (g.K.Link.coming c.pass_due.new.link) going.story c.pass_due.new.self c.pass_due.result _
     (c.pass_due.ensures.passes rules image began going.story hold going.told going.answers (received_is rules.bounds (entries going.story) c.take.new.self.log going.goes.items) going.passed) c.pass_due.ensures.gives
+
+pub returns-clause-coming : goal.returns-clause-coming
+returns-clause-coming g c =
+    known_on (g.K.Link.coming c.args.link.now) (g.K.Link.coming c.await_item.new.link) (g.K.Link.coming c.pass_due.new.link) c.pass_due.result c.in_default.ensures.coming c.pass_due.ensures.only.coming_still
+
+pub returns-in-Err-clause-marked : goal.returns-in-Err-clause-marked
+returns-in-Err-clause-marked g c = counted_same c.args.self.now c.await_item.new.self c.await_item.ensures.same c.requires.marked

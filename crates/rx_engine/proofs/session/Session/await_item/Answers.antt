@@ -1,13 +1,15 @@
-use Rattle.std.proofs.Common.{refl, sym, ap, arith}
+use Rattle.std.proofs.Common.{Err, refl, sym, ap, arith}
 use Rattle.session_history.specs.Lawful.{Rules}
 use Rattle.rx_engine.specs.Options.{rules_of}
 use Rattle.rx_engine.proofs.HearingLemmas.{same_then, same_rules, waits_under, stops_under, cause_then, no_cause}
+use Rattle.rx_engine.proofs.KnownLemmas.{known_same, known_then, known_unless}
 use Rattle.rx_engine.proofs.session.Session.await_item.Goals as goal
 
 pub waits-init : goal.waits-init
 waits-init g c = record {
   hears = λ image began waits. waits;
   same = record { options = refl; cpu = refl; choices = refl; taken = refl; steps = refl };
+  known = known_same _ _ refl;
   takes_still = c.requires.takes;
   can_give = c.requires.gives;
   no_takes_fell = omega arith;
@@ -58,6 +60,7 @@ waits-preserved g c =
     record {
       hears = λ image began waits. waits_under here rules same (c.in_default.ensures.hears image began (waits_under rules here (sym same) (c.waits.invariant.hears image began waits)));
       same = same_then c.args.self.now c.waits.self c.hear.new.self c.waits.invariant.same c.in_default.ensures.same;
+      known = known_then (g.K.Link.coming c.args.link.now) (g.K.Link.coming c.waits.link) (g.K.Link.coming c.hear.new.link) c.waits.invariant.known c.in_default.ensures.coming;
       takes_still = c.in_default.ensures.takes;
       can_give = c.in_default.ensures.gives;
       no_takes_fell = cause.takes;
@@ -85,3 +88,10 @@ returns-in-Err-clause-went g c = g.met.K.Link.went_on c.args.link.now c.waits.li
 
 pub returns-clause-went : goal.returns-clause-went
 returns-clause-went g c = c.waits.invariant.went
+
+pub returns-in-Err-clause-coming : goal.returns-in-Err-clause-coming
+returns-in-Err-clause-coming g c =
+    known_unless (g.K.Link.coming c.args.link.now) (g.K.Link.coming c.waits.link) (g.K.Link.coming c.hear.new.link) (Err c.in-Err.stop) c.waits.invariant.known c.in-Err.ensures.coming
+
+pub returns-clause-coming : goal.returns-clause-coming
+returns-clause-coming g c = c.waits.invariant.known

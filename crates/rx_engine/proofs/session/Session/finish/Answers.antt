@@ -6,6 +6,7 @@ use Rattle.rx_engine.specs.Serving.{CanPass}
 use Rattle.rx_engine.proofs.EndLemmas.{end_of}
 use Rattle.rx_engine.proofs.PassLemmas.{stamped_by, sendable_kept}
 use Rattle.rx_engine.proofs.PassingLemmas.{ending_can, ending_ready, finish_ok, finish_fault}
+use Rattle.rx_engine.proofs.KnownLemmas.{fault_no_end}
 use Rattle.rx_engine.proofs.session.Session.finish.Goals as goal
 
 pub pass_until-requires-clause-stamped : goal.pass_until-requires-clause-stamped
@@ -33,3 +34,6 @@ returns-clause-served g c image began ends =
     let low : c.self.inside.taken ≤ 18446744073709551615 = omega (arith, c.self.ranges) in
     finish_ok rules image began _ (g.K.Link.told c.pass_until.new.link) _ (g.K.Link.coming c.pass_until.new.link) _ c.args.answer 18446744073709551615 c.pass_until.new.replies c.in_default.field-0 e c.in_default.ensures.coming low
     (c.in_default.ensures.passes rules (sends e.story) (end_of e.story) (sym e.received_are ∙ sym c.received-stamp.ensures.count) (ending_ready rules image began _ _ _ c.args.answer 18446744073709551615 e))
+
+pub returns-in-Err-clause-gives : goal.returns-in-Err-clause-gives
+returns-in-Err-clause-gives g c is = absurd (fault_no_end c.in-Err.fault c.answer_to.result c.answer_to.ensures is)

@@ -4,11 +4,14 @@ use Rattle.rx_io.specs.declared.journal.Entry.TheVariants as entry
 use Rattle.rx_io.specs.declared.journal.LinkEvent.TheVariants as event
 use Rattle.event_gate.specs.Calls.{ComesLast}
 use Rattle.session_history.specs.Lawful.{Rules}
+use Rattle.run_history.specs.declared.answer.Answer.TheVariants as answer
+use Rattle.rx_engine.specs.declared.stop.Stop.TheVariants as stop
 use Rattle.rx_engine.specs.Sessions.{SessionState}
 use Rattle.rx_engine.specs.Options.{rules_of}
 use Rattle.rx_engine.specs.Standing.{Story, entries, sends, then_story}
 use Rattle.rx_engine.proofs.GuestLemmas.{received_is}
 use Rattle.rx_engine.proofs.HearingLemmas.{moved, items_heard, close_heard, settle_heard, end_heard, heard_can, heard_opened, heard_closing, heard_settled, heard_last, story_heard, items_hearing, waits_due, waits_closed, waits_settled, due_unless, story_unless, if_ok, all_taken, one_counted, quiet_event, stops_by, ends_by}
+use Rattle.rx_engine.proofs.KnownLemmas.{known_heard, known_stopped}
 use Rattle.rx_engine.proofs.session.Session.hear.Goals as goal
 
 pub pass_due-requires-clause-can : goal.pass_due-requires-clause-can
@@ -205,3 +208,23 @@ returns-in-Err-clause-hears g c image began waits =
     let h = c.in-Err.ensures.hears rules.bounds (entries w.hearing.story) (sends w.hearing.story) limit w.hearing.goes.events w.hearing.goes.items w.hearing.passed.replies w.hearing.goes.phases_are in
     let last : ComesLast (g.K.Link.coming c.hear.new.link) (Err c.in-Err.fault) = c.in-Err.ensures.last in
     stops_by rules image began (g.K.Link.told c.args.link.now) (g.K.Link.told c.hear.new.link) (g.K.Link.phases c.args.link.now) (g.K.Link.phases c.hear.new.link) (g.K.Link.coming c.hear.new.link) (g.K.Link.coming c.args.link.now) _ c.hear.new.log c.hear.new.replies c.hear.new.events c.in-Err.fault c.stop_at.result w none_left c.in-Err.ensures.first c.in-Err.ensures.replies.trial c.in-Err.ensures.stays last h c.stop_at.ensures
+
+pub returns-in-Ok-Items-clause-coming : goal.returns-in-Ok-Items-clause-coming
+returns-in-Ok-Items-clause-coming g c =
+    known_heard (g.K.Link.coming c.args.link.now) (g.K.Link.coming c.hear.new.link) (g.K.Link.coming c.pass_due.new.link) c.in-Ok-Items.field-0 c.pass_due.result c.in-Ok-Items.ensures.coming c.pass_due.ensures.only.coming_still
+
+pub returns-in-Ok-Closes-clause-coming : goal.returns-in-Ok-Closes-clause-coming
+returns-in-Ok-Closes-clause-coming g c =
+    known_heard (g.K.Link.coming c.args.link.now) (g.K.Link.coming c.hear.new.link) (g.K.Link.coming c.close.new.link) c.in-Ok-Closes.field-0 c.close.result c.in-Ok-Closes.ensures.coming c.close.ensures.only.coming_still
+
+pub returns-in-Ok-Settles-clause-coming : goal.returns-in-Ok-Settles-clause-coming
+returns-in-Ok-Settles-clause-coming g c =
+    known_heard (g.K.Link.coming c.args.link.now) (g.K.Link.coming c.hear.new.link) (g.K.Link.coming c.pass.new.link) c.in-Ok-Settles.field-0 c.pass.result c.in-Ok-Settles.ensures.coming c.pass.ensures.only.coming_still
+
+pub returns-in-Ok-Ends-clause-coming : goal.returns-in-Ok-Ends-clause-coming
+returns-in-Ok-Ends-clause-coming g c =
+    known_heard (g.K.Link.coming c.args.link.now) (g.K.Link.coming c.hear.new.link) (g.K.Link.coming c.hear.new.link) c.in-Ok-Ends.field-0 (Err (stop.Ends answer.Finished)) c.in-Ok-Ends.ensures.coming refl
+
+pub returns-in-Err-clause-coming : goal.returns-in-Err-clause-coming
+returns-in-Err-clause-coming g c =
+    known_stopped (g.K.Link.coming c.args.link.now) (g.K.Link.coming c.hear.new.link) c.in-Err.fault c.stop_at.result c.in-Err.ensures.coming c.stop_at.ensures

@@ -1,12 +1,15 @@
-use Rattle.std.proofs.Common.{◌≡◌, refl, sym, ◌∙◌, subst, arith}
+use Rattle.std.proofs.Common.{◌≡◌, refl, sym, ◌∙◌, ap, subst, arith}
 use Rattle.session_history.specs.Lawful.{Rules}
 use Rattle.rx_engine.specs.Options.{rules_of}
 use Rattle.rx_engine.specs.declared.stop.Stop.TheVariants.{Breaks, Ends}
-use Rattle.rx_engine.specs.Serving.{StopsBy}
+use Rattle.rx_engine.specs.Sessions.{SessionState}
+use Rattle.rx_engine.specs.Standing.{IsBrokenOff}
+use Rattle.rx_engine.specs.Serving.{StopsBy, IsCounted}
 use Rattle.rx_engine.proofs.EndLemmas.{served_off}
 use Rattle.rx_engine.proofs.FrameLemmas.{same_rules}
 use Rattle.rx_engine.proofs.HearingLemmas.{cause_then, stops_under}
 use Rattle.rx_engine.proofs.StartLemmas.{starts_between, starts_counted, starts_giving, frame_then, between_under}
+use Rattle.rx_engine.proofs.KnownLemmas.{known_same, known_then, known_ended, breaks_of, ends_of}
 use Rattle.rx_engine.proofs.session.Session.serve.Goals as goal
 
 pub turns-init : goal.turns-init
@@ -17,6 +20,7 @@ turns-init g c =
     record {
       stands = λ image is. starts_between g.R.AccessRule.rule image (g.K.Link.told c.args.link.now) (g.K.Link.phases c.args.link.now) c.args.self.now is c.requires.fresh;
       frame = record { options = refl; rule = refl };
+      known = known_same _ _ refl;
       takes_still = c.requires.takes;
       can_give = starts_giving c.requires.begun.image c.args.self.now _ _ begun c.requires.gives;
       marked = marked;
@@ -44,9 +48,10 @@ turns-preserved g c =
     record {
       stands = λ image is. between_under here rules same (c.in-Ok.ensures.turns image (g.K.Link.told c.args.link.now) (between_under rules here (sym same) (c.turns.invariant.stands image is)));
       frame = frame_then c.args.self.now c.turns.self c.turn.new.self c.turns.invariant.frame c.in-Ok.ensures.frame;
+      known = known_then (g.K.Link.coming c.args.link.now) (g.K.Link.coming c.turns.link) (g.K.Link.coming c.turn.new.link) c.turns.invariant.known c.in-Ok.ensures.coming;
       takes_still = c.in-Ok.ensures.takes;
       can_give = c.in-Ok.ensures.gives;
-      marked = c.in-Ok.ensures.marked;
+      marked = c.in-Ok.ensures.marked (λ is. cc);
       counted = omega (arith, counted, before);
       no_takes_fell = cause.takes;
       no_gives_fell = cause.gives;
@@ -83,3 +88,63 @@ finish-requires-clause-ends g c =
 pub returns-in-Err-Ends-clause-went : goal.returns-in-Err-Ends-clause-went
 returns-in-Err-Ends-clause-went g c =
     g.met.K.Link.went_on c.args.link.now c.turn.new.link c.finish.new.link (g.met.K.Link.went_on c.args.link.now c.turns.link c.turn.new.link c.turns.invariant.went c.in-Err-Ends.ensures.went) c.finish.ensures.went
+
+pub returns-in-Err-Breaks-clause-gives : goal.returns-in-Err-Breaks-clause-gives
+returns-in-Err-Breaks-clause-gives g c is =
+    let rules : Rules = rules_of c.args.self.now.options (g.R.AccessRule.rule c.args.self.now.cpu.rule) in
+    let here : Rules = rules_of c.turns.self.options (g.R.AccessRule.rule c.turns.self.cpu.rule) in
+    let same = same_rules g.R.AccessRule.rule c.args.self.now c.turns.self c.turns.invariant.frame in
+    let off : IsBrokenOff here c.requires.begun.image (g.K.Link.told c.args.link.now) (g.K.Link.told c.turn.new.link) (g.K.Link.coming c.turn.new.link) c.turn.new.self c.in-Err-Breaks.answer =
+    subst (λ why. StopsBy here c.requires.begun.image (g.K.Link.told c.args.link.now) (g.K.Link.told c.turn.new.link) (g.K.Link.coming c.turn.new.link) c.turn.new.self why) c.in-Err-Breaks.field-0-is
+    (c.in-Err-Breaks.ensures.turns c.requires.begun.image (g.K.Link.told c.args.link.now) (between_under rules here (sym same) (c.turns.invariant.stands c.requires.begun.image c.requires.begun.begun))) in
+    absurd (off.no_end is)
+
+pub returns-in-Err-Breaks-clause-coming : goal.returns-in-Err-Breaks-clause-coming
+returns-in-Err-Breaks-clause-coming g c is =
+    let rules : Rules = rules_of c.args.self.now.options (g.R.AccessRule.rule c.args.self.now.cpu.rule) in
+    let here : Rules = rules_of c.turns.self.options (g.R.AccessRule.rule c.turns.self.cpu.rule) in
+    let same = same_rules g.R.AccessRule.rule c.args.self.now c.turns.self c.turns.invariant.frame in
+    let off : IsBrokenOff here c.requires.begun.image (g.K.Link.told c.args.link.now) (g.K.Link.told c.turn.new.link) (g.K.Link.coming c.turn.new.link) c.turn.new.self c.in-Err-Breaks.answer =
+    subst (λ why. StopsBy here c.requires.begun.image (g.K.Link.told c.args.link.now) (g.K.Link.told c.turn.new.link) (g.K.Link.coming c.turn.new.link) c.turn.new.self why) c.in-Err-Breaks.field-0-is
+    (c.in-Err-Breaks.ensures.turns c.requires.begun.image (g.K.Link.told c.args.link.now) (between_under rules here (sym same) (c.turns.invariant.stands c.requires.begun.image c.requires.begun.begun))) in
+    absurd (off.no_end is)
+
+pub returns-in-Err-Breaks-clause-counted : goal.returns-in-Err-Breaks-clause-counted
+returns-in-Err-Breaks-clause-counted g c others =
+    let marked : IsCounted c.turn.new.self = c.in-Err-Breaks.ensures.marked (λ is. others (breaks_of _ _ _ c.in-Err-Breaks.field-0-is is)) in
+    let steps = marked.steps in
+    let before = c.turns.invariant.counted in
+    let counted = c.in-Err-Breaks.ensures.counted in
+    omega (arith, steps, before, counted)
+
+pub returns-in-Err-Breaks-clause-counted_at_least : goal.returns-in-Err-Breaks-clause-counted_at_least
+returns-in-Err-Breaks-clause-counted_at_least g c =
+    let low = c.in-Err-Breaks.ensures.low in
+    let before = c.turns.invariant.counted in
+    let counted = c.in-Err-Breaks.ensures.counted in
+    omega (arith, low, before, counted)
+
+pub returns-in-Err-Ends-clause-coming : goal.returns-in-Err-Ends-clause-coming
+returns-in-Err-Ends-clause-coming g c is =
+    let old = g.K.Link.coming c.args.link.now in
+    let before = g.K.Link.coming c.turns.link in
+    let turned = g.K.Link.coming c.turn.new.link in
+    let new = g.K.Link.coming c.finish.new.link in
+    known_then old turned new (known_then old before turned c.turns.invariant.known (known_ended before turned c.in-Err-Ends.field-0 c.in-Err-Ends.answer c.in-Err-Ends.field-0-is c.in-Err-Ends.ensures.coming)) (known_same turned new c.finish.ensures.coming)
+
+pub returns-in-Err-Ends-clause-counted : goal.returns-in-Err-Ends-clause-counted
+returns-in-Err-Ends-clause-counted g c others =
+    let marked : IsCounted c.turn.new.self = c.in-Err-Ends.ensures.marked (λ is. ends_of _ _ c.in-Err-Ends.field-0-is is) in
+    let steps = marked.steps in
+    let before = c.turns.invariant.counted in
+    let counted = c.in-Err-Ends.ensures.counted in
+    let same : c.finish.new.self.steps ≡ c.turn.new.self.steps = ap (λ (s : SessionState _). s.steps) c.finish.ensures.same in
+    omega (arith, steps, before, counted, same)
+
+pub returns-in-Err-Ends-clause-counted_at_least : goal.returns-in-Err-Ends-clause-counted_at_least
+returns-in-Err-Ends-clause-counted_at_least g c =
+    let low = c.in-Err-Ends.ensures.low in
+    let before = c.turns.invariant.counted in
+    let counted = c.in-Err-Ends.ensures.counted in
+    let same : c.finish.new.self.steps ≡ c.turn.new.self.steps = ap (λ (s : SessionState _). s.steps) c.finish.ensures.same in
+    omega (arith, low, before, counted, same)

@@ -1,4 +1,4 @@
-use Rattle.std.proofs.Common.{◌≡◌, ◌<◌, ◌≤◌, sym, ◌∙◌, ap, subst}
+use Rattle.std.proofs.Common.{◌≡◌, ◌<◌, ◌≤◌, refl, sym, ◌∙◌, ap, subst}
 use Rattle.session_history.specs.Lawful.{Rules}
 use Rattle.guest_cpu.specs.declared.event.Event.TheVariants as event
 use Rattle.guest_cpu.specs.Cpus.{CpuState}
@@ -6,7 +6,8 @@ use Rattle.rx_engine.specs.Options.{rules_of}
 use Rattle.rx_engine.specs.Sessions.{SessionState}
 use Rattle.rx_engine.proofs.HearingLemmas.{if_ok, waits_under}
 use Rattle.rx_engine.proofs.FrameLemmas.{same_rules}
-use Rattle.rx_engine.proofs.TurnLemmas.{has_run, ran_later, emits_later, chooses_later, ran_frame, asks_now, exits_now, fails_now, breaks_now, comes_under, run_under, later_ok}
+use Rattle.rx_engine.proofs.TurnLemmas.{has_run, ran_later, ran_low, emits_later, chooses_later, ran_frame, asks_now, exits_now, fails_now, breaks_now, comes_under, run_under, later_ok}
+use Rattle.rx_engine.proofs.KnownLemmas.{known_same, known_kept, counted_low}
 use Rattle.rx_engine.proofs.session.Session.turn.Goals as goal
 
 pub ask-requires-clause-waits : goal.ask-requires-clause-waits
@@ -83,3 +84,27 @@ pub returns-in-Err-clause-turns : goal.returns-in-Err-clause-turns
 returns-in-Err-clause-turns g c image began b =
     let rules : Rules = rules_of c.args.self.now.options (g.R.AccessRule.rule c.args.self.now.cpu.rule) in
     breaks_now rules image began _ (g.K.Link.phases c.args.link.now) _ c.args.self.now _ c.run_to_event.new.self c.self.view_is b
+
+pub returns-in-Ok-Asks-clause-low : goal.returns-in-Ok-Asks-clause-low
+returns-in-Ok-Asks-clause-low g c = counted_low c.ask.new.self c.ask.ensures.marked
+
+pub returns-in-Ok-Emits-clause-coming : goal.returns-in-Ok-Emits-clause-coming
+returns-in-Ok-Emits-clause-coming g c = known_kept (g.K.Link.coming c.args.link.now) (g.K.Link.coming c.send.new.link) c.send.result c.send.ensures.coming
+
+pub returns-in-Ok-Emits-clause-low : goal.returns-in-Ok-Emits-clause-low
+returns-in-Ok-Emits-clause-low g c = c.send.ensures.low (ran_low g.R.AccessRule.rule c.requires.stands.image c.requires.stands.began (g.K.Link.told c.args.link.now) (g.K.Link.phases c.args.link.now) c.args.self.now _ c.run_to_event.new.self c.run_to_event.result c.self.view_is c.requires.stands.is c.run_to_event.ensures.event)
+
+pub returns-in-Ok-Chooses-clause-coming : goal.returns-in-Ok-Chooses-clause-coming
+returns-in-Ok-Chooses-clause-coming g c = known_kept (g.K.Link.coming c.args.link.now) (g.K.Link.coming c.args.link.now) c.choose.result refl
+
+pub returns-in-Ok-Chooses-clause-low : goal.returns-in-Ok-Chooses-clause-low
+returns-in-Ok-Chooses-clause-low g c = c.choose.ensures.low (ran_low g.R.AccessRule.rule c.requires.stands.image c.requires.stands.began (g.K.Link.told c.args.link.now) (g.K.Link.phases c.args.link.now) c.args.self.now _ c.run_to_event.new.self c.run_to_event.result c.self.view_is c.requires.stands.is c.run_to_event.ensures.event)
+
+pub returns-in-Ok-Exits-clause-coming : goal.returns-in-Ok-Exits-clause-coming
+returns-in-Ok-Exits-clause-coming g c = known_same (g.K.Link.coming c.args.link.now) (g.K.Link.coming c.args.link.now) refl
+
+pub returns-in-Ok-Failed-clause-coming : goal.returns-in-Ok-Failed-clause-coming
+returns-in-Ok-Failed-clause-coming g c = known_same (g.K.Link.coming c.args.link.now) (g.K.Link.coming c.args.link.now) refl
+
+pub returns-in-Err-clause-low : goal.returns-in-Err-clause-low
+returns-in-Err-clause-low g c = ran_low g.R.AccessRule.rule c.requires.stands.image c.requires.stands.began (g.K.Link.told c.args.link.now) (g.K.Link.phases c.args.link.now) c.args.self.now _ c.run_to_event.new.self c.run_to_event.result c.self.view_is c.requires.stands.is c.run_to_event.ensures.event

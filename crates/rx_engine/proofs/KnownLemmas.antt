@@ -1,0 +1,96 @@
+-- What a link's grammar has next is told still, and a session's counts are those of its guest.
+use Rattle.std.proofs.Common.{◌≡◌, ◌≤◌, Option, None, Some, Result, Ok, Err, refl, sym, ◌∙◌, ap, subst, arith}
+use Rattle.std.specs.Prelude.{IsSome, IsErrOf}
+use Rattle.rx_io.specs.Links.{Coming}
+use Rattle.run_history.specs.declared.answer.Answer.{Answer}
+use Rattle.run_history.specs.declared.answer.Answer.TheVariants as answer
+use Rattle.session_history.specs.Ends.{IsEnd}
+use Rattle.event_gate.specs.declared.heard.Heard.{Heard}
+use Rattle.event_gate.specs.declared.heard.HearFault.{HearFault}
+use Rattle.event_gate.specs.declared.heard.HearFault.TheVariants as hear
+use Rattle.event_gate.specs.Calls.{ComesOn}
+use Rattle.guest_cpu.specs.Cpus.{CpuState}
+use Rattle.reply_gate.specs.declared.pass_fault.PassFault.{PassFault}
+use Rattle.reply_gate.specs.declared.pass_fault.PassFault.TheVariants as fault
+use Rattle.rx_engine.specs.declared.stop.Stop.{Stop}
+use Rattle.rx_engine.specs.declared.stop.Stop.TheVariants as stop
+use Rattle.rx_engine.specs.Sessions.{SessionState}
+use Rattle.rx_engine.specs.Serving.{IsAnswerTo, IsStopAt, UnlessBroken, StaysKnown, HasSameGuest, IsCounted}
+
+known_self : (coming : Option Coming) → StaysKnown coming coming
+known_self None = tt
+known_self (Some next) = refl
+
+pub known_same : (old new : Option Coming) → new ≡ old → StaysKnown old new
+known_same old new same = subst (StaysKnown old) (sym same) (known_self old)
+
+pub known_then : (old mid new : Option Coming) → StaysKnown old mid → StaysKnown mid new → StaysKnown old new
+known_then None mid new first second = tt
+known_then (Some old) None new first second = let no : ⊥ = cc in absurd no
+known_then (Some old) (Some mid) new first second = second
+
+-- what holds anyhow, holds unless a session was broken off
+unless_broken : (result : Result (Unit {0}) Stop) (P : Type 0) → P → UnlessBroken result P
+unless_broken (Ok done) P holds = holds
+unless_broken (Err (stop.Ends end)) P holds = holds
+unless_broken (Err (stop.Breaks end)) P holds = tt
+
+-- first it was told still, and then it stayed
+pub known_on : (old mid new : Option Coming) (result : Result (Unit {0}) Stop) → StaysKnown old mid → new ≡ mid → UnlessBroken result (StaysKnown old new)
+known_on old mid new result known same = unless_broken result (StaysKnown old new) (known_then old mid new known (known_same mid new same))
+
+pub known_kept : (old new : Option Coming) (result : Result (Unit {0}) Stop) → new ≡ old → UnlessBroken result (StaysKnown old new)
+known_kept old new result same = unless_broken result (StaysKnown old new) (known_same old new same)
+
+pub known_unless : (old mid new : Option Coming) (result : Result (Unit {0}) Stop) → StaysKnown old mid → UnlessBroken result (StaysKnown mid new) → UnlessBroken result (StaysKnown old new)
+known_unless old mid new (Ok done) known unless = known_then old mid new known unless
+known_unless old mid new (Err (stop.Ends end)) known unless = known_then old mid new known unless
+known_unless old mid new (Err (stop.Breaks end)) known unless = tt
+
+-- at an end it is told still
+pub known_ended : (old new : Option Coming) (why : Stop) (end : Answer) → why ≡ stop.Ends end → UnlessBroken {X = Unit {0}} (Err why) (StaysKnown old new) → StaysKnown old new
+known_ended old new why end is unless = subst (λ (w : Stop). UnlessBroken {X = Unit {0}} (Err w) (StaysKnown old new)) is unless
+
+-- an event was heard
+event_known : (old mid : Option Coming) (answer : Heard) → ComesOn old mid (Ok answer) → StaysKnown old mid
+event_known None mid answer on = tt
+event_known (Some old) mid answer on = on
+
+pub known_heard : (old mid new : Option Coming) (answer : Heard) (result : Result (Unit {0}) Stop) → ComesOn old mid (Ok answer) → new ≡ mid → UnlessBroken result (StaysKnown old new)
+known_heard old mid new answer result on same = known_on old mid new result (event_known old mid answer on) same
+
+stopped : (why now : Stop) (P : Type 0) → why ≡ now → UnlessBroken {X = Unit {0}} (Err now) P → UnlessBroken {X = Unit {0}} (Err why) P
+stopped why now P is unless = subst (λ (w : Stop). UnlessBroken {X = Unit {0}} (Err w) P) (sym is) unless
+
+-- none was
+pub known_stopped : (old new : Option Coming) (cause : HearFault) (why : Stop) → ComesOn old new (Err cause) → IsStopAt cause why → UnlessBroken {X = Unit {0}} (Err why) (StaysKnown old new)
+known_stopped None new cause why on is = unless_broken (Err why) (StaysKnown None new) tt
+known_stopped (Some old) new (hear.Refused kind offset) why on is = stopped why (stop.Ends (answer.InputRefused kind offset)) (IsSome new) is on
+known_stopped (Some old) new hear.LimitEvents why on is = stopped why (stop.Ends answer.LimitEvents) (IsSome new) is on
+known_stopped (Some old) new (hear.TooLong conn) why on is = stopped why (stop.Ends (answer.MessageTooLong conn)) (IsSome new) is on
+known_stopped (Some old) new hear.LimitItems why on is = stopped why (stop.Ends answer.LimitItems) (IsSome new) is on
+known_stopped (Some old) new hear.ReadFault why on is = stopped why (stop.Breaks answer.ReadFault) (IsSome new) is tt
+known_stopped (Some old) new hear.Memory why on is = stopped why (stop.Breaks answer.Memory) (IsSome new) is tt
+
+-- a stop that isn't for want of memory
+pub breaks_of : (why : Stop) (end other : Answer) → why ≡ stop.Breaks end → IsErrOf {T = Unit {0}} {E = Stop} (Err why) (stop.Breaks other) → end ≡ other
+breaks_of why end other is same = cc
+
+pub ends_of : (why : Stop) (end : Answer) → why ≡ stop.Ends end → IsErrOf {T = Unit {0}} {E = Stop} (Err why) (stop.Breaks answer.Memory) → ⊥
+ends_of why end is same = cc
+
+-- a fault of passing is no end
+pub fault_no_end : (why : PassFault) (end : Answer) → IsAnswerTo why end → IsEnd end → ⊥
+fault_no_end fault.WriteFault end is = subst (λ (a : Answer). IsEnd a → ⊥) (sym is) (λ no. no)
+fault_no_end fault.Memory end is = subst (λ (a : Answer). IsEnd a → ⊥) (sym is) (λ no. no)
+
+module _ {R : Type 0} where
+  -- counts stay where the guest does
+  pub counted_same : (old new : SessionState R) → HasSameGuest old new → IsCounted old → IsCounted new
+  counted_same old new same counted = record {
+    taken = same.taken ∙ counted.taken ∙ sym (ap (λ (cpu : CpuState R). cpu.slots.live.guest.machine.taken) same.cpu);
+    steps = same.steps ∙ counted.steps ∙ sym (ap (λ (cpu : CpuState R). cpu.slots.live.steps) same.cpu);
+  }
+
+  pub counted_low : (session : SessionState R) → IsCounted session → session.steps ≤ session.cpu.slots.live.steps
+  counted_low session counted = let steps = counted.steps in omega (arith, steps)
