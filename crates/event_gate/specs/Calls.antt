@@ -1,5 +1,5 @@
 -- What a session hears of its link.
-use Rattle.std.specs.Prelude.{◌≡◌, ℕ, ◌≤◌, List, [], ◌∷◌, ◌++◌, length, None, Some, Option, Result, Ok, Err, IfSome, IsSome, IsErrOf, ◌⊎◌}
+use Rattle.std.specs.Prelude.{◌≡◌, ℕ, ◌≤◌, List, [], ◌∷◌, ◌++◌, length, Bool, true, false, None, Some, Option, Result, Ok, Err, IfSome, IsSome, IsErrOf, ◌⊎◌}
 use Rattle.rx_io.specs.declared.journal.Entry.{Entry}
 use Rattle.rx_io.specs.declared.journal.Entry.TheVariants as entry
 use Rattle.rx_io.specs.declared.journal.LinkEvent.{LinkEvent}
@@ -54,6 +54,15 @@ ComesOn (Some old) new (Ok answer) = IsSome new
 ComesOn (Some old) new (Err fault.ReadFault) = Unit {0}
 ComesOn (Some old) new (Err fault.Memory) = Unit {0}
 ComesOn (Some old) new (Err other) = IsSome new
+
+-- Events may be taken behind one that was heard, also behind one that a session refuses. Behind a refusal of the link and a fault of
+-- reading none may; want of memory may be the link's or the session's.
+abbrev pub TakesBehind : Bool → Result Heard HearFault → Type 0
+TakesBehind takes (Ok answer) = takes ≡ true
+TakesBehind takes (Err (fault.Refused kind offset)) = takes ≡ false
+TakesBehind takes (Err fault.ReadFault) = takes ≡ false
+TakesBehind takes (Err fault.Memory) = Unit {0}
+TakesBehind takes (Err other) = takes ≡ true
 
 -- what comes stays as it was where a link has ended or refused
 abbrev pub ComesLast : Option Coming → Result Heard HearFault → Type 0

@@ -1,5 +1,5 @@
 // The next event of a link comes into the log, and into the ledger where it opens a connection.
-ghost use Rattle.std.specs.Prelude.{◌≡◌, ◌≢◌, ℕ, List, length, ◌≤◌, true, None, IfOk};
+ghost use Rattle.std.specs.Prelude.{◌≡◌, ◌≢◌, ℕ, List, length, ◌≤◌, true, None};
 ghost use Rattle.rx_io.specs.declared.journal.Entry.{Entry};
 ghost use Rattle.rx_io.specs.Sends.{Send};
 ghost use Rattle.rx_io.specs.Links.{events_in};
@@ -8,7 +8,7 @@ ghost use Rattle.session_history.specs.Heeding.{Bounds};
 ghost use Rattle.session_history.specs.Keeping.{KeepsReplies, KeepsItems, KeepsPhases};
 ghost use Rattle.rx_io.specs.declared.journal.LinkFault.TheVariants.{WriteFault};
 ghost use Rattle.event_gate.specs.Taking.{IsFaultOf};
-ghost use Rattle.event_gate.specs.Calls.{Knows, HearsBy, ComesOn, ComesLast, HasHearCause, HasSameReplies, Stays};
+ghost use Rattle.event_gate.specs.Calls.{Knows, HearsBy, ComesOn, ComesLast, TakesBehind, HasHearCause, HasSameReplies, Stays};
 
 use crate::taking::take_or_end;
 use crate::{HearFault, Heard};
@@ -42,7 +42,7 @@ pub fn hear<K: Link>(
     ensures first { log.new.first ≡ log.old.first }
     ensures events { events.new ≤ max_events }
     ensures cause { HasHearCause (K.counts link.old) (K.counts link.new) result }
-    ensures takes { IfOk result (λ _. K.takes link.new ≡ true) }
+    ensures takes { TakesBehind (K.takes link.new) result }
     ensures last { ComesLast (K.coming link.new) result }
     ensures coming { ComesOn (K.coming link.old) (K.coming link.new) result }
     ensures gives { K.gives link.new ≡ K.gives link.old }

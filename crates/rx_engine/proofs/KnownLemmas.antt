@@ -1,5 +1,5 @@
 -- What a link's grammar has next is told still, and a session's counts are those of its guest.
-use Rattle.std.proofs.Common.{◌≡◌, ◌≤◌, Option, None, Some, Result, Ok, Err, refl, sym, ◌∙◌, ap, subst, arith}
+use Rattle.std.proofs.Common.{◌≡◌, Bool, true, ◌≤◌, Option, None, Some, Result, Ok, Err, refl, sym, ◌∙◌, ap, subst, arith}
 use Rattle.std.specs.Prelude.{IsSome, IsErrOf}
 use Rattle.rx_io.specs.Links.{Coming}
 use Rattle.run_history.specs.declared.answer.Answer.{Answer}
@@ -8,14 +8,14 @@ use Rattle.session_history.specs.Ends.{IsEnd}
 use Rattle.event_gate.specs.declared.heard.Heard.{Heard}
 use Rattle.event_gate.specs.declared.heard.HearFault.{HearFault}
 use Rattle.event_gate.specs.declared.heard.HearFault.TheVariants as hear
-use Rattle.event_gate.specs.Calls.{ComesOn}
+use Rattle.event_gate.specs.Calls.{ComesOn, TakesBehind}
 use Rattle.guest_cpu.specs.Cpus.{CpuState}
 use Rattle.reply_gate.specs.declared.pass_fault.PassFault.{PassFault}
 use Rattle.reply_gate.specs.declared.pass_fault.PassFault.TheVariants as fault
 use Rattle.rx_engine.specs.declared.stop.Stop.{Stop}
 use Rattle.rx_engine.specs.declared.stop.Stop.TheVariants as stop
 use Rattle.rx_engine.specs.Sessions.{SessionState}
-use Rattle.rx_engine.specs.Serving.{IsAnswerTo, IsStopAt, UnlessBroken, StaysKnown, HasSameGuest, IsCounted}
+use Rattle.rx_engine.specs.Serving.{IsAnswerTo, IsOkOrMemory, IsStopAt, UnlessBroken, TakesAtEnd, TakesBy, HasNoEnd, StaysKnown, HasSameGuest, IsCounted}
 
 known_self : (coming : Option Coming) → StaysKnown coming coming
 known_self None = tt
@@ -71,6 +71,36 @@ known_stopped (Some old) new (hear.TooLong conn) why on is = stopped why (stop.E
 known_stopped (Some old) new hear.LimitItems why on is = stopped why (stop.Ends answer.LimitItems) (IsSome new) is on
 known_stopped (Some old) new hear.ReadFault why on is = stopped why (stop.Breaks answer.ReadFault) (IsSome new) is tt
 known_stopped (Some old) new hear.Memory why on is = stopped why (stop.Breaks answer.Memory) (IsSome new) is tt
+
+-- events may be taken still where nothing but pieces was given
+pub takes_given : (mid new : Bool) (result : Result (Unit {0}) Stop) → mid ≡ true → new ≡ mid → HasNoEnd result → TakesBy new result
+takes_given mid new (Ok done) is same none = same ∙ is
+takes_given mid new (Err (stop.Ends end)) is same none = absurd none
+takes_given mid new (Err (stop.Breaks end)) is same none = tt
+
+pub takes_chosen : (takes : Bool) (result : Result (Unit {0}) Stop) → takes ≡ true → IsOkOrMemory result → TakesBy takes result
+takes_chosen takes (Ok done) is memory = is
+takes_chosen takes (Err why) is memory = subst (λ (w : Stop). TakesBy {X = Unit {0}} takes (Err w)) (sym memory) tt
+
+halted : (takes : Bool) (why now : Stop) → why ≡ now → TakesBy {X = Unit {0}} takes (Err now) → TakesBy {X = Unit {0}} takes (Err why)
+halted takes why now is by = subst (λ (w : Stop). TakesBy {X = Unit {0}} takes (Err w)) (sym is) by
+
+-- behind an event that wasn't heard
+pub takes_stopped : (takes : Bool) (cause : HearFault) (why : Stop) → TakesBehind takes (Err cause) → IsStopAt cause why → TakesBy {X = Unit {0}} takes (Err why)
+takes_stopped takes (hear.Refused kind offset) why behind is = halted takes why (stop.Ends (answer.InputRefused kind offset)) is behind
+takes_stopped takes hear.LimitEvents why behind is = halted takes why (stop.Ends answer.LimitEvents) is (λ end. behind)
+takes_stopped takes (hear.TooLong conn) why behind is = halted takes why (stop.Ends (answer.MessageTooLong conn)) is (λ end. behind)
+takes_stopped takes hear.LimitItems why behind is = halted takes why (stop.Ends answer.LimitItems) is (λ end. behind)
+takes_stopped takes hear.ReadFault why behind is = halted takes why (stop.Breaks answer.ReadFault) is tt
+takes_stopped takes hear.Memory why behind is = halted takes why (stop.Breaks answer.Memory) is tt
+
+-- and at an answer
+pub takes_ended : (takes : Bool) (why : Stop) (end : Answer) → why ≡ stop.Ends end → TakesBy {X = Unit {0}} takes (Err why) → TakesAtEnd takes end
+takes_ended takes why end is by = subst (λ (w : Stop). TakesBy {X = Unit {0}} takes (Err w)) is by
+
+pub takes_no_end : (takes : Bool) (end : Answer) → (IsEnd end → ⊥) → TakesAtEnd takes end
+takes_no_end takes (answer.InputRefused kind offset) none = absurd (none tt)
+takes_no_end takes _ none = λ is. absurd (none is)
 
 -- a stop that isn't for want of memory
 pub breaks_of : (why : Stop) (end other : Answer) → why ≡ stop.Breaks end → IsErrOf {T = Unit {0}} {E = Stop} (Err why) (stop.Breaks other) → end ≡ other

@@ -1,5 +1,5 @@
 -- What the parts of a session's code make of it.
-use Rattle.std.specs.Prelude.{◌≡◌, ◌≢◌, ℕ, ◌≤◌, List, [], ◌∷◌, Bool, true, Option, None, Some, IsSome, Result, Ok, Err, IsErrOf}
+use Rattle.std.specs.Prelude.{◌≡◌, ◌≢◌, ℕ, ◌≤◌, List, [], ◌∷◌, Bool, true, false, Option, None, Some, IsSome, Result, Ok, Err, IsErrOf}
 use Rattle.rx_io.specs.declared.journal.Entry.{Entry}
 use Rattle.rx_io.specs.declared.journal.Entry.TheVariants as entry
 use Rattle.rx_io.specs.Faults.{Rose}
@@ -18,6 +18,7 @@ use Rattle.session_history.specs.Heeding.{Bounds, items_in, received}
 use Rattle.session_history.specs.Passing.{passed_in, AreInOrder}
 use Rattle.session_history.specs.Lawful.{Rules}
 use Rattle.session_history.specs.Keeping.{KeepsReplies}
+use Rattle.session_history.specs.Ends.{IsEnd}
 use Rattle.session_history.specs.Giving.{IsClosing}
 use Rattle.reply_gate.specs.declared.pass_fault.PassFault.{PassFault}
 use Rattle.reply_gate.specs.declared.pass_fault.PassFault.TheVariants as fault
@@ -87,6 +88,23 @@ UnlessBroken (Err (stop.Breaks end)) P = Unit {0}
 -- what holds unless memory ran out
 abbrev pub UnlessMemory : {X : Type 0} → Result X Stop → Type 0 → Type 0
 UnlessMemory result P = result ≢ Err (stop.Breaks answer.Memory) → P
+
+-- Whether events may be taken from a link at an end of a session: not behind a refusal, and else they may.
+abbrev pub TakesAtEnd : Bool → Answer → Type 0
+TakesAtEnd takes (answer.InputRefused kind offset) = takes ≡ false
+TakesAtEnd takes end = IsEnd end → takes ≡ true
+
+-- the same where it goes on; where it was broken off nothing is said
+abbrev pub TakesBy : {X : Type 0} → Bool → Result X Stop → Type 0
+TakesBy takes (Ok done) = takes ≡ true
+TakesBy takes (Err (stop.Ends end)) = TakesAtEnd takes end
+TakesBy takes (Err (stop.Breaks end)) = Unit {0}
+
+-- it went on or was broken off, and came to no end
+abbrev pub HasNoEnd : Result (Unit {0}) Stop → Type 0
+HasNoEnd (Ok done) = Unit {0}
+HasNoEnd (Err (stop.Ends end)) = ⊥
+HasNoEnd (Err (stop.Breaks end)) = Unit {0}
 
 -- where it was told what a link's grammar has next, it is told still
 abbrev pub StaysKnown : Option Coming → Option Coming → Type 0

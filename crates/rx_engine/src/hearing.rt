@@ -5,7 +5,7 @@ ghost use Rattle.elf_image.specs.declared.image.Image.{Image};
 ghost use Rattle.item_log.specs.Log.{received};
 ghost use Rattle.rx_engine.specs.Options.{rules_of};
 ghost use Rattle.rx_engine.specs.Standing.{IsWaitingFor};
-ghost use Rattle.rx_engine.specs.Serving.{IsStopAt, CanGive, HasStopCause, UnlessBroken, StaysKnown, HasSameGuest, StandsWaiting, WaitsBy};
+ghost use Rattle.rx_engine.specs.Serving.{IsStopAt, CanGive, HasStopCause, UnlessBroken, TakesBy, StaysKnown, HasSameGuest, StandsWaiting, WaitsBy};
 
 use crate::Session;
 use crate::stop::Stop;
@@ -38,7 +38,7 @@ impl<R: AccessRule> Session<R> {
         ensures hears { (image : Image) (began : Told) → IsWaitingFor (rules_of self.old.options (R.rule self.old.cpu.rule)) image began (K.told link.old) (K.phases link.old) self.old
             → WaitsBy (rules_of self.old.options (R.rule self.old.cpu.rule)) image began (K.told link.new) (K.phases link.new) (K.coming link.new) self.new result }
         ensures same { HasSameGuest self.old self.new }
-        ensures takes { IfOk result (λ _. K.takes link.new ≡ true) }
+        ensures takes { TakesBy (K.takes link.new) result }
         ensures gives { UnlessBroken result (CanGive (K.gives link.new) (K.gives_to link.new) self.new.replies) }
         ensures later { IfOk result (λ _. self.old.events < self.new.events) }
         ensures most { self.new.events ≤ self.old.options.max_events }
@@ -70,7 +70,7 @@ impl<R: AccessRule> Session<R> {
             → WaitsBy (rules_of self.old.options (R.rule self.old.cpu.rule)) image began (K.told link.new) (K.phases link.new) (K.coming link.new) self.new result }
         ensures there { IfOk result (λ _. self.new.taken < received self.new.log) }
         ensures same { HasSameGuest self.old self.new }
-        ensures takes { IfOk result (λ _. K.takes link.new ≡ true) }
+        ensures takes { TakesBy (K.takes link.new) result }
         ensures gives { UnlessBroken result (CanGive (K.gives link.new) (K.gives_to link.new) self.new.replies) }
         ensures coming { UnlessBroken result (StaysKnown (K.coming link.old) (K.coming link.new)) }
         ensures cause { HasStopCause (K.counts link.old) (K.counts link.new) result }

@@ -9,7 +9,7 @@ ghost use Rattle.session_history.specs.Ends.{IsEnd, HasServed};
 ghost use Rattle.rx_engine.specs.Options.{rules_of};
 ghost use Rattle.rx_engine.specs.Sessions.{IsBegun};
 ghost use Rattle.rx_engine.specs.Standing.{IsGoing, IsBetween, IsWaitingFor, IsEnding};
-ghost use Rattle.rx_engine.specs.Serving.{CanGive, HasStopCause, HasAnswerCause, UnlessBroken, UnlessMemory, StaysKnown, IsCounted, IsOkOrMemory, HasSameFrame, HasRun, StandsBetween, StandsWaiting, StandsEmitting, StandsEnding, ComesBetween, IsReadyToServe};
+ghost use Rattle.rx_engine.specs.Serving.{CanGive, HasStopCause, HasAnswerCause, UnlessBroken, UnlessMemory, TakesAtEnd, TakesBy, HasNoEnd, StaysKnown, IsCounted, IsOkOrMemory, HasSameFrame, HasRun, StandsBetween, StandsWaiting, StandsEmitting, StandsEnding, ComesBetween, IsReadyToServe};
 
 use crate::Session;
 use crate::giving::answer_to;
@@ -34,6 +34,7 @@ impl<R: AccessRule> Session<R> {
         ensures served { (image : Image) → IsBegun image self.old.options self.old.cpu.rule self.old
             → HasServed (rules_of self.old.options (R.rule self.old.cpu.rule)) image (K.told link.old) (K.told link.new) (K.coming link.new) result self.new.choices self.new.taken self.new.steps }
         ensures cause { HasAnswerCause (K.counts link.old) (K.counts link.new) result }
+        ensures takes { TakesAtEnd (K.takes link.new) result }
         ensures gives { IsEnd result → K.gives link.new ≡ true }
         ensures coming { IsEnd result → StaysKnown (K.coming link.old) (K.coming link.new) }
         ensures counted { result ≢ answer.Memory → steps.new ≡ steps.old + self.new.steps }
@@ -57,6 +58,7 @@ impl<R: AccessRule> Session<R> {
             → HasServed (rules_of self.old.options (R.rule self.old.cpu.rule)) image began (K.told link.new) (K.coming link.new) result self.new.choices self.new.taken self.new.steps }
         ensures cause { HasAnswerCause (K.counts link.old) (K.counts link.new) result }
         ensures same { self.new ≡ record self.old { replies = self.new.replies } }
+        ensures takes { TakesAtEnd (K.takes link.old) answer → TakesAtEnd (K.takes link.new) result }
         ensures gives { IsEnd result → K.gives link.new ≡ true }
         ensures coming { K.coming link.new ≡ K.coming link.old }
         ensures went { K.Went link.old link.new }
@@ -76,7 +78,7 @@ impl<R: AccessRule> Session<R> {
         ensures turns { (image : Image) (began : Told) → IsBetween (rules_of self.old.options (R.rule self.old.cpu.rule)) image began (K.told link.old) (K.phases link.old) self.old
             → ComesBetween (rules_of self.old.options (R.rule self.old.cpu.rule)) image began (K.told link.new) (K.phases link.new) (K.coming link.new) self.new result }
         ensures frame { HasSameFrame self.old self.new }
-        ensures takes { IfOk result (λ _. K.takes link.new ≡ true) }
+        ensures takes { TakesBy (K.takes link.new) result }
         ensures gives { UnlessBroken result (CanGive (K.gives link.new) (K.gives_to link.new) self.new.replies) }
         ensures coming { UnlessBroken result (StaysKnown (K.coming link.old) (K.coming link.new)) }
         ensures marked { UnlessMemory result (IsCounted self.new) }
@@ -118,7 +120,7 @@ impl<R: AccessRule> Session<R> {
         ensures turns { (image : Image) (began : Told) → IsWaitingFor (rules_of self.old.options (R.rule self.old.cpu.rule)) image began (K.told link.old) (K.phases link.old) self.old
             → ComesBetween (rules_of self.old.options (R.rule self.old.cpu.rule)) image began (K.told link.new) (K.phases link.new) (K.coming link.new) self.new result }
         ensures frame { HasSameFrame self.old self.new }
-        ensures takes { IfOk result (λ _. K.takes link.new ≡ true) }
+        ensures takes { TakesBy (K.takes link.new) result }
         ensures gives { UnlessBroken result (CanGive (K.gives link.new) (K.gives_to link.new) self.new.replies) }
         ensures coming { UnlessBroken result (StaysKnown (K.coming link.old) (K.coming link.new)) }
         ensures marked { IsCounted self.new }
@@ -160,6 +162,7 @@ impl<R: AccessRule> Session<R> {
         ensures cpu { self.new.cpu ≡ self.old.cpu }
         ensures takes { K.takes link.new ≡ K.takes link.old }
         ensures coming { K.coming link.new ≡ K.coming link.old }
+        ensures broken { HasNoEnd result }
         ensures gives { UnlessBroken result (CanGive (K.gives link.new) (K.gives_to link.new) self.new.replies) }
         ensures marked { UnlessMemory result (IsCounted self.new) }
         ensures low { self.old.steps ≤ self.old.cpu.slots.live.steps → self.new.steps ≤ self.new.cpu.slots.live.steps }

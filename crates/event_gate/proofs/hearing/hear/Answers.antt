@@ -3,7 +3,7 @@ use Rattle.rx_io.specs.Links.{events_in}
 use Rattle.event_gate.proofs.Ordering.{in_order_shown}
 use Rattle.event_gate.proofs.Answering.{event_is_new, hears_taken}
 use Rattle.event_gate.proofs.Connecting.{stays_of, fault_stays, stood_below, counted_most, same_replies, connected_behind}
-use Rattle.event_gate.proofs.ComingLemmas.{comes_on, comes_last, fault_comes_on, fault_comes_last}
+use Rattle.event_gate.proofs.ComingLemmas.{comes_on, comes_last, fault_comes_on, fault_comes_last, takes_behind, fault_takes}
 use Rattle.event_gate.proofs.hearing.hear.Goals as goal
 
 pub take_or_end-requires-clause-in_order : goal.take_or_end-requires-clause-in_order
@@ -72,3 +72,11 @@ returns-in-Ok-clause-coming g c = comes_on c.in-Ok.event (g.K.Link.coming c.args
 
 pub returns-in-Err-clause-coming : goal.returns-in-Err-clause-coming
 returns-in-Err-clause-coming g c = fault_comes_on c.in-Err.fault (g.K.Link.coming c.args.link.now) (g.K.Link.coming c.next.new.self) c.fault_of.result c.fault_of.ensures c.in-Err.ensures.coming
+
+pub returns-in-Ok-clause-takes : goal.returns-in-Ok-clause-takes
+returns-in-Ok-clause-takes g c =
+    takes_behind c.in-Ok.event c.args.log.now c.take_or_end.new.log c.args.replies.now c.take_or_end.new.replies c.args.events.now c.take_or_end.new.events c.args.max_events (g.K.Link.takes c.next.new.self) c.take_or_end.result
+    c.in-Ok.ensures.takes c.take_or_end.ensures
+
+pub returns-in-Err-clause-takes : goal.returns-in-Err-clause-takes
+returns-in-Err-clause-takes g c = fault_takes c.in-Err.fault (g.K.Link.takes c.next.new.self) c.fault_of.result c.fault_of.ensures c.in-Err.ensures.takes

@@ -2,11 +2,11 @@ use Rattle.std.proofs.Common.{◌≤◌, sym, ◌∙◌, subst, arith}
 use Rattle.rx_engine.specs.Options.{rules_of}
 use Rattle.rx_engine.specs.Sessions.{SessionState}
 use Rattle.rx_engine.specs.Standing.{sends, IsEnding}
-use Rattle.rx_engine.specs.Serving.{CanPass}
+use Rattle.rx_engine.specs.Serving.{CanPass, TakesAtEnd}
 use Rattle.rx_engine.proofs.EndLemmas.{end_of}
 use Rattle.rx_engine.proofs.PassLemmas.{stamped_by, sendable_kept}
 use Rattle.rx_engine.proofs.PassingLemmas.{ending_can, ending_ready, finish_ok, finish_fault}
-use Rattle.rx_engine.proofs.KnownLemmas.{fault_no_end}
+use Rattle.rx_engine.proofs.KnownLemmas.{fault_no_end, takes_no_end}
 use Rattle.rx_engine.proofs.session.Session.finish.Goals as goal
 
 pub pass_until-requires-clause-stamped : goal.pass_until-requires-clause-stamped
@@ -37,3 +37,9 @@ returns-clause-served g c image began ends =
 
 pub returns-in-Err-clause-gives : goal.returns-in-Err-clause-gives
 returns-in-Err-clause-gives g c is = absurd (fault_no_end c.in-Err.fault c.answer_to.result c.answer_to.ensures is)
+
+pub returns-in-Err-clause-takes : goal.returns-in-Err-clause-takes
+returns-in-Err-clause-takes g c still = takes_no_end (g.K.Link.takes c.pass_until.new.link) c.answer_to.result (fault_no_end c.in-Err.fault c.answer_to.result c.answer_to.ensures)
+
+pub returns-clause-takes : goal.returns-clause-takes
+returns-clause-takes g c still = subst (λ b. TakesAtEnd b c.args.answer) (sym c.pass_until.ensures.takes) still

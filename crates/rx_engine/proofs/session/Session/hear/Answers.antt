@@ -11,7 +11,7 @@ use Rattle.rx_engine.specs.Options.{rules_of}
 use Rattle.rx_engine.specs.Standing.{Story, entries, sends, then_story}
 use Rattle.rx_engine.proofs.GuestLemmas.{received_is}
 use Rattle.rx_engine.proofs.HearingLemmas.{moved, items_heard, close_heard, settle_heard, end_heard, heard_can, heard_opened, heard_closing, heard_settled, heard_last, story_heard, items_hearing, waits_due, waits_closed, waits_settled, due_unless, story_unless, if_ok, all_taken, one_counted, quiet_event, stops_by, ends_by}
-use Rattle.rx_engine.proofs.KnownLemmas.{known_heard, known_stopped}
+use Rattle.rx_engine.proofs.KnownLemmas.{known_heard, known_stopped, takes_given, takes_stopped}
 use Rattle.rx_engine.proofs.session.Session.hear.Goals as goal
 
 pub pass_due-requires-clause-can : goal.pass_due-requires-clause-can
@@ -228,3 +228,18 @@ returns-in-Ok-Ends-clause-coming g c =
 pub returns-in-Err-clause-coming : goal.returns-in-Err-clause-coming
 returns-in-Err-clause-coming g c =
     known_stopped (g.K.Link.coming c.args.link.now) (g.K.Link.coming c.hear.new.link) c.in-Err.fault c.stop_at.result c.in-Err.ensures.coming c.stop_at.ensures
+
+pub returns-in-Ok-Items-clause-takes : goal.returns-in-Ok-Items-clause-takes
+returns-in-Ok-Items-clause-takes g c = takes_given (g.K.Link.takes c.hear.new.link) (g.K.Link.takes c.pass_due.new.link) c.pass_due.result c.in-Ok-Items.ensures.takes c.pass_due.ensures.only.takes_still c.pass_due.ensures.broken
+
+pub returns-in-Ok-Closes-clause-takes : goal.returns-in-Ok-Closes-clause-takes
+returns-in-Ok-Closes-clause-takes g c = takes_given (g.K.Link.takes c.hear.new.link) (g.K.Link.takes c.close.new.link) c.close.result c.in-Ok-Closes.ensures.takes c.close.ensures.only.takes_still c.close.ensures.broken
+
+pub returns-in-Ok-Settles-clause-takes : goal.returns-in-Ok-Settles-clause-takes
+returns-in-Ok-Settles-clause-takes g c = takes_given (g.K.Link.takes c.hear.new.link) (g.K.Link.takes c.pass.new.link) c.pass.result c.in-Ok-Settles.ensures.takes c.pass.ensures.only.takes_still c.pass.ensures.broken
+
+pub returns-in-Ok-Ends-clause-takes : goal.returns-in-Ok-Ends-clause-takes
+returns-in-Ok-Ends-clause-takes g c is = c.in-Ok-Ends.ensures.takes
+
+pub returns-in-Err-clause-takes : goal.returns-in-Err-clause-takes
+returns-in-Err-clause-takes g c = takes_stopped (g.K.Link.takes c.hear.new.link) c.in-Err.fault c.stop_at.result c.in-Err.ensures.takes c.stop_at.ensures

@@ -9,7 +9,7 @@ use Rattle.rx_engine.proofs.EndLemmas.{served_off}
 use Rattle.rx_engine.proofs.FrameLemmas.{same_rules}
 use Rattle.rx_engine.proofs.HearingLemmas.{cause_then, stops_under}
 use Rattle.rx_engine.proofs.StartLemmas.{starts_between, starts_counted, starts_giving, frame_then, between_under}
-use Rattle.rx_engine.proofs.KnownLemmas.{known_same, known_then, known_ended, breaks_of, ends_of}
+use Rattle.rx_engine.proofs.KnownLemmas.{known_same, known_then, known_ended, breaks_of, ends_of, takes_ended, takes_no_end}
 use Rattle.rx_engine.proofs.session.Session.serve.Goals as goal
 
 pub turns-init : goal.turns-init
@@ -148,3 +148,16 @@ returns-in-Err-Ends-clause-counted_at_least g c =
     let counted = c.in-Err-Ends.ensures.counted in
     let same : c.finish.new.self.steps ≡ c.turn.new.self.steps = ap (λ (s : SessionState _). s.steps) c.finish.ensures.same in
     omega (arith, low, before, counted, same)
+
+pub returns-in-Err-Breaks-clause-takes : goal.returns-in-Err-Breaks-clause-takes
+returns-in-Err-Breaks-clause-takes g c =
+    let rules : Rules = rules_of c.args.self.now.options (g.R.AccessRule.rule c.args.self.now.cpu.rule) in
+    let here : Rules = rules_of c.turns.self.options (g.R.AccessRule.rule c.turns.self.cpu.rule) in
+    let same = same_rules g.R.AccessRule.rule c.args.self.now c.turns.self c.turns.invariant.frame in
+    let off : IsBrokenOff here c.requires.begun.image (g.K.Link.told c.args.link.now) (g.K.Link.told c.turn.new.link) (g.K.Link.coming c.turn.new.link) c.turn.new.self c.in-Err-Breaks.answer =
+    subst (λ why. StopsBy here c.requires.begun.image (g.K.Link.told c.args.link.now) (g.K.Link.told c.turn.new.link) (g.K.Link.coming c.turn.new.link) c.turn.new.self why) c.in-Err-Breaks.field-0-is
+    (c.in-Err-Breaks.ensures.turns c.requires.begun.image (g.K.Link.told c.args.link.now) (between_under rules here (sym same) (c.turns.invariant.stands c.requires.begun.image c.requires.begun.begun))) in
+    takes_no_end (g.K.Link.takes c.turn.new.link) c.in-Err-Breaks.answer off.no_end
+
+pub returns-in-Err-Ends-clause-takes : goal.returns-in-Err-Ends-clause-takes
+returns-in-Err-Ends-clause-takes g c = c.finish.ensures.takes (takes_ended (g.K.Link.takes c.turn.new.link) c.in-Err-Ends.field-0 c.in-Err-Ends.answer c.in-Err-Ends.field-0-is c.in-Err-Ends.ensures.takes)

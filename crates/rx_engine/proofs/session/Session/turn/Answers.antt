@@ -7,7 +7,7 @@ use Rattle.rx_engine.specs.Sessions.{SessionState}
 use Rattle.rx_engine.proofs.HearingLemmas.{if_ok, waits_under}
 use Rattle.rx_engine.proofs.FrameLemmas.{same_rules}
 use Rattle.rx_engine.proofs.TurnLemmas.{has_run, ran_later, ran_low, emits_later, chooses_later, ran_frame, asks_now, exits_now, fails_now, breaks_now, comes_under, run_under, later_ok}
-use Rattle.rx_engine.proofs.KnownLemmas.{known_same, known_kept, counted_low}
+use Rattle.rx_engine.proofs.KnownLemmas.{known_same, known_kept, counted_low, takes_given, takes_chosen}
 use Rattle.rx_engine.proofs.session.Session.turn.Goals as goal
 
 pub ask-requires-clause-waits : goal.ask-requires-clause-waits
@@ -108,3 +108,15 @@ returns-in-Ok-Failed-clause-coming g c = known_same (g.K.Link.coming c.args.link
 
 pub returns-in-Err-clause-low : goal.returns-in-Err-clause-low
 returns-in-Err-clause-low g c = ran_low g.R.AccessRule.rule c.requires.stands.image c.requires.stands.began (g.K.Link.told c.args.link.now) (g.K.Link.phases c.args.link.now) c.args.self.now _ c.run_to_event.new.self c.run_to_event.result c.self.view_is c.requires.stands.is c.run_to_event.ensures.event
+
+pub returns-in-Ok-Emits-clause-takes : goal.returns-in-Ok-Emits-clause-takes
+returns-in-Ok-Emits-clause-takes g c = takes_given (g.K.Link.takes c.args.link.now) (g.K.Link.takes c.send.new.link) c.send.result c.requires.takes c.send.ensures.takes c.send.ensures.broken
+
+pub returns-in-Ok-Chooses-clause-takes : goal.returns-in-Ok-Chooses-clause-takes
+returns-in-Ok-Chooses-clause-takes g c = takes_chosen (g.K.Link.takes c.args.link.now) c.choose.result c.requires.takes c.choose.ensures.broken
+
+pub returns-in-Ok-Exits-clause-takes : goal.returns-in-Ok-Exits-clause-takes
+returns-in-Ok-Exits-clause-takes g c is = c.requires.takes
+
+pub returns-in-Ok-Failed-clause-takes : goal.returns-in-Ok-Failed-clause-takes
+returns-in-Ok-Failed-clause-takes g c is = c.requires.takes
