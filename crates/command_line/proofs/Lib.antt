@@ -8,3 +8,4 @@ mod Cutting
 mod Finding
 mod Clapping
 mod Readable
+pub mod Ranges

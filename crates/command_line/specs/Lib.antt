@@ -5,3 +5,4 @@ pub mod Options
 pub mod Commands
 pub mod Meant
 pub mod Reading
+pub mod Ranges

@@ -3,6 +3,7 @@
 
 mod accepted;
 mod command;
+mod laws;
 mod matching;
 mod options;
 mod parts;
@@ -12,6 +13,7 @@ mod wording;
 
 pub use accepted::is_command;
 pub use command::{AsmCommand, Command, Form, RunCommand};
+pub use laws::{numbers_of, ranges_of};
 pub use options::{
     ASM, ASM_OPTIONS, BUDGET, COMMANDS, CommandOf, CommandRow, EVERY, FORM, FRAME, FRAMES, HOLD,
     JSON, LENGTH, LINE, OUT, OptionRow, PROGRAM, RECORD, REPORT, RING, RUN, RUN_OPTIONS, RowOf,
