@@ -1,16 +1,16 @@
 -- The numbers of words that are taken are in the ranges of their rows.
-use Rattle.std.proofs.Common.{◌≡◌, ◌∙◌, ◌≤◌, ◌&&◌, ◌||◌, ℕ, Bool, cond, true, false, true≢false, not, ap, refl, sym, subst, arith, List, [], ◌∷◌, Option, Some, None, unwrap_or, nat_le, length, leb-true}
-use Rattle.std.specs.List.{find, list_all}
+use Rattle.std.proofs.Common.{◌≡◌, ◌∙◌, ◌≤◌, ◌&&◌, ℕ, cond, true, false, true≢false, not, ap, refl, sym, subst, List, [], ◌∷◌, Option, Some, None, unwrap_or, nat_le, length, leb-true}
+use Rattle.std.specs.List.{find}
 use Rattle.std.specs.Option.{option_map, option_map_or}
 use Rattle.std.specs.Str.{bytes_eq}
-use Rattle.command_line.specs.declared.options.TakesOf.TheVariants.{Name, OneOf, Number}
+use Rattle.command_line.specs.declared.options.TakesOf.TheVariants.{Number}
 use Rattle.command_line.specs.Texts.{Text, is_name, number_of}
-use Rattle.command_line.specs.Table.{Row, Takes, asm_form, budget_row, every_row, frames_row, hold_row, ring_row, run_form, window_row}
-use Rattle.command_line.specs.Options.{Options, are_options, default_of, given, has_option, is_between, is_for, is_taken, number_at, takes_of, value_of}
+use Rattle.command_line.specs.Table.{Row, asm_form, budget_row, every_row, frames_row, hold_row, ring_row, run_form, window_row}
+use Rattle.command_line.specs.Options.{Options, are_options, default_of, has_option, is_between, is_for, is_taken, number_at, takes_of, value_of}
 use Rattle.command_line.specs.Parts.{Parts, are_positionals, parts}
-use Rattle.command_line.specs.Commands.{RunValue, asm, asm_of, asm_value, command_of, differ, fits, is_asm, is_run, positional, run, run_of, run_value}
+use Rattle.command_line.specs.Commands.{RunValue, asm, asm_of, asm_value, fits, is_asm, is_run, run, run_of, run_value}
 use Rattle.command_line.specs.Reading.{EachRow}
-use Rattle.command_line.specs.Ranges.{AreInRange, HasBounds, IsInRange, NumbersOf, RangesOf}
+use Rattle.command_line.specs.Ranges.{AreInRange, IsInRange, NumbersOf, RangesOf}
 use Rattle.command_line.proofs.Numbers.{both}
 use Rattle.command_line.proofs.Cutting.{equal_text, row_found}
 

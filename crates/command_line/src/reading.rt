@@ -1,11 +1,12 @@
 // The command that the words ask for.
-ghost use Rattle.std.specs.Prelude.{◌≡◌, true, Ok, None, IfOk, option_map, unwrap_or};
+ghost use Rattle.std.specs.Prelude.{◌≡◌, true, Ok, None, IfOk, IfSome, option_map, unwrap_or};
 ghost use Rattle.clap.specs.Words.{kind_of};
 ghost use Rattle.clap.specs.declared.error.kind.ErrorKind.TheVariants.{OutOfMemory};
 ghost use Rattle.command_line.specs.Texts.{number_of};
 ghost use Rattle.command_line.specs.Parts.{Parts, parts_of, texts_of};
 ghost use Rattle.command_line.specs.Table.{asm_form, run_form};
 ghost use Rattle.command_line.specs.Commands.{asm_shown, asm_value, command_of, form_of, frame_of, is_asm, is_run, run_shown, run_value, shown};
+ghost use Rattle.command_line.specs.Ranges.{HasRanges};
 ghost use Rattle.command_line.specs.Reading.{HasRead};
 
 use crate::accepted::{Asked, find_command};
@@ -116,6 +117,7 @@ pub fn read_command<'a>(
     words: &'a [String],
 ) -> Result<Option<Command<'a>>, AllocError>
     ensures read { IfOk result (λ command. option_map shown command ≡ command_of (texts_of words.now)) }
+    ensures ranges { IfOk result (λ command. IfSome command (λ c. HasRanges (shown c))) }
     ensures refused { command_of (texts_of words.now) ≡ None → result ≡ Ok None }
 {
     match find_command(words) {

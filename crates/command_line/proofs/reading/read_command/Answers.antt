@@ -1,0 +1,11 @@
+use Rattle.std.proofs.Common.{◌∙◌, ap, sym, Some}
+use Rattle.command_line.specs.Parts.{texts_of}
+use Rattle.command_line.specs.Commands.{RunValue, run, run_shown}
+use Rattle.command_line.proofs.Ranges.{ranges_of}
+use Rattle.command_line.proofs.reading.read_command.Goals as goal
+
+pub returns-in-Ok-clause-ranges : goal.returns-in-Ok-clause-ranges
+returns-in-Ok-clause-ranges c =
+    let words = texts_of c.args.words.now in
+    ranges_of words (run_shown c.in-Ok.run')
+    ((rw c.in-Some-Run.field-0-is at c.in-Some-Run.ensures).1 ∙ ap (λ (v : RunValue). Some (run v)) (sym c.in-Ok.ensures))
