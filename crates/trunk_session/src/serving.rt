@@ -1,0 +1,41 @@
+// A session over a trunk of many connections.
+ghost use Rattle.std.specs.Prelude.{◌≡◌, ◌≢◌, ◌+◌, ◌≤◌};
+ghost use Rattle.rx_io.specs.Faults.{Rose};
+ghost use Rattle.elf_image.specs.declared.image.Image.{Image};
+ghost use Rattle.run_history.specs.declared.answer.Answer.TheVariants as answer;
+ghost use Rattle.rx_engine.specs.Options.{rules_of};
+ghost use Rattle.rx_engine.specs.Serving.{IsReadyToServe};
+ghost use Rattle.rx_engine.specs.Sessions.{IsBegun};
+ghost use Rattle.trunk_session.specs.Serving.{ServesTrunk};
+
+use guest_space::AccessRule;
+use run_history::Answer;
+use rx_engine::Session;
+use rx_io::{Sink, Source, Steps};
+use std::alloc::Global;
+use std::sync::ledger::Ledger;
+use trunk_wire::TrunkLink;
+
+/// Serves a trunk of many connections over a source and a sink with a session that was begun.
+pub fn serve_trunk<R: AccessRule, S: Source, K: Sink, L: Ledger>(
+    alloc: Global,
+    session: &mut Session<R>,
+    input: &mut S,
+    output: &mut K,
+    steps: &mut Steps<L>,
+) -> Answer
+    requires begun { IsReadyToServe session.old }
+    ensures served { (image : Image) → IsBegun image session.old.options session.old.cpu.rule session.old
+        → ServesTrunk (rules_of session.old.options (R.rule session.old.cpu.rule)) image (S.told input.old) (S.told input.new) (K.told output.old) (K.told output.new) result session.new.choices session.new.taken session.new.steps }
+    ensures input { S.fixed input.new ≡ S.fixed input.old }
+    ensures output { K.fixed output.new ≡ K.fixed output.old }
+    ensures input_later { S.faults input.old ≤ S.faults input.new }
+    ensures output_later { K.faults output.old ≤ K.faults output.new }
+    ensures read_fault { result ≡ answer.ReadFault → Rose (S.faults input.old) (S.faults input.new) }
+    ensures write_fault { result ≡ answer.WriteFault → Rose (K.faults output.old) (K.faults output.new) }
+    ensures counted { result ≢ answer.Memory → steps.new ≡ steps.old + session.new.steps }
+    ensures counted_at_least { steps.old + session.new.steps ≤ steps.new }
+{
+    let mut link = TrunkLink::make(alloc, &mut *input, &mut *output);
+    session.serve(&mut link, steps)
+}
