@@ -10,6 +10,7 @@ use Rattle.rx_io.specs.declared.journal.Entry.{Entry}
 use Rattle.rx_io.specs.declared.journal.LinkEvent.{LinkEvent}
 use Rattle.elf_image.specs.declared.image.Image.{Image}
 use Rattle.run_history.specs.declared.answer.Answer.{Answer}
+use Rattle.run_history.specs.declared.answer.Answer.TheVariants as answer
 use Rattle.session_history.specs.Account.{Session, journal_of}
 use Rattle.session_history.specs.Ends.{IsEnd, EndsBy, HasServed}
 use Rattle.session_history.specs.Heeding.{Bounds}
@@ -21,7 +22,7 @@ use Rattle.trunk_wire.specs.Going.{AreInOrder, phases_behind, Intake, IsTail, To
 use Rattle.trunk_wire.specs.Pieces.{fresh}
 use Rattle.trunk_wire.specs.Tellings.{told_events, told_pieces, told_coming, trunk_told, told_nothing}
 use Rattle.trunk_session.specs.Trunk.{TookTrunk, TakesTrunk, StopsTrunk, WritesTrunk, WritesWhole, Carries}
-use Rattle.trunk_session.specs.Serving.{ServesTrunk}
+use Rattle.trunk_session.specs.Serving.{IsOfSession, ServesTrunk}
 use Rattle.trunk_session.proofs.ReadLemmas.{Countable, tail_none, events_told, stands_behind}
 use Rattle.trunk_session.proofs.StopLemmas.{HasTaken, stops_at}
 use Rattle.trunk_session.proofs.WriteLemmas.{Short, wrote_trunk, wrote_frames, carried}
@@ -147,3 +148,17 @@ serves rules image old new out later began end choices taken steps is_fresh none
       wrote_whole = λ is. writes_whole out later (pieces_in (journal_of served.session)) nothing short wrote (gives_still is) pieces;
       carried = carries rules.bounds out later (journal_of served.session) nothing short wrote pieces;
     }
+
+-- no other answer has an account
+pub of_session : (rules : Rules) (coming : Option Coming) (session : Session) (end : Answer) → EndsBy rules coming session end → IsOfSession end
+of_session rules coming session answer.ReadFault ends = tt
+of_session rules coming session answer.WriteFault ends = tt
+of_session rules coming session answer.Memory ends = tt
+of_session rules coming session answer.Finished ends = tt
+of_session rules coming session (answer.Exited code) ends = tt
+of_session rules coming session (answer.GaveUp point cause) ends = tt
+of_session rules coming session (answer.InputRefused kind offset) ends = tt
+of_session rules coming session (answer.MessageTooLong conn) ends = tt
+of_session rules coming session answer.LimitItems ends = tt
+of_session rules coming session answer.LimitEvents ends = tt
+of_session rules coming session _ ends = absurd ends.0

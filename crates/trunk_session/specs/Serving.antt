@@ -5,10 +5,18 @@ use Rattle.rx_io.specs.Links.{Coming, events_in, pieces_in}
 use Rattle.rx_io.specs.Outside.{Stream}
 use Rattle.elf_image.specs.declared.image.Image.{Image}
 use Rattle.run_history.specs.declared.answer.Answer.{Answer}
+use Rattle.run_history.specs.declared.answer.Answer.TheVariants as answer
 use Rattle.session_history.specs.Account.{Session, journal_of, IsAccount}
 use Rattle.session_history.specs.Ends.{IsEnd, IsAlone, HasCome, EndsBy}
 use Rattle.session_history.specs.Lawful.{Rules}
 use Rattle.trunk_session.specs.Trunk.{TakesTrunk, StopsTrunk, WritesTrunk, WritesWhole, Carries}
+
+-- an answer of a session: one of its ends, a fault of reading or writing, or want of memory
+abbrev pub IsOfSession : Answer → Type 0
+IsOfSession answer.ReadFault = Unit {0}
+IsOfSession answer.WriteFault = Unit {0}
+IsOfSession answer.Memory = Unit {0}
+IsOfSession end = IsEnd end
 
 -- What a session leaves that served a trunk over a source and a sink: one account of it, with one survivor, what stands behind its
 -- answer, and its counts. The bytes that the source lost are the frames of the account's events, and at an end no more than its answer

@@ -6,7 +6,7 @@ ghost use Rattle.run_history.specs.declared.answer.Answer.TheVariants as answer;
 ghost use Rattle.rx_engine.specs.Options.{rules_of};
 ghost use Rattle.rx_engine.specs.Serving.{IsReadyToServe};
 ghost use Rattle.rx_engine.specs.Sessions.{IsBegun};
-ghost use Rattle.trunk_session.specs.Serving.{ServesTrunk};
+ghost use Rattle.trunk_session.specs.Serving.{IsOfSession, ServesTrunk};
 
 use guest_space::AccessRule;
 use run_history::Answer;
@@ -27,6 +27,7 @@ pub fn serve_trunk<R: AccessRule, S: Source, K: Sink, L: Ledger>(
     requires begun { IsReadyToServe session.old }
     ensures served { (image : Image) → IsBegun image session.old.options session.old.cpu.rule session.old
         → ServesTrunk (rules_of session.old.options (R.rule session.old.cpu.rule)) image (S.told input.old) (S.told input.new) (K.told output.old) (K.told output.new) result session.new.choices session.new.taken session.new.steps }
+    ensures only { IsOfSession result }
     ensures input { S.fixed input.new ≡ S.fixed input.old }
     ensures output { K.fixed output.new ≡ K.fixed output.old }
     ensures input_later { S.faults input.old ≤ S.faults input.new }

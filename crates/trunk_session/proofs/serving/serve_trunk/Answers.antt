@@ -5,7 +5,7 @@ use Rattle.rx_engine.specs.Sessions.{IsBegun}
 use Rattle.trunk_wire.specs.Tellings.{told_nothing}
 use Rattle.trunk_wire.specs.TrunkLinks.{intake_of, output_of}
 use Rattle.trunk_session.specs.Serving.{ServesTrunk}
-use Rattle.trunk_session.proofs.ServeLemmas.{serves}
+use Rattle.trunk_session.proofs.ServeLemmas.{serves, of_session}
 use Rattle.trunk_session.proofs.serving.serve_trunk.Goals as goal
 
 pub returns-clause-served : goal.returns-clause-served
@@ -20,3 +20,8 @@ returns-clause-served g c =
     (output_of (λ s. g.K.Sink.told s.now) c.serve.new.link) _ c.serve.result _ _ _ made.phases made.took made.wrote made.takes made.gives (g.met.S.Source.countable c.serve.new.link.source.now)
     (g.met.K.Sink.countable c.serve.new.link.sink.now) (made.told ∙ (λ i. told_nothing (g.S.Source.told ((sym made.source) i).now) (g.K.Sink.told ((sym made.sink) i).now))) went.taken went.given c.serve.ensures.takes c.serve.ensures.gives c.serve.ensures.coming (c.serve.ensures.served image begun) in
     search (rules, served)
+
+pub returns-clause-only : goal.returns-clause-only
+returns-clause-only g c =
+    let served = c.serve.ensures.served c.requires.begun.image c.requires.begun.begun in
+    of_session _ _ served.session c.serve.result served.ends
