@@ -1,5 +1,5 @@
 -- What a link's grammar has next is told still, and a session's counts are those of its guest.
-use Rattle.std.proofs.Common.{◌≡◌, Bool, true, ◌≤◌, Option, None, Some, Result, Ok, Err, refl, sym, ◌∙◌, ap, subst, arith}
+use Rattle.std.proofs.Common.{◌≡◌, Bool, true, ◌≤◌, Option, None, Some, Result, Ok, Err, refl, sym, ◌∙◌, ap, subst, arith, inl, inr}
 use Rattle.std.specs.Prelude.{IsSome, IsErrOf}
 use Rattle.rx_io.specs.Links.{Coming}
 use Rattle.run_history.specs.declared.answer.Answer.{Answer}
@@ -15,7 +15,7 @@ use Rattle.reply_gate.specs.declared.pass_fault.PassFault.TheVariants as fault
 use Rattle.rx_engine.specs.declared.stop.Stop.{Stop}
 use Rattle.rx_engine.specs.declared.stop.Stop.TheVariants as stop
 use Rattle.rx_engine.specs.Sessions.{SessionState}
-use Rattle.rx_engine.specs.Serving.{IsAnswerTo, IsOkOrMemory, IsStopAt, UnlessBroken, TakesAtEnd, TakesBy, HasNoEnd, StaysKnown, HasSameGuest, IsCounted}
+use Rattle.rx_engine.specs.Serving.{IsAnswerTo, IsOkOrMemory, IsStopAt, UnlessBroken, TakesAtEnd, TakesBy, IsPassAnswer, BreaksPassing, StaysKnown, BreaksAt, BreaksOnce, HasSameGuest, IsCounted}
 
 known_self : (coming : Option Coming) → StaysKnown coming coming
 known_self None = tt
@@ -73,7 +73,7 @@ known_stopped (Some old) new hear.ReadFault why on is = stopped why (stop.Breaks
 known_stopped (Some old) new hear.Memory why on is = stopped why (stop.Breaks answer.Memory) (IsSome new) is tt
 
 -- events may be taken still where nothing but pieces was given
-pub takes_given : (mid new : Bool) (result : Result (Unit {0}) Stop) → mid ≡ true → new ≡ mid → HasNoEnd result → TakesBy new result
+pub takes_given : (mid new : Bool) (result : Result (Unit {0}) Stop) → mid ≡ true → new ≡ mid → BreaksPassing result → TakesBy new result
 takes_given mid new (Ok done) is same none = same ∙ is
 takes_given mid new (Err (stop.Ends end)) is same none = absurd none
 takes_given mid new (Err (stop.Breaks end)) is same none = tt
@@ -101,6 +101,62 @@ takes_ended takes why end is by = subst (λ (w : Stop). TakesBy {X = Unit {0}} t
 pub takes_no_end : (takes : Bool) (end : Answer) → (IsEnd end → ⊥) → TakesAtEnd takes end
 takes_no_end takes (answer.InputRefused kind offset) none = absurd (none tt)
 takes_no_end takes _ none = λ is. absurd (none is)
+
+-- where it was broken off, no call failed but one: a piece was given behind an event, or where none was heard
+pub once_given : (old mid new : Option Coming) (gives : Bool) (result : Result (Unit {0}) Stop) → StaysKnown old mid → new ≡ mid → BreaksPassing result → BreaksOnce old new gives result
+once_given old mid new gives (Ok done) known same passing = tt
+once_given old mid new gives (Err (stop.Ends end)) known same passing = tt
+once_given old mid new gives (Err (stop.Breaks answer.WriteFault)) known same passing = known_then old mid new known (known_same mid new same)
+once_given old mid new gives (Err (stop.Breaks answer.Memory)) known same passing = inl (known_then old mid new known (known_same mid new same))
+once_given old mid new gives (Err (stop.Breaks _)) known same passing = absurd passing
+
+pub once_heard : (old mid new : Option Coming) (gives : Bool) (heard : Heard) (result : Result (Unit {0}) Stop) → ComesOn old mid (Ok heard) → new ≡ mid → BreaksPassing result → BreaksOnce old new gives result
+once_heard old mid new gives heard result on same passing = once_given old mid new gives result (event_known old mid heard on) same passing
+
+pub once_chosen : (coming : Option Coming) (gives : Bool) (result : Result (Unit {0}) Stop) → IsOkOrMemory result → BreaksOnce coming coming gives result
+once_chosen coming gives (Ok done) memory = tt
+once_chosen coming gives (Err why) memory = subst (λ (w : Stop). BreaksOnce {X = Unit {0}} coming coming gives (Err w)) (sym memory) (inl (known_self coming))
+
+once_why : (old new : Option Coming) (gives : Bool) (why now : Stop) → why ≡ now → BreaksOnce {X = Unit {0}} old new gives (Err now) → BreaksOnce {X = Unit {0}} old new gives (Err why)
+once_why old new gives why now is once = subst (λ (w : Stop). BreaksOnce {X = Unit {0}} old new gives (Err w)) (sym is) once
+
+pub once_stopped : (old new : Option Coming) (gives : Bool) (cause : HearFault) (why : Stop) → gives ≡ true → IsStopAt cause why → BreaksOnce {X = Unit {0}} old new gives (Err why)
+once_stopped old new gives (hear.Refused kind offset) why still is = once_why old new gives why (stop.Ends (answer.InputRefused kind offset)) is tt
+once_stopped old new gives hear.LimitEvents why still is = once_why old new gives why (stop.Ends answer.LimitEvents) is tt
+once_stopped old new gives (hear.TooLong conn) why still is = once_why old new gives why (stop.Ends (answer.MessageTooLong conn)) is tt
+once_stopped old new gives hear.LimitItems why still is = once_why old new gives why (stop.Ends answer.LimitItems) is tt
+once_stopped old new gives hear.ReadFault why still is = once_why old new gives why (stop.Breaks answer.ReadFault) is still
+once_stopped old new gives hear.Memory why still is = once_why old new gives why (stop.Breaks answer.Memory) is (inr still)
+
+-- the same since earlier
+pub once_at : (old mid new : Option Coming) (gives : Bool) (end : Answer) → StaysKnown old mid → BreaksAt mid new gives end → BreaksAt old new gives end
+once_at old mid new gives answer.WriteFault known once = known_then old mid new known once
+once_at old mid new gives answer.ReadFault known once = once
+once_at old mid new gives answer.Memory known (inl once) = inl (known_then old mid new known once)
+once_at old mid new gives answer.Memory known (inr once) = inr once
+once_at old mid new gives _ known once = tt
+
+pub once_then : (old mid new : Option Coming) (gives : Bool) (result : Result (Unit {0}) Stop) → StaysKnown old mid → BreaksOnce mid new gives result → BreaksOnce old new gives result
+once_then old mid new gives (Ok done) known once = tt
+once_then old mid new gives (Err (stop.Ends end)) known once = tt
+once_then old mid new gives (Err (stop.Breaks end)) known once = once_at old mid new gives end known once
+
+pub once_broke : (old new : Option Coming) (gives : Bool) (why : Stop) (end : Answer) → why ≡ stop.Breaks end → BreaksOnce {X = Unit {0}} old new gives (Err why) → BreaksAt old new gives end
+once_broke old new gives why end is once = subst (λ (w : Stop). BreaksOnce {X = Unit {0}} old new gives (Err w)) is once
+
+pub once_ended : (old new : Option Coming) (gives : Bool) (end : Answer) → IsEnd end → BreaksAt old new gives end
+once_ended old new gives answer.WriteFault is = absurd is
+once_ended old new gives answer.ReadFault is = absurd is
+once_ended old new gives answer.Memory is = absurd is
+once_ended old new gives _ is = tt
+
+pub pass_answer : (why : PassFault) (end : Answer) → IsAnswerTo why end → IsPassAnswer end
+pass_answer fault.WriteFault end is = subst IsPassAnswer (sym is) tt
+pass_answer fault.Memory end is = subst IsPassAnswer (sym is) tt
+
+pub once_passing : (old new : Option Coming) (gives : Bool) (why : PassFault) (end : Answer) → new ≡ old → IsAnswerTo why end → BreaksAt old new gives end
+once_passing old new gives fault.WriteFault end same is = subst (BreaksAt old new gives) (sym is) (known_same old new same)
+once_passing old new gives fault.Memory end same is = subst (BreaksAt old new gives) (sym is) (inl (known_same old new same))
 
 -- a stop that isn't for want of memory
 pub breaks_of : (why : Stop) (end other : Answer) → why ≡ stop.Breaks end → IsErrOf {T = Unit {0}} {E = Stop} (Err why) (stop.Breaks other) → end ≡ other

@@ -1,5 +1,5 @@
 -- What the parts of a session's code make of it.
-use Rattle.std.specs.Prelude.{◌≡◌, ◌≢◌, ℕ, ◌≤◌, List, [], ◌∷◌, Bool, true, false, Option, None, Some, IsSome, Result, Ok, Err, IsErrOf}
+use Rattle.std.specs.Prelude.{◌≡◌, ◌≢◌, ◌⊎◌, ℕ, ◌≤◌, List, [], ◌∷◌, Bool, true, false, Option, None, Some, IsSome, Result, Ok, Err, IsErrOf}
 use Rattle.rx_io.specs.declared.journal.Entry.{Entry}
 use Rattle.rx_io.specs.declared.journal.Entry.TheVariants as entry
 use Rattle.rx_io.specs.Faults.{Rose}
@@ -100,16 +100,34 @@ TakesBy takes (Ok done) = takes ≡ true
 TakesBy takes (Err (stop.Ends end)) = TakesAtEnd takes end
 TakesBy takes (Err (stop.Breaks end)) = Unit {0}
 
--- it went on or was broken off, and came to no end
-abbrev pub HasNoEnd : Result (Unit {0}) Stop → Type 0
-HasNoEnd (Ok done) = Unit {0}
-HasNoEnd (Err (stop.Ends end)) = ⊥
-HasNoEnd (Err (stop.Breaks end)) = Unit {0}
+-- it went on, or was broken off where it passed a piece
+abbrev pub IsPassAnswer : Answer → Type 0
+IsPassAnswer answer.WriteFault = Unit {0}
+IsPassAnswer answer.Memory = Unit {0}
+IsPassAnswer _ = ⊥
+
+abbrev pub BreaksPassing : Result (Unit {0}) Stop → Type 0
+BreaksPassing (Ok done) = Unit {0}
+BreaksPassing (Err (stop.Ends end)) = ⊥
+BreaksPassing (Err (stop.Breaks end)) = IsPassAnswer end
 
 -- where it was told what a link's grammar has next, it is told still
 abbrev pub StaysKnown : Option Coming → Option Coming → Type 0
 StaysKnown None new = Unit {0}
 StaysKnown (Some old) new = IsSome new
+
+-- What is known of a link where a session was broken off: at a fault of writing what comes is told still, at a fault of reading the link
+-- gives still, and at want of memory one of both holds. So no call failed but one.
+abbrev pub BreaksAt : Option Coming → Option Coming → Bool → Answer → Type 0
+BreaksAt old new gives answer.WriteFault = StaysKnown old new
+BreaksAt old new gives answer.ReadFault = gives ≡ true
+BreaksAt old new gives answer.Memory = StaysKnown old new ⊎ (gives ≡ true)
+BreaksAt old new gives _ = Unit {0}
+
+abbrev pub BreaksOnce : {X : Type 0} → Option Coming → Option Coming → Bool → Result X Stop → Type 0
+BreaksOnce old new gives (Ok done) = Unit {0}
+BreaksOnce old new gives (Err (stop.Ends end)) = Unit {0}
+BreaksOnce old new gives (Err (stop.Breaks end)) = BreaksAt old new gives end
 
 module _ {R : Type 0} where
   -- a ledger has the replies of a journal, of which the log has as many items

@@ -8,7 +8,7 @@ ghost use Rattle.session_history.specs.Lawful.{Rules};
 ghost use Rattle.session_history.specs.Giving.{IsReady, IsClosing};
 ghost use Rattle.reply_ledger.specs.Ledger.{IsOpened};
 ghost use Rattle.rx_engine.specs.Standing.{Story, entries, moment, sends, IsTold, AnswersFor, HasPassed};
-ghost use Rattle.rx_engine.specs.Serving.{IsAnswerTo, CanGive, OnlyGives, HasNoEnd, HasStopCause, CanPass, PassesStory, PassesDue, StandsClosing};
+ghost use Rattle.rx_engine.specs.Serving.{IsAnswerTo, CanGive, OnlyGives, BreaksPassing, HasStopCause, CanPass, PassesStory, PassesDue, StandsClosing};
 
 use crate::Session;
 use crate::stop::Stop;
@@ -39,7 +39,7 @@ impl<R: AccessRule> Session<R> {
         ensures no_trial { self.new.replies.trial ≡ None }
         ensures gives { IfOk result (λ _. CanGive (K.gives link.new) (K.gives_to link.new) self.new.replies) }
         ensures only { OnlyGives (K.phases link.old) (K.phases link.new) (K.takes link.old) (K.takes link.new) (K.coming link.old) (K.coming link.new) }
-        ensures broken { HasNoEnd result }
+        ensures broken { BreaksPassing result }
         ensures cause { HasStopCause (K.counts link.old) (K.counts link.new) result }
         ensures went { K.Went link.old link.new }
     {
@@ -61,7 +61,7 @@ impl<R: AccessRule> Session<R> {
         ensures no_trial { self.new.replies.trial ≡ None }
         ensures gives { IfOk result (λ _. CanGive (K.gives link.new) (K.gives_to link.new) self.new.replies) }
         ensures only { OnlyGives (K.phases link.old) (K.phases link.new) (K.takes link.old) (K.takes link.new) (K.coming link.old) (K.coming link.new) }
-        ensures broken { HasNoEnd result }
+        ensures broken { BreaksPassing result }
         ensures cause { HasStopCause (K.counts link.old) (K.counts link.new) result }
         ensures went { K.Went link.old link.new }
     {
@@ -83,7 +83,7 @@ impl<R: AccessRule> Session<R> {
         ensures no_trial { self.new.replies.trial ≡ None }
         ensures gives { IfOk result (λ _. CanGive (K.gives link.new) (K.gives_to link.new) self.new.replies) }
         ensures only { OnlyGives (K.phases link.old) (K.phases link.new) (K.takes link.old) (K.takes link.new) (K.coming link.old) (K.coming link.new) }
-        ensures broken { HasNoEnd result }
+        ensures broken { BreaksPassing result }
         ensures cause { HasStopCause (K.counts link.old) (K.counts link.new) result }
         ensures went { K.Went link.old link.new }
     {

@@ -5,7 +5,7 @@ ghost use Rattle.elf_image.specs.declared.image.Image.{Image};
 ghost use Rattle.item_log.specs.Log.{received};
 ghost use Rattle.rx_engine.specs.Options.{rules_of};
 ghost use Rattle.rx_engine.specs.Standing.{IsWaitingFor};
-ghost use Rattle.rx_engine.specs.Serving.{IsStopAt, CanGive, HasStopCause, UnlessBroken, TakesBy, StaysKnown, HasSameGuest, StandsWaiting, WaitsBy};
+ghost use Rattle.rx_engine.specs.Serving.{IsStopAt, CanGive, HasStopCause, UnlessBroken, TakesBy, StaysKnown, BreaksOnce, HasSameGuest, StandsWaiting, WaitsBy};
 
 use crate::Session;
 use crate::stop::Stop;
@@ -43,6 +43,7 @@ impl<R: AccessRule> Session<R> {
         ensures later { IfOk result (λ _. self.old.events < self.new.events) }
         ensures most { self.new.events ≤ self.old.options.max_events }
         ensures coming { UnlessBroken result (StaysKnown (K.coming link.old) (K.coming link.new)) }
+        ensures once { BreaksOnce (K.coming link.old) (K.coming link.new) (K.gives link.new) result }
         ensures cause { HasStopCause (K.counts link.old) (K.counts link.new) result }
         ensures went { K.Went link.old link.new }
     {
@@ -73,6 +74,7 @@ impl<R: AccessRule> Session<R> {
         ensures takes { TakesBy (K.takes link.new) result }
         ensures gives { UnlessBroken result (CanGive (K.gives link.new) (K.gives_to link.new) self.new.replies) }
         ensures coming { UnlessBroken result (StaysKnown (K.coming link.old) (K.coming link.new)) }
+        ensures once { BreaksOnce (K.coming link.old) (K.coming link.new) (K.gives link.new) result }
         ensures cause { HasStopCause (K.counts link.old) (K.counts link.new) result }
         ensures went { K.Went link.old link.new }
     {

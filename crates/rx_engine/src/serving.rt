@@ -9,7 +9,7 @@ ghost use Rattle.session_history.specs.Ends.{IsEnd, HasServed};
 ghost use Rattle.rx_engine.specs.Options.{rules_of};
 ghost use Rattle.rx_engine.specs.Sessions.{IsBegun};
 ghost use Rattle.rx_engine.specs.Standing.{IsGoing, IsBetween, IsWaitingFor, IsEnding};
-ghost use Rattle.rx_engine.specs.Serving.{CanGive, HasStopCause, HasAnswerCause, UnlessBroken, UnlessMemory, TakesAtEnd, TakesBy, HasNoEnd, StaysKnown, IsCounted, IsOkOrMemory, HasSameFrame, HasRun, StandsBetween, StandsWaiting, StandsEmitting, StandsEnding, ComesBetween, IsReadyToServe};
+ghost use Rattle.rx_engine.specs.Serving.{CanGive, HasStopCause, HasAnswerCause, UnlessBroken, UnlessMemory, TakesAtEnd, TakesBy, BreaksPassing, BreaksAt, BreaksOnce, StaysKnown, IsCounted, IsOkOrMemory, HasSameFrame, HasRun, StandsBetween, StandsWaiting, StandsEmitting, StandsEnding, ComesBetween, IsReadyToServe};
 
 use crate::Session;
 use crate::giving::answer_to;
@@ -37,6 +37,7 @@ impl<R: AccessRule> Session<R> {
         ensures takes { TakesAtEnd (K.takes link.new) result }
         ensures gives { IsEnd result → K.gives link.new ≡ true }
         ensures coming { IsEnd result → StaysKnown (K.coming link.old) (K.coming link.new) }
+        ensures once { BreaksAt (K.coming link.old) (K.coming link.new) (K.gives link.new) result }
         ensures counted { result ≢ answer.Memory → steps.new ≡ steps.old + self.new.steps }
         ensures counted_at_least { steps.old + self.new.steps ≤ steps.new }
         ensures went { K.Went link.old link.new }
@@ -61,6 +62,7 @@ impl<R: AccessRule> Session<R> {
         ensures takes { TakesAtEnd (K.takes link.old) answer → TakesAtEnd (K.takes link.new) result }
         ensures gives { IsEnd result → K.gives link.new ≡ true }
         ensures coming { K.coming link.new ≡ K.coming link.old }
+        ensures once { BreaksAt (K.coming link.old) (K.coming link.new) (K.gives link.new) result }
         ensures went { K.Went link.old link.new }
     {
         let stamp = self.log.received();
@@ -81,6 +83,7 @@ impl<R: AccessRule> Session<R> {
         ensures takes { TakesBy (K.takes link.new) result }
         ensures gives { UnlessBroken result (CanGive (K.gives link.new) (K.gives_to link.new) self.new.replies) }
         ensures coming { UnlessBroken result (StaysKnown (K.coming link.old) (K.coming link.new)) }
+        ensures once { BreaksOnce (K.coming link.old) (K.coming link.new) (K.gives link.new) result }
         ensures marked { UnlessMemory result (IsCounted self.new) }
         ensures low { self.new.steps ≤ self.new.cpu.slots.live.steps }
         ensures later { IfOk result (λ _. self.old.cpu.slots.live.steps < self.new.cpu.slots.live.steps) }
@@ -123,6 +126,7 @@ impl<R: AccessRule> Session<R> {
         ensures takes { TakesBy (K.takes link.new) result }
         ensures gives { UnlessBroken result (CanGive (K.gives link.new) (K.gives_to link.new) self.new.replies) }
         ensures coming { UnlessBroken result (StaysKnown (K.coming link.old) (K.coming link.new)) }
+        ensures once { BreaksOnce (K.coming link.old) (K.coming link.new) (K.gives link.new) result }
         ensures marked { IsCounted self.new }
         ensures later { IfOk result (λ _. self.old.cpu.slots.live.steps < self.new.cpu.slots.live.steps) }
         ensures counted { steps.new + self.old.cpu.slots.live.steps ≡ steps.old + self.new.cpu.slots.live.steps }
@@ -162,7 +166,7 @@ impl<R: AccessRule> Session<R> {
         ensures cpu { self.new.cpu ≡ self.old.cpu }
         ensures takes { K.takes link.new ≡ K.takes link.old }
         ensures coming { K.coming link.new ≡ K.coming link.old }
-        ensures broken { HasNoEnd result }
+        ensures broken { BreaksPassing result }
         ensures gives { UnlessBroken result (CanGive (K.gives link.new) (K.gives_to link.new) self.new.replies) }
         ensures marked { UnlessMemory result (IsCounted self.new) }
         ensures low { self.old.steps ≤ self.old.cpu.slots.live.steps → self.new.steps ≤ self.new.cpu.slots.live.steps }

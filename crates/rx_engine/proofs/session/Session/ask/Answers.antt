@@ -6,7 +6,7 @@ use Rattle.rx_engine.proofs.GuestLemmas.{received_is}
 use Rattle.rx_engine.proofs.NeedLemmas.{going_can}
 use Rattle.rx_engine.proofs.DueLemmas.{comes_between, unless_due}
 use Rattle.rx_engine.proofs.FrameLemmas.{guest_frame, same_rules}
-use Rattle.rx_engine.proofs.KnownLemmas.{known_on, counted_same, takes_given}
+use Rattle.rx_engine.proofs.KnownLemmas.{known_on, counted_same, takes_given, once_given}
 use Rattle.rx_engine.proofs.session.Session.ask.Goals as goal
 
 pub take-requires-clause-waits : goal.take-requires-clause-waits
@@ -55,3 +55,7 @@ returns-in-Err-clause-marked g c = counted_same c.args.self.now c.await_item.new
 
 pub returns-clause-takes : goal.returns-clause-takes
 returns-clause-takes g c = takes_given (g.K.Link.takes c.await_item.new.link) (g.K.Link.takes c.pass_due.new.link) c.pass_due.result c.in_default.ensures.takes c.pass_due.ensures.only.takes_still c.pass_due.ensures.broken
+
+pub returns-clause-once : goal.returns-clause-once
+returns-clause-once g c =
+    once_given (g.K.Link.coming c.args.link.now) (g.K.Link.coming c.await_item.new.link) (g.K.Link.coming c.pass_due.new.link) (g.K.Link.gives c.pass_due.new.link) c.pass_due.result c.in_default.ensures.coming c.pass_due.ensures.only.coming_still c.pass_due.ensures.broken

@@ -2,7 +2,7 @@ use Rattle.std.proofs.Common.{Err, refl, sym, ap, arith}
 use Rattle.session_history.specs.Lawful.{Rules}
 use Rattle.rx_engine.specs.Options.{rules_of}
 use Rattle.rx_engine.proofs.HearingLemmas.{same_then, same_rules, waits_under, stops_under, cause_then, no_cause}
-use Rattle.rx_engine.proofs.KnownLemmas.{known_same, known_then, known_unless}
+use Rattle.rx_engine.proofs.KnownLemmas.{known_same, known_then, known_unless, once_then}
 use Rattle.rx_engine.proofs.session.Session.await_item.Goals as goal
 
 pub waits-init : goal.waits-init
@@ -95,3 +95,7 @@ returns-in-Err-clause-coming g c =
 
 pub returns-clause-coming : goal.returns-clause-coming
 returns-clause-coming g c = c.waits.invariant.known
+
+pub returns-in-Err-clause-once : goal.returns-in-Err-clause-once
+returns-in-Err-clause-once g c =
+    once_then (g.K.Link.coming c.args.link.now) (g.K.Link.coming c.waits.link) (g.K.Link.coming c.hear.new.link) (g.K.Link.gives c.hear.new.link) (Err c.in-Err.stop) c.waits.invariant.known c.in-Err.ensures.once

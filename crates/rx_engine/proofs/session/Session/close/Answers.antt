@@ -8,6 +8,7 @@ use Rattle.rx_engine.specs.Standing.{Story, entries, moment, sends, then_story, 
 use Rattle.rx_engine.specs.Serving.{CanGive, CanPass, StandsClosing}
 use Rattle.rx_engine.proofs.PassLemmas.{stamped_by, sendable_kept, breaks_by, rest_ok}
 use Rattle.rx_engine.proofs.PassingLemmas.{closing_can, closed_can, gives_closed, rest_passed, received_given, due_behind}
+use Rattle.rx_engine.proofs.KnownLemmas.{pass_answer}
 use Rattle.rx_engine.proofs.session.Session.close.Goals as goal
 
 pub pass_rest-requires-clause-stamped : goal.pass_rest-requires-clause-stamped
@@ -57,3 +58,6 @@ returns-clause-passes g c rules image began story hold told answers count closin
     (rest_passed rules image began (g.K.Link.told c.pass_rest.new.link) story rest.0 c.args.conn c.self.inside.replies c.pass_rest.new.replies here (c.in_default.ensures.sends.trial ∙ stands.no_trial) rest.1 rest.2 rest.3 rest.4) in
     due_behind rules image began (g.K.Link.told c.pass_due.new.link) (g.K.Link.coming c.pass_due.new.link) story rest.0 c.pass_due.new.self c.pass_due.result rest.1
     (c.pass_due.ensures.passes rules image began after low rest.2 (record { choices = mine.choices; taken = mine.taken; steps = mine.steps }) (all ∙ sym (received_given rules.bounds story rest.0 rest.1)) passed)
+
+pub returns-in-Err-clause-broken : goal.returns-in-Err-clause-broken
+returns-in-Err-clause-broken g c = pass_answer c.in-Err.fault c.answer_to.result c.answer_to.ensures

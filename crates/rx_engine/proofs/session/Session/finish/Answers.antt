@@ -6,7 +6,7 @@ use Rattle.rx_engine.specs.Serving.{CanPass, TakesAtEnd}
 use Rattle.rx_engine.proofs.EndLemmas.{end_of}
 use Rattle.rx_engine.proofs.PassLemmas.{stamped_by, sendable_kept}
 use Rattle.rx_engine.proofs.PassingLemmas.{ending_can, ending_ready, finish_ok, finish_fault}
-use Rattle.rx_engine.proofs.KnownLemmas.{fault_no_end, takes_no_end}
+use Rattle.rx_engine.proofs.KnownLemmas.{fault_no_end, takes_no_end, once_passing, once_ended}
 use Rattle.rx_engine.proofs.session.Session.finish.Goals as goal
 
 pub pass_until-requires-clause-stamped : goal.pass_until-requires-clause-stamped
@@ -43,3 +43,9 @@ returns-in-Err-clause-takes g c still = takes_no_end (g.K.Link.takes c.pass_unti
 
 pub returns-clause-takes : goal.returns-clause-takes
 returns-clause-takes g c still = subst (λ b. TakesAtEnd b c.args.answer) (sym c.pass_until.ensures.takes) still
+
+pub returns-in-Err-clause-once : goal.returns-in-Err-clause-once
+returns-in-Err-clause-once g c = once_passing (g.K.Link.coming c.args.link.now) (g.K.Link.coming c.pass_until.new.link) (g.K.Link.gives c.pass_until.new.link) c.in-Err.fault c.answer_to.result c.in-Err.ensures.coming c.answer_to.ensures
+
+pub returns-clause-once : goal.returns-clause-once
+returns-clause-once g c = once_ended (g.K.Link.coming c.args.link.now) (g.K.Link.coming c.pass_until.new.link) (g.K.Link.gives c.pass_until.new.link) c.args.answer c.requires.ends.is.is_end

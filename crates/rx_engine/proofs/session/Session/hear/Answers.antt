@@ -11,7 +11,7 @@ use Rattle.rx_engine.specs.Options.{rules_of}
 use Rattle.rx_engine.specs.Standing.{Story, entries, sends, then_story}
 use Rattle.rx_engine.proofs.GuestLemmas.{received_is}
 use Rattle.rx_engine.proofs.HearingLemmas.{moved, items_heard, close_heard, settle_heard, end_heard, heard_can, heard_opened, heard_closing, heard_settled, heard_last, story_heard, items_hearing, waits_due, waits_closed, waits_settled, due_unless, story_unless, if_ok, all_taken, one_counted, quiet_event, stops_by, ends_by}
-use Rattle.rx_engine.proofs.KnownLemmas.{known_heard, known_stopped, takes_given, takes_stopped}
+use Rattle.rx_engine.proofs.KnownLemmas.{known_heard, known_stopped, takes_given, takes_stopped, once_heard, once_stopped}
 use Rattle.rx_engine.proofs.session.Session.hear.Goals as goal
 
 pub pass_due-requires-clause-can : goal.pass_due-requires-clause-can
@@ -243,3 +243,19 @@ returns-in-Ok-Ends-clause-takes g c is = c.in-Ok-Ends.ensures.takes
 
 pub returns-in-Err-clause-takes : goal.returns-in-Err-clause-takes
 returns-in-Err-clause-takes g c = takes_stopped (g.K.Link.takes c.hear.new.link) c.in-Err.fault c.stop_at.result c.in-Err.ensures.takes c.stop_at.ensures
+
+pub returns-in-Ok-Items-clause-once : goal.returns-in-Ok-Items-clause-once
+returns-in-Ok-Items-clause-once g c =
+    once_heard (g.K.Link.coming c.args.link.now) (g.K.Link.coming c.hear.new.link) (g.K.Link.coming c.pass_due.new.link) (g.K.Link.gives c.pass_due.new.link) c.in-Ok-Items.field-0 c.pass_due.result c.in-Ok-Items.ensures.coming c.pass_due.ensures.only.coming_still c.pass_due.ensures.broken
+
+pub returns-in-Ok-Closes-clause-once : goal.returns-in-Ok-Closes-clause-once
+returns-in-Ok-Closes-clause-once g c =
+    once_heard (g.K.Link.coming c.args.link.now) (g.K.Link.coming c.hear.new.link) (g.K.Link.coming c.close.new.link) (g.K.Link.gives c.close.new.link) c.in-Ok-Closes.field-0 c.close.result c.in-Ok-Closes.ensures.coming c.close.ensures.only.coming_still c.close.ensures.broken
+
+pub returns-in-Ok-Settles-clause-once : goal.returns-in-Ok-Settles-clause-once
+returns-in-Ok-Settles-clause-once g c =
+    once_heard (g.K.Link.coming c.args.link.now) (g.K.Link.coming c.hear.new.link) (g.K.Link.coming c.pass.new.link) (g.K.Link.gives c.pass.new.link) c.in-Ok-Settles.field-0 c.pass.result c.in-Ok-Settles.ensures.coming c.pass.ensures.only.coming_still c.pass.ensures.broken
+
+pub returns-in-Err-clause-once : goal.returns-in-Err-clause-once
+returns-in-Err-clause-once g c =
+    once_stopped (g.K.Link.coming c.args.link.now) (g.K.Link.coming c.hear.new.link) (g.K.Link.gives c.hear.new.link) c.in-Err.fault c.stop_at.result (c.in-Err.ensures.gives ∙ c.requires.gives.gives_still) c.stop_at.ensures

@@ -6,6 +6,7 @@ use Rattle.rx_engine.specs.Sessions.{SessionState}
 use Rattle.rx_engine.specs.Standing.{entries, moment, sends, AnswersFor}
 use Rattle.rx_engine.specs.Serving.{CanPass}
 use Rattle.rx_engine.proofs.PassLemmas.{stamped_by, sendable_kept, passes_ok, breaks_by}
+use Rattle.rx_engine.proofs.KnownLemmas.{pass_answer}
 use Rattle.rx_engine.proofs.session.Session.pass.Goals as goal
 
 pub pass_until-requires-clause-stamped : goal.pass_until-requires-clause-stamped
@@ -32,3 +33,6 @@ returns-clause-passes g c rules image began story told answers count ready =
     let stamp = sym (subst (λ (s : SessionState _). received s.log ≡ heeding.received rules.bounds (entries story)) (sym c.self.view_is) count) ∙ sym c.received-stamp.ensures.count in
     let here = subst (λ (s : SessionState _). IsReady rules (sends story) (moment story) c.args.until s.replies) (sym c.self.view_is) ready in
     passes_ok rules image began _ _ story c.args.until c.pass_until.new.replies c.in_default.field-0 told (c.in_default.ensures.passes rules (sends story) (moment story) stamp here)
+
+pub returns-in-Err-clause-broken : goal.returns-in-Err-clause-broken
+returns-in-Err-clause-broken g c = pass_answer c.in-Err.fault c.answer_to.result c.answer_to.ensures

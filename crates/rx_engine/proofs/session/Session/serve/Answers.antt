@@ -9,7 +9,7 @@ use Rattle.rx_engine.proofs.EndLemmas.{served_off}
 use Rattle.rx_engine.proofs.FrameLemmas.{same_rules}
 use Rattle.rx_engine.proofs.HearingLemmas.{cause_then, stops_under}
 use Rattle.rx_engine.proofs.StartLemmas.{starts_between, starts_counted, starts_giving, frame_then, between_under}
-use Rattle.rx_engine.proofs.KnownLemmas.{known_same, known_then, known_ended, breaks_of, ends_of, takes_ended, takes_no_end}
+use Rattle.rx_engine.proofs.KnownLemmas.{known_same, known_then, known_ended, breaks_of, ends_of, takes_ended, takes_no_end, once_at, once_broke}
 use Rattle.rx_engine.proofs.session.Session.serve.Goals as goal
 
 pub turns-init : goal.turns-init
@@ -161,3 +161,18 @@ returns-in-Err-Breaks-clause-takes g c =
 
 pub returns-in-Err-Ends-clause-takes : goal.returns-in-Err-Ends-clause-takes
 returns-in-Err-Ends-clause-takes g c = c.finish.ensures.takes (takes_ended (g.K.Link.takes c.turn.new.link) c.in-Err-Ends.field-0 c.in-Err-Ends.answer c.in-Err-Ends.field-0-is c.in-Err-Ends.ensures.takes)
+
+pub returns-in-Err-Breaks-clause-once : goal.returns-in-Err-Breaks-clause-once
+returns-in-Err-Breaks-clause-once g c =
+    let before = g.K.Link.coming c.turns.link in
+    let new = g.K.Link.coming c.turn.new.link in
+    once_at (g.K.Link.coming c.args.link.now) before new (g.K.Link.gives c.turn.new.link) c.in-Err-Breaks.answer c.turns.invariant.known
+    (once_broke before new (g.K.Link.gives c.turn.new.link) c.in-Err-Breaks.field-0 c.in-Err-Breaks.answer c.in-Err-Breaks.field-0-is c.in-Err-Breaks.ensures.once)
+
+pub returns-in-Err-Ends-clause-once : goal.returns-in-Err-Ends-clause-once
+returns-in-Err-Ends-clause-once g c =
+    let old = g.K.Link.coming c.args.link.now in
+    let before = g.K.Link.coming c.turns.link in
+    let turned = g.K.Link.coming c.turn.new.link in
+    once_at old turned (g.K.Link.coming c.finish.new.link) (g.K.Link.gives c.finish.new.link) c.finish.result
+    (known_then old before turned c.turns.invariant.known (known_ended before turned c.in-Err-Ends.field-0 c.in-Err-Ends.answer c.in-Err-Ends.field-0-is c.in-Err-Ends.ensures.coming)) c.finish.ensures.once

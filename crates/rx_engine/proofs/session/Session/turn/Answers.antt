@@ -1,4 +1,4 @@
-use Rattle.std.proofs.Common.{◌≡◌, ◌<◌, ◌≤◌, refl, sym, ◌∙◌, ap, subst}
+use Rattle.std.proofs.Common.{◌≡◌, ◌<◌, ◌≤◌, refl, sym, ◌∙◌, ap, subst, inl}
 use Rattle.session_history.specs.Lawful.{Rules}
 use Rattle.guest_cpu.specs.declared.event.Event.TheVariants as event
 use Rattle.guest_cpu.specs.Cpus.{CpuState}
@@ -7,7 +7,7 @@ use Rattle.rx_engine.specs.Sessions.{SessionState}
 use Rattle.rx_engine.proofs.HearingLemmas.{if_ok, waits_under}
 use Rattle.rx_engine.proofs.FrameLemmas.{same_rules}
 use Rattle.rx_engine.proofs.TurnLemmas.{has_run, ran_later, ran_low, emits_later, chooses_later, ran_frame, asks_now, exits_now, fails_now, breaks_now, comes_under, run_under, later_ok}
-use Rattle.rx_engine.proofs.KnownLemmas.{known_same, known_kept, counted_low, takes_given, takes_chosen}
+use Rattle.rx_engine.proofs.KnownLemmas.{known_same, known_kept, counted_low, takes_given, takes_chosen, once_given, once_chosen}
 use Rattle.rx_engine.proofs.session.Session.turn.Goals as goal
 
 pub ask-requires-clause-waits : goal.ask-requires-clause-waits
@@ -120,3 +120,13 @@ returns-in-Ok-Exits-clause-takes g c is = c.requires.takes
 
 pub returns-in-Ok-Failed-clause-takes : goal.returns-in-Ok-Failed-clause-takes
 returns-in-Ok-Failed-clause-takes g c is = c.requires.takes
+
+pub returns-in-Ok-Emits-clause-once : goal.returns-in-Ok-Emits-clause-once
+returns-in-Ok-Emits-clause-once g c =
+    once_given (g.K.Link.coming c.args.link.now) (g.K.Link.coming c.args.link.now) (g.K.Link.coming c.send.new.link) (g.K.Link.gives c.send.new.link) c.send.result (known_same (g.K.Link.coming c.args.link.now) (g.K.Link.coming c.args.link.now) refl) c.send.ensures.coming c.send.ensures.broken
+
+pub returns-in-Ok-Chooses-clause-once : goal.returns-in-Ok-Chooses-clause-once
+returns-in-Ok-Chooses-clause-once g c = once_chosen (g.K.Link.coming c.args.link.now) (g.K.Link.gives c.args.link.now) c.choose.result c.choose.ensures.broken
+
+pub returns-in-Err-clause-once : goal.returns-in-Err-clause-once
+returns-in-Err-clause-once g c = inl (known_same (g.K.Link.coming c.args.link.now) (g.K.Link.coming c.args.link.now) refl)
