@@ -1,5 +1,5 @@
 -- What a session over a trunk leaves, by what it leaves over a link.
-use Rattle.std.proofs.Common.{◌≡◌, ℕ, Bool, true, false, List, [], ◌++◌, length, Option, None, Some, option_map, refl, ap, ◌∙◌, subst}
+use Rattle.std.proofs.Common.{◌≡◌, ℕ, Bool, true, false, List, [], ◌++◌, length, Option, None, Some, option_map, refl, ap, ◌∙◌, subst, inl, inr}
 use Rattle.std.proofs.Math.Path.{fun_ext}
 use Rattle.std.specs.Prelude.{IsSome}
 use Rattle.std.specs.Io.KnownBytes.{Appends}
@@ -15,16 +15,16 @@ use Rattle.session_history.specs.Account.{Session, journal_of}
 use Rattle.session_history.specs.Ends.{IsEnd, EndsBy, HasServed}
 use Rattle.session_history.specs.Heeding.{Bounds}
 use Rattle.session_history.specs.Lawful.{Rules}
-use Rattle.rx_engine.specs.Serving.{StaysKnown, TakesAtEnd}
+use Rattle.rx_engine.specs.Serving.{StaysKnown, TakesAtEnd, BreaksAt}
 use Rattle.trunk_wire.specs.Calls.{count_after}
 use Rattle.trunk_wire.specs.Frames.{frames}
 use Rattle.trunk_wire.specs.Going.{AreInOrder, phases_behind, Intake, IsTail, TookFrames, TakesOn, Output, WroteFrames, GivesOn}
 use Rattle.trunk_wire.specs.Pieces.{fresh}
 use Rattle.trunk_wire.specs.Tellings.{told_events, told_pieces, told_coming, trunk_told, told_nothing}
-use Rattle.trunk_session.specs.Trunk.{TookTrunk, TakesTrunk, StopsTrunk, WritesTrunk, WritesWhole, Carries}
+use Rattle.trunk_session.specs.Trunk.{TookTrunk, TakesTrunk, StopsTrunk, WritesTrunk, WritesWhole, TakesNoPart, BreaksTrunk, Carries}
 use Rattle.trunk_session.specs.Serving.{IsOfSession, ServesTrunk}
 use Rattle.trunk_session.proofs.ReadLemmas.{Countable, tail_none, events_told, stands_behind}
-use Rattle.trunk_session.proofs.StopLemmas.{HasTaken, stops_at}
+use Rattle.trunk_session.proofs.StopLemmas.{HasTaken, stops_at, took_no_part}
 use Rattle.trunk_session.proofs.WriteLemmas.{Short, wrote_trunk, wrote_frames, carried}
 
 -- what a link comes to
@@ -121,13 +121,31 @@ carries bounds old new entries none few went grew = by_told old.told refl grew
         carried bounds before new.told new.wrote new.gives entries (frames went.pieces ++ went.tail) few (wrote_told old new before (frames went.pieces ++ went.tail) told went.writes.wrote)
         (wrote_count old new (frames went.pieces ++ went.tail) none went.writes.count) grew
 
+-- where a session was broken off, a frame was on one side at most
+takes_no_part : (old new : Intake) (list : List LinkEvent) → IsFresh old.phases → old.took ≡ 0 → old.takes ≡ true → Countable new.told → TookFrames old new
+    → Grew (option_map (λ _. []) old.told) (told_events new.told new.took new.phases new.takes) list → StaysKnown (upcoming old) (upcoming new) → TakesNoPart old.told new.told list
+takes_no_part old new list is_fresh none takes few went grew known = by_told old.told refl grew
+  where
+    by_told : (before : Option Stream) → old.told ≡ before → Grew (option_map (λ _. []) before) (told_events new.told new.took new.phases new.takes) list → TakesNoPart before new.told list
+    by_told None told grew = tt
+    by_told (Some before) told grew =
+        took_no_part new before list few (has_taken old new before list told is_fresh none few went grew) (known_still old before (upcoming new) told takes known)
+
+breaks_trunk : (old new : Intake) (out later : Output) (events : List LinkEvent) (pieces : List Piece) (end : Answer) → (StaysKnown (upcoming old) (upcoming new) → TakesNoPart old.told new.told events)
+    → (later.gives ≡ true → WritesWhole out.told later.told pieces) → BreaksAt (upcoming old) (upcoming new) later.gives end → BreaksTrunk old.told new.told out.told later.told events pieces end
+breaks_trunk old new out later events pieces answer.WriteFault no_part whole once = no_part once
+breaks_trunk old new out later events pieces answer.ReadFault no_part whole once = whole once
+breaks_trunk old new out later events pieces answer.Memory no_part whole (inl known) = inl (no_part known)
+breaks_trunk old new out later events pieces answer.Memory no_part whole (inr gives) = inr (whole gives)
+breaks_trunk old new out later events pieces _ no_part whole once = tt
+
 -- a session over a link that was made
 pub serves : (rules : Rules) (image : Image) (old new : Intake) (out later : Output) (began : Told) (end : Answer) (choices : List Choice) (taken steps : ℕ) → IsFresh old.phases → old.took ≡ 0 → out.wrote ≡ 0
     → old.takes ≡ true → out.gives ≡ true → Countable new.told → Short later.told → began ≡ told_nothing old.told out.told → TakesOn old.takes old new → GivesOn out.gives out later
-    → TakesAtEnd new.takes end → (IsEnd end → later.gives ≡ true) → (IsEnd end → StaysKnown (upcoming old) (upcoming new))
+    → TakesAtEnd new.takes end → (IsEnd end → later.gives ≡ true) → (IsEnd end → StaysKnown (upcoming old) (upcoming new)) → BreaksAt (upcoming old) (upcoming new) later.gives end
     → HasServed rules image began (trunk_told (told_events new.told new.took new.phases new.takes) (told_pieces later.told later.wrote later.gives)) (upcoming new) end choices taken steps
     → ServesTrunk rules image old.told new.told out.told later.told end choices taken steps
-serves rules image old new out later began end choices taken steps is_fresh none nothing takes gives few short start taken_on given_on still gives_still known served =
+serves rules image old new out later began end choices taken steps is_fresh none nothing takes gives few short start taken_on given_on still gives_still known once served =
     let went : TookFrames old new = subst (λ b. TakesOn b old new) takes taken_on in
     let wrote : WroteFrames out later = subst (λ b. GivesOn b out later) gives given_on in
     let events = subst (λ (told : Told). Grew told.events (told_events new.told new.took new.phases new.takes) (events_in (journal_of served.session))) start served.tells.events in
@@ -146,6 +164,9 @@ serves rules image old new out later began end choices taken steps is_fresh none
       stops = stops_trunk rules served.session old new (events_in (journal_of served.session)) end is_fresh none takes few went events still known served.ends;
       wrote = writes_trunk out later (pieces_in (journal_of served.session)) nothing short wrote pieces;
       wrote_whole = λ is. writes_whole out later (pieces_in (journal_of served.session)) nothing short wrote (gives_still is) pieces;
+      breaks = breaks_trunk old new out later (events_in (journal_of served.session)) (pieces_in (journal_of served.session)) end
+          (takes_no_part old new (events_in (journal_of served.session)) is_fresh none takes few went events)
+          (λ is. writes_whole out later (pieces_in (journal_of served.session)) nothing short wrote is pieces) once;
       carried = carries rules.bounds out later (journal_of served.session) nothing short wrote pieces;
     }
 

@@ -1,5 +1,5 @@
 -- What a trunk's session had taken where it came to its end.
-use Rattle.std.proofs.Common.{◌≡◌, ℕ, Bool, true, false, List, [], ◌∷◌, ◌++◌, length, take, Option, None, Some, IfSome, if◌then◌else◌, nat_lt, ◌==◌, arith, append-nil, length-append, refl, sym, ap, ◌∙◌, subst}
+use Rattle.std.proofs.Common.{◌≡◌, ℕ, Bool, true, false, List, [], ◌∷◌, ◌++◌, length, take, Option, None, Some, IfSome, if◌then◌else◌, nat_lt, ◌==◌, arith, append-nil, length-append, refl, sym, ap, ◌∙◌, subst, inl, inr}
 use Rattle.std.specs.Prelude.{IsSome}
 use Rattle.rx_io.specs.Links.{Phases, Comes, Refuses}
 use Rattle.rx_io.specs.Outside.{Stream, Took, IsDrained}
@@ -20,7 +20,7 @@ use Rattle.trunk_wire.specs.Tellings.{told_coming}
 use Rattle.trunk_wire.specs.declared.header.Header.{Header}
 use Rattle.trunk_wire.specs.declared.header.TheConstants.{OPEN, BYTES, CLOSE}
 use Rattle.trunk_wire.specs.declared.refusal.Refusal.{Refusal}
-use Rattle.trunk_session.specs.Trunk.{TookWhole, TookRefused, StopsAt}
+use Rattle.trunk_session.specs.Trunk.{TookWhole, TookRefused, TookNoPart, StopsAt}
 use Rattle.trunk_session.proofs.ReadLemmas.{Countable, few_taken}
 
 -- a frame is no end
@@ -123,3 +123,20 @@ stops_at rules session new before list answer.Finished few taken takes known end
     (took_whole new before list taken (takes tt), drained new.told new.took new.phases new.takes new.refused (takes tt) ends.0.2)
 stops_at rules session new before list (answer.InputRefused kind offset) few taken takes known ends = took_refused new before list kind offset few taken takes (known tt) ends.0.1
 stops_at rules session new before list _ few taken takes known ends = λ is. took_whole new before list taken (takes is)
+
+refusal_of : (told : Option Stream) (took : ℕ) (phases : Phases) (takes : Bool) (refused : Option Refusal) → takes ≡ false → IsSome (told_coming told took phases takes refused)
+    → (refusal : Refusal) × IfSome (told_coming told took phases takes refused) (λ next. next ≡ Refuses refusal.kind refusal.offset)
+refusal_of None took phases takes refused is known = let never : ⊥ = cc in absurd never
+refusal_of (Some stream) took phases true refused is known = let never : ⊥ = cc in absurd never
+refusal_of (Some stream) took phases false None is known = let never : ⊥ = cc in absurd never
+refusal_of (Some stream) took phases false (Some refusal) is known = (refusal, refl)
+
+-- where it is told what comes, no part of a frame was taken
+pub took_no_part : (new : Intake) (before : Stream) (list : List LinkEvent) → Countable new.told → HasTaken new before list → IsSome (told_coming new.told new.took new.phases new.takes new.refused) → TookNoPart (Some before) new.told list
+took_no_part new before list few taken known = by_takes new.takes refl
+  where
+    by_takes : (takes : Bool) → new.takes ≡ takes → TookNoPart (Some before) new.told list
+    by_takes true is = inl (took_whole new before list taken is)
+    by_takes false is =
+        let refusal = refusal_of new.told new.took new.phases new.takes new.refused is known in
+        inr (refusal.0.kind, refusal.0.offset, took_refused new before list refusal.0.kind refusal.0.offset few taken is known refusal.1)

@@ -9,7 +9,7 @@ use Rattle.run_history.specs.declared.answer.Answer.TheVariants as answer
 use Rattle.session_history.specs.Account.{Session, journal_of, IsAccount}
 use Rattle.session_history.specs.Ends.{IsEnd, IsAlone, HasCome, EndsBy}
 use Rattle.session_history.specs.Lawful.{Rules}
-use Rattle.trunk_session.specs.Trunk.{TakesTrunk, StopsTrunk, WritesTrunk, WritesWhole, Carries}
+use Rattle.trunk_session.specs.Trunk.{TakesTrunk, StopsTrunk, WritesTrunk, WritesWhole, BreaksTrunk, Carries}
 
 -- an answer of a session: one of its ends, a fault of reading or writing, or want of memory
 abbrev pub IsOfSession : Answer → Type 0
@@ -21,7 +21,7 @@ IsOfSession end = IsEnd end
 -- What a session leaves that served a trunk over a source and a sink: one account of it, with one survivor, what stands behind its
 -- answer, and its counts. The bytes that the source lost are the frames of the account's events, and at an end no more than its answer
 -- says. Those that the sink gained are the frames of its pieces, of which a last one may be cut, but not at an end; and for each
--- connection they carry what the account says was passed to it.
+-- connection they carry what the account says was passed to it. A frame was broken off on one side at most.
 pub record ServesTrunk (rules : Rules) (image : Image) (source source_later : Option Stream) (sink sink_later : Option (List ℕ)) (end : Answer) (choices : List Choice) (taken steps : ℕ) : Type 0 where
   pub session : Session
   pub at_end : Bool
@@ -37,4 +37,5 @@ pub record ServesTrunk (rules : Rules) (image : Image) (source source_later : Op
   pub stops : StopsTrunk source source_later (events_in (journal_of session)) end
   pub wrote : WritesTrunk sink sink_later (pieces_in (journal_of session))
   pub wrote_whole : IsEnd end → WritesWhole sink sink_later (pieces_in (journal_of session))
+  pub breaks : BreaksTrunk source source_later sink sink_later (events_in (journal_of session)) (pieces_in (journal_of session)) end
   pub carried : Carries rules.bounds sink sink_later (journal_of session)

@@ -92,6 +92,23 @@ abbrev pub WritesWhole : Option (List ℕ) → Option (List ℕ) → List Piece 
 WritesWhole None new pieces = Unit {0}
 WritesWhole (Some old) new pieces = WroteWhole (Some old) new pieces
 
+-- no part of a frame was taken: behind the frames of these events stands no byte, or what is refused
+abbrev pub TookNoPart : Option Stream → Option Stream → List LinkEvent → Type 0
+TookNoPart old new events = TookWhole old new events ⊎ ((kind : ℕ) × (offset : ℕ) × TookRefused old new events kind offset)
+
+-- where the source tells its bytes
+abbrev pub TakesNoPart : Option Stream → Option Stream → List LinkEvent → Type 0
+TakesNoPart None new events = Unit {0}
+TakesNoPart (Some old) new events = TookNoPart (Some old) new events
+
+-- Where a session was broken off: at a fault of writing no part of a frame was taken, at a fault of reading no part of one was
+-- written, and at want of memory not both.
+abbrev pub BreaksTrunk : Option Stream → Option Stream → Option (List ℕ) → Option (List ℕ) → List LinkEvent → List Piece → Answer → Type 0
+BreaksTrunk source source_later sink sink_later events pieces answer.WriteFault = TakesNoPart source source_later events
+BreaksTrunk source source_later sink sink_later events pieces answer.ReadFault = WritesWhole sink sink_later pieces
+BreaksTrunk source source_later sink sink_later events pieces answer.Memory = TakesNoPart source source_later events ⊎ WritesWhole sink sink_later pieces
+BreaksTrunk source source_later sink sink_later events pieces _ = Unit {0}
+
 -- the payload of the bytes that were written, a last frame that is cut short included, is for each connection what was passed to it
 pub record Carried (bounds : Bounds) (old new : Option (List ℕ)) (entries : List Entry) : Type 0 where
   pub written : List ℕ

@@ -18,7 +18,7 @@ returns-clause-served g c =
     λ image begun.
     serves _ image (intake_of (λ s. g.S.Source.told s.now) c.make-link.result) (intake_of (λ s. g.S.Source.told s.now) c.serve.new.link) (output_of (λ s. g.K.Sink.told s.now) c.make-link.result)
     (output_of (λ s. g.K.Sink.told s.now) c.serve.new.link) _ c.serve.result _ _ _ made.phases made.took made.wrote made.takes made.gives (g.met.S.Source.countable c.serve.new.link.source.now)
-    (g.met.K.Sink.countable c.serve.new.link.sink.now) (made.told ∙ (λ i. told_nothing (g.S.Source.told ((sym made.source) i).now) (g.K.Sink.told ((sym made.sink) i).now))) went.taken went.given c.serve.ensures.takes c.serve.ensures.gives c.serve.ensures.coming (c.serve.ensures.served image begun) in
+    (g.met.K.Sink.countable c.serve.new.link.sink.now) (made.told ∙ (λ i. told_nothing (g.S.Source.told ((sym made.source) i).now) (g.K.Sink.told ((sym made.sink) i).now))) went.taken went.given c.serve.ensures.takes c.serve.ensures.gives c.serve.ensures.coming c.serve.ensures.once (c.serve.ensures.served image begun) in
     search (rules, served)
 
 pub returns-clause-only : goal.returns-clause-only
