@@ -1,11 +1,11 @@
 -- What comes behind an event that was heard, by what the link's own answer says of it.
-use Rattle.std.proofs.Common.{◌≡◌, ℕ, Bool, true, false, refl, sym, subst}
+use Rattle.std.proofs.Common.{◌≡◌, ℕ, Bool, true, false, [], inl, inr, refl, sym, subst}
 use Rattle.std.specs.Prelude.{Option, Some, None, Result, Ok, Err}
 use Rattle.rx_io.specs.declared.journal.LinkEvent.{LinkEvent}
 use Rattle.rx_io.specs.declared.journal.LinkEvent.TheVariants as event
 use Rattle.rx_io.specs.declared.journal.LinkFault.{LinkFault}
 use Rattle.rx_io.specs.declared.journal.LinkFault.TheVariants as link
-use Rattle.rx_io.specs.Links.{Coming, StillComes, StaysTold}
+use Rattle.rx_io.specs.Links.{Coming, Told, Tells, StillComes, StaysTold}
 use Rattle.item_log.specs.Log.{Log}
 use Rattle.reply_ledger.specs.Ledger.{Ledger}
 use Rattle.event_gate.specs.declared.heard.Heard.{Heard}
@@ -69,25 +69,25 @@ fault_comes_last link.WriteFault coming answer is still = absurd is
 fault_comes_last link.Memory coming answer is still = subst (λ (a : HearFault). ComesLast coming (Err a)) (sym is) tt
 
 -- whether events may be taken behind an event that was taken
-takes_in : (event : LinkEvent) (log new : Log) (ledger later : Ledger) (before now most : ℕ) (takes : Bool) (result : Result Heard HearFault) → takes ≡ true → TakesIn event log new ledger later before now most result → TakesBehind takes result
-takes_in event log new ledger later before now most takes (Ok answer) is did = is
-takes_in event log new ledger later before now most takes (Err (fault.Refused kind offset)) is did = absurd did.0
-takes_in event log new ledger later before now most takes (Err fault.LimitEvents) is did = is
-takes_in event log new ledger later before now most takes (Err (fault.TooLong conn)) is did = is
-takes_in event log new ledger later before now most takes (Err fault.LimitItems) is did = is
-takes_in event log new ledger later before now most takes (Err fault.ReadFault) is did = absurd did.0
-takes_in event log new ledger later before now most takes (Err fault.Memory) is did = tt
+takes_in : (event : LinkEvent) (log new : Log) (ledger later : Ledger) (before now most : ℕ) (old still : Told) (takes : Bool) (result : Result Heard HearFault) → takes ≡ true → TakesIn event log new ledger later before now most result → TakesBehind old still takes result
+takes_in event log new ledger later before now most old still takes (Ok answer) is did = is
+takes_in event log new ledger later before now most old still takes (Err (fault.Refused kind offset)) is did = absurd did.0
+takes_in event log new ledger later before now most old still takes (Err fault.LimitEvents) is did = is
+takes_in event log new ledger later before now most old still takes (Err (fault.TooLong conn)) is did = is
+takes_in event log new ledger later before now most old still takes (Err fault.LimitItems) is did = is
+takes_in event log new ledger later before now most old still takes (Err fault.ReadFault) is did = absurd did.0
+takes_in event log new ledger later before now most old still takes (Err fault.Memory) is did = inr is
 
-pub takes_behind : (event : LinkEvent) (log new : Log) (ledger later : Ledger) (before now most : ℕ) (takes : Bool) (result : Result Heard HearFault) → takes ≡ true → TakesOrEnds event log new ledger later before now most result → TakesBehind takes result
-takes_behind (event.Opens conn) log new ledger later before now most takes result is did = takes_in (event.Opens conn) log new ledger later before now most takes result is did
-takes_behind (event.Piece conn bytes) log new ledger later before now most takes result is did = takes_in (event.Piece conn bytes) log new ledger later before now most takes result is did
-takes_behind (event.Closes conn) log new ledger later before now most takes result is did = takes_in (event.Closes conn) log new ledger later before now most takes result is did
-takes_behind event.Settles log new ledger later before now most takes result is did = takes_in event.Settles log new ledger later before now most takes result is did
-takes_behind event.Ends log new ledger later before now most takes result is did = subst (TakesBehind takes) (sym did.0) is
+pub takes_behind : (event : LinkEvent) (log new : Log) (ledger later : Ledger) (before now most : ℕ) (old still : Told) (takes : Bool) (result : Result Heard HearFault) → takes ≡ true → TakesOrEnds event log new ledger later before now most result → TakesBehind old still takes result
+takes_behind (event.Opens conn) log new ledger later before now most old still takes result is did = takes_in (event.Opens conn) log new ledger later before now most old still takes result is did
+takes_behind (event.Piece conn bytes) log new ledger later before now most old still takes result is did = takes_in (event.Piece conn bytes) log new ledger later before now most old still takes result is did
+takes_behind (event.Closes conn) log new ledger later before now most old still takes result is did = takes_in (event.Closes conn) log new ledger later before now most old still takes result is did
+takes_behind event.Settles log new ledger later before now most old still takes result is did = takes_in event.Settles log new ledger later before now most old still takes result is did
+takes_behind event.Ends log new ledger later before now most old still takes result is did = subst (TakesBehind old still takes) (sym did.0) is
 
 -- and behind a fault of the link
-pub fault_takes : (cause : LinkFault) (takes : Bool) (answer : HearFault) → IsFaultOf cause answer → takes ≡ false → TakesBehind takes (Err answer)
-fault_takes (link.Refused kind offset) takes answer is none = subst (λ (a : HearFault). TakesBehind takes (Err a)) (sym is) none
-fault_takes link.ReadFault takes answer is none = subst (λ (a : HearFault). TakesBehind takes (Err a)) (sym is) none
-fault_takes link.WriteFault takes answer is none = absurd is
-fault_takes link.Memory takes answer is none = subst (λ (a : HearFault). TakesBehind takes (Err a)) (sym is) tt
+pub fault_takes : (cause : LinkFault) (old still : Told) (takes : Bool) (answer : HearFault) → IsFaultOf cause answer → Tells old still [] → takes ≡ false → TakesBehind old still takes (Err answer)
+fault_takes (link.Refused kind offset) old still takes answer is told none = subst (λ (a : HearFault). TakesBehind old still takes (Err a)) (sym is) none
+fault_takes link.ReadFault old still takes answer is told none = subst (λ (a : HearFault). TakesBehind old still takes (Err a)) (sym is) none
+fault_takes link.WriteFault old still takes answer is told none = absurd is
+fault_takes link.Memory old still takes answer is told none = subst (λ (a : HearFault). TakesBehind old still takes (Err a)) (sym is) (inl told)

@@ -55,14 +55,14 @@ ComesOn (Some old) new (Err fault.ReadFault) = Unit {0}
 ComesOn (Some old) new (Err fault.Memory) = Unit {0}
 ComesOn (Some old) new (Err other) = IsSome new
 
--- Events may be taken behind one that was heard, also behind one that a session refuses. Behind a refusal of the link and a fault of
--- reading none may; want of memory may be the link's or the session's.
-abbrev pub TakesBehind : Bool → Result Heard HearFault → Type 0
-TakesBehind takes (Ok answer) = takes ≡ true
-TakesBehind takes (Err (fault.Refused kind offset)) = takes ≡ false
-TakesBehind takes (Err fault.ReadFault) = takes ≡ false
-TakesBehind takes (Err fault.Memory) = Unit {0}
-TakesBehind takes (Err other) = takes ≡ true
+-- Events may be taken behind one that was heard, also behind one that a session refuses, or for which memory ran out. Behind a refusal of
+-- the link and a fault of reading none may; where the link itself wants memory none was taken.
+abbrev pub TakesBehind : Told → Told → Bool → Result Heard HearFault → Type 0
+TakesBehind old new takes (Ok answer) = takes ≡ true
+TakesBehind old new takes (Err (fault.Refused kind offset)) = takes ≡ false
+TakesBehind old new takes (Err fault.ReadFault) = takes ≡ false
+TakesBehind old new takes (Err fault.Memory) = Tells old new [] ⊎ (takes ≡ true)
+TakesBehind old new takes (Err other) = takes ≡ true
 
 -- what comes stays as it was where a link has ended or refused
 abbrev pub ComesLast : Option Coming → Result Heard HearFault → Type 0

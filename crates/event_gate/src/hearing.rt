@@ -42,7 +42,7 @@ pub fn hear<K: Link>(
     ensures first { log.new.first ≡ log.old.first }
     ensures events { events.new ≤ max_events }
     ensures cause { HasHearCause (K.counts link.old) (K.counts link.new) result }
-    ensures takes { TakesBehind (K.takes link.new) result }
+    ensures takes { TakesBehind (K.told link.old) (K.told link.new) (K.takes link.new) result }
     ensures last { ComesLast (K.coming link.new) result }
     ensures coming { ComesOn (K.coming link.old) (K.coming link.new) result }
     ensures gives { K.gives link.new ≡ K.gives link.old }

@@ -15,7 +15,7 @@ use Rattle.session_history.specs.Lawful.{Rules}
 use Rattle.session_history.specs.Keeping.{KeepsItems, KeepsReplies, KeepsPhases}
 use Rattle.rx_engine.specs.Sessions.{SessionState}
 use Rattle.rx_engine.specs.Standing.{Story, entries, moment, sends, then_story, IsTold, GoesWith, IsLatestDone, IsLatestBefore, HasPassed, HasPassedDue, IsGoing, IsBetween, IsHearing, IsWaitingFor}
-use Rattle.rx_engine.specs.Serving.{AreGiven}
+use Rattle.session_history.specs.Giving.{AreGiven}
 use Rattle.rx_engine.proofs.EventLemmas.{IsNoEnd, latest-took}
 use Rattle.rx_engine.proofs.HearLemmas.{HasSameRun, HasHeard, answers_still, goes_then}
 use Rattle.rx_engine.proofs.GivenLemmas.{latest-given, items_by, events_in-story}

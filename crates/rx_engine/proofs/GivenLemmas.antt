@@ -9,12 +9,11 @@ use Rattle.session_history.specs.Heeding.{Bounds, heeded}
 use Rattle.session_history.specs.Opened.{closes, is_gone, is_open}
 use Rattle.session_history.specs.Owing.{Moment, journal, latest, IsDueBy}
 use Rattle.session_history.specs.Lawful.{Rules, entries_of, then_entry}
-use Rattle.session_history.specs.Giving.{then_entries}
+use Rattle.session_history.specs.Giving.{AreGiven, then_entries}
 use Rattle.session_history.specs.Keeping.{KeepsItems}
 use Rattle.reply_gate.proofs.MomentLemmas.{latest-gave, journal-then, is_open-same, not_gone, closes-gave, is_closing-gave, due_by, due_not_gone, passed_then}
 use Rattle.rx_engine.specs.Standing.{Story, entries, then_story, IsLatestDone, IsCloseDone}
-use Rattle.rx_engine.specs.Serving.{AreGiven}
-use Rattle.rx_engine.proofs.PieceLemmas.{events_in-given}
+use Rattle.session_history.proofs.Endings.{events_in-given}
 
 -- what the latest event makes owed behind a piece, it made owed before it
 due_before : (bounds : Bounds) (at : Moment) (conn : ℕ) (bytes : List ℕ) (gone : Bool) (to taken : ℕ) → IsDueBy bounds (then_entry at (entry.Gave conn bytes gone)) to taken (latest (then_entry at (entry.Gave conn bytes gone)).since)

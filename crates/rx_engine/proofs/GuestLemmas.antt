@@ -30,6 +30,7 @@ use Rattle.session_history.specs.Heeding.{Bounds, items_in, received}
 use Rattle.session_history.specs.Opened.{is_open}
 use Rattle.session_history.specs.Owing.{Stands, IsPassed}
 use Rattle.session_history.specs.Lawful.{Rules}
+use Rattle.session_history.specs.Account.{Session}
 use Rattle.session_history.specs.Keeping.{KeepsReplies, KeepsItems}
 use Rattle.rx_engine.specs.Sessions.{SessionState}
 use Rattle.rx_engine.specs.Standing.{Story, entries, moment, IsTold, AnswersFor, GoesWith, IsLatestDone, IsLatestBefore, HasPassedDue, HasPassed, IsGoing, IsBetween, IsWaitingFor, IsEnding, IsBrokenOff}
@@ -177,18 +178,25 @@ module _ {R : Type 0} where
       comes_ending rules image began now phases coming old new b.going runs.now (answer.GaveUp point cause) same chosen counted runs.goes runs.comes.0 (sym runs.stands) tt
       (runs.comes.1, ap (λ (s : Standing). s.guest.machine.taken) runs.stands ∙ (sym counted.taken ∙ sym at))
 
-  -- a session that is broken off where it stood has an account
+  -- a session that is broken off where it stood has an account, of which holds what holds of its story's
+  pub broken_with : (P : Session → Type 0) (rules : Rules) (image : Image) (began now : Told) (coming : Option Coming) (session : SessionState R) (story : Story) (end : Answer) → IsTold rules image began now story → AnswersFor story session
+      → EndsBy rules coming (account_of story) end → (IsEnd end → ⊥) → P (account_of story) → (off : IsBrokenOff rules image began now coming session end) × P off.account
+  broken_with P rules image began now coming session story end told answers ends no_end holds = (
+    record {
+      account = account_of story;
+      tells = subst (Tells began now) (sym (journal_of_story story)) told.tells;
+      is_account = serving_account rules image story.earlier story.survivor story.since false told.serving;
+      ends = ends;
+      pieces = tt;
+      no_end = no_end;
+      alone = record { first = told.first; plain = told.plain };
+      choices = answers.choices;
+      taken = answers.taken;
+      steps = answers.steps;
+    },
+    holds,
+  )
+
   pub broken_off : (rules : Rules) (image : Image) (began now : Told) (coming : Option Coming) (session : SessionState R) (story : Story) (end : Answer) → IsTold rules image began now story → AnswersFor story session
       → EndsBy rules coming (account_of story) end → (IsEnd end → ⊥) → IsBrokenOff rules image began now coming session end
-  broken_off rules image began now coming session story end told answers ends no_end =
-      record {
-        account = account_of story;
-        tells = subst (Tells began now) (sym (journal_of_story story)) told.tells;
-        is_account = serving_account rules image story.earlier story.survivor story.since false told.serving;
-        ends = ends;
-        no_end = no_end;
-        alone = record { first = told.first; plain = told.plain };
-        choices = answers.choices;
-        taken = answers.taken;
-        steps = answers.steps;
-      }
+  broken_off rules image began now coming session story end told answers ends no_end = (broken_with (λ account. Unit {0}) rules image began now coming session story end told answers ends no_end tt).0

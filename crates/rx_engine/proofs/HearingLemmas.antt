@@ -27,7 +27,7 @@ use Rattle.session_history.specs.Opened.{opens, closes}
 use Rattle.session_history.specs.Owing.{Latest}
 use Rattle.session_history.specs.Lawful.{Rules}
 use Rattle.session_history.specs.Keeping.{KeepsItems, KeepsReplies, KeepsPhases}
-use Rattle.session_history.specs.Giving.{IsReady, IsClosing}
+use Rattle.session_history.specs.Giving.{AreGiven, IsReady, IsClosing}
 use Rattle.session_history.specs.Hearing.{closing_of, IsHeard, IsUnheeded}
 use Rattle.session_history.specs.Ends.{IsEnd, StandsAt, IsWaiting, IsLastRefused}
 use Rattle.run_history.specs.declared.answer.Answer.{Answer}
@@ -36,7 +36,7 @@ use Rattle.event_gate.specs.declared.heard.Heard as heard_type
 use Rattle.event_gate.specs.declared.heard.Heard.TheVariants as heard
 use Rattle.event_gate.specs.declared.heard.HearFault.{HearFault}
 use Rattle.event_gate.specs.declared.heard.HearFault.TheVariants as fault
-use Rattle.event_gate.specs.Calls.{ComesLast, IsShown, Takes, HearsBy, Stays}
+use Rattle.event_gate.specs.Calls.{ComesLast, IsShown, Takes, TakesBehind, HearsBy, Stays}
 use Rattle.event_gate.proofs.Ordering.{heard_some, rests_by, step_heard}
 use Rattle.event_gate.proofs.Phasing.{opens_by, opens-first, opens-last, closes-last}
 use Rattle.event_gate.proofs.Refusing.{IsEvent, events_behind, heard_behind}
@@ -45,7 +45,8 @@ use Rattle.rx_engine.specs.declared.stop.Stop.TheVariants as stop
 use Rattle.rx_engine.specs.Options.{rules_of}
 use Rattle.rx_engine.specs.Sessions.{SessionState}
 use Rattle.rx_engine.specs.Standing.{Story, entries, moment, sends, then_story, IsTold, IsLatestBefore, HasPassed, HasPassedDue, IsHearing, IsWaitingFor, IsEnding}
-use Rattle.rx_engine.specs.Serving.{IsStopAt, AreGiven, UnlessBroken, StaysKnown, CanGive, HasStopCause, HasSameGuest, CanPass, StopsBy, PassesStory, PassesDue, WaitsBy}
+use Rattle.rx_engine.specs.Serving.{IsStopAt, UnlessBroken, StaysKnown, CanGive, HasStopCause, HasSameGuest, CanPass, StopsBy, PassesStory, PassesDue, WaitsBy}
+use Rattle.rx_engine.proofs.StoryLemmas.{still_takes}
 use Rattle.rx_engine.proofs.EventLemmas.{IsNoEnd}
 use Rattle.rx_engine.proofs.GuestLemmas.{received_is}
 use Rattle.rx_engine.proofs.GivenLemmas.{latest-given}
@@ -313,12 +314,12 @@ module _ {R : Type 0} where
       (trial ∙ w.hearing.passed.no_trial)
 
   -- behind what was passed the guest waits, unless the session was broken off
-  pub waits_due : (rules : Rules) (image : Image) (began before now : Told) (phases later : Phases) (coming : Option Coming) (old new : SessionState R) (h : IsHearing rules image began before phases old) (result : Result (Unit {0}) Stop)
-      → new ≡ record old { replies = new.replies } → ((conn : ℕ) → later conn ≡ phases conn) → PassesDue rules image began now coming h.story new result → WaitsBy rules image began now later coming new result
-  waits_due rules image began before now phases later coming old new h (Ok done) same stay passes =
+  pub waits_due : (rules : Rules) (image : Image) (began before now : Told) (phases later : Phases) (coming : Option Coming) (takes : Bool) (old new : SessionState R) (h : IsHearing rules image began before phases old) (result : Result (Unit {0}) Stop)
+      → new ≡ record old { replies = new.replies } → ((conn : ℕ) → later conn ≡ phases conn) → takes ≡ true → PassesDue rules image began now coming h.story new result → WaitsBy rules image began now later coming takes new result
+  waits_due rules image began before now phases later coming takes old new h (Ok done) same stay still passes =
       subst (λ (s : SessionState R). IsWaitingFor rules image began now later s) (sym same) (waits_on rules image began before now phases later old new.replies h passes.0 passes.1 stay passes.2 passes.3 passes.4)
-  waits_due rules image began before now phases later coming old new h (Err (stop.Ends end)) same stay passes = absurd passes
-  waits_due rules image began before now phases later coming old new h (Err (stop.Breaks end)) same stay passes = passes
+  waits_due rules image began before now phases later coming takes old new h (Err (stop.Ends end)) same stay still passes = absurd passes
+  waits_due rules image began before now phases later coming takes old new h (Err (stop.Breaks end)) same stay still passes = (passes, λ none. still_takes takes _ still none)
 
   -- where what was due behind an event was passed, the guest waits on
   waits_heard : (rules : Rules) (image : Image) (began before now : Told) (phases later : Phases) (story : Story) (old : SessionState R) (replies : Ledger) (known : HasHeard rules image began before phases story old)
@@ -337,20 +338,20 @@ module _ {R : Type 0} where
     due = due;
   }
 
-  pub waits_closed : (rules : Rules) (image : Image) (began before now : Told) (phases later : Phases) (coming : Option Coming) (story : Story) (old new : SessionState R) (known : HasHeard rules image began before phases story old) (result : Result (Unit {0}) Stop)
+  pub waits_closed : (rules : Rules) (image : Image) (began before now : Told) (phases later : Phases) (coming : Option Coming) (takes : Bool) (story : Story) (old new : SessionState R) (known : HasHeard rules image began before phases story old) (result : Result (Unit {0}) Stop)
       → IsLatestBefore rules (moment story) (story.survivor.now.state.machine.taken + 1) → new ≡ record old { replies = new.replies } → ((conn : ℕ) → later conn ≡ phases conn)
-      → PassesDue rules image began now coming story new result → WaitsBy rules image began now later coming new result
-  waits_closed rules image began before now phases later coming story old new known (Ok done) last same stay passes =
+      → takes ≡ true → PassesDue rules image began now coming story new result → WaitsBy rules image began now later coming takes new result
+  waits_closed rules image began before now phases later coming takes story old new known (Ok done) last same stay still passes =
       subst (λ (s : SessionState R). IsWaitingFor rules image began now later s) (sym same) (waits_heard rules image began before now phases later story old new.replies known last passes.0 passes.1 stay passes.2 passes.3 passes.4)
-  waits_closed rules image began before now phases later coming story old new known (Err (stop.Ends end)) last same stay passes = absurd passes
-  waits_closed rules image began before now phases later coming story old new known (Err (stop.Breaks end)) last same stay passes = passes
+  waits_closed rules image began before now phases later coming takes story old new known (Err (stop.Ends end)) last same stay still passes = absurd passes
+  waits_closed rules image began before now phases later coming takes story old new known (Err (stop.Breaks end)) last same stay still passes = (passes, λ none. still_takes takes _ still none)
 
   -- all that was sent to open connections was passed behind a settle
-  pub waits_settled : (rules : Rules) (image : Image) (began before now : Told) (phases later : Phases) (coming : Option Coming) (story : Story) (until : ℕ) (old new : SessionState R)
+  pub waits_settled : (rules : Rules) (image : Image) (began before now : Told) (phases later : Phases) (coming : Option Coming) (takes : Bool) (story : Story) (until : ℕ) (old new : SessionState R)
       (known : HasHeard rules image began before phases (then_story story (entry.Took event.Settles ∷ [])) old) (result : Result (Unit {0}) Stop) → story.survivor.now.state.machine.taken ≤ until
       → received rules.bounds (entries story) ≤ story.survivor.now.state.machine.taken → new ≡ record old { replies = new.replies } → new.replies.trial ≡ None → ((conn : ℕ) → later conn ≡ phases conn)
-      → PassesStory rules image began now coming (then_story story (entry.Took event.Settles ∷ [])) until new result → WaitsBy rules image began now later coming new result
-  waits_settled rules image began before now phases later coming story until old new known (Ok done) few all same no_trial stay passes =
+      → takes ≡ true → PassesStory rules image began now coming (then_story story (entry.Took event.Settles ∷ [])) until new result → WaitsBy rules image began now later coming takes new result
+  waits_settled rules image began before now phases later coming takes story until old new known (Ok done) few all same no_trial stay still passes =
       let after : Story = then_story story (entry.Took event.Settles ∷ []) in
       let more : List Entry = passes.0 in
       let last : Latest = record { before = story.since; event = event.Settles } in
@@ -359,8 +360,8 @@ module _ {R : Type 0} where
       subst (λ (s : SessionState R). IsWaitingFor rules image began now later s) (sym same)
       (waits_heard rules image began before now phases later after old new.replies known (before_story rules story event.Settles (story.survivor.now.state.machine.taken + 1) tt (omega (arith, all))) more passes.1 stay passes.2
       (record { replies = passes.3; no_trial = no_trial; done = settle_done rules (then_story after more) last is refl whole }) (λ send stands still early. whole send stands still))
-  waits_settled rules image began before now phases later coming story until old new known (Err (stop.Ends end)) few all same no_trial stay passes = absurd passes
-  waits_settled rules image began before now phases later coming story until old new known (Err (stop.Breaks end)) few all same no_trial stay passes = passes
+  waits_settled rules image began before now phases later coming takes story until old new known (Err (stop.Ends end)) few all same no_trial stay still passes = absurd passes
+  waits_settled rules image began before now phases later coming takes story until old new known (Err (stop.Breaks end)) few all same no_trial stay still passes = (passes, λ none. still_takes takes _ still none)
 
   -- what holds behind what was passed, unless the session was broken off
   pub due_unless : (rules : Rules) (image : Image) (began now : Told) (coming : Option Coming) (story : Story) (session : SessionState R) (result : Result (Unit {0}) Stop) (P : Type 0) → PassesDue rules image began now coming story session result → IfOk result (λ _. P) → UnlessBroken result P
@@ -412,31 +413,37 @@ module _ {R : Type 0} where
   refused_any rules image began before now phases coming old new w event.Settles cause end = ending_refused rules image began before now phases coming old new w event.Settles cause end tt
 
   -- what stands behind a stop, by the fault
-  pub stops_by : (rules : Rules) (image : Image) (began before now : Told) (phases later : Phases) (coming was : Option Coming) (old : SessionState R) (log : Log) (ledger : Ledger) (events : ℕ) (why : HearFault) (stopped : Stop) (w : IsWaitingFor rules image began before phases old)
+  pub stops_by : (rules : Rules) (image : Image) (began before now : Told) (phases later : Phases) (coming was : Option Coming) (takes : Bool) (old : SessionState R) (log : Log) (ledger : Ledger) (events : ℕ) (why : HearFault) (stopped : Stop) (w : IsWaitingFor rules image began before phases old)
       → logs.received old.log ≤ old.taken → log.first ≡ old.log.first → ledger.trial ≡ old.replies.trial → Stays old.log log old.replies ledger old.events events (Err why) → ComesLast coming (Err why)
-      → HearsBy rules.bounds (entries w.hearing.story) (sends w.hearing.story) log ledger later events was before now (Err why) → IsStopAt why stopped → StopsBy rules image began now coming (with_heard old log ledger events) stopped
-  stops_by rules image began before now phases later coming was old log ledger events (fault.Refused kind offset) stopped w none_left first trial stays last h is =
-      subst (StopsBy rules image began now coming (with_heard old log ledger events)) (sym is)
-      (ending_stopped rules image began before now phases coming kind offset old (with_heard old log ledger events) w (all_taken rules image began before phases old w none_left) h.0 (run_of old log ledger events first) stays.0 stays.1 last)
-  stops_by rules image began before now phases later coming was old log ledger events fault.LimitEvents stopped w none_left first trial stays last h is =
-      subst (StopsBy rules image began now coming (with_heard old log ledger events)) (sym is)
-      (refused_any rules image began before now phases coming old (with_heard old log ledger events) w h.0 unheeded.LimitEvents answer.LimitEvents (all_taken rules image began before phases old w none_left) h.1 h.2 (run_of old log ledger events first) stays.0
-      (trial ∙ w.hearing.passed.no_trial) tt (λ waits refused. (waits, refused)))
-  stops_by rules image began before now phases later coming was old log ledger events (fault.TooLong conn) stopped w none_left first trial stays last h is =
-      subst (StopsBy rules image began now coming (with_heard old log ledger events)) (sym is)
-      (refused_any rules image began before now phases coming old (with_heard old log ledger events) w h.0 unheeded.TooLong (answer.MessageTooLong conn) (all_taken rules image began before phases old w none_left) h.1 h.2 (run_of old log ledger events first) stays.0
-      (trial ∙ w.hearing.passed.no_trial) tt
-      (λ waits refused. (waits, record { refused = record { before = entries w.hearing.story; event = h.0; last = sym (more_entries w.hearing.story (entry.Took h.0 ∷ [])); refused = h.2.refused }; piece = h.3 })))
-  stops_by rules image began before now phases later coming was old log ledger events fault.LimitItems stopped w none_left first trial stays last h is =
-      subst (StopsBy rules image began now coming (with_heard old log ledger events)) (sym is)
-      (refused_any rules image began before now phases coming old (with_heard old log ledger events) w h.0 unheeded.LimitItems answer.LimitItems (all_taken rules image began before phases old w none_left) h.1 h.2 (run_of old log ledger events first) stays.0
-      (trial ∙ w.hearing.passed.no_trial) tt (λ waits refused. (waits, refused)))
-  stops_by rules image began before now phases later coming was old log ledger events fault.ReadFault stopped w none_left first trial stays last h is =
-      subst (StopsBy rules image began now coming (with_heard old log ledger events)) (sym is)
-      (off_read rules image began before now phases coming old (with_heard old log ledger events) w (all_taken rules image began before phases old w none_left) h.0 (run_of old log ledger events first))
-  stops_by rules image began before now phases later coming was old log ledger events fault.Memory stopped w none_left first trial stays last h is =
-      subst (StopsBy rules image began now coming (with_heard old log ledger events)) (sym is)
-      (off_memory rules image began before now phases coming old (with_heard old log ledger events) w (all_taken rules image began before phases old w none_left) (run_of old log ledger events first) h)
+      → HearsBy rules.bounds (entries w.hearing.story) (sends w.hearing.story) log ledger later events was before now (Err why) → TakesBehind before now takes (Err why) → IsStopAt why stopped → StopsBy rules image began now coming takes (with_heard old log ledger events) stopped
+  stops_by rules image began before now phases later coming was takes old log ledger events (fault.Refused kind offset) stopped w none_left first trial stays last h behind is =
+      subst (StopsBy rules image began now coming takes (with_heard old log ledger events)) (sym is)
+      (let stopped = ending_stopped rules image began before now phases coming kind offset old (with_heard old log ledger events) w (all_taken rules image began before phases old w none_left) h.0 (run_of old log ledger events first) stays.0 stays.1 last in (stopped.0, λ none. stopped.1))
+  stops_by rules image began before now phases later coming was takes old log ledger events fault.LimitEvents stopped w none_left first trial stays last h behind is =
+      subst (StopsBy rules image began now coming takes (with_heard old log ledger events)) (sym is) (
+        (refused_any rules image began before now phases coming old (with_heard old log ledger events) w h.0 unheeded.LimitEvents answer.LimitEvents (all_taken rules image began before phases old w none_left) h.1 h.2 (run_of old log ledger events first) stays.0
+            (trial ∙ w.hearing.passed.no_trial) tt (λ waits refused. (waits, refused))),
+        λ none. still_takes takes _ behind none,
+      )
+  stops_by rules image began before now phases later coming was takes old log ledger events (fault.TooLong conn) stopped w none_left first trial stays last h behind is =
+      subst (StopsBy rules image began now coming takes (with_heard old log ledger events)) (sym is) (
+        (refused_any rules image began before now phases coming old (with_heard old log ledger events) w h.0 unheeded.TooLong (answer.MessageTooLong conn) (all_taken rules image began before phases old w none_left) h.1 h.2 (run_of old log ledger events first) stays.0
+            (trial ∙ w.hearing.passed.no_trial) tt
+            (λ waits refused. (waits, record { refused = record { before = entries w.hearing.story; event = h.0; last = sym (more_entries w.hearing.story (entry.Took h.0 ∷ [])); refused = h.2.refused }; piece = h.3 }))),
+        λ none. still_takes takes _ behind none,
+      )
+  stops_by rules image began before now phases later coming was takes old log ledger events fault.LimitItems stopped w none_left first trial stays last h behind is =
+      subst (StopsBy rules image began now coming takes (with_heard old log ledger events)) (sym is) (
+        (refused_any rules image began before now phases coming old (with_heard old log ledger events) w h.0 unheeded.LimitItems answer.LimitItems (all_taken rules image began before phases old w none_left) h.1 h.2 (run_of old log ledger events first) stays.0
+            (trial ∙ w.hearing.passed.no_trial) tt (λ waits refused. (waits, refused))),
+        λ none. still_takes takes _ behind none,
+      )
+  stops_by rules image began before now phases later coming was takes old log ledger events fault.ReadFault stopped w none_left first trial stays last h behind is =
+      subst (StopsBy rules image began now coming takes (with_heard old log ledger events)) (sym is)
+      (let off = off_read rules image began before now phases coming old (with_heard old log ledger events) w (all_taken rules image began before phases old w none_left) h.0 (run_of old log ledger events first) in (off, λ none. (off.ends.0, off.ends.1)))
+  stops_by rules image began before now phases later coming was takes old log ledger events fault.Memory stopped w none_left first trial stays last h behind is =
+      subst (StopsBy rules image began now coming takes (with_heard old log ledger events)) (sym is)
+      (off_memory rules image began before now phases coming takes old (with_heard old log ledger events) w (all_taken rules image began before phases old w none_left) (run_of old log ledger events first) behind h)
 
   -- the link has ended
   pub ends_by : (rules : Rules) (image : Image) (began before now : Told) (phases later : Phases) (coming : Option Coming) (old : SessionState R) (log : Log) (ledger : Ledger) (events : ℕ) (w : IsWaitingFor rules image began before phases old)
@@ -473,8 +480,8 @@ module _ {R : Type 0} where
   pub waits_under : {image : Image} {began now : Told} {phases : Phases} {session : SessionState R} (first second : Rules) → first ≡ second → IsWaitingFor first image began now phases session → IsWaitingFor second image began now phases session
   waits_under {image = image} {began = began} {now = now} {phases = phases} {session = session} first second same = subst (λ (rules : Rules). IsWaitingFor rules image began now phases session) same
 
-  pub stops_under : (image : Image) (began now : Told) (coming : Option Coming) (session : SessionState R) (why : Stop) (first second : Rules) → first ≡ second → StopsBy first image began now coming session why → StopsBy second image began now coming session why
-  stops_under image began now coming session why first second same = subst (λ (rules : Rules). StopsBy rules image began now coming session why) same
+  pub stops_under : (image : Image) (began now : Told) (coming : Option Coming) (takes : Bool) (session : SessionState R) (why : Stop) (first second : Rules) → first ≡ second → StopsBy first image began now coming takes session why → StopsBy second image began now coming takes session why
+  stops_under image began now coming takes session why first second same = subst (λ (rules : Rules). StopsBy rules image began now coming takes session why) same
 
 -- where no count fell before a call, its cause is one of both
 pub cause_then : {X : Type 0} (before mid now : Counts) (result : Result X Stop) → before.takes ≤ mid.takes → before.gives ≤ mid.gives → HasStopCause mid now result → HasStopCause before now result

@@ -1,7 +1,7 @@
 -- What a link's grammar has next is told still, and a session's counts are those of its guest.
 use Rattle.std.proofs.Common.{◌≡◌, Bool, true, ◌≤◌, Option, None, Some, Result, Ok, Err, refl, sym, ◌∙◌, ap, subst, arith, inl, inr}
 use Rattle.std.specs.Prelude.{IsSome, IsErrOf}
-use Rattle.rx_io.specs.Links.{Coming}
+use Rattle.rx_io.specs.Links.{Told, Coming}
 use Rattle.run_history.specs.declared.answer.Answer.{Answer}
 use Rattle.run_history.specs.declared.answer.Answer.TheVariants as answer
 use Rattle.session_history.specs.Ends.{IsEnd}
@@ -86,13 +86,13 @@ halted : (takes : Bool) (why now : Stop) → why ≡ now → TakesBy {X = Unit {
 halted takes why now is by = subst (λ (w : Stop). TakesBy {X = Unit {0}} takes (Err w)) (sym is) by
 
 -- behind an event that wasn't heard
-pub takes_stopped : (takes : Bool) (cause : HearFault) (why : Stop) → TakesBehind takes (Err cause) → IsStopAt cause why → TakesBy {X = Unit {0}} takes (Err why)
-takes_stopped takes (hear.Refused kind offset) why behind is = halted takes why (stop.Ends (answer.InputRefused kind offset)) is behind
-takes_stopped takes hear.LimitEvents why behind is = halted takes why (stop.Ends answer.LimitEvents) is (λ end. behind)
-takes_stopped takes (hear.TooLong conn) why behind is = halted takes why (stop.Ends (answer.MessageTooLong conn)) is (λ end. behind)
-takes_stopped takes hear.LimitItems why behind is = halted takes why (stop.Ends answer.LimitItems) is (λ end. behind)
-takes_stopped takes hear.ReadFault why behind is = halted takes why (stop.Breaks answer.ReadFault) is tt
-takes_stopped takes hear.Memory why behind is = halted takes why (stop.Breaks answer.Memory) is tt
+pub takes_stopped : (old new : Told) (takes : Bool) (cause : HearFault) (why : Stop) → TakesBehind old new takes (Err cause) → IsStopAt cause why → TakesBy {X = Unit {0}} takes (Err why)
+takes_stopped old new takes (hear.Refused kind offset) why behind is = halted takes why (stop.Ends (answer.InputRefused kind offset)) is behind
+takes_stopped old new takes hear.LimitEvents why behind is = halted takes why (stop.Ends answer.LimitEvents) is (λ end. behind)
+takes_stopped old new takes (hear.TooLong conn) why behind is = halted takes why (stop.Ends (answer.MessageTooLong conn)) is (λ end. behind)
+takes_stopped old new takes hear.LimitItems why behind is = halted takes why (stop.Ends answer.LimitItems) is (λ end. behind)
+takes_stopped old new takes hear.ReadFault why behind is = halted takes why (stop.Breaks answer.ReadFault) is tt
+takes_stopped old new takes hear.Memory why behind is = halted takes why (stop.Breaks answer.Memory) is tt
 
 -- and at an answer
 pub takes_ended : (takes : Bool) (why : Stop) (end : Answer) → why ≡ stop.Ends end → TakesBy {X = Unit {0}} takes (Err why) → TakesAtEnd takes end

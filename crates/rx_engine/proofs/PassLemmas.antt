@@ -15,7 +15,7 @@ use Rattle.run_history.specs.declared.answer.Answer.{Answer}
 use Rattle.session_history.specs.Passing.{AreBetween, AreInOrder}
 use Rattle.session_history.specs.Lawful.{Rules, entries_of}
 use Rattle.session_history.specs.Keeping.{AreSendable, KeepsReplies}
-use Rattle.session_history.specs.Giving.{AreDuePieces, then_entries, Passes, PassesRest}
+use Rattle.session_history.specs.Giving.{AreGiven, AreDuePieces, then_entries, Passes, PassesRest}
 use Rattle.session_history.specs.Owing.{Moment}
 use Rattle.session_history.specs.Opened.{is_gone}
 use Rattle.session_history.specs.Account.{IsBroken}
@@ -23,7 +23,7 @@ use Rattle.session_history.specs.Ends.{IsEnd, EndsBy}
 use Rattle.rx_engine.specs.declared.stop.Stop.TheVariants as stop
 use Rattle.rx_engine.specs.Sessions.{SessionState}
 use Rattle.rx_engine.specs.Standing.{Story, entries, moment, sends, then_story, IsTold, AnswersFor}
-use Rattle.rx_engine.specs.Serving.{AreGiven, IsAnswerTo, BreaksBy}
+use Rattle.rx_engine.specs.Serving.{IsAnswerTo, BreaksBy}
 use Rattle.rx_engine.proofs.PieceLemmas.{are_given, told_pieces}
 use Rattle.rx_engine.proofs.EndLemmas.{off_pieces, off_account}
 

@@ -35,15 +35,15 @@ use Rattle.session_history.specs.Heeding.{Bounds, heeded, received}
 use Rattle.session_history.specs.Opened.{opens, closes, is_gone, is_open}
 use Rattle.session_history.specs.Owing.{Moment, journal, latest, IsOwed, IsDueBy, IsPassed, OwesNothing}
 use Rattle.session_history.specs.Lawful.{Rules, is_closed_by, is_closing, Chapter, entries_of}
-use Rattle.session_history.specs.Giving.{AreDuePieces, then_entries, IsReady, IsClosing, Passes, PassesRest}
+use Rattle.session_history.specs.Giving.{AreGiven, AreDuePieces, then_entries, IsReady, IsClosing, Passes, PassesRest}
 use Rattle.session_history.specs.Serving.{moment_of, ending_at}
 use Rattle.session_history.specs.Keeping.{KeepsReplies, KeepsItems}
 use Rattle.reply_gate.proofs.MomentLemmas.{open_not_closed, due_by, due_not_gone, owed_open}
 use Rattle.reply_gate.proofs.ReplyLemmas.{nothing_waits, closed_keeps, fronts_stay}
 use Rattle.rx_engine.specs.declared.stop.Stop.{Stop}
 use Rattle.rx_engine.specs.Sessions.{SessionState}
-use Rattle.rx_engine.specs.Standing.{Story, entries, moment, sends, then_story, IsTold, HasPassed, HasPassedDue, IsCloseDone, IsWaitingFor, IsEnding}
-use Rattle.rx_engine.specs.Serving.{AreGiven, IsAnswerTo, CanGive, CanPass, PassesStory, PassesDue, StandsClosing}
+use Rattle.rx_engine.specs.Standing.{Story, entries, moment, sends, then_story, IsTold, HasPassed, HasPassedDue, IsCloseDone, IsAsking, IsWaitingFor, IsEnding}
+use Rattle.rx_engine.specs.Serving.{IsAnswerTo, CanGive, CanPass, PassesStory, PassesDue, StandsClosing}
 use Rattle.rx_engine.proofs.GivenLemmas.{done_given, closed_given, latest-given, events_in-story}
 use Rattle.rx_engine.proofs.PassLemmas.{rest_ok}
 use Rattle.rx_engine.proofs.SettleLemmas.{fronts_of, close_ready, close_done, made_by}
@@ -303,20 +303,20 @@ module _ {R : Type 0} where
   due_passed rules image began now coming story until ledger session (Err why) is passed no_trial passes = passes
 
   -- at an end all is passed
-  pub finish_ok : (rules : Rules) (image : Image) (began before now : Told) (coming later : Option Coming) (session : SessionState R) (end : Answer) (until : ℕ) (ledger : Ledger) (done : Unit {0}) (e : IsEnding rules image began before coming session end) → later ≡ coming → session.taken ≤ until
-      → Passes {E = PassFault} rules (sends e.story) (end_of e.story) until ledger before now (Ok done) → HasServed rules image began now later end session.choices session.taken session.steps
-  finish_ok rules image began before now coming later session end until ledger done e same low passes =
+  pub finish_ok : (rules : Rules) (image : Image) (began before now : Told) (coming later : Option Coming) (takes : Bool) (session : SessionState R) (end : Answer) (until : ℕ) (ledger : Ledger) (done : Unit {0}) (e : IsEnding rules image began before coming session end) → later ≡ coming → session.taken ≤ until
+      → Passes {E = PassFault} rules (sends e.story) (end_of e.story) until ledger before now (Ok done) → (takes ≡ false → IsAsking rules e.story) → HasServed rules image began now later takes end session.choices session.taken session.steps
+  finish_ok rules image began before now coming later takes session end until ledger done e same low passes asked =
       let few = e.answers.taken in
-      served_end rules image began before now coming later session end e passes.0 same passes.1 passes.2
-      (end_owes rules image began before e.story passes.0 until ledger e.told (omega (arith, low, few)) passes.1 passes.3.0 passes.3.1 e.closed)
+      served_end rules image began before now coming later takes session end e passes.0 same passes.1 passes.2
+      (end_owes rules image began before e.story passes.0 until ledger e.told (omega (arith, low, few)) passes.1 passes.3.0 passes.3.1 e.closed) asked
 
   -- or a fault comes first
-  pub finish_fault : (rules : Rules) (image : Image) (began before now : Told) (coming later : Option Coming) (session : SessionState R) (end : Answer) (until : ℕ) (ledger : Ledger) (why : PassFault) (fault : Answer) (e : IsEnding rules image began before coming session end) → later ≡ coming
-      → IsAnswerTo why fault → Passes rules (sends e.story) (end_of e.story) until ledger before now (Err why) → HasServed rules image began now later fault session.choices session.taken session.steps
-  finish_fault rules image began before now coming later session end until ledger pass_fault.WriteFault fault e same is passes =
-      served_broken rules image began before now coming later session end fault e passes.0 passes.1 same passes.2 passes.3 passes.4 (subst (EndsBy rules later (ended_account e.story passes.0 passes.1)) (sym is) tt)
-  finish_fault rules image began before now coming later session end until ledger pass_fault.Memory fault e same is passes =
-      served_broken rules image began before now coming later session end fault e passes.0 passes.1 same passes.2 passes.3 passes.4 (subst (EndsBy rules later (ended_account e.story passes.0 passes.1)) (sym is) tt)
+  pub finish_fault : (rules : Rules) (image : Image) (began before now : Told) (coming later : Option Coming) (takes : Bool) (session : SessionState R) (end : Answer) (until : ℕ) (ledger : Ledger) (why : PassFault) (fault : Answer) (e : IsEnding rules image began before coming session end) → later ≡ coming
+      → IsAnswerTo why fault → Passes rules (sends e.story) (end_of e.story) until ledger before now (Err why) → (takes ≡ false → IsAsking rules e.story) → HasServed rules image began now later takes fault session.choices session.taken session.steps
+  finish_fault rules image began before now coming later takes session end until ledger pass_fault.WriteFault fault e same is passes asked =
+      served_broken rules image began before now coming later takes session end fault e passes.0 passes.1 same passes.2 passes.3 passes.4 (subst (EndsBy rules later (ended_account e.story passes.0 passes.1)) (sym is) tt) asked
+  finish_fault rules image began before now coming later takes session end until ledger pass_fault.Memory fault e same is passes asked =
+      served_broken rules image began before now coming later takes session end fault e passes.0 passes.1 same passes.2 passes.3 passes.4 (subst (EndsBy rules later (ended_account e.story passes.0 passes.1)) (sym is) tt) asked
 
   -- a session at an end passes by what it was told
   pub ending_can : (rules : Rules) (image : Image) (began now : Told) (coming : Option Coming) (session : SessionState R) (end : Answer) → IsEnding rules image began now coming session end → CanPass session

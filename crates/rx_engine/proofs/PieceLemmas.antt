@@ -9,13 +9,12 @@ use Rattle.elf_image.specs.declared.image.Image.{Image}
 use Rattle.run_history.specs.Served.{Served}
 use Rattle.session_history.specs.Heeding.{items_in}
 use Rattle.session_history.specs.Lawful.{Rules, Survivor, Chapter, entries_of, IsDue, IsDueAt}
-use Rattle.session_history.specs.Giving.{AreDuePieces}
+use Rattle.session_history.specs.Giving.{AreDuePieces, AreGiven}
 use Rattle.session_history.specs.Serving.{moment_of, Serving}
 use Rattle.session_history.proofs.Heeding.{events_in-gave, items_in-gave}
 use Rattle.session_history.proofs.Paths.{served_same}
 use Rattle.session_history.proofs.Sessions.{serving_piece}
 use Rattle.rx_engine.specs.Standing.{Story, entries, moment, sends, then_story, IsTold}
-use Rattle.rx_engine.specs.Serving.{AreGiven}
 use Rattle.rx_engine.proofs.TellLemmas.{tells_on}
 
 -- pieces that are due are pieces
@@ -24,13 +23,6 @@ are_given rules all at [] due = tt
 are_given rules all at (entry.Gave conn bytes false ∷ more) due = are_given rules all _ more due.1
 are_given rules all at (entry.Gave conn bytes true ∷ more) due = are_given rules all _ more due.1
 are_given rules all at (entry.Took event ∷ more) due = due
-
--- they bring no event
-pub events_in-given : (before more : List Entry) → AreGiven more → events_in (before ++ more) ≡ events_in before
-events_in-given before [] given = ap events_in (append-nil before)
-events_in-given before (entry.Gave conn bytes gone ∷ more) given =
-    ap events_in (sym (append_assoc before (entry.Gave conn bytes gone ∷ []) more)) ∙ (events_in-given (before ++ entry.Gave conn bytes gone ∷ []) more given ∙ events_in-gave before conn bytes gone)
-events_in-given before (entry.Took event ∷ more) given = absurd given
 
 -- a session serves, and its survivor stands on its way
 pub record Stood (rules : Rules) (image : Image) (earlier : List Chapter) (survivor : Survivor) (since : List Entry) : Type 0 where

@@ -29,11 +29,12 @@ use Rattle.session_history.specs.Owing.{Moment, journal, latest, IsDueBy}
 use Rattle.session_history.specs.Lawful.{Rules, is_closed_by, is_closing}
 use Rattle.session_history.specs.Keeping.{KeepsReplies}
 use Rattle.session_history.specs.Hearing.{closing_of, IsHeeded, IsHeard, IsUnheeded}
-use Rattle.session_history.specs.Ends.{IsEnd, StandsAt, IsWaiting, IsLastRefused}
+use Rattle.session_history.specs.Ends.{IsEnd, StandsAt, IsWaiting, WasAsked, IsLastRefused}
 use Rattle.rx_engine.specs.Sessions.{SessionState}
-use Rattle.rx_engine.specs.Standing.{Story, entries, moment, sends, then_story, IsTold, AnswersFor, IsLatestDone, IsWaitingFor, IsEnding, IsBrokenOff}
+use Rattle.rx_engine.specs.Standing.{Story, entries, moment, sends, then_story, IsTold, AnswersFor, IsLatestDone, IsAsking, IsWaitingFor, IsEnding, IsBrokenOff}
+use Rattle.rx_engine.proofs.StoryLemmas.{still_takes}
 use Rattle.rx_engine.proofs.TellLemmas.{tells_on}
-use Rattle.rx_engine.proofs.GuestLemmas.{received_is, broken_off}
+use Rattle.rx_engine.proofs.GuestLemmas.{received_is, broken_off, broken_with}
 use Rattle.rx_engine.proofs.EventLemmas.{IsNoEnd, owes_nothing, told_event, latest-took, latest-ended}
 use Rattle.rx_engine.proofs.HearLemmas.{HasSameRun, answers_still, more_entries}
 
@@ -188,21 +189,24 @@ module _ {R : Type 0} where
   -- the link has no event there
   pub ending_stopped : (rules : Rules) (image : Image) (began before now : Told) (phases : Phases) (coming : Option Coming) (kind offset : ℕ) (old new : SessionState R) (w : IsWaitingFor rules image began before phases old)
       → received rules.bounds (entries w.hearing.story) ≤ w.hearing.story.survivor.now.state.machine.taken → Tells before now [] → HasSameRun old new → new.log ≡ old.log → new.replies ≡ old.replies
-      → IfSome coming (λ next. next ≡ Refuses kind offset) → IsEnding rules image began now coming new (answer.InputRefused kind offset)
+      → IfSome coming (λ next. next ≡ Refuses kind offset) → (ending : IsEnding rules image began now coming new (answer.InputRefused kind offset)) × IsAsking rules ending.story
   ending_stopped rules image began before now phases coming kind offset old new w all tells same log replies stops =
       let story : Story = w.hearing.story in
       let told : IsTold rules image began now story = told_nothing rules image began before now story w.hearing.told tells in
-      record {
-        story = story;
-        told = told;
-        answers = record { choices = same.choices ∙ w.hearing.answers.choices; taken = same.taken ∙ w.hearing.answers.taken; steps = same.steps ∙ w.hearing.answers.steps };
-        received_are = ap (λ (l : Log). logs.received l) log ∙ received_is rules.bounds (entries story) old.log w.hearing.goes.items;
-        replies = subst (λ (ledger : Ledger). KeepsReplies rules.bounds (entries story) None (sends story) ledger) (sym replies) w.hearing.passed.replies;
-        no_trial = ap (λ (ledger : Ledger). ledger.trial) replies ∙ w.hearing.passed.no_trial;
-        closed = λ send stands closing owed. w.hearing.passed.done send stands owed;
-        is_end = tt;
-        stands = (waits_here rules image began before phases old w all, stops);
-      }
+      let waits = waits_here rules image began before phases old w all in (
+        record {
+          story = story;
+          told = told;
+          answers = record { choices = same.choices ∙ w.hearing.answers.choices; taken = same.taken ∙ w.hearing.answers.taken; steps = same.steps ∙ w.hearing.answers.steps };
+          received_are = ap (λ (l : Log). logs.received l) log ∙ received_is rules.bounds (entries story) old.log w.hearing.goes.items;
+          replies = subst (λ (ledger : Ledger). KeepsReplies rules.bounds (entries story) None (sends story) ledger) (sym replies) w.hearing.passed.replies;
+          no_trial = ap (λ (ledger : Ledger). ledger.trial) replies ∙ w.hearing.passed.no_trial;
+          closed = λ send stands closing owed. w.hearing.passed.done send stands owed;
+          is_end = tt;
+          stands = (waits, stops);
+        },
+        (waits, owes_nothing rules story all w.due w.hearing.passed.done),
+      )
 
   -- no event could be taken
   pub off_read : (rules : Rules) (image : Image) (began before now : Told) (phases : Phases) (coming : Option Coming) (old new : SessionState R) (w : IsWaitingFor rules image began before phases old)
@@ -213,11 +217,18 @@ module _ {R : Type 0} where
       (waits_here rules image began before phases old w all, owes_nothing rules story all w.due w.hearing.passed.done, (refl, refl)) (λ is. is)
 
   -- memory ran out, before an event was taken or behind one that is heeded
-  pub off_memory : (rules : Rules) (image : Image) (began before now : Told) (phases : Phases) (coming : Option Coming) (old new : SessionState R) (w : IsWaitingFor rules image began before phases old)
-      → received rules.bounds (entries w.hearing.story) ≤ w.hearing.story.survivor.now.state.machine.taken → HasSameRun old new
-      → (Tells before now [] ⊎ ((e : LinkEvent) × Tells before now (entry.Took e ∷ []) × IsHeeded rules.bounds (entries w.hearing.story) e)) → IsBrokenOff rules image began now coming new answer.Memory
-  off_memory rules image began before now phases coming old new w all same (inl tells) =
-      broken_off rules image began now coming new w.hearing.story answer.Memory (told_nothing rules image began before now w.hearing.story w.hearing.told tells) (answers_here w.hearing.story old new same w.hearing.answers) tt (λ is. is)
-  off_memory rules image began before now phases coming old new w all same (inr took) =
-      broken_off rules image began now coming new (then_story w.hearing.story (entry.Took took.0 ∷ [])) answer.Memory
+  pub off_memory : (rules : Rules) (image : Image) (began before now : Told) (phases : Phases) (coming : Option Coming) (takes : Bool) (old new : SessionState R) (w : IsWaitingFor rules image began before phases old)
+      → received rules.bounds (entries w.hearing.story) ≤ w.hearing.story.survivor.now.state.machine.taken → HasSameRun old new → (Tells before now [] ⊎ (takes ≡ true))
+      → (Tells before now [] ⊎ ((e : LinkEvent) × Tells before now (entry.Took e ∷ []) × IsHeeded rules.bounds (entries w.hearing.story) e))
+      → (off : IsBrokenOff rules image began now coming new answer.Memory) × (takes ≡ false → WasAsked rules off.account)
+  off_memory rules image began before now phases coming takes old new w all same (inl tells) took =
+      let story : Story = w.hearing.story in
+      broken_with (λ account. takes ≡ false → WasAsked rules account) rules image began now coming new story answer.Memory (told_nothing rules image began before now story w.hearing.told tells) (answers_here story old new same w.hearing.answers) tt (λ is. is)
+      (λ none. (waits_here rules image began before phases old w all, owes_nothing rules story all w.due w.hearing.passed.done))
+  off_memory rules image began before now phases coming takes old new w all same (inr still) (inl tells) =
+      broken_with (λ account. takes ≡ false → WasAsked rules account) rules image began now coming new w.hearing.story answer.Memory (told_nothing rules image began before now w.hearing.story w.hearing.told tells) (answers_here w.hearing.story old new same w.hearing.answers) tt (λ is. is)
+      (λ none. still_takes takes _ still none)
+  off_memory rules image began before now phases coming takes old new w all same (inr still) (inr took) =
+      broken_with (λ account. takes ≡ false → WasAsked rules account) rules image began now coming new (then_story w.hearing.story (entry.Took took.0 ∷ [])) answer.Memory
       (waits_took rules image began before now phases old w took.0 all took.1 took.2.more took.2.brings) (answers_still w.hearing.story old new (entry.Took took.0 ∷ []) same w.hearing.answers) tt (λ is. is)
+      (λ none. still_takes takes _ still none)

@@ -1,5 +1,6 @@
 -- A story goes on: its survivor, or its entries.
-use Rattle.std.proofs.Common.{◌≡◌, ◌≤◌, [], ◌++◌, ap, append-nil}
+use Rattle.std.proofs.Common.{◌≡◌, ◌≤◌, Bool, true, false, [], ◌++◌, sym, ◌∙◌, ap, append-nil}
+use Rattle.std.proofs.lemmas.Bool.{true≢false}
 use Rattle.rx_io.specs.Links.{Told}
 use Rattle.elf_image.specs.declared.image.Image.{Image}
 use Rattle.run_history.specs.Served.{Path, Served}
@@ -18,6 +19,10 @@ on_story story to = record story { survivor = gone_on story.survivor to }
 -- the story as a session that was broken off where it stood
 abbrev pub account_of : Story → Session
 account_of story = record { earlier = story.earlier; survivor = story.survivor; since = story.since; ending = []; broken = [] }
+
+-- an event that may be taken still didn't fail
+pub still_takes : (takes : Bool) (P : Type 0) → takes ≡ true → takes ≡ false → P
+still_takes takes P still none = absurd (true≢false (sym still ∙ none))
 
 pub journal_of_story : (story : Story) → journal_of (account_of story) ≡ entries story
 journal_of_story story = ap (λ es. entries_of story.earlier ++ es) (append-nil story.since)

@@ -136,9 +136,9 @@ module _ {R : Type 0} where
       }) tt (λ is. is)
 
   -- by other rules that are the same
-  pub comes_under : (image : Image) (began now : Told) (phases : Phases) (coming : Option Coming) (session : SessionState R) (result : Result (Unit {0}) Stop) (first second : Rules) → first ≡ second
-      → ComesBetween first image began now phases coming session result → ComesBetween second image began now phases coming session result
-  comes_under image began now phases coming session result first second same = subst (λ rules. ComesBetween rules image began now phases coming session result) same
+  pub comes_under : (image : Image) (began now : Told) (phases : Phases) (coming : Option Coming) (takes : Bool) (session : SessionState R) (result : Result (Unit {0}) Stop) (first second : Rules) → first ≡ second
+      → ComesBetween first image began now phases coming takes session result → ComesBetween second image began now phases coming takes session result
+  comes_under image began now phases coming takes session result first second same = subst (λ rules. ComesBetween rules image began now phases coming takes session result) same
 
   pub run_under : (image : Image) (began now : Told) (phases : Phases) (happened : Event) (session : SessionState R) (first second : Rules) → first ≡ second
       → HasRun first image began now phases happened session → HasRun second image began now phases happened session

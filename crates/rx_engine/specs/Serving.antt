@@ -18,8 +18,8 @@ use Rattle.session_history.specs.Heeding.{Bounds, items_in, received}
 use Rattle.session_history.specs.Passing.{passed_in, AreInOrder}
 use Rattle.session_history.specs.Lawful.{Rules}
 use Rattle.session_history.specs.Keeping.{KeepsReplies}
-use Rattle.session_history.specs.Ends.{IsEnd}
-use Rattle.session_history.specs.Giving.{IsClosing}
+use Rattle.session_history.specs.Ends.{IsEnd, WasAsked}
+use Rattle.session_history.specs.Giving.{AreGiven, IsClosing}
 use Rattle.reply_gate.specs.declared.pass_fault.PassFault.{PassFault}
 use Rattle.reply_gate.specs.declared.pass_fault.PassFault.TheVariants as fault
 use Rattle.event_gate.specs.declared.heard.HearFault.{HearFault}
@@ -27,7 +27,7 @@ use Rattle.event_gate.specs.declared.heard.HearFault.TheVariants as hear
 use Rattle.rx_engine.specs.declared.stop.Stop.{Stop}
 use Rattle.rx_engine.specs.declared.stop.Stop.TheVariants as stop
 use Rattle.rx_engine.specs.Sessions.{SessionState, IsBegun}
-use Rattle.rx_engine.specs.Standing.{Story, entries, moment, sends, then_story, IsTold, HasPassed, HasPassedDue, IsBetween, IsWaitingFor, IsEnding, IsBrokenOff}
+use Rattle.rx_engine.specs.Standing.{Story, entries, moment, sends, then_story, IsTold, HasPassed, HasPassedDue, IsBetween, IsAsking, IsWaitingFor, IsEnding, IsBrokenOff}
 
 -- a fault of passing is this answer
 abbrev pub IsAnswerTo : PassFault → Answer → Type 0
@@ -54,12 +54,6 @@ IsStopAt (hear.TooLong conn) why = why ≡ stop.Ends (answer.MessageTooLong conn
 IsStopAt hear.LimitItems why = why ≡ stop.Ends answer.LimitItems
 IsStopAt hear.ReadFault why = why ≡ stop.Breaks answer.ReadFault
 IsStopAt hear.Memory why = why ≡ stop.Breaks answer.Memory
-
--- each of some entries is a piece
-abbrev pub AreGiven : List Entry → Type 0
-AreGiven [] = Unit {0}
-AreGiven (entry.Gave conn bytes gone ∷ more) = AreGiven more
-AreGiven (entry.Took event ∷ more) = ⊥
 
 -- a link gives, and to each connection that a ledger has as open
 pub record CanGive (gives : Bool) (gives_to : ℕ → Bool) (ledger : Ledger) : Type 0 where
@@ -141,10 +135,10 @@ module _ {R : Type 0} where
     pub ordered : AreInOrder (received bounds entries) (passed_in bounds entries)
     pub received_are : logs.received session.log ≡ received bounds entries
 
-  -- a session came to one of its ends, or was broken off
-  abbrev pub StopsBy : Rules → Image → Told → Told → Option Coming → SessionState R → Stop → Type 0
-  StopsBy rules image began now coming session (stop.Ends end) = IsEnding rules image began now coming session end
-  StopsBy rules image began now coming session (stop.Breaks end) = IsBrokenOff rules image began now coming session end
+  -- A session came to one of its ends, or was broken off. Where events may not be taken any more, one was asked for.
+  abbrev pub StopsBy : Rules → Image → Told → Told → Option Coming → Bool → SessionState R → Stop → Type 0
+  StopsBy rules image began now coming takes session (stop.Ends end) = (ending : IsEnding rules image began now coming session end) × (takes ≡ false → IsAsking rules ending.story)
+  StopsBy rules image began now coming takes session (stop.Breaks end) = (off : IsBrokenOff rules image began now coming session end) × (takes ≡ false → WasAsked rules off.account)
 
   -- it was broken off
   abbrev pub BreaksBy : Rules → Image → Told → Told → Option Coming → SessionState R → Stop → Type 0
@@ -165,14 +159,14 @@ module _ {R : Type 0} where
   PassesDue rules image began now coming story session (Err why) = BreaksBy rules image began now coming session why
 
   -- the guest still waits for an item
-  abbrev pub WaitsBy : Rules → Image → Told → Told → Phases → Option Coming → SessionState R → Result (Unit {0}) Stop → Type 0
-  WaitsBy rules image began now phases coming session (Ok done) = IsWaitingFor rules image began now phases session
-  WaitsBy rules image began now phases coming session (Err why) = StopsBy rules image began now coming session why
+  abbrev pub WaitsBy : Rules → Image → Told → Told → Phases → Option Coming → Bool → SessionState R → Result (Unit {0}) Stop → Type 0
+  WaitsBy rules image began now phases coming takes session (Ok done) = IsWaitingFor rules image began now phases session
+  WaitsBy rules image began now phases coming takes session (Err why) = StopsBy rules image began now coming takes session why
 
   -- the session stands between two events of its guest
-  abbrev pub ComesBetween : Rules → Image → Told → Told → Phases → Option Coming → SessionState R → Result (Unit {0}) Stop → Type 0
-  ComesBetween rules image began now phases coming session (Ok done) = IsBetween rules image began now phases session
-  ComesBetween rules image began now phases coming session (Err why) = StopsBy rules image began now coming session why
+  abbrev pub ComesBetween : Rules → Image → Told → Told → Phases → Option Coming → Bool → SessionState R → Result (Unit {0}) Stop → Type 0
+  ComesBetween rules image began now phases coming takes session (Ok done) = IsBetween rules image began now phases session
+  ComesBetween rules image began now phases coming takes session (Err why) = StopsBy rules image began now coming takes session why
 
   -- its guest is where it was, and so are the answers of malloc, and what it answers for
   pub record HasSameGuest (old new : SessionState R) : Type 0 where

@@ -13,12 +13,13 @@ use Rattle.guest_runs.specs.Runs.{IsBounded}
 use Rattle.session_history.specs.Heeding.{heeded, items_in, received}
 use Rattle.item_log.specs.Log as logs
 use Rattle.session_history.specs.Opened.{opens, is_open}
-use Rattle.session_history.specs.Owing.{Moment, journal, Latest, latest, received_before, Stands, IsDueBy, IsPassed}
+use Rattle.session_history.specs.Owing.{Moment, journal, Latest, latest, received_before, Stands, IsDueBy, IsPassed, OwesNothing}
 use Rattle.session_history.specs.Lawful.{Rules, Survivor, is_closing, Chapter, entries_of}
 use Rattle.session_history.specs.Account.{Session, journal_of, IsAccount}
 use Rattle.session_history.specs.Serving.{moment_of, Serving}
 use Rattle.session_history.specs.Keeping.{KeepsReplies, KeepsItems, KeepsPhases}
-use Rattle.session_history.specs.Ends.{IsEnd, StandsAt, EndsBy, IsAlone}
+use Rattle.session_history.specs.Giving.{AreGiven}
+use Rattle.session_history.specs.Ends.{IsEnd, IsWaiting, StandsAt, EndsBy, IsAlone}
 use Rattle.rx_engine.specs.Sessions.{SessionState}
 
 -- a session so far, as data: the chapters of earlier survivors, the survivor, and the entries of its time
@@ -92,6 +93,10 @@ pub record HasPassed (rules : Rules) (story : Story) (ledger : Ledger) : Type 0 
   pub no_trial : ledger.trial ≡ None
   pub done : IsLatestDone rules (moment story) (sends story)
 
+-- its guest waits for the item that is received next, and owes nothing: so an event is asked for
+abbrev pub IsAsking : Rules → Story → Type 0
+IsAsking rules story = IsWaiting rules (entries story) story.survivor × OwesNothing rules.bounds rules.hold (moment story) (sends story)
+
 module _ {R : Type 0} where
   -- a session that goes on, of which what is due may still have to be passed
   pub record IsGoing (rules : Rules) (image : Image) (began now : Told) (phases : Phases) (session : SessionState R) : Type 0 where
@@ -140,6 +145,7 @@ module _ {R : Type 0} where
     pub tells : Tells began now (journal_of account)
     pub is_account : IsAccount rules image account false
     pub ends : EndsBy rules coming account end
+    pub pieces : AreGiven account.ending
     pub no_end : IsEnd end → ⊥
     pub alone : IsAlone account
     pub choices : session.choices ≡ account.survivor.now.choices

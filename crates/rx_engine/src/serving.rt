@@ -1,5 +1,5 @@
 // A session from its begin to its end.
-ghost use Rattle.std.specs.Prelude.{◌≡◌, ◌≢◌, ℕ, ◌+◌, ◌<◌, ◌≤◌, true, Option, IfOk};
+ghost use Rattle.std.specs.Prelude.{◌≡◌, ◌≢◌, ℕ, ◌+◌, ◌<◌, ◌≤◌, true, false, Option, IfOk};
 ghost use Rattle.rx_io.specs.Links.{Told, Phases, Coming, IsFresh};
 ghost use Rattle.elf_image.specs.declared.image.Image.{Image};
 ghost use Rattle.item_log.specs.Log.{received};
@@ -8,7 +8,7 @@ ghost use Rattle.guest_cpu.specs.declared.event.Event.TheVariants as event;
 ghost use Rattle.session_history.specs.Ends.{IsEnd, HasServed};
 ghost use Rattle.rx_engine.specs.Options.{rules_of};
 ghost use Rattle.rx_engine.specs.Sessions.{IsBegun};
-ghost use Rattle.rx_engine.specs.Standing.{IsGoing, IsBetween, IsWaitingFor, IsEnding};
+ghost use Rattle.rx_engine.specs.Standing.{IsGoing, IsBetween, IsAsking, IsWaitingFor, IsEnding};
 ghost use Rattle.rx_engine.specs.Serving.{CanGive, HasStopCause, HasAnswerCause, UnlessBroken, UnlessMemory, TakesAtEnd, TakesBy, BreaksPassing, BreaksAt, BreaksOnce, StaysKnown, IsCounted, IsOkOrMemory, HasSameFrame, HasRun, StandsBetween, StandsWaiting, StandsEmitting, StandsEnding, ComesBetween, IsReadyToServe};
 
 use crate::Session;
@@ -32,7 +32,7 @@ impl<R: AccessRule> Session<R> {
         requires takes { K.takes link.old ≡ true }
         requires gives { K.gives link.old ≡ true }
         ensures served { (image : Image) → IsBegun image self.old.options self.old.cpu.rule self.old
-            → HasServed (rules_of self.old.options (R.rule self.old.cpu.rule)) image (K.told link.old) (K.told link.new) (K.coming link.new) result self.new.choices self.new.taken self.new.steps }
+            → HasServed (rules_of self.old.options (R.rule self.old.cpu.rule)) image (K.told link.old) (K.told link.new) (K.coming link.new) (K.takes link.new) result self.new.choices self.new.taken self.new.steps }
         ensures cause { HasAnswerCause (K.counts link.old) (K.counts link.new) result }
         ensures takes { TakesAtEnd (K.takes link.new) result }
         ensures gives { IsEnd result → K.gives link.new ≡ true }
@@ -55,8 +55,8 @@ impl<R: AccessRule> Session<R> {
     fn finish<K: Link>(&mut self, link: &mut K, answer: Answer) -> Answer
         requires ends { StandsEnding (rules_of self.old.options (R.rule self.old.cpu.rule)) (K.told link.old) (K.coming link.old) answer self.old }
         requires gives { CanGive (K.gives link.old) (K.gives_to link.old) self.old.replies }
-        ensures served { (image : Image) (began : Told) → IsEnding (rules_of self.old.options (R.rule self.old.cpu.rule)) image began (K.told link.old) (K.coming link.old) self.old answer
-            → HasServed (rules_of self.old.options (R.rule self.old.cpu.rule)) image began (K.told link.new) (K.coming link.new) result self.new.choices self.new.taken self.new.steps }
+        ensures served { (image : Image) (began : Told) (ending : IsEnding (rules_of self.old.options (R.rule self.old.cpu.rule)) image began (K.told link.old) (K.coming link.old) self.old answer)
+            → (K.takes link.old ≡ false → IsAsking (rules_of self.old.options (R.rule self.old.cpu.rule)) ending.story) → HasServed (rules_of self.old.options (R.rule self.old.cpu.rule)) image began (K.told link.new) (K.coming link.new) (K.takes link.new) result self.new.choices self.new.taken self.new.steps }
         ensures cause { HasAnswerCause (K.counts link.old) (K.counts link.new) result }
         ensures same { self.new ≡ record self.old { replies = self.new.replies } }
         ensures takes { TakesAtEnd (K.takes link.old) answer → TakesAtEnd (K.takes link.new) result }
@@ -78,7 +78,7 @@ impl<R: AccessRule> Session<R> {
         requires takes { K.takes link.old ≡ true }
         requires gives { CanGive (K.gives link.old) (K.gives_to link.old) self.old.replies }
         ensures turns { (image : Image) (began : Told) → IsBetween (rules_of self.old.options (R.rule self.old.cpu.rule)) image began (K.told link.old) (K.phases link.old) self.old
-            → ComesBetween (rules_of self.old.options (R.rule self.old.cpu.rule)) image began (K.told link.new) (K.phases link.new) (K.coming link.new) self.new result }
+            → ComesBetween (rules_of self.old.options (R.rule self.old.cpu.rule)) image began (K.told link.new) (K.phases link.new) (K.coming link.new) (K.takes link.new) self.new result }
         ensures frame { HasSameFrame self.old self.new }
         ensures takes { TakesBy (K.takes link.new) result }
         ensures gives { UnlessBroken result (CanGive (K.gives link.new) (K.gives_to link.new) self.new.replies) }
@@ -121,7 +121,7 @@ impl<R: AccessRule> Session<R> {
         requires gives { CanGive (K.gives link.old) (K.gives_to link.old) self.old.replies }
         requires marked { IsCounted self.old }
         ensures turns { (image : Image) (began : Told) → IsWaitingFor (rules_of self.old.options (R.rule self.old.cpu.rule)) image began (K.told link.old) (K.phases link.old) self.old
-            → ComesBetween (rules_of self.old.options (R.rule self.old.cpu.rule)) image began (K.told link.new) (K.phases link.new) (K.coming link.new) self.new result }
+            → ComesBetween (rules_of self.old.options (R.rule self.old.cpu.rule)) image began (K.told link.new) (K.phases link.new) (K.coming link.new) (K.takes link.new) self.new result }
         ensures frame { HasSameFrame self.old self.new }
         ensures takes { TakesBy (K.takes link.new) result }
         ensures gives { UnlessBroken result (CanGive (K.gives link.new) (K.gives_to link.new) self.new.replies) }
@@ -161,7 +161,7 @@ impl<R: AccessRule> Session<R> {
         requires emits { StandsEmitting (rules_of self.old.options (R.rule self.old.cpu.rule)) (K.told link.old) (K.phases link.old) conn bytes self.old }
         requires gives { CanGive (K.gives link.old) (K.gives_to link.old) self.old.replies }
         ensures turns { (image : Image) (began : Told) → HasRun (rules_of self.old.options (R.rule self.old.cpu.rule)) image began (K.told link.old) (K.phases link.old) (event.Emits conn bytes) self.old
-            → ComesBetween (rules_of self.old.options (R.rule self.old.cpu.rule)) image began (K.told link.new) (K.phases link.new) (K.coming link.new) self.new result }
+            → ComesBetween (rules_of self.old.options (R.rule self.old.cpu.rule)) image began (K.told link.new) (K.phases link.new) (K.coming link.new) true self.new result }
         ensures options { self.new.options ≡ self.old.options }
         ensures cpu { self.new.cpu ≡ self.old.cpu }
         ensures takes { K.takes link.new ≡ K.takes link.old }
@@ -183,7 +183,7 @@ impl<R: AccessRule> Session<R> {
     // Malloc was answered.
     fn choose(&mut self, choice: Choice) -> Result<(), Stop>
         ensures turns { (image : Image) (began now : Told) (phases : Phases) (coming : Option Coming) → HasRun (rules_of self.old.options (R.rule self.old.cpu.rule)) image began now phases (event.Chooses choice) self.old
-            → ComesBetween (rules_of self.old.options (R.rule self.old.cpu.rule)) image began now phases coming self.new result }
+            → ComesBetween (rules_of self.old.options (R.rule self.old.cpu.rule)) image began now phases coming true self.new result }
         ensures options { self.new.options ≡ self.old.options }
         ensures cpu { self.new.cpu ≡ self.old.cpu }
         ensures replies { self.new.replies ≡ self.old.replies }

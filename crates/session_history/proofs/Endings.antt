@@ -4,20 +4,25 @@ use Rattle.std.proofs.lemmas.Bool.{eqb-true}
 use Rattle.rx_io.specs.declared.bytes.Item.{Item}
 use Rattle.rx_io.specs.declared.journal.Entry.{Entry}
 use Rattle.rx_io.specs.declared.journal.Entry.TheVariants as entry
+use Rattle.rx_io.specs.Links.{events_in}
 use Rattle.rx_io.specs.Prefix.{Prefix}
 use Rattle.rx_io.specs.Sends.{Send, sent_to}
 use Rattle.elf_image.specs.declared.image.Image.{Image}
+use Rattle.item_log.specs.Heard.{items_of}
+use Rattle.run_history.specs.Run.{output}
 use Rattle.run_history.specs.Served.{Served, origin}
 use Rattle.run_history.proofs.Outputs.{sent_to-more}
-use Rattle.session_history.specs.Heeding.{items_in}
-use Rattle.session_history.specs.Owing.{Stands, OwesNothing}
+use Rattle.session_history.specs.Heeding.{Bounds, heeded, items_in}
+use Rattle.session_history.specs.Owing.{Moment, Stands, OwesNothing}
 use Rattle.session_history.specs.Passing.{passed_in}
 use Rattle.session_history.specs.Opened.{is_open}
 use Rattle.session_history.specs.Lawful.{Rules, Survivor, IsDue, AreDue, AreLawful, Chapter, entries_of, IsDuePiece}
-use Rattle.session_history.specs.Account.{Session, journal_of, IsAccount, HasPassedAll}
+use Rattle.session_history.specs.Account.{Session, journal_of, IsBroken, IsAccount, HasPassedAll}
+use Rattle.session_history.specs.Giving.{AreGiven}
+use Rattle.session_history.specs.Ends.{before_end}
 use Rattle.session_history.specs.Serving.{Carries, moment_of, Serving, ending_at, Ending}
 use Rattle.session_history.proofs.Paths.{served_same, served_on}
-use Rattle.session_history.proofs.Heeding.{items_in-gave}
+use Rattle.session_history.proofs.Heeding.{events_in-gave, items_in-gave}
 use Rattle.session_history.proofs.Accounts.{carries_piece, carries_run}
 use Rattle.session_history.proofs.Due.{are_due_then}
 use Rattle.session_history.proofs.Sessions.{piece_due}
@@ -125,13 +130,38 @@ all_passed conn sends front (send ∷ back) passed split each was =
     of false is = subst (λ bytes. Prefix bytes passed) (sym (sent_to-more conn front send ∙ ap (λ (b : Bool). sent_to conn front ++ cond b send.bytes []) is ∙ append-nil (sent_to conn front))) was
 
 -- a session at its end that owes nothing has passed all that its connections still open are sent
-pub passed_all : (rules : Rules) (image : Image) (session : Session) → IsAccount rules image session true
+pub passed_all : (rules : Rules) (image : Image) (session : Session) → ((conn : ℕ) → Prefix (sent_to conn (passed_in rules.bounds (journal_of session))) (output session.survivor.now.state conn))
     → OwesNothing rules.bounds rules.hold (record { start = entries_of session.earlier; since = session.since ++ (session.ending ++ session.broken); at_end = true }) session.survivor.now.state.sends → HasPassedAll rules session
-passed_all rules image session account owes conn is_opened =
+passed_all rules image session fronts owes conn is_opened =
     let sends : List Send = session.survivor.now.state.sends in
     let passed : List ℕ = sent_to conn (passed_in rules.bounds (journal_of session)) in
-    fronts_same passed (sent_to conn sends) (account.passed conn)
+    fronts_same passed (sent_to conn sends) (fronts conn)
     (all_passed conn sends [] sends passed refl
     (λ send stands is.
     subst (λ c. Prefix (sent_to c (stands.earlier ++ send ∷ [])) (sent_to c (passed_in rules.bounds (journal_of session)))) is
     (owes send stands (inl (subst (λ c. is_open rules.bounds (journal_of session) c ≡ true) (sym is) is_opened, inr refl)))) (passed, refl))
+
+-- pieces bring no event
+pub events_in-given : (before more : List Entry) → AreGiven more → events_in (before ++ more) ≡ events_in before
+events_in-given before [] given = ap events_in (append-nil before)
+events_in-given before (entry.Gave conn bytes gone ∷ more) given =
+    ap events_in (sym (append_assoc before (entry.Gave conn bytes gone ∷ []) more)) ∙ (events_in-given (before ++ entry.Gave conn bytes gone ∷ []) more given ∙ events_in-gave before conn bytes gone)
+events_in-given before (entry.Took event ∷ more) given = absurd given
+
+-- a piece that was broken off is one
+pub given_broken : (rules : Rules) (sends : List Send) (moment : Moment) (broken : List Entry) → IsBroken rules sends moment broken → AreGiven broken
+given_broken rules sends moment [] part = tt
+given_broken rules sends moment (entry.Gave conn bytes false ∷ []) part = tt
+given_broken rules sends moment (entry.Gave conn bytes true ∷ []) part = absurd part
+given_broken rules sends moment (entry.Gave conn bytes false ∷ next ∷ rest) part = absurd part
+given_broken rules sends moment (entry.Gave conn bytes true ∷ next ∷ rest) part = absurd part
+given_broken rules sends moment (entry.Took event ∷ rest) part = absurd part
+
+-- a session that passes pieces alone at its end has received all of its items before
+pub received_at_end : (bounds : Bounds) (session : Session) → AreGiven session.ending → AreGiven session.broken → items_in bounds (journal_of session) ≡ items_in bounds (before_end session)
+received_at_end bounds session ending broken =
+    let before : List Entry = before_end session in
+    let whole : journal_of session ≡ (before ++ session.ending) ++ session.broken =
+    sym (append_assoc (entries_of session.earlier) session.since (session.ending ++ session.broken)) ∙ sym (append_assoc before session.ending session.broken) in
+    ap (λ es. items_of bounds.framing (heeded bounds es))
+    (ap events_in whole ∙ (events_in-given (before ++ session.ending) session.broken broken ∙ events_in-given before session.ending ending))

@@ -16,6 +16,7 @@ use Rattle.session_history.specs.Heeding as unheeded
 use Rattle.session_history.specs.Owing.{OwesNothing}
 use Rattle.session_history.specs.Lawful.{Rules, Survivor, entries_of}
 use Rattle.session_history.specs.Account.{Session, journal_of, after_since, after_ending, IsAccount}
+use Rattle.session_history.specs.Giving.{AreGiven}
 
 -- an end of a session, without fault or want of memory
 abbrev pub IsEnd : Answer → Type 0
@@ -72,6 +73,10 @@ OwesNothingBefore rules session = OwesNothing rules.bounds rules.hold (after_sin
 abbrev pub OwesNothingAtEnd : Rules → Session → Type 0
 OwesNothingAtEnd rules session = OwesNothing rules.bounds rules.hold (after_ending session true) session.survivor.now.state.sends
 
+-- the survivor stands at its request for the item that is received next, and owed nothing before: so an event was asked for
+abbrev pub WasAsked : Rules → Session → Type 0
+WasAsked rules session = IsWaiting rules (before_end session) session.survivor × OwesNothingBefore rules session
+
 -- no piece is passed behind the journal, and none is broken off
 abbrev pub HasNoEnding : Session → Type 0
 HasNoEnding session = (session.ending ≡ []) × (session.broken ≡ [])
@@ -89,9 +94,10 @@ pub record IsAlone (session : Session) : Type 0 where
   pub first : session.earlier ≡ []
   pub plain : session.survivor.plan ≡ []
 
--- What a session leaves at each answer, by what its link told before and after, and by its counts: one account of it, with one survivor;
--- where pieces were passed as at an end, the cause of that end; and what stands behind the answer.
-pub record HasServed (rules : Rules) (image : Image) (began now : Told) (coming : Option Coming) (end : Answer) (choices : List Choice) (taken steps : ℕ) : Type 0 where
+-- What a session leaves at each answer, by what its link told before and after, by whether events may still be taken there, and by its
+-- counts: one account of it, with one survivor; where pieces were passed as at an end, the cause of that end; and what stands behind the
+-- answer. At an end pieces alone are passed. And where no event may be taken any more, the take that failed was asked for.
+pub record HasServed (rules : Rules) (image : Image) (began now : Told) (coming : Option Coming) (takes : Bool) (end : Answer) (choices : List Choice) (taken steps : ℕ) : Type 0 where
   pub session : Session
   pub at_end : Bool
   pub tells : Tells began now (journal_of session)
@@ -99,6 +105,8 @@ pub record HasServed (rules : Rules) (image : Image) (began now : Told) (coming 
   pub alone : IsAlone session
   pub comes : at_end ≡ true → HasCome rules coming session
   pub ends : EndsBy rules coming session end
+  pub pieces : AreGiven session.ending
+  pub asked : takes ≡ false → WasAsked rules session
   pub choices_are : session.survivor.now.choices ≡ choices
   pub taken_is : session.survivor.now.state.machine.taken ≡ taken
   pub steps_are : session.survivor.now.steps ≡ steps

@@ -16,6 +16,12 @@ use Rattle.session_history.specs.Lawful.{Rules, is_closing, IsDuePiece, IsWholeP
 use Rattle.session_history.specs.Account.{IsBroken}
 use Rattle.session_history.specs.Keeping.{KeepsReplies}
 
+-- each of some entries is a piece
+abbrev pub AreGiven : List Entry → Type 0
+AreGiven [] = Unit {0}
+AreGiven (entry.Gave conn bytes gone ∷ more) = AreGiven more
+AreGiven (entry.Took event ∷ more) = ⊥
+
 -- each of some entries is a piece that is due at its moment: all of what is left of its send, or a part where the connection is gone
 abbrev pub AreDuePieces : Rules → List Send → Moment → List Entry → Type 0
 AreDuePieces rules sends moment [] = Unit {0}

@@ -1,5 +1,5 @@
 -- What a trunk's session took, by what its link told.
-use Rattle.std.proofs.Common.{◌≡◌, ℕ, ◌+◌, ◌-◌, ◌^◌, ◌<◌, Bool, true, false, List, [], ◌∷◌, ◌++◌, length, Option, None, Some, IfSome, if◌then◌else◌, arith, append_assoc, append-nil, length-append, refl, sym, ap, ◌∙◌, inl, inr}
+use Rattle.std.proofs.Common.{◌≡◌, ◌≢◌, ℕ, ◌+◌, ◌-◌, ◌^◌, ◌<◌, Bool, true, false, List, [], ◌∷◌, ◌++◌, length, Option, None, Some, IfSome, if◌then◌else◌, arith, append_assoc, append-nil, length-append, refl, sym, ap, ◌∙◌, inl, inr}
 use Rattle.std.proofs.Math.Path.{fun_ext}
 use Rattle.std.proofs.Math.Seq.{drop-length}
 use Rattle.rx_io.specs.Links.{Phases, phases_after, Refuses, Grew}
@@ -62,6 +62,11 @@ Countable source = IfSome source (λ stream. length stream.taken + length stream
 -- what was taken is short enough to be counted
 pub few_taken : (old new : Stream) (bytes : List ℕ) → Took (Some old) (Some new) bytes → Countable (Some new) → length bytes < 2 ^ 64 - 1
 few_taken old new bytes took few = omega (arith, ap length took.0, length-append old.taken bytes)
+
+-- a tail is taken by a take that failed
+pub tail_asked : (phases : Phases) (drained : Type 0) (at : ℕ) (takes : Bool) (refused : Option Refusal) (tail : List ℕ) → IsTail phases drained at takes refused tail → tail ≢ [] → takes ≡ false
+tail_asked phases drained at true refused tail is some = absurd (some is)
+tail_asked phases drained at false refused tail is some = refl
 
 -- the events that are told are those whose frames were taken
 pub events_told : (old : Stream) (new : Option Stream) (took : ℕ) (phases : Phases) (takes : Bool) (list went : List LinkEvent) (whole tail : List ℕ) → Countable new → Took (Some old) new (whole ++ tail)

@@ -12,7 +12,7 @@ use Rattle.elf_image.specs.declared.image.Image.{Image}
 use Rattle.run_history.specs.declared.answer.Answer.{Answer}
 use Rattle.run_history.specs.declared.answer.Answer.TheVariants as answer
 use Rattle.session_history.specs.Account.{Session, journal_of}
-use Rattle.session_history.specs.Ends.{IsEnd, EndsBy, HasServed}
+use Rattle.session_history.specs.Ends.{IsEnd, EndsBy, WasAsked, HasServed}
 use Rattle.session_history.specs.Heeding.{Bounds}
 use Rattle.session_history.specs.Lawful.{Rules}
 use Rattle.rx_engine.specs.Serving.{StaysKnown, TakesAtEnd, BreaksAt}
@@ -23,7 +23,7 @@ use Rattle.trunk_wire.specs.Pieces.{fresh}
 use Rattle.trunk_wire.specs.Tellings.{told_events, told_pieces, told_coming, trunk_told, told_nothing}
 use Rattle.trunk_session.specs.Trunk.{TookTrunk, TakesTrunk, StopsTrunk, WritesTrunk, WritesWhole, TakesNoPart, BreaksTrunk, Carries}
 use Rattle.trunk_session.specs.Serving.{IsOfSession, ServesTrunk}
-use Rattle.trunk_session.proofs.ReadLemmas.{Countable, tail_none, events_told, stands_behind}
+use Rattle.trunk_session.proofs.ReadLemmas.{Countable, tail_none, tail_asked, events_told, stands_behind}
 use Rattle.trunk_session.proofs.StopLemmas.{HasTaken, stops_at, took_no_part}
 use Rattle.trunk_session.proofs.WriteLemmas.{Short, wrote_trunk, wrote_frames, carried}
 
@@ -49,23 +49,24 @@ has_taken old new before list told is_fresh none few went grew =
     let found : HasTaken new before went.events = record { whole = went.whole; tail = went.tail; order = order; are = went.are; took = read; count = count; phases = next; is_tail = tail } in
     subst (λ events. HasTaken new before events) same found
 
-took_trunk : (new : Intake) (before : Stream) (list : List LinkEvent) → Countable new.told → HasTaken new before list → TookTrunk (Some before) new.told list (upcoming new)
-took_trunk new before list few taken = record {
+took_trunk : (new : Intake) (before : Stream) (list : List LinkEvent) (Asked : Type 0) → Countable new.told → HasTaken new before list → (new.takes ≡ false → Asked) → TookTrunk (Some before) new.told list (upcoming new) Asked
+took_trunk new before list Asked few taken asked = record {
   whole = taken.whole;
   tail = taken.tail;
   order = taken.order;
   are = taken.are;
   took = taken.took;
   behind = stands_behind list before new.told new.took new.phases new.takes new.refused taken.whole taken.tail few taken.took taken.count taken.phases taken.is_tail;
+  asked = λ some. asked (tail_asked (phases_behind list fresh) (IsDrained new.told) (count_after 0 (length taken.whole)) new.takes new.refused taken.tail taken.is_tail some);
 }
 
-takes_trunk : (old new : Intake) (list : List LinkEvent) → IsFresh old.phases → old.took ≡ 0 → Countable new.told → TookFrames old new
-    → Grew (option_map (λ _. []) old.told) (told_events new.told new.took new.phases new.takes) list → TakesTrunk old.told new.told list (upcoming new)
-takes_trunk old new list is_fresh none few went grew = by_told old.told refl grew
+takes_trunk : (old new : Intake) (list : List LinkEvent) (Asked : Type 0) → (new.takes ≡ false → Asked) → IsFresh old.phases → old.took ≡ 0 → Countable new.told → TookFrames old new
+    → Grew (option_map (λ _. []) old.told) (told_events new.told new.took new.phases new.takes) list → TakesTrunk old.told new.told list (upcoming new) Asked
+takes_trunk old new list Asked asked is_fresh none few went grew = by_told old.told refl grew
   where
-    by_told : (before : Option Stream) → old.told ≡ before → Grew (option_map (λ _. []) before) (told_events new.told new.took new.phases new.takes) list → TakesTrunk before new.told list (upcoming new)
+    by_told : (before : Option Stream) → old.told ≡ before → Grew (option_map (λ _. []) before) (told_events new.told new.took new.phases new.takes) list → TakesTrunk before new.told list (upcoming new) Asked
     by_told None told grew = tt
-    by_told (Some before) told grew = took_trunk new before list few (has_taken old new before list told is_fresh none few went grew)
+    by_told (Some before) told grew = took_trunk new before list Asked few (has_taken old new before list told is_fresh none few went grew) asked
 
 -- what comes was told at the start, where the source tells its bytes
 known_still : (old : Intake) (before : Stream) (next : Option Coming) → old.told ≡ Some before → old.takes ≡ true → StaysKnown (upcoming old) next → IsSome next
@@ -143,7 +144,7 @@ breaks_trunk old new out later events pieces _ no_part whole once = tt
 pub serves : (rules : Rules) (image : Image) (old new : Intake) (out later : Output) (began : Told) (end : Answer) (choices : List Choice) (taken steps : ℕ) → IsFresh old.phases → old.took ≡ 0 → out.wrote ≡ 0
     → old.takes ≡ true → out.gives ≡ true → Countable new.told → Short later.told → began ≡ told_nothing old.told out.told → TakesOn old.takes old new → GivesOn out.gives out later
     → TakesAtEnd new.takes end → (IsEnd end → later.gives ≡ true) → (IsEnd end → StaysKnown (upcoming old) (upcoming new)) → BreaksAt (upcoming old) (upcoming new) later.gives end
-    → HasServed rules image began (trunk_told (told_events new.told new.took new.phases new.takes) (told_pieces later.told later.wrote later.gives)) (upcoming new) end choices taken steps
+    → HasServed rules image began (trunk_told (told_events new.told new.took new.phases new.takes) (told_pieces later.told later.wrote later.gives)) (upcoming new) new.takes end choices taken steps
     → ServesTrunk rules image old.told new.told out.told later.told end choices taken steps
 serves rules image old new out later began end choices taken steps is_fresh none nothing takes gives few short start taken_on given_on still gives_still known once served =
     let went : TookFrames old new = subst (λ b. TakesOn b old new) takes taken_on in
@@ -157,10 +158,11 @@ serves rules image old new out later began end choices taken steps is_fresh none
       alone = served.alone;
       comes = served.comes;
       ends = served.ends;
+      pieces = served.pieces;
       choices_are = served.choices_are;
       taken_is = served.taken_is;
       steps_are = served.steps_are;
-      took = takes_trunk old new (events_in (journal_of served.session)) is_fresh none few went events;
+      took = takes_trunk old new (events_in (journal_of served.session)) (WasAsked rules served.session) served.asked is_fresh none few went events;
       stops = stops_trunk rules served.session old new (events_in (journal_of served.session)) end is_fresh none takes few went events still known served.ends;
       wrote = writes_trunk out later (pieces_in (journal_of served.session)) nothing short wrote pieces;
       wrote_whole = λ is. writes_whole out later (pieces_in (journal_of served.session)) nothing short wrote (gives_still is) pieces;

@@ -7,7 +7,8 @@ use Rattle.elf_image.specs.declared.image.Image.{Image}
 use Rattle.run_history.specs.declared.answer.Answer.{Answer}
 use Rattle.run_history.specs.declared.answer.Answer.TheVariants as answer
 use Rattle.session_history.specs.Account.{Session, journal_of, IsAccount}
-use Rattle.session_history.specs.Ends.{IsEnd, IsAlone, HasCome, EndsBy}
+use Rattle.session_history.specs.Ends.{IsEnd, IsAlone, HasCome, EndsBy, WasAsked}
+use Rattle.session_history.specs.Giving.{AreGiven}
 use Rattle.session_history.specs.Lawful.{Rules}
 use Rattle.trunk_session.specs.Trunk.{TakesTrunk, StopsTrunk, WritesTrunk, WritesWhole, BreaksTrunk, Carries}
 
@@ -20,8 +21,9 @@ IsOfSession end = IsEnd end
 
 -- What a session leaves that served a trunk over a source and a sink: one account of it, with one survivor, what stands behind its
 -- answer, and its counts. The bytes that the source lost are the frames of the account's events, and at an end no more than its answer
--- says. Those that the sink gained are the frames of its pieces, of which a last one may be cut, but not at an end; and for each
--- connection they carry what the account says was passed to it. A frame was broken off on one side at most.
+-- says; a part of a frame behind them was asked for. Those that the sink gained are the frames of its pieces, of which a last one may be
+-- cut, but not at an end; and for each connection they carry what the account says was passed to it. A frame was broken off on one
+-- side at most.
 pub record ServesTrunk (rules : Rules) (image : Image) (source source_later : Option Stream) (sink sink_later : Option (List ℕ)) (end : Answer) (choices : List Choice) (taken steps : ℕ) : Type 0 where
   pub session : Session
   pub at_end : Bool
@@ -30,10 +32,11 @@ pub record ServesTrunk (rules : Rules) (image : Image) (source source_later : Op
   pub alone : IsAlone session
   pub comes : at_end ≡ true → HasCome rules coming session
   pub ends : EndsBy rules coming session end
+  pub pieces : AreGiven session.ending
   pub choices_are : session.survivor.now.choices ≡ choices
   pub taken_is : session.survivor.now.state.machine.taken ≡ taken
   pub steps_are : session.survivor.now.steps ≡ steps
-  pub took : TakesTrunk source source_later (events_in (journal_of session)) coming
+  pub took : TakesTrunk source source_later (events_in (journal_of session)) coming (WasAsked rules session)
   pub stops : StopsTrunk source source_later (events_in (journal_of session)) end
   pub wrote : WritesTrunk sink sink_later (pieces_in (journal_of session))
   pub wrote_whole : IsEnd end → WritesWhole sink sink_later (pieces_in (journal_of session))

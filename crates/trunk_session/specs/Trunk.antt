@@ -1,5 +1,5 @@
 -- What a session that served a trunk took from the source and wrote to the sink.
-use Rattle.std.specs.Prelude.{◌≡◌, ◌⊎◌, ℕ, List, [], ◌++◌, All, length, drop, Option, None, Some, IfSome}
+use Rattle.std.specs.Prelude.{◌≡◌, ◌≢◌, ◌⊎◌, ℕ, List, [], ◌++◌, All, length, drop, Option, None, Some, IfSome}
 use Rattle.std.specs.Io.KnownBytes.{Appends}
 use Rattle.rx_io.specs.Links.{Phases, Coming, Refuses, Piece, pieces_in, cut_entries}
 use Rattle.rx_io.specs.Outside.{Stream, Took, IsDrained}
@@ -24,19 +24,20 @@ abbrev pub IsBehind : Phases → ℕ → Option Stream → List ℕ → Option C
 IsBehind phases at source tail coming = ((tail ≡ []) × IfSome source (λ stream. coming ≡ Some (event_at phases at stream.left)))
     ⊎ (((front phases tail ≡ Part) × (coming ≡ None)) ⊎ ((kind : ℕ) × IsRefused phases (IsDrained source) kind tail × (coming ≡ Some (Refuses kind at))))
 
--- the frames of these events were taken, and a tail behind them
-pub record TookTrunk (old new : Option Stream) (events : List LinkEvent) (coming : Option Coming) : Type 0 where
+-- The frames of these events were taken, and a tail behind them. No byte of a tail is taken unless a next event was asked for.
+pub record TookTrunk (old new : Option Stream) (events : List LinkEvent) (coming : Option Coming) (Asked : Type 0) : Type 0 where
   pub whole : List ℕ
   pub tail : List ℕ
   pub order : AreInOrder fresh events
   pub are : AreFramesOf events whole
   pub took : Took old new (whole ++ tail)
   pub behind : IsBehind (phases_behind events fresh) (length whole) new tail coming
+  pub asked : tail ≢ [] → Asked
 
 -- where the source tells its bytes
-abbrev pub TakesTrunk : Option Stream → Option Stream → List LinkEvent → Option Coming → Type 0
-TakesTrunk None new events coming = Unit {0}
-TakesTrunk (Some old) new events coming = TookTrunk (Some old) new events coming
+abbrev pub TakesTrunk : Option Stream → Option Stream → List LinkEvent → Option Coming → Type 0 → Type 0
+TakesTrunk None new events coming Asked = Unit {0}
+TakesTrunk (Some old) new events coming Asked = TookTrunk (Some old) new events coming Asked
 
 -- the frames of these events were taken, and no byte more
 pub record TookWhole (old new : Option Stream) (events : List LinkEvent) : Type 0 where

@@ -75,8 +75,8 @@ returns-in-Err-clause-coming g c = fault_comes_on c.in-Err.fault (g.K.Link.comin
 
 pub returns-in-Ok-clause-takes : goal.returns-in-Ok-clause-takes
 returns-in-Ok-clause-takes g c =
-    takes_behind c.in-Ok.event c.args.log.now c.take_or_end.new.log c.args.replies.now c.take_or_end.new.replies c.args.events.now c.take_or_end.new.events c.args.max_events (g.K.Link.takes c.next.new.self) c.take_or_end.result
+    takes_behind c.in-Ok.event c.args.log.now c.take_or_end.new.log c.args.replies.now c.take_or_end.new.replies c.args.events.now c.take_or_end.new.events c.args.max_events (g.K.Link.told c.args.link.now) (g.K.Link.told c.next.new.self) (g.K.Link.takes c.next.new.self) c.take_or_end.result
     c.in-Ok.ensures.takes c.take_or_end.ensures
 
 pub returns-in-Err-clause-takes : goal.returns-in-Err-clause-takes
-returns-in-Err-clause-takes g c = fault_takes c.in-Err.fault (g.K.Link.takes c.next.new.self) c.fault_of.result c.fault_of.ensures c.in-Err.ensures.takes
+returns-in-Err-clause-takes g c = fault_takes c.in-Err.fault (g.K.Link.told c.args.link.now) (g.K.Link.told c.next.new.self) (g.K.Link.takes c.next.new.self) c.fault_of.result c.fault_of.ensures c.in-Err.ensures.told c.in-Err.ensures.takes

@@ -30,8 +30,8 @@ returns-clause-turns g c image began w =
     let waits = subst (λ rules. IsWaitingFor rules image began (g.K.Link.told c.await_item.new.link) (g.K.Link.phases c.await_item.new.link) c.await_item.new.self) (sym same) (c.in_default.ensures.hears image began w) in
     let going = subst (λ rules. IsGoing rules image began (g.K.Link.told c.await_item.new.link) (g.K.Link.phases c.await_item.new.link) c.take.new.self) same (c.take.ensures.going image began _ _ waits) in
     let hold = sym (ap (λ (o : Options). o.hold) (c.take.ensures.frame.options ∙ c.await_item.ensures.same.options)) in
-    comes_between rules image began (g.K.Link.told c.await_item.new.link) (g.K.Link.told c.pass_due.new.link) (g.K.Link.phases c.await_item.new.link) (g.K.Link.phases c.pass_due.new.link) (g.K.Link.coming c.pass_due.new.link)
-    c.take.new.self c.pass_due.new.self going c.pass_due.result c.pass_due.ensures.same c.pass_due.ensures.only.phases
+    comes_between rules image began (g.K.Link.told c.await_item.new.link) (g.K.Link.told c.pass_due.new.link) (g.K.Link.phases c.await_item.new.link) (g.K.Link.phases c.pass_due.new.link) (g.K.Link.coming c.pass_due.new.link) (g.K.Link.takes c.pass_due.new.link)
+    c.take.new.self c.pass_due.new.self going c.pass_due.result c.pass_due.ensures.same c.pass_due.ensures.only.phases (c.pass_due.ensures.only.takes_still ∙ c.in_default.ensures.takes)
     (c.pass_due.ensures.passes rules image began going.story hold going.told going.answers (received_is rules.bounds (entries going.story) c.take.new.self.log going.goes.items) going.passed)
 
 pub returns-clause-gives : goal.returns-clause-gives

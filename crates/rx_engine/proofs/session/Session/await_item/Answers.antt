@@ -35,7 +35,7 @@ returns-in-Err-clause-hears g c image began waits =
     let here : Rules = rules_of c.waits.self.options (g.R.AccessRule.rule c.waits.self.cpu.rule) in
     let rules : Rules = rules_of c.args.self.now.options (g.R.AccessRule.rule c.args.self.now.cpu.rule) in
     let same = same_rules g.R.AccessRule.rule c.args.self.now c.waits.self c.waits.invariant.same in
-    stops_under image began (g.K.Link.told c.hear.new.link) (g.K.Link.coming c.hear.new.link) c.hear.new.self c.in-Err.stop here rules same
+    stops_under image began (g.K.Link.told c.hear.new.link) (g.K.Link.coming c.hear.new.link) (g.K.Link.takes c.hear.new.link) c.hear.new.self c.in-Err.stop here rules same
     (c.in-Err.ensures.hears image began (waits_under rules here (sym same) (c.waits.invariant.hears image began waits)))
 
 pub returns-in-Err-clause-same : goal.returns-in-Err-clause-same

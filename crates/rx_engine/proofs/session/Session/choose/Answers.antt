@@ -1,14 +1,17 @@
-use Rattle.std.proofs.Common.{[], ◌∷◌, ◌++◌, refl, sym, ◌∙◌, ap, subst}
+use Rattle.std.proofs.Common.{true, [], ◌∷◌, ◌++◌, refl, sym, ◌∙◌, ap, subst}
 use Rattle.rx_engine.specs.Options.{rules_of}
 use Rattle.rx_engine.specs.Sessions.{SessionState}
 use Rattle.rx_engine.specs.Standing.{IsBetween}
+use Rattle.rx_engine.proofs.StoryLemmas.{still_takes}
 use Rattle.rx_engine.proofs.ServeLemmas.{run_breaks, run_chooses}
 use Rattle.rx_engine.proofs.session.Session.choose.Goals as goal
 
 pub returns-in-Err-clause-turns : goal.returns-in-Err-clause-turns
-returns-in-Err-clause-turns g c image began now phases coming h =
-    run_breaks _ image began now phases coming _ c.args.self.now _ h (c.in-Err.ensures.items ∙ ap (λ (s : SessionState _). s.choices) c.self.view_is) (ap (λ (s : SessionState _). s.taken) c.self.view_is)
-    (ap (λ (s : SessionState _). s.steps) c.self.view_is)
+returns-in-Err-clause-turns g c image began now phases coming h = (
+  run_breaks _ image began now phases coming _ c.args.self.now _ h (c.in-Err.ensures.items ∙ ap (λ (s : SessionState _). s.choices) c.self.view_is) (ap (λ (s : SessionState _). s.taken) c.self.view_is)
+      (ap (λ (s : SessionState _). s.steps) c.self.view_is),
+  λ none. still_takes true _ refl none,
+)
 
 pub returns-clause-turns : goal.returns-clause-turns
 returns-clause-turns g c image began now phases coming h =

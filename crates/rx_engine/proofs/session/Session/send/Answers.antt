@@ -1,4 +1,4 @@
-use Rattle.std.proofs.Common.{sym, ◌∙◌, ap, subst}
+use Rattle.std.proofs.Common.{true, refl, sym, ◌∙◌, ap, subst}
 use Rattle.reply_ledger.specs.Ledger.{NotBefore, times_of}
 use Rattle.rx_engine.specs.Options.{rules_of}
 use Rattle.rx_engine.specs.Sessions.{SessionState}
@@ -6,6 +6,7 @@ use Rattle.rx_engine.specs.Standing.{entries}
 use Rattle.rx_engine.proofs.GuestLemmas.{received_is}
 use Rattle.rx_engine.proofs.NeedLemmas.{emits_later, going_can, sent_going}
 use Rattle.rx_engine.proofs.DueLemmas.{comes_between, unless_due}
+use Rattle.rx_engine.proofs.StoryLemmas.{still_takes}
 use Rattle.rx_engine.proofs.ServeLemmas.{run_breaks}
 use Rattle.rx_engine.proofs.session.Session.send.Goals as goal
 
@@ -15,7 +16,7 @@ sent-requires-clause-later g c =
 
 pub returns-in-Err-clause-turns : goal.returns-in-Err-clause-turns
 returns-in-Err-clause-turns g c image began h =
-    run_breaks _ image began _ _ _ _ c.args.self.now _ h (ap (λ (s : SessionState _). s.choices) c.self.view_is) (ap (λ (s : SessionState _). s.taken) c.self.view_is) (ap (λ (s : SessionState _). s.steps) c.self.view_is)
+    (run_breaks _ image began _ _ _ _ c.args.self.now _ h (ap (λ (s : SessionState _). s.choices) c.self.view_is) (ap (λ (s : SessionState _). s.taken) c.self.view_is) (ap (λ (s : SessionState _). s.steps) c.self.view_is), λ none. still_takes true _ refl none)
 
 pub pass_due-requires-clause-can : goal.pass_due-requires-clause-can
 pass_due-requires-clause-can g c =
@@ -28,7 +29,7 @@ returns-clause-turns g c image began h =
     let rules = rules_of c.args.self.now.options (g.R.AccessRule.rule c.args.self.now.cpu.rule) in
     let going = sent_going rules image began (g.K.Link.told c.args.link.now) (g.K.Link.phases c.args.link.now) c.args.conn c.args.bytes c.args.self.now _ c.count_run.new.self c.sent.new.self h c.self.view_is c.in_default.ensures.ok c.count_run.ensures in
     let hold = sym (ap (λ (s : SessionState _). s.options.hold) c.count_run.ensures ∙ ap (λ (s : SessionState _). s.options.hold) c.self.view_is) in
-    comes_between rules image began _ _ _ _ _ c.count_run.new.self _ going _ c.pass_due.ensures.same c.pass_due.ensures.only.phases
+    comes_between rules image began _ _ _ _ _ true c.count_run.new.self _ going _ c.pass_due.ensures.same c.pass_due.ensures.only.phases refl
     (c.pass_due.ensures.passes rules image began going.story hold going.told going.answers (received_is rules.bounds (entries going.story) c.count_run.new.self.log going.goes.items) going.passed)
 
 pub returns-clause-gives : goal.returns-clause-gives

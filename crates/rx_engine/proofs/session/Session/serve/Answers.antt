@@ -1,5 +1,6 @@
 use Rattle.std.proofs.Common.{◌≡◌, refl, sym, ◌∙◌, ap, subst, arith}
 use Rattle.session_history.specs.Lawful.{Rules}
+use Rattle.session_history.specs.Ends.{HasServed}
 use Rattle.rx_engine.specs.Options.{rules_of}
 use Rattle.rx_engine.specs.declared.stop.Stop.TheVariants.{Breaks, Ends}
 use Rattle.rx_engine.specs.Sessions.{SessionState}
@@ -63,10 +64,10 @@ returns-in-Err-Breaks-clause-served g c image is =
     let rules : Rules = rules_of c.args.self.now.options (g.R.AccessRule.rule c.args.self.now.cpu.rule) in
     let here : Rules = rules_of c.turns.self.options (g.R.AccessRule.rule c.turns.self.cpu.rule) in
     let same = same_rules g.R.AccessRule.rule c.args.self.now c.turns.self c.turns.invariant.frame in
-    let off = stops_under image (g.K.Link.told c.args.link.now) (g.K.Link.told c.turn.new.link) (g.K.Link.coming c.turn.new.link) c.turn.new.self (Breaks c.in-Err-Breaks.answer) here rules same
-    (subst (λ why. StopsBy here image (g.K.Link.told c.args.link.now) (g.K.Link.told c.turn.new.link) (g.K.Link.coming c.turn.new.link) c.turn.new.self why) c.in-Err-Breaks.field-0-is
+    let off = stops_under image (g.K.Link.told c.args.link.now) (g.K.Link.told c.turn.new.link) (g.K.Link.coming c.turn.new.link) (g.K.Link.takes c.turn.new.link) c.turn.new.self (Breaks c.in-Err-Breaks.answer) here rules same
+    (subst (λ why. StopsBy here image (g.K.Link.told c.args.link.now) (g.K.Link.told c.turn.new.link) (g.K.Link.coming c.turn.new.link) (g.K.Link.takes c.turn.new.link) c.turn.new.self why) c.in-Err-Breaks.field-0-is
     (c.in-Err-Breaks.ensures.turns image (g.K.Link.told c.args.link.now) (between_under rules here (sym same) (c.turns.invariant.stands image is)))) in
-    served_off rules image (g.K.Link.told c.args.link.now) (g.K.Link.told c.turn.new.link) (g.K.Link.coming c.turn.new.link) c.turn.new.self c.in-Err-Breaks.answer off
+    served_off rules image (g.K.Link.told c.args.link.now) (g.K.Link.told c.turn.new.link) (g.K.Link.coming c.turn.new.link) (g.K.Link.takes c.turn.new.link) c.turn.new.self c.in-Err-Breaks.answer off.0 off.1
 
 pub finish-requires-clause-ends : goal.finish-requires-clause-ends
 finish-requires-clause-ends g c =
@@ -80,10 +81,25 @@ finish-requires-clause-ends g c =
     record {
       image = image;
       began = began;
-      is = stops_under image began (g.K.Link.told c.turn.new.link) (g.K.Link.coming c.turn.new.link) c.turn.new.self (Ends c.in-Err-Ends.answer) here later (sym then)
-          (subst (λ why. StopsBy here image began (g.K.Link.told c.turn.new.link) (g.K.Link.coming c.turn.new.link) c.turn.new.self why) c.in-Err-Ends.field-0-is
-          (c.in-Err-Ends.ensures.turns image began (between_under rules here (sym same) (c.turns.invariant.stands image c.requires.begun.begun))));
+      is = (stops_under image began (g.K.Link.told c.turn.new.link) (g.K.Link.coming c.turn.new.link) (g.K.Link.takes c.turn.new.link) c.turn.new.self (Ends c.in-Err-Ends.answer) here later (sym then)
+          (subst (λ why. StopsBy here image began (g.K.Link.told c.turn.new.link) (g.K.Link.coming c.turn.new.link) (g.K.Link.takes c.turn.new.link) c.turn.new.self why) c.in-Err-Ends.field-0-is
+          (c.in-Err-Ends.ensures.turns image began (between_under rules here (sym same) (c.turns.invariant.stands image c.requires.begun.begun))))).0;
     }
+
+pub returns-in-Err-Ends-clause-served : goal.returns-in-Err-Ends-clause-served
+returns-in-Err-Ends-clause-served g c image is =
+    let rules : Rules = rules_of c.args.self.now.options (g.R.AccessRule.rule c.args.self.now.cpu.rule) in
+    let here : Rules = rules_of c.turns.self.options (g.R.AccessRule.rule c.turns.self.cpu.rule) in
+    let later : Rules = rules_of c.turn.new.self.options (g.R.AccessRule.rule c.turn.new.self.cpu.rule) in
+    let same = same_rules g.R.AccessRule.rule c.args.self.now c.turns.self c.turns.invariant.frame in
+    let then = same_rules g.R.AccessRule.rule c.turns.self c.turn.new.self c.in-Err-Ends.ensures.frame in
+    let began = g.K.Link.told c.args.link.now in
+    let stops = stops_under image began (g.K.Link.told c.turn.new.link) (g.K.Link.coming c.turn.new.link) (g.K.Link.takes c.turn.new.link) c.turn.new.self (Ends c.in-Err-Ends.answer) here later (sym then)
+    (subst (λ why. StopsBy here image began (g.K.Link.told c.turn.new.link) (g.K.Link.coming c.turn.new.link) (g.K.Link.takes c.turn.new.link) c.turn.new.self why) c.in-Err-Ends.field-0-is
+    (c.in-Err-Ends.ensures.turns image began (between_under rules here (sym same) (c.turns.invariant.stands image is)))) in
+    subst
+    (λ (r : Rules). HasServed r image began (g.K.Link.told c.finish.new.link) (g.K.Link.coming c.finish.new.link) (g.K.Link.takes c.finish.new.link) c.finish.result c.finish.new.self.choices c.finish.new.self.taken c.finish.new.self.steps)
+    (then ∙ same) (c.finish.ensures.served image began stops.0 stops.1)
 
 pub returns-in-Err-Ends-clause-went : goal.returns-in-Err-Ends-clause-went
 returns-in-Err-Ends-clause-went g c =
@@ -95,8 +111,8 @@ returns-in-Err-Breaks-clause-gives g c is =
     let here : Rules = rules_of c.turns.self.options (g.R.AccessRule.rule c.turns.self.cpu.rule) in
     let same = same_rules g.R.AccessRule.rule c.args.self.now c.turns.self c.turns.invariant.frame in
     let off : IsBrokenOff here c.requires.begun.image (g.K.Link.told c.args.link.now) (g.K.Link.told c.turn.new.link) (g.K.Link.coming c.turn.new.link) c.turn.new.self c.in-Err-Breaks.answer =
-    subst (λ why. StopsBy here c.requires.begun.image (g.K.Link.told c.args.link.now) (g.K.Link.told c.turn.new.link) (g.K.Link.coming c.turn.new.link) c.turn.new.self why) c.in-Err-Breaks.field-0-is
-    (c.in-Err-Breaks.ensures.turns c.requires.begun.image (g.K.Link.told c.args.link.now) (between_under rules here (sym same) (c.turns.invariant.stands c.requires.begun.image c.requires.begun.begun))) in
+    (subst (λ why. StopsBy here c.requires.begun.image (g.K.Link.told c.args.link.now) (g.K.Link.told c.turn.new.link) (g.K.Link.coming c.turn.new.link) (g.K.Link.takes c.turn.new.link) c.turn.new.self why) c.in-Err-Breaks.field-0-is
+    (c.in-Err-Breaks.ensures.turns c.requires.begun.image (g.K.Link.told c.args.link.now) (between_under rules here (sym same) (c.turns.invariant.stands c.requires.begun.image c.requires.begun.begun)))).0 in
     absurd (off.no_end is)
 
 pub returns-in-Err-Breaks-clause-coming : goal.returns-in-Err-Breaks-clause-coming
@@ -105,8 +121,8 @@ returns-in-Err-Breaks-clause-coming g c is =
     let here : Rules = rules_of c.turns.self.options (g.R.AccessRule.rule c.turns.self.cpu.rule) in
     let same = same_rules g.R.AccessRule.rule c.args.self.now c.turns.self c.turns.invariant.frame in
     let off : IsBrokenOff here c.requires.begun.image (g.K.Link.told c.args.link.now) (g.K.Link.told c.turn.new.link) (g.K.Link.coming c.turn.new.link) c.turn.new.self c.in-Err-Breaks.answer =
-    subst (λ why. StopsBy here c.requires.begun.image (g.K.Link.told c.args.link.now) (g.K.Link.told c.turn.new.link) (g.K.Link.coming c.turn.new.link) c.turn.new.self why) c.in-Err-Breaks.field-0-is
-    (c.in-Err-Breaks.ensures.turns c.requires.begun.image (g.K.Link.told c.args.link.now) (between_under rules here (sym same) (c.turns.invariant.stands c.requires.begun.image c.requires.begun.begun))) in
+    (subst (λ why. StopsBy here c.requires.begun.image (g.K.Link.told c.args.link.now) (g.K.Link.told c.turn.new.link) (g.K.Link.coming c.turn.new.link) (g.K.Link.takes c.turn.new.link) c.turn.new.self why) c.in-Err-Breaks.field-0-is
+    (c.in-Err-Breaks.ensures.turns c.requires.begun.image (g.K.Link.told c.args.link.now) (between_under rules here (sym same) (c.turns.invariant.stands c.requires.begun.image c.requires.begun.begun)))).0 in
     absurd (off.no_end is)
 
 pub returns-in-Err-Breaks-clause-counted : goal.returns-in-Err-Breaks-clause-counted
@@ -155,8 +171,8 @@ returns-in-Err-Breaks-clause-takes g c =
     let here : Rules = rules_of c.turns.self.options (g.R.AccessRule.rule c.turns.self.cpu.rule) in
     let same = same_rules g.R.AccessRule.rule c.args.self.now c.turns.self c.turns.invariant.frame in
     let off : IsBrokenOff here c.requires.begun.image (g.K.Link.told c.args.link.now) (g.K.Link.told c.turn.new.link) (g.K.Link.coming c.turn.new.link) c.turn.new.self c.in-Err-Breaks.answer =
-    subst (λ why. StopsBy here c.requires.begun.image (g.K.Link.told c.args.link.now) (g.K.Link.told c.turn.new.link) (g.K.Link.coming c.turn.new.link) c.turn.new.self why) c.in-Err-Breaks.field-0-is
-    (c.in-Err-Breaks.ensures.turns c.requires.begun.image (g.K.Link.told c.args.link.now) (between_under rules here (sym same) (c.turns.invariant.stands c.requires.begun.image c.requires.begun.begun))) in
+    (subst (λ why. StopsBy here c.requires.begun.image (g.K.Link.told c.args.link.now) (g.K.Link.told c.turn.new.link) (g.K.Link.coming c.turn.new.link) (g.K.Link.takes c.turn.new.link) c.turn.new.self why) c.in-Err-Breaks.field-0-is
+    (c.in-Err-Breaks.ensures.turns c.requires.begun.image (g.K.Link.told c.args.link.now) (between_under rules here (sym same) (c.turns.invariant.stands c.requires.begun.image c.requires.begun.begun)))).0 in
     takes_no_end (g.K.Link.takes c.turn.new.link) c.in-Err-Breaks.answer off.no_end
 
 pub returns-in-Err-Ends-clause-takes : goal.returns-in-Err-Ends-clause-takes

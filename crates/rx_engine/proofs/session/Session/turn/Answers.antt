@@ -4,6 +4,8 @@ use Rattle.guest_cpu.specs.declared.event.Event.TheVariants as event
 use Rattle.guest_cpu.specs.Cpus.{CpuState}
 use Rattle.rx_engine.specs.Options.{rules_of}
 use Rattle.rx_engine.specs.Sessions.{SessionState}
+use Rattle.rx_engine.specs.Serving.{ComesBetween}
+use Rattle.rx_engine.proofs.StoryLemmas.{still_takes}
 use Rattle.rx_engine.proofs.HearingLemmas.{if_ok, waits_under}
 use Rattle.rx_engine.proofs.FrameLemmas.{same_rules}
 use Rattle.rx_engine.proofs.TurnLemmas.{has_run, ran_later, ran_low, emits_later, chooses_later, ran_frame, asks_now, exits_now, fails_now, breaks_now, comes_under, run_under, later_ok}
@@ -32,7 +34,7 @@ returns-in-Ok-Asks-clause-turns g c image began b =
     let here : Rules = rules_of c.count_run.new.self.options (g.R.AccessRule.rule c.count_run.new.self.cpu.rule) in
     let same = same_rules g.R.AccessRule.rule c.args.self.now c.count_run.new.self (ran_frame c.args.self.now _ c.count_run.new.self c.run_to_event.new.self c.self.view_is c.run_to_event.ensures.kept (ap (λ (s : SessionState _). s.options) c.count_run.ensures) (ap (λ (s : SessionState _). s.cpu) c.count_run.ensures)) in
     let run = has_run g.R.AccessRule.rule image began (g.K.Link.told c.args.link.now) (g.K.Link.phases c.args.link.now) c.args.self.now _ c.run_to_event.new.self c.in-Ok-Asks.field-0 (event.Asks) c.self.view_is c.in-Ok-Asks.field-0-is b c.in-Ok-Asks.ensures.event in
-    comes_under image began (g.K.Link.told c.ask.new.link) (g.K.Link.phases c.ask.new.link) (g.K.Link.coming c.ask.new.link) c.ask.new.self c.ask.result here rules same
+    comes_under image began (g.K.Link.told c.ask.new.link) (g.K.Link.phases c.ask.new.link) (g.K.Link.coming c.ask.new.link) (g.K.Link.takes c.ask.new.link) c.ask.new.self c.ask.result here rules same
     (c.ask.ensures.turns image began (waits_under rules here (sym same) (asks_now rules image began _ _ c.args.self.now _ c.count_run.new.self c.run_to_event.new.self c.self.view_is c.count_run.ensures run)))
 
 pub returns-in-Ok-Asks-clause-later : goal.returns-in-Ok-Asks-clause-later
@@ -46,8 +48,9 @@ returns-in-Ok-Emits-clause-turns g c image began b =
     let here : Rules = rules_of c.self.inside.options (g.R.AccessRule.rule c.run_to_event.new.self.rule) in
     let same : here ≡ rules = λ i. rules_of ((ap (λ (s : SessionState _). s.options) c.self.view_is) i) (g.R.AccessRule.rule ((ap (λ (cpu : CpuState _). cpu.rule) c.run_to_event.ensures.kept ∙ ap (λ (s : SessionState _). s.cpu.rule) c.self.view_is) i)) in
     let run = has_run g.R.AccessRule.rule image began (g.K.Link.told c.args.link.now) (g.K.Link.phases c.args.link.now) c.args.self.now _ c.run_to_event.new.self c.in-Ok-Emits.field-0 (event.Emits c.in-Ok-Emits.conn c.in-Ok-Emits.bytes) c.self.view_is c.in-Ok-Emits.field-0-is b c.in-Ok-Emits.ensures.event in
-    comes_under image began (g.K.Link.told c.send.new.link) (g.K.Link.phases c.send.new.link) (g.K.Link.coming c.send.new.link) c.send.new.self c.send.result here rules same
-    (c.send.ensures.turns image began (run_under image began _ _ (event.Emits c.in-Ok-Emits.conn c.in-Ok-Emits.bytes) _ rules here (sym same) run))
+    comes_under image began (g.K.Link.told c.send.new.link) (g.K.Link.phases c.send.new.link) (g.K.Link.coming c.send.new.link) (g.K.Link.takes c.send.new.link) c.send.new.self c.send.result here rules same
+    (subst (λ b. ComesBetween here image began (g.K.Link.told c.send.new.link) (g.K.Link.phases c.send.new.link) (g.K.Link.coming c.send.new.link) b c.send.new.self c.send.result) (sym (c.send.ensures.takes ∙ c.requires.takes))
+    (c.send.ensures.turns image began (run_under image began _ _ (event.Emits c.in-Ok-Emits.conn c.in-Ok-Emits.bytes) _ rules here (sym same) run)))
 
 pub returns-in-Ok-Emits-clause-later : goal.returns-in-Ok-Emits-clause-later
 returns-in-Ok-Emits-clause-later g c =
@@ -60,8 +63,9 @@ returns-in-Ok-Chooses-clause-turns g c image began b =
     let here : Rules = rules_of c.self.inside.options (g.R.AccessRule.rule c.run_to_event.new.self.rule) in
     let same : here ≡ rules = λ i. rules_of ((ap (λ (s : SessionState _). s.options) c.self.view_is) i) (g.R.AccessRule.rule ((ap (λ (cpu : CpuState _). cpu.rule) c.run_to_event.ensures.kept ∙ ap (λ (s : SessionState _). s.cpu.rule) c.self.view_is) i)) in
     let run = has_run g.R.AccessRule.rule image began (g.K.Link.told c.args.link.now) (g.K.Link.phases c.args.link.now) c.args.self.now _ c.run_to_event.new.self c.in-Ok-Chooses.field-0 (event.Chooses c.in-Ok-Chooses.choice) c.self.view_is c.in-Ok-Chooses.field-0-is b c.in-Ok-Chooses.ensures.event in
-    comes_under image began (g.K.Link.told c.args.link.now) (g.K.Link.phases c.args.link.now) (g.K.Link.coming c.args.link.now) c.choose.new.self c.choose.result here rules same
-    (c.choose.ensures.turns image began _ _ _ (run_under image began _ _ (event.Chooses c.in-Ok-Chooses.choice) _ rules here (sym same) run))
+    comes_under image began (g.K.Link.told c.args.link.now) (g.K.Link.phases c.args.link.now) (g.K.Link.coming c.args.link.now) (g.K.Link.takes c.args.link.now) c.choose.new.self c.choose.result here rules same
+    (subst (λ b. ComesBetween here image began (g.K.Link.told c.args.link.now) (g.K.Link.phases c.args.link.now) (g.K.Link.coming c.args.link.now) b c.choose.new.self c.choose.result) (sym c.requires.takes)
+    (c.choose.ensures.turns image began _ _ _ (run_under image began _ _ (event.Chooses c.in-Ok-Chooses.choice) _ rules here (sym same) run)))
 
 pub returns-in-Ok-Chooses-clause-later : goal.returns-in-Ok-Chooses-clause-later
 returns-in-Ok-Chooses-clause-later g c =
@@ -72,18 +76,18 @@ pub returns-in-Ok-Exits-clause-turns : goal.returns-in-Ok-Exits-clause-turns
 returns-in-Ok-Exits-clause-turns g c image began b =
     let rules : Rules = rules_of c.args.self.now.options (g.R.AccessRule.rule c.args.self.now.cpu.rule) in
     let run = has_run g.R.AccessRule.rule image began (g.K.Link.told c.args.link.now) (g.K.Link.phases c.args.link.now) c.args.self.now _ c.run_to_event.new.self c.in-Ok-Exits.field-0 (event.Exits c.in-Ok-Exits.code) c.self.view_is c.in-Ok-Exits.field-0-is b c.in-Ok-Exits.ensures.event in
-    exits_now rules image began _ (g.K.Link.phases c.args.link.now) _ c.in-Ok-Exits.code c.args.self.now _ c.count_run-in-Ok-Exits.new.self c.run_to_event.new.self c.self.view_is c.count_run-in-Ok-Exits.ensures run
+    (exits_now rules image began _ (g.K.Link.phases c.args.link.now) _ c.in-Ok-Exits.code c.args.self.now _ c.count_run-in-Ok-Exits.new.self c.run_to_event.new.self c.self.view_is c.count_run-in-Ok-Exits.ensures run, λ none. still_takes (g.K.Link.takes c.args.link.now) _ c.requires.takes none)
 
 pub returns-in-Ok-Failed-clause-turns : goal.returns-in-Ok-Failed-clause-turns
 returns-in-Ok-Failed-clause-turns g c image began b =
     let rules : Rules = rules_of c.args.self.now.options (g.R.AccessRule.rule c.args.self.now.cpu.rule) in
     let run = has_run g.R.AccessRule.rule image began (g.K.Link.told c.args.link.now) (g.K.Link.phases c.args.link.now) c.args.self.now _ c.run_to_event.new.self c.in-Ok-Failed.field-0 (event.Failed c.in-Ok-Failed.cause) c.self.view_is c.in-Ok-Failed.field-0-is b c.in-Ok-Failed.ensures.event in
-    fails_now rules image began _ (g.K.Link.phases c.args.link.now) _ c.in-Ok-Failed.cause c.self-in-Ok-Failed.inside.taken c.args.self.now _ c.count_run-in-Ok-Failed.new.self c.run_to_event.new.self c.self.view_is c.count_run-in-Ok-Failed.ensures (ap (λ (s : SessionState _). s.taken) c.self-in-Ok-Failed.view_is) run
+    (fails_now rules image began _ (g.K.Link.phases c.args.link.now) _ c.in-Ok-Failed.cause c.self-in-Ok-Failed.inside.taken c.args.self.now _ c.count_run-in-Ok-Failed.new.self c.run_to_event.new.self c.self.view_is c.count_run-in-Ok-Failed.ensures (ap (λ (s : SessionState _). s.taken) c.self-in-Ok-Failed.view_is) run, λ none. still_takes (g.K.Link.takes c.args.link.now) _ c.requires.takes none)
 
 pub returns-in-Err-clause-turns : goal.returns-in-Err-clause-turns
 returns-in-Err-clause-turns g c image began b =
     let rules : Rules = rules_of c.args.self.now.options (g.R.AccessRule.rule c.args.self.now.cpu.rule) in
-    breaks_now rules image began _ (g.K.Link.phases c.args.link.now) _ c.args.self.now _ c.run_to_event.new.self c.self.view_is b
+    (breaks_now rules image began _ (g.K.Link.phases c.args.link.now) _ c.args.self.now _ c.run_to_event.new.self c.self.view_is b, λ none. still_takes (g.K.Link.takes c.args.link.now) _ c.requires.takes none)
 
 pub returns-in-Ok-Asks-clause-low : goal.returns-in-Ok-Asks-clause-low
 returns-in-Ok-Asks-clause-low g c = counted_low c.ask.new.self c.ask.ensures.marked
