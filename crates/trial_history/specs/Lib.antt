@@ -1,0 +1,4 @@
+pub mod Trials
+pub mod Tables
+pub mod Chains
+pub mod Laws
