@@ -1,12 +1,12 @@
 -- The checkpoints of a session's ring, as runs.
-use Rattle.std.specs.Prelude.{◌≡◌, ◌⊎◌, ℕ, List, [], ◌∷◌, drop}
+use Rattle.std.specs.Prelude.{◌≡◌, ◌⊎◌, ◌<◌, List, [], ◌∷◌}
 use Rattle.rx_io.specs.declared.bytes.Item.{Item}
 use Rattle.elf_image.specs.declared.image.Image.{Image}
 use Rattle.run_history.specs.Served.{Limits, Override, Path, origin, Served, AsksFor}
 
--- a checkpoint is the start, or a run that stands at its request for the next item
+-- a checkpoint is the start, or a run that took items and stands at its request for the next one
 abbrev pub IsCheckpoint : Limits → Image → Path → Type 0
-IsCheckpoint limits image checkpoint = (checkpoint ≡ origin image) ⊎ AsksFor limits [] checkpoint checkpoint.state.machine.taken
+IsCheckpoint limits image checkpoint = (checkpoint ≡ origin image) ⊎ ((0 < checkpoint.state.machine.taken) × AsksFor limits [] checkpoint checkpoint.state.machine.taken)
 
 abbrev pub AreCheckpoints : Limits → Image → List Path → Type 0
 AreCheckpoints limits image [] = Unit {0}

@@ -1,0 +1,143 @@
+-- What a served run adds, and how two runs from one place stand to each other.
+use Rattle.std.proofs.Common.{◌≡◌, ◌⊎◌, inl, inr, ℕ, zero, suc, ◌+◌, ◌<◌, ◌≤◌, List, [], ◌∷◌, ◌++◌, length, Option, Some, None, refl, sym, ◌∙◌, ap, subst, arith, replicate, ◌-◌}
+use Rattle.std.specs.Prelude.{slice_get, option_and_then}
+use Rattle.std.proofs.lemmas.Bool.{cases_lt}
+use Rattle.std.proofs.lemmas.List.{length-replicate}
+use Rattle.std.proofs.lemmas.Option.{option_and_then_some, none-some, same_Some}
+use Rattle.rx_io.specs.declared.bytes.Item.{Item}
+use Rattle.block_book.specs.declared.choice.Choice.{Choice}
+use Rattle.alloc_env.specs.declared.env.Env.{Env}
+use Rattle.run_history.specs.Run.{does, next}
+use Rattle.run_history.specs.Served.{Limits, Override, Path, Served, served_next, env_at, planned_next, serve}
+use Rattle.run_history.proofs.Repeats.{repeated_keeps, repeated_add, repeated_from}
+use Rattle.run_history.proofs.Runs.{next_after, element_behind}
+use Rattle.run_history.proofs.Serves.{serves_to}
+use Rattle.session_history.proofs.Growing.{Grows, grows_same, grows_on, run_grows}
+use Rattle.session_history.proofs.Paths.{served_same, served_on}
+
+-- answers of malloc, of which this one has this number
+answers_with : Option Choice → ℕ → List Choice
+answers_with None number = []
+answers_with (Some choice) number = replicate number choice ++ choice ∷ []
+
+answer_here : (chosen : Option Choice) (number : ℕ) → slice_get (answers_with chosen number) number ≡ chosen
+unfolding answers_with
+answer_here None number = refl
+answer_here (Some choice) number = element_behind (replicate number choice) choice number (length-replicate number choice)
+
+-- one instruction adds sends, and is counted
+pub next_grows : (limits : Limits) (items : List Item) (env : Env) (path to : Path) → served_next limits items env path ≡ Some to → Grows path.state to.state
+next_grows limits items env path to goes =
+    let parts = serves_to limits items env path to goes in
+    let number = path.state.machine.allocations in
+    let choices = answers_with parts.given.chosen number in
+    run_grows items choices path.state to.state 1
+    (next_after items choices path.state _ parts.lives (ap (λ (c : Option Choice). does (slice_get items path.state.machine.taken) c path.state.machine) (answer_here parts.given.chosen number)) ∙ parts.goes)
+
+pub served_grows : (limits : Limits) (items : List Item) (plan : List Override) (first second : Path) → Served limits items plan first second → Grows first.state second.state
+served_grows limits items plan first second served =
+    repeated_keeps (planned_next limits items plan) (λ a b. Grows a.state b.state) (λ a. grows_same a.state) (λ a b c. grows_on a.state b.state c.state)
+    (λ a b goes. next_grows limits items (env_at plan a.state.machine.taken) a b goes) served.more first second served.ran
+
+-- no count of items falls
+pub taken_later : (limits : Limits) (items : List Item) (plan : List Override) (first second : Path) → Served limits items plan first second → first.state.machine.taken ≤ second.state.machine.taken
+taken_later limits items plan first second served = (served_grows limits items plan first second served).taken
+
+pub steps_later : (limits : Limits) (items : List Item) (plan : List Override) (first second : Path) → Served limits items plan first second → first.steps ≤ second.steps
+steps_later limits items plan first second served =
+    repeated_keeps (planned_next limits items plan) (λ a b. a.steps ≤ b.steps) (λ a. omega arith) (λ a b c one other. omega (arith, one, other))
+    (λ a b goes. let parts = serves_to limits items (env_at plan a.state.machine.taken) a b goes in omega (arith, parts.steps)) served.more first second served.ran
+
+-- one instruction is a run
+pub served_one : (limits : Limits) (items : List Item) (plan : List Override) (first second : Path) → planned_next limits items plan first ≡ Some second → Served limits items plan first second
+served_one limits items plan first second goes = record { more = 1; ran = goes }
+
+-- a run of no instruction leads to itself
+pub nothing_before : (limits : Limits) (items : List Item) (plan : List Override) (first second : Path) → Served limits items plan first second → second.steps ≡ 0 → first ≡ second
+nothing_before limits items plan first second served none = by_count served.more served.ran
+  where
+    by_count : (n : ℕ) → serve limits items plan first n ≡ Some second → first ≡ second
+    by_count zero ran = same_Some first second ran
+    by_count (suc n) ran =
+        option_and_then_some (planned_next limits items plan) (serve limits items plan first n) second ran (λ mid before goes.
+        let parts = serves_to limits items (env_at plan mid.state.machine.taken) mid second goes in absurd (omega (arith, parts.steps, none)))
+
+-- the second run is the first with one more instruction or several
+pub record Later (limits : Limits) (items : List Item) (plan : List Override) (first second : Path) : Type 0 where
+  pub next : Path
+  pub goes : planned_next limits items plan first ≡ Some next
+  pub on : Served limits items plan next second
+
+-- so many instructions, the first one by itself
+first_one : (limits : Limits) (items : List Item) (plan : List Override) (first second : Path) (n : ℕ) → serve limits items plan first (1 + n) ≡ Some second → Later limits items plan first second
+first_one limits items plan first second n ran = of_next (planned_next limits items plan first) refl
+  where
+    of_next : (o : Option Path) → planned_next limits items plan first ≡ o → Later limits items plan first second
+    of_next (Some next) is = record { next = next; goes = is; on = record { more = n; ran = sym (repeated_from (planned_next limits items plan) first next 1 n is) ∙ ran } }
+    of_next None is =
+        absurd (none-some second (sym (repeated_add (planned_next limits items plan) first 1 n ∙ ap (option_and_then (λ (y : Path). serve limits items plan y n)) is) ∙ ran))
+
+pub later_of : (limits : Limits) (items : List Item) (plan : List Override) (first second : Path) → Served limits items plan first second → (first ≡ second) ⊎ Later limits items plan first second
+later_of limits items plan first second served = by_count served.more served.ran
+  where
+    by_count : (n : ℕ) → serve limits items plan first n ≡ Some second → (first ≡ second) ⊎ Later limits items plan first second
+    by_count zero ran = inl (same_Some first second ran)
+    by_count (suc n) ran =
+        let same : suc n ≡ 1 + n = omega arith in
+        inr (first_one limits items plan first second n (subst (λ (k : ℕ). serve limits items plan first k ≡ Some second) same ran))
+
+pub later_served : (limits : Limits) (items : List Item) (plan : List Override) (first second : Path) → Later limits items plan first second → Served limits items plan first second
+later_served limits items plan first second later = served_on limits items plan first later.next second (served_one limits items plan first later.next later.goes) later.on
+
+-- and it counts more instructions
+pub later_steps : (limits : Limits) (items : List Item) (plan : List Override) (first second : Path) → Later limits items plan first second → first.steps < second.steps
+later_steps limits items plan first second later =
+    let parts = serves_to limits items (env_at plan first.state.machine.taken) first later.next later.goes in
+    omega (arith, parts.steps, steps_later limits items plan later.next second later.on)
+
+-- Of two runs from one place under one plan, one is the other or goes on as it.
+pub data Compared (limits : Limits) (items : List Item) (plan : List Override) (first second : Path) : Type 0 where
+  Equal : first ≡ second → Compared limits items plan first second
+  Before : Later limits items plan first second → Compared limits items plan first second
+  Behind : Later limits items plan second first → Compared limits items plan first second
+
+-- so many instructions, and some more, from one place
+on_from : (limits : Limits) (items : List Item) (plan : List Override) (start first second : Path) (n m : ℕ) → n ≤ m → serve limits items plan start n ≡ Some first → serve limits items plan start m ≡ Some second → Served limits items plan first second
+on_from limits items plan start first second n m few one other =
+    let same : n + (m - n) ≡ m = omega (arith, few) in
+    record {
+      more = m - n;
+      ran = sym (repeated_from (planned_next limits items plan) start first n (m - n) one) ∙ ap (λ (k : ℕ). serve limits items plan start k) same ∙ other;
+    }
+
+pub compare : (limits : Limits) (items : List Item) (plan : List Override) (start first second : Path) → Served limits items plan start first → Served limits items plan start second → Compared limits items plan first second
+compare limits items plan start first second one other =
+    elim (cases_lt one.more other.more) [
+      | inl less ↦ elim (later_of limits items plan first second (on_from limits items plan start first second one.more other.more (omega (arith, less)) one.ran other.ran)) [
+        | inl same ↦ Equal same
+        | inr later ↦ Before later
+      ]
+      | inr most ↦ elim (later_of limits items plan second first (on_from limits items plan start second first other.more one.more most other.ran one.ran)) [
+        | inl same ↦ Equal (sym same)
+        | inr later ↦ Behind later
+      ]
+    ]
+
+-- a step is one step: where the first goes on as the second, and is one instruction long, all else goes on from there
+pub same_next : (limits : Limits) (items : List Item) (plan : List Override) (first second to : Path) → Later limits items plan first second → planned_next limits items plan first ≡ Some to → Served limits items plan to second
+same_next limits items plan first second to later goes =
+    subst (λ (p : Path). Served limits items plan p second) (same_Some later.next to (sym later.goes ∙ goes)) later.on
+
+-- A run under one plan is one under another, where each instruction on the way is.
+pub served_as : (limits : Limits) (items : List Item) (plan other : List Override) (first last : Path) (bound : ℕ)
+    → ((now to : Path) → Served limits items plan first now → now.state.machine.taken ≤ bound → planned_next limits items plan now ≡ Some to → planned_next limits items other now ≡ Some to)
+    → last.state.machine.taken ≤ bound → Served limits items plan first last → Served limits items other first last
+served_as limits items plan other first last bound step low served = record { more = served.more; ran = by_count served.more last low served.ran }
+  where
+    by_count : (n : ℕ) (last : Path) → last.state.machine.taken ≤ bound → serve limits items plan first n ≡ Some last → serve limits items other first n ≡ Some last
+    by_count zero last low ran = ran
+    by_count (suc n) last low ran =
+        option_and_then_some (planned_next limits items plan) (serve limits items plan first n) last ran (λ mid before goes.
+        let early : mid.state.machine.taken ≤ bound = omega (arith, low, taken_later limits items plan mid last (served_one limits items plan mid last goes)) in
+        ap (option_and_then (planned_next limits items other)) (by_count n mid early before)
+        ∙ step mid last (record { more = n; ran = before }) early goes)
