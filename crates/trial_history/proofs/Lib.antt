@@ -1,3 +1,5 @@
 pub mod Asking
 pub mod Going
 pub mod Planned
+pub mod Agreeing
+pub mod Chained

@@ -1,5 +1,5 @@
 //! Laws of trials, each as the contract of a function that does nothing.
-ghost use Rattle.trial_history.specs.Laws.{AsksUnderAll, TrialServes, TrialComes};
+ghost use Rattle.trial_history.specs.Laws.{AsksUnderAll, TrialServes, TrialComes, CheckpointUnharmed, ChainedAt, ChainedDrop, ChainedAdopt};
 
 /// Whether a run asks for an item depends on no plan.
 pub fn asks_under_all()
@@ -14,4 +14,24 @@ pub fn trial_serves()
 /// So is its result.
 pub fn trial_comes()
     ensures { TrialComes }
+{}
+
+/// A run that covers what was passed, and in time, is unharmed at each of its checkpoints.
+pub fn checkpoint_unharmed()
+    ensures { CheckpointUnharmed }
+{}
+
+/// A run goes on from each checkpoint of its ring.
+pub fn chained_at()
+    ensures { ChainedAt }
+{}
+
+/// The oldest checkpoint may be dropped.
+pub fn chained_drop()
+    ensures { ChainedDrop }
+{}
+
+/// A trial that is adopted has the checkpoints up to its own.
+pub fn chained_adopt()
+    ensures { ChainedAdopt }
 {}
