@@ -3,3 +3,5 @@ pub mod Going
 pub mod Planned
 pub mod Agreeing
 pub mod Chained
+pub mod Results
+pub mod Walked

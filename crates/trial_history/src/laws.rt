@@ -1,5 +1,5 @@
 //! Laws of trials, each as the contract of a function that does nothing.
-ghost use Rattle.trial_history.specs.Laws.{AsksUnderAll, TrialServes, TrialComes, CheckpointUnharmed, ChainedAt, ChainedDrop, ChainedAdopt};
+ghost use Rattle.trial_history.specs.Laws.{AsksUnderAll, TrialServes, TrialComes, CheckpointUnharmed, ChainedAt, ChainedDrop, ChainedAdopt, OneResult, NoneSurvives};
 
 /// Whether a run asks for an item depends on no plan.
 pub fn asks_under_all()
@@ -34,4 +34,14 @@ pub fn chained_drop()
 /// A trial that is adopted has the checkpoints up to its own.
 pub fn chained_adopt()
     ensures { ChainedAdopt }
+{}
+
+/// What came of a trial is one, and is found in one place.
+pub fn one_result()
+    ensures { OneResult }
+{}
+
+/// Where no trial of a whole table survives, none can.
+pub fn none_survives()
+    ensures { NoneSurvives }
 {}
