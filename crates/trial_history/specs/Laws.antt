@@ -1,5 +1,5 @@
 -- What holds of all trials, and of a run that is adopted.
-use Rattle.std.specs.Prelude.{◌≡◌, ◌⊎◌, ℕ, ◌+◌, ◌<◌, ◌≤◌, List, [], ◌∷◌, ◌++◌, drop, false, Some, slice_get}
+use Rattle.std.specs.Prelude.{◌≡◌, ◌⊎◌, ℕ, ◌+◌, ◌<◌, ◌≤◌, List, [], ◌∷◌, ◌++◌, drop, map, false, None, Some, slice_get}
 use Rattle.rx_io.specs.declared.bytes.Item.{Item}
 use Rattle.rx_io.specs.Sends.{Send}
 use Rattle.elf_image.specs.declared.image.Image.{Image}
@@ -9,7 +9,7 @@ use Rattle.session_history.specs.Passing.{AreBetween, Covers, IsFeasible}
 use Rattle.episodes.specs.declared.episode.Tried.{Tried}
 use Rattle.episodes.specs.Survival.{survives}
 use Rattle.trial_history.specs.Trials.{plan_of_trial, IsUnharmed, ComesTo, IsTrial}
-use Rattle.trial_history.specs.Tables.{Trial, table, WalksOver, IsRight}
+use Rattle.trial_history.specs.Tables.{Trial, table, WalksOver, IsRight, survivor_in, IsAdopted}
 use Rattle.trial_history.specs.Chains.{IsCheckpoint, AreCheckpoints, AreChained}
 
 -- the environment of a trial, for all counts of items from the start on
@@ -72,3 +72,21 @@ NoneSurvives =
     WalksOver limits items plan pieces point (table ring) trials → ((trial : Trial) (index : ℕ) → slice_get trials index ≡ Some trial → survives trial.result ≡ false) →
     (other : Trial) (index : ℕ) → slice_get (table ring) index ≡ Some other.chance → IsRight limits items plan pieces point other → survives other.result ≡ false
 
+
+-- A walk over a table has one list of trials.
+abbrev pub OneWalk : Type 0
+OneWalk =
+    (limits : Limits) (items : List Item) (plan : List Override) (pieces : List Send) (point : ℕ) (ring : List Path) (trials others : List Trial) →
+    ((checkpoint : Path) (index : ℕ) → slice_get ring index ≡ Some checkpoint → AreBetween 0 checkpoint.state.machine.taken checkpoint.state.sends) →
+    WalksOver limits items plan pieces point (table ring) trials → WalksOver limits items plan pieces point (table ring) others → trials ≡ others
+
+-- It ends with a trial that survives, behind others that don't; or at the end of the table, with none.
+abbrev pub WalkAdopts : Type 0
+WalkAdopts =
+    (limits : Limits) (items : List Item) (plan : List Override) (pieces : List Send) (point : ℕ) (ring : List Path) (trials : List Trial) (trial : Trial) → WalksOver limits items plan pieces point (table ring) trials →
+    survivor_in trials ≡ Some trial → IsAdopted limits items plan pieces point ring trials trial
+
+abbrev pub WalkGivesUp : Type 0
+WalkGivesUp =
+    (limits : Limits) (items : List Item) (plan : List Override) (pieces : List Send) (point : ℕ) (ring : List Path) (trials : List Trial) → WalksOver limits items plan pieces point (table ring) trials → survivor_in trials ≡ None →
+    (map (λ (trial : Trial). trial.chance) trials ≡ table ring) × ((trial : Trial) (index : ℕ) → slice_get trials index ≡ Some trial → survives trial.result ≡ false)

@@ -2,3 +2,5 @@ pub mod Trials
 pub mod Tables
 pub mod Chains
 pub mod Laws
+pub mod Episodes
+pub mod EpisodeLaws

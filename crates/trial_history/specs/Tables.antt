@@ -1,5 +1,5 @@
 -- In which order trials are made after a failure.
-use Rattle.std.specs.Prelude.{◌≡◌, ℕ, List, [], ◌∷◌, ◌++◌, map, MatchBool}
+use Rattle.std.specs.Prelude.{◌≡◌, ℕ, List, [], ◌∷◌, ◌++◌, map, true, Option, None, Some, slice_get, MatchBool, if◌then◌else◌}
 use Rattle.rx_io.specs.declared.bytes.Item.{Item}
 use Rattle.rx_io.specs.Sends.{Send}
 use Rattle.alloc_env.specs.declared.env.Env.{Env}
@@ -50,3 +50,18 @@ WalksOver limits items plan pieces point (chance ∷ chances) [] = ⊥
 WalksOver limits items plan pieces point (chance ∷ chances) (trial ∷ trials) =
     (trial.chance ≡ chance) × IsRight limits items plan pieces point trial
     × MatchBool (survives trial.result) (trials ≡ []) (WalksOver limits items plan pieces point chances trials)
+
+-- the trial that survives, if one does
+abbrev pub survivor_in : List Trial → Option Trial
+survivor_in [] = None
+survivor_in (trial ∷ trials) = if survives trial.result then Some trial else survivor_in trials
+
+-- a trial of a walk is its last one: it survives, and those before it don't; it goes on from a checkpoint of the ring
+pub record IsAdopted (limits : Limits) (items : List Item) (plan : List Override) (pieces : List Send) (point : ℕ) (ring : List Path) (trials : List Trial) (trial : Trial) : Type 0 where
+  pub right : IsRight limits items plan pieces point trial
+  pub survives_it : survives trial.result ≡ true
+  pub failing : List Trial
+  pub last : trials ≡ failing ++ trial ∷ []
+  pub none : survivor_in failing ≡ None
+  pub index : ℕ
+  pub checkpoint : slice_get ring index ≡ Some trial.chance.checkpoint

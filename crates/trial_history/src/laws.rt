@@ -1,5 +1,5 @@
 //! Laws of trials, each as the contract of a function that does nothing.
-ghost use Rattle.trial_history.specs.Laws.{AsksUnderAll, TrialServes, TrialComes, CheckpointUnharmed, ChainedAt, ChainedDrop, ChainedAdopt, OneResult, NoneSurvives};
+ghost use Rattle.trial_history.specs.Laws.{AsksUnderAll, TrialServes, TrialComes, CheckpointUnharmed, ChainedAt, ChainedDrop, ChainedAdopt, OneResult, NoneSurvives, OneWalk, WalkAdopts, WalkGivesUp};
 
 /// Whether a run asks for an item depends on no plan.
 pub fn asks_under_all()
@@ -44,4 +44,19 @@ pub fn one_result()
 /// Where no trial of a whole table survives, none can.
 pub fn none_survives()
     ensures { NoneSurvives }
+{}
+
+/// A walk over a table has one list of trials.
+pub fn one_walk()
+    ensures { OneWalk }
+{}
+
+/// Where a trial of a walk survives, it is the last one.
+pub fn walk_adopts()
+    ensures { WalkAdopts }
+{}
+
+/// Where none does, the trials are the whole table.
+pub fn walk_gives_up()
+    ensures { WalkGivesUp }
 {}
