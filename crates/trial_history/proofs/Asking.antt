@@ -7,8 +7,8 @@ use Rattle.block_book.specs.declared.choice.Choice.{Choice}
 use Rattle.block_book.specs.Answer.{is_allowed}
 use Rattle.alloc_env.specs.declared.env.Env.{Env}
 use Rattle.run_history.specs.declared.answer.Cause.TheVariants.{BadAccess, Hang}
-use Rattle.run_history.specs.Machine.{Machine, State, register, Effect, Goes, Emits, Ends, Wants, Chooses, Fails}
-use Rattle.run_history.specs.Call.{takes, received, chooses, allocated, freed}
+use Rattle.run_history.specs.Machine.{Machine, State, register, Effect, Goes, Wants, Chooses, Fails}
+use Rattle.run_history.specs.Call.{takes, chooses, allocated, freed}
 use Rattle.run_history.specs.Run.{does, after}
 use Rattle.run_history.specs.Touching.{instruction_at, touched}
 use Rattle.run_history.specs.Served.{Limits, Guest, Request, Malloc, Free, Nothing, request_of, Grant, granted, grant, is_refused, does_with, serves, Override, env_at, Path, guest_of, longer, served_next, planned_next, AsksFor}

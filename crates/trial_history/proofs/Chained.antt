@@ -1,13 +1,12 @@
 -- Checkpoints as a chain of runs.
-use Rattle.std.proofs.Common.{◌≡◌, ◌⊎◌, inl, inr, ℕ, zero, suc, ◌+◌, ◌<◌, ◌≤◌, Bool, true, false, cond, eqb, List, [], ◌∷◌, ◌++◌, drop, Option, Some, None, refl, sym, ◌∙◌, ap, subst, arith}
+use Rattle.std.proofs.Common.{◌≡◌, inl, inr, ℕ, zero, suc, ◌+◌, ◌<◌, ◌≤◌, Bool, cond, List, [], ◌∷◌, drop, Some, refl, sym, ◌∙◌, ap, subst, arith}
 use Rattle.std.specs.Prelude.{slice_get}
-use Rattle.std.proofs.lemmas.Bool.{eq-eqb, ne_eqb}
+use Rattle.std.proofs.lemmas.Bool.{ne_eqb}
 use Rattle.std.proofs.lemmas.Option.{none-some, same_Some}
 use Rattle.rx_io.specs.declared.bytes.Item.{Item}
 use Rattle.elf_image.specs.declared.image.Image.{Image}
 use Rattle.alloc_env.specs.declared.env.Env.{Env}
-use Rattle.run_history.specs.Machine.{start, start_machine}
-use Rattle.run_history.specs.Served.{Limits, Override, env_at, Path, origin, served_next, planned_next, Served}
+use Rattle.run_history.specs.Served.{Limits, Override, env_at, Path, origin, served_next, Served}
 use Rattle.session_history.proofs.Paths.{served_same, served_on}
 use Rattle.trial_history.specs.Trials.{plan_of_trial}
 use Rattle.trial_history.specs.Chains.{IsCheckpoint, AreCheckpoints, AreChained}

@@ -1,5 +1,5 @@
 -- What a served run adds, and how two runs from one place stand to each other.
-use Rattle.std.proofs.Common.{◌≡◌, ◌⊎◌, inl, inr, ℕ, zero, suc, ◌+◌, ◌<◌, ◌≤◌, List, [], ◌∷◌, ◌++◌, length, Option, Some, None, refl, sym, ◌∙◌, ap, subst, arith, replicate, ◌-◌}
+use Rattle.std.proofs.Common.{◌≡◌, ◌⊎◌, inl, inr, ℕ, zero, suc, ◌+◌, ◌<◌, ◌≤◌, List, [], ◌∷◌, ◌++◌, Option, Some, None, refl, sym, ◌∙◌, ap, subst, arith, replicate, ◌-◌}
 use Rattle.std.specs.Prelude.{slice_get, option_and_then}
 use Rattle.std.proofs.lemmas.Bool.{cases_lt}
 use Rattle.std.proofs.lemmas.List.{length-replicate}
@@ -13,7 +13,7 @@ use Rattle.run_history.proofs.Repeats.{repeated_keeps, repeated_add, repeated_fr
 use Rattle.run_history.proofs.Runs.{next_after, element_behind}
 use Rattle.run_history.proofs.Serves.{serves_to}
 use Rattle.session_history.proofs.Growing.{Grows, grows_same, grows_on, run_grows}
-use Rattle.session_history.proofs.Paths.{served_same, served_on}
+use Rattle.session_history.proofs.Paths.{served_on}
 
 -- answers of malloc, of which this one has this number
 answers_with : Option Choice → ℕ → List Choice

@@ -5,3 +5,5 @@ pub mod Agreeing
 pub mod Chained
 pub mod Results
 pub mod Walked
+pub mod Recovered
+mod Examples

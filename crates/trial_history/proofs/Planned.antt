@@ -1,5 +1,5 @@
 -- A run that was made in one environment is one under the plan of its trial.
-use Rattle.std.proofs.Common.{◌≡◌, ◌⊎◌, inl, inr, ℕ, ◌+◌, ◌<◌, ◌≤◌, Bool, true, false, cond, eqb, ltb, List, [], ◌∷◌, Option, Some, None, refl, sym, ◌∙◌, ap, subst, arith}
+use Rattle.std.proofs.Common.{◌≡◌, ◌⊎◌, inl, inr, ℕ, ◌+◌, ◌<◌, ◌≤◌, Bool, cond, eqb, ltb, List, [], ◌∷◌, None, sym, ◌∙◌, ap, subst, arith}
 use Rattle.std.proofs.lemmas.Bool.{cond_both, eqb-false, lt-ltb, le-ltb}
 use Rattle.rx_io.specs.declared.bytes.Item.{Item}
 use Rattle.rx_io.specs.Sends.{Send}
@@ -7,16 +7,16 @@ use Rattle.elf_image.specs.declared.image.Image.{Image}
 use Rattle.alloc_env.specs.declared.env.Env.{Env}
 use Rattle.alloc_env.specs.declared.env.Env.TheVariants.{Plain}
 use Rattle.run_history.specs.declared.answer.Cause.{Cause}
-use Rattle.run_history.specs.Machine.{start, start_machine, Effect, Wants, Fails}
+use Rattle.run_history.specs.Machine.{start, start_machine, Wants, Fails}
 use Rattle.run_history.specs.Served.{Limits, Override, env_at, Path, origin, guest_of, serves, served_next, planned_next, Served, FailsBy, AsksFor}
 use Rattle.episodes.specs.declared.episode.Tried.{Tried}
 use Rattle.episodes.specs.declared.episode.Tried.TheVariants as tried
-use Rattle.trial_history.specs.Trials.{plan_of_trial, IsUnharmed, IsContradicted, IsBehindAt, IsPast, ComesTo, IsTrial}
+use Rattle.trial_history.specs.Trials.{plan_of_trial, IsContradicted, IsBehindAt, IsPast, ComesTo}
 use Rattle.session_history.specs.Passing.{Covers}
 use Rattle.trial_history.specs.Chains.{IsCheckpoint}
 use Rattle.trial_history.specs.Laws.{everywhere, TrialServes, TrialComes}
 use Rattle.trial_history.proofs.Asking.{asks_under_all, asks_next, asks_takes}
-use Rattle.trial_history.proofs.Going.{taken_later, Later, later_of, served_as}
+use Rattle.trial_history.proofs.Going.{taken_later, later_of, served_as}
 
 -- the environment of the latest override, and of those before it
 pub env_within : (plan : List Override) (low until : ℕ) (env : Env) (count : ℕ) → low ≤ count → count < until → env_at (record { low = low; until = until; env = env } ∷ plan) count ≡ env

@@ -1,5 +1,5 @@
 -- What came of a trial is one, and is found in one place.
-use Rattle.std.proofs.Common.{◌≡◌, ◌⊎◌, inl, inr, ℕ, ◌+◌, ◌<◌, ◌≤◌, Bool, true, false, cond, leb, List, [], ◌∷◌, ◌++◌, Option, Some, None, refl, sym, ◌∙◌, ap, subst, arith}
+use Rattle.std.proofs.Common.{◌≡◌, ◌⊎◌, inl, inr, ℕ, ◌<◌, ◌≤◌, true, false, leb, List, Option, Some, None, refl, sym, ◌∙◌, ap, subst, arith}
 use Rattle.std.specs.Prelude.{slice_get, is_some, IsSome}
 use Rattle.std.proofs.lemmas.Bool.{lt-leb}
 use Rattle.std.proofs.lemmas.Option.{none-some, same_Some}
@@ -9,19 +9,18 @@ use Rattle.rx_io.specs.Sends.{Send, sent_to}
 use Rattle.alloc_env.specs.declared.env.Env.{Env}
 use Rattle.reply_ledger.specs.Trials.{agree}
 use Rattle.run_history.specs.declared.answer.Cause.{Cause}
-use Rattle.run_history.specs.declared.answer.Cause.TheVariants.{BadAccess, Hang}
-use Rattle.run_history.specs.Machine.{Effect, Wants, Fails}
+use Rattle.run_history.specs.Machine.{Wants, Fails}
 use Rattle.run_history.specs.Run.{does, after, output}
 use Rattle.run_history.specs.Touching.{touched}
 use Rattle.run_history.specs.Served.{Limits, Guest, Override, grant, is_refused, does_with, serves, env_at, Path, guest_of, planned_next, Served, FailsBy, AsksFor}
 use Rattle.run_history.proofs.Runs.{Later as Missing, extends_same, does_more}
 use Rattle.run_history.proofs.Serves.{serves_to}
-use Rattle.session_history.specs.Passing.{until, AreBetween, Covers, CoversBefore}
+use Rattle.session_history.specs.Passing.{until, AreBetween, Covers}
 use Rattle.session_history.proofs.Passing.{all_until, timed_on}
 use Rattle.session_history.proofs.Paths.{served_same}
 use Rattle.episodes.specs.declared.episode.Tried.{Tried}
 use Rattle.episodes.specs.declared.episode.Tried.TheVariants as tried
-use Rattle.trial_history.specs.Trials.{IsUnharmed, IsContradicted, IsBehindAt, IsPast, ComesTo, IsTrial}
+use Rattle.trial_history.specs.Trials.{IsUnharmed, IsBehindAt, IsPast, ComesTo}
 use Rattle.trial_history.specs.Laws.{OneResult}
 use Rattle.trial_history.proofs.Asking.{asks_takes}
 use Rattle.trial_history.proofs.Going.{served_grows, taken_later, steps_later, Later, later_served, later_steps, Compared, Equal, Before, Behind, compare, same_next}

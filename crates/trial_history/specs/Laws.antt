@@ -1,14 +1,14 @@
 -- What holds of all trials, and of a run that is adopted.
-use Rattle.std.specs.Prelude.{◌≡◌, ◌⊎◌, ℕ, ◌+◌, ◌<◌, ◌≤◌, List, [], ◌∷◌, ◌++◌, drop, map, false, None, Some, slice_get}
+use Rattle.std.specs.Prelude.{◌≡◌, ℕ, ◌+◌, ◌<◌, List, [], ◌∷◌, ◌++◌, drop, map, false, None, Some, slice_get}
 use Rattle.rx_io.specs.declared.bytes.Item.{Item}
 use Rattle.rx_io.specs.Sends.{Send}
 use Rattle.elf_image.specs.declared.image.Image.{Image}
 use Rattle.alloc_env.specs.declared.env.Env.{Env}
-use Rattle.run_history.specs.Served.{Limits, Override, Path, origin, Served, FailsBy, AsksFor}
+use Rattle.run_history.specs.Served.{Limits, Override, Path, origin, Served, AsksFor}
 use Rattle.session_history.specs.Passing.{AreBetween, Covers, IsFeasible}
 use Rattle.episodes.specs.declared.episode.Tried.{Tried}
 use Rattle.episodes.specs.Survival.{survives}
-use Rattle.trial_history.specs.Trials.{plan_of_trial, IsUnharmed, ComesTo, IsTrial}
+use Rattle.trial_history.specs.Trials.{plan_of_trial, IsUnharmed, IsTrial}
 use Rattle.trial_history.specs.Tables.{Trial, table, WalksOver, IsRight, survivor_in, IsAdopted}
 use Rattle.trial_history.specs.Chains.{IsCheckpoint, AreCheckpoints, AreChained}
 
@@ -71,7 +71,6 @@ NoneSurvives =
     ((checkpoint : Path) (index : ℕ) → slice_get ring index ≡ Some checkpoint → AreBetween 0 checkpoint.state.machine.taken checkpoint.state.sends) →
     WalksOver limits items plan pieces point (table ring) trials → ((trial : Trial) (index : ℕ) → slice_get trials index ≡ Some trial → survives trial.result ≡ false) →
     (other : Trial) (index : ℕ) → slice_get (table ring) index ≡ Some other.chance → IsRight limits items plan pieces point other → survives other.result ≡ false
-
 
 -- A walk over a table has one list of trials.
 abbrev pub OneWalk : Type 0

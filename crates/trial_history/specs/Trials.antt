@@ -1,5 +1,5 @@
 -- What comes of a trial: a program that failed runs again from a checkpoint, in another environment.
-use Rattle.std.specs.Prelude.{◌≡◌, ℕ, ◌+◌, ◌<◌, ◌≤◌, List, [], ◌∷◌, false, ◌⊎◌, Some, IsSome, if◌then◌else◌, ◌==◌}
+use Rattle.std.specs.Prelude.{◌≡◌, ℕ, ◌+◌, ◌<◌, ◌≤◌, List, ◌∷◌, false, ◌⊎◌, Some, IsSome, if◌then◌else◌, ◌==◌}
 use Rattle.rx_io.specs.declared.bytes.Item.{Item}
 use Rattle.rx_io.specs.Sends.{Send, sent_to}
 use Rattle.alloc_env.specs.declared.env.Env.{Env}

@@ -1,5 +1,6 @@
 //! Laws of trials, each as the contract of a function that does nothing.
 ghost use Rattle.trial_history.specs.Laws.{AsksUnderAll, TrialServes, TrialComes, CheckpointUnharmed, ChainedAt, ChainedDrop, ChainedAdopt, OneResult, NoneSurvives, OneWalk, WalkAdopts, WalkGivesUp};
+ghost use Rattle.trial_history.specs.EpisodeLaws.{OneRecovery, RecoveryAdopts, RecoveryGivesUp};
 
 /// Whether a run asks for an item depends on no plan.
 pub fn asks_under_all()
@@ -59,4 +60,19 @@ pub fn walk_adopts()
 /// Where none does, the trials are the whole table.
 pub fn walk_gives_up()
     ensures { WalkGivesUp }
+{}
+
+/// A recovery is fixed by the survivor that failed and its checkpoints.
+pub fn one_recovery()
+    ensures { OneRecovery }
+{}
+
+/// Where a trial survives, the session can go on as it.
+pub fn recovery_adopts()
+    ensures { RecoveryAdopts }
+{}
+
+/// Where none does, no run that can be tried survives.
+pub fn recovery_gives_up()
+    ensures { RecoveryGivesUp }
 {}
