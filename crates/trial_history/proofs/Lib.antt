@@ -7,3 +7,4 @@ pub mod Results
 pub mod Walked
 pub mod Recovered
 mod Examples
+pub mod Survivors

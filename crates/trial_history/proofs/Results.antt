@@ -47,13 +47,13 @@ reached limits items plan checkpoint pieces point path tried.Contradicts from co
 reached limits items plan checkpoint pieces point path tried.Behind from comes = reached_there limits items plan checkpoint pieces point path from comes.0
 
 -- a run that asks for an item and goes on took it
-asks_on : (limits : Limits) (items : List Item) (plan : List Override) (first second : Path) (item : ℕ) → AsksFor limits plan first item → Later limits items plan first second → item < second.state.machine.taken
+pub asks_on : (limits : Limits) (items : List Item) (plan : List Override) (first second : Path) (item : ℕ) → AsksFor limits plan first item → Later limits items plan first second → item < second.state.machine.taken
 asks_on limits items plan first second item asks later =
     let took = asks_takes limits items plan first later.next item asks later.goes in
     omega (arith, asks.taken, took.taken, taken_later limits items plan later.next second later.on)
 
 -- one that has ended doesn't go on
-ended_on : (limits : Limits) (items : List Item) (plan : List Override) (first second : Path) → IsSome first.state.ended → Later limits items plan first second → ⊥
+pub ended_on : (limits : Limits) (items : List Item) (plan : List Override) (first second : Path) → IsSome first.state.ended → Later limits items plan first second → ⊥
 ended_on limits items plan first second ended later =
     let parts = serves_to limits items (env_at plan first.state.machine.taken) first later.next later.goes in
     let never : false ≡ true = subst (λ (o : Option ℕ). IsSome o) parts.lives ended in absurd (cc)
@@ -137,11 +137,11 @@ stops limits items plan checkpoint first second pieces point tried.Behind timed 
     of_either (inr past) = past_on limits items plan first second point past.0 (omega (arith, other.taken, other.unharmed.early)) later
 
 -- What is known of a result, where the trial stands: no two of them can be.
-apart_asks_fails : (limits : Limits) (plan : List Override) (path : Path) (item : ℕ) (cause : Cause) → AsksFor limits plan path item → FailsBy limits plan path cause → ⊥
+pub apart_asks_fails : (limits : Limits) (plan : List Override) (path : Path) (item : ℕ) (cause : Cause) → AsksFor limits plan path item → FailsBy limits plan path cause → ⊥
 apart_asks_fails limits plan path item cause asks fails =
     let never : Wants ≡ Fails cause = sym asks.asks ∙ fails.fails in absurd (cc)
 
-apart_ended : (path : Path) → path.state.ended ≡ None → IsSome path.state.ended → ⊥
+pub apart_ended : (path : Path) → path.state.ended ≡ None → IsSome path.state.ended → ⊥
 apart_ended path lives ended =
     let never : false ≡ true = subst (λ (o : Option ℕ). IsSome o) lives ended in absurd (cc)
 

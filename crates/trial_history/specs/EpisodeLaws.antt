@@ -1,15 +1,18 @@
 -- What holds of each recovery.
-use Rattle.std.specs.Prelude.{◌≡◌, ℕ, ◌≤◌, false, None, Some, List, drop, slice_get}
+use Rattle.std.specs.Prelude.{◌≡◌, ℕ, ◌<◌, ◌≤◌, false, None, Some, List, [], ◌∷◌, ◌++◌, drop, slice_get}
 use Rattle.rx_io.specs.declared.journal.Entry.{Entry}
 use Rattle.elf_image.specs.declared.image.Image.{Image}
-use Rattle.run_history.specs.Served.{Served, origin}
+use Rattle.rx_io.specs.declared.bytes.Item.{Item}
+use Rattle.run_history.specs.declared.answer.Cause.{Cause}
+use Rattle.run_history.specs.Served.{Path, Served, origin, FailsBy}
 use Rattle.session_history.specs.Heeding.{items_in}
 use Rattle.session_history.specs.Passing.{passed_in, Covers, IsFeasible}
-use Rattle.session_history.specs.Lawful.{Rules}
+use Rattle.session_history.specs.Lawful.{Rules, Survivor, Chapter, entries_of}
+use Rattle.session_history.specs.Serving.{gone_on, first_survivor}
 use Rattle.episodes.specs.Survival.{survives}
 use Rattle.trial_history.specs.Tables.{Trial, table, IsRight, survivor_in}
 use Rattle.trial_history.specs.Chains.{AreCheckpoints, AreChained}
-use Rattle.trial_history.specs.Episodes.{Recovery, point_of, IsRecovery, adopted_by}
+use Rattle.trial_history.specs.Episodes.{Recovery, point_of, IsRecovery, adopted_by, AreRecovered}
 
 -- A recovery is fixed by the survivor that failed and its checkpoints: so is all that is reported of it.
 abbrev pub OneRecovery : Type 0
@@ -40,3 +43,24 @@ RecoveryGivesUp =
     (rules : Rules) (image : Image) (entries : List Entry) (recovery : Recovery) (trial : Trial) (index : ℕ) → IsRecovery rules image entries recovery → survivor_in recovery.trials ≡ None →
     slice_get (table recovery.ring) index ≡ Some trial.chance → IsRight rules.limits (items_in rules.bounds entries) recovery.survivor.plan (passed_in rules.bounds entries) (point_of recovery) trial →
     survives trial.result ≡ false
+
+-- Behind an adopted trial the next failure has taken more items.
+abbrev pub PointsRise : Type 0
+PointsRise =
+    (rules : Rules) (image : Image) (entries : List Entry) (recovery : Recovery) (trial : Trial) (items : List Item) (failed : Path) (cause : Cause) → IsRecovery rules image entries recovery → survivor_in recovery.trials ≡ Some trial →
+    Served rules.limits items (adopted_by recovery trial).plan trial.path failed → FailsBy rules.limits (adopted_by recovery trial).plan failed cause → point_of recovery < failed.state.machine.taken
+
+-- The survivors of a session: the first one, one that goes on, and behind a recovery the trial that survived.
+abbrev pub RecoveredFirst : Type 0
+RecoveredFirst = (rules : Rules) (image : Image) → AreRecovered rules image [] (first_survivor image) [] [] (first_survivor image)
+
+abbrev pub RecoveredOn : Type 0
+RecoveredOn =
+    (rules : Rules) (image : Image) (before : List Entry) (first : Survivor) (chapters : List Chapter) (recoveries : List Recovery) (now : Survivor) (path : Path) →
+    AreRecovered rules image before first chapters recoveries now → AreRecovered rules image before first chapters recoveries (gone_on now path)
+
+abbrev pub RecoveredThen : Type 0
+RecoveredThen =
+    (rules : Rules) (image : Image) (before : List Entry) (first : Survivor) (chapters : List Chapter) (recoveries : List Recovery) (recovery : Recovery) (since : List Entry) (trial : Trial) →
+    AreRecovered rules image before first chapters recoveries recovery.survivor → IsRecovery rules image ((before ++ entries_of chapters) ++ since) recovery → survivor_in recovery.trials ≡ Some trial →
+    AreRecovered rules image before first (chapters ++ record { survivor = recovery.survivor; entries = since } ∷ []) (recoveries ++ recovery ∷ []) (adopted_by recovery trial)

@@ -1,6 +1,6 @@
 //! Laws of trials, each as the contract of a function that does nothing.
 ghost use Rattle.trial_history.specs.Laws.{AsksUnderAll, TrialServes, TrialComes, CheckpointUnharmed, ChainedAt, ChainedDrop, ChainedAdopt, OneResult, NoneSurvives, OneWalk, WalkAdopts, WalkGivesUp};
-ghost use Rattle.trial_history.specs.EpisodeLaws.{OneRecovery, RecoveryAdopts, RecoveryGivesUp};
+ghost use Rattle.trial_history.specs.EpisodeLaws.{OneRecovery, RecoveryAdopts, RecoveryGivesUp, PointsRise, RecoveredFirst, RecoveredOn, RecoveredThen};
 
 /// Whether a run asks for an item depends on no plan.
 pub fn asks_under_all()
@@ -75,4 +75,24 @@ pub fn recovery_adopts()
 /// Where none does, no run that can be tried survives.
 pub fn recovery_gives_up()
     ensures { RecoveryGivesUp }
+{}
+
+/// Behind an adopted trial the next failure has taken more items.
+pub fn points_rise()
+    ensures { PointsRise }
+{}
+
+/// The first survivor stands at the start.
+pub fn recovered_first()
+    ensures { RecoveredFirst }
+{}
+
+/// A survivor may go on.
+pub fn recovered_on()
+    ensures { RecoveredOn }
+{}
+
+/// Behind a recovery stands the trial that survived.
+pub fn recovered_then()
+    ensures { RecoveredThen }
 {}
