@@ -63,7 +63,7 @@ serves_there : (limits : Limits) (env : Env) (guest : Guest) → leb limits.budg
 unfolding serves
 serves_there limits env guest early rule = rw (early, rule) refl
 
-fails_on : (limits : Limits) (items : List Item) (plan : List Override) (first second : Path) (cause : Cause) → FailsBy limits plan first cause → Later limits items plan first second → ⊥
+pub fails_on : (limits : Limits) (items : List Item) (plan : List Override) (first second : Path) (cause : Cause) → FailsBy limits plan first cause → Later limits items plan first second → ⊥
 fails_on limits items plan first second cause fails later =
     let env = env_at plan first.state.machine.taken in
     let item = slice_get items first.state.machine.taken in

@@ -5,11 +5,12 @@ use Rattle.rx_io.specs.declared.bytes.Item.{Item}
 use Rattle.rx_io.specs.declared.journal.Entry.{Entry}
 use Rattle.rx_io.specs.Sends.{Send}
 use Rattle.run_history.specs.declared.answer.Cause.{Cause}
-use Rattle.run_history.specs.Served.{Limits, Override, Path, Served, FailsBy}
+use Rattle.run_history.specs.Served.{Limits, Override, Path, origin, Served, FailsBy}
 use Rattle.session_history.specs.Heeding.{items_in}
 use Rattle.session_history.specs.Passing.{passed_in}
 use Rattle.session_history.specs.Lawful.{entries_of}
 use Rattle.session_history.specs.Serving.{gone_on}
+use Rattle.session_history.proofs.Paths.{served_same, served_with}
 use Rattle.episodes.specs.declared.episode.Tried.{Tried}
 use Rattle.episodes.specs.declared.episode.Tried.TheVariants as tried
 use Rattle.episodes.specs.Survival.{survives}
@@ -17,8 +18,10 @@ use Rattle.trial_history.specs.Trials.{ComesTo}
 use Rattle.trial_history.specs.Tables.{Trial, survivor_in}
 use Rattle.trial_history.specs.Episodes.{point_of, IsRecovery, adopted_by, AreRecovered}
 use Rattle.trial_history.specs.EpisodeLaws.{PointsRise, RecoveredFirst, RecoveredOn, RecoveredThen}
-use Rattle.trial_history.proofs.Going.{later_of}
-use Rattle.trial_history.proofs.Results.{asks_on, ended_on, apart_asks_fails, apart_ended}
+use Rattle.trial_history.proofs.Going.{later_of, later_served, Compared, Equal, Before, Behind, compare}
+use Rattle.trial_history.proofs.Chained.{chained_from}
+use Rattle.trial_history.proofs.Results.{asks_on, ended_on, fails_on, apart_asks_fails, apart_ended}
+use Rattle.trial_history.proofs.Recovered.{recovery_adopts}
 use Rattle.trial_history.proofs.Walked.{walk_adopts}
 
 -- a run that goes on from a trial that survived, and fails, has taken the item at which the earlier one failed
@@ -38,12 +41,29 @@ past_point limits items more plan checkpoint pieces point path failed cause (tri
 past_point limits items more plan checkpoint pieces point path failed cause tried.Contradicts is comes on fails = absurd (cc)
 past_point limits items more plan checkpoint pieces point path failed cause tried.Behind is comes on fails = absurd (cc)
 
+-- a run from the start that fails goes on from each other one under its plan
+behind_failed : (limits : Limits) (items : List Item) (plan : List Override) (start path failed : Path) (cause : Cause) → Served limits items plan start path → Served limits items plan start failed → FailsBy limits plan failed cause
+    → Served limits items plan path failed
+behind_failed limits items plan start path failed cause one other fails = of_compared (compare limits items plan start path failed one other)
+  where
+    of_compared : Compared limits items plan path failed → Served limits items plan path failed
+    of_compared (Equal same) = subst (λ (p : Path). Served limits items plan path p) same (served_same limits items plan path)
+    of_compared (Before later) = later_served limits items plan path failed later
+    of_compared (Behind later) = absurd (fails_on limits items plan failed path cause fails later)
+
 pub points_rise : PointsRise
-points_rise rules image entries recovery trial more failed cause was is on fails =
+points_rise rules image entries later more recovery next trial grown was is same then_fails =
     let items : List Item = items_in rules.bounds entries in
     let pieces : List Send = passed_in rules.bounds entries in
+    let plan : List Override = (adopted_by recovery trial).plan in
     let it = walk_adopts rules.limits items recovery.survivor.plan pieces (point_of recovery) recovery.ring recovery.trials trial was.walks is in
-    past_point rules.limits items more (adopted_by recovery trial).plan trial.chance.checkpoint pieces (point_of recovery) trial.path failed cause trial.result it.survives_it it.right.comes on fails
+    let ran = served_with rules.limits items more plan (origin image) trial.path (recovery_adopts rules image entries recovery trial was is).ran in
+    let fails : FailsBy rules.limits plan next.survivor.now next.cause = subst (λ (p : List Override). FailsBy rules.limits p next.survivor.now next.cause) same then_fails.fails in
+    let chain = chained_from rules.limits (items_in rules.bounds later) next.survivor.plan image next.survivor.now next.ring then_fails.chained in
+    let under = subst (λ (p : List Override). Served rules.limits (items_in rules.bounds later) p (origin image) next.survivor.now) same chain in
+    let failed = subst (λ (its : List Item). Served rules.limits its plan (origin image) next.survivor.now) grown under in
+    past_point rules.limits items (items ++ more) plan trial.chance.checkpoint pieces (point_of recovery) trial.path next.survivor.now next.cause trial.result it.survives_it it.right.comes
+    (behind_failed rules.limits (items ++ more) plan (origin image) trial.path next.survivor.now next.cause ran failed fails) fails
 
 pub recovered_first : RecoveredFirst
 recovered_first rules image = (refl, refl)

@@ -3,8 +3,7 @@ use Rattle.std.specs.Prelude.{◌≡◌, ℕ, ◌<◌, ◌≤◌, false, None, S
 use Rattle.rx_io.specs.declared.journal.Entry.{Entry}
 use Rattle.elf_image.specs.declared.image.Image.{Image}
 use Rattle.rx_io.specs.declared.bytes.Item.{Item}
-use Rattle.run_history.specs.declared.answer.Cause.{Cause}
-use Rattle.run_history.specs.Served.{Path, Served, origin, FailsBy}
+use Rattle.run_history.specs.Served.{Path, Served, origin}
 use Rattle.session_history.specs.Heeding.{items_in}
 use Rattle.session_history.specs.Passing.{passed_in, Covers, IsFeasible}
 use Rattle.session_history.specs.Lawful.{Rules, Survivor, Chapter, entries_of}
@@ -44,11 +43,11 @@ RecoveryGivesUp =
     slice_get (table recovery.ring) index ≡ Some trial.chance → IsRight rules.limits (items_in rules.bounds entries) recovery.survivor.plan (passed_in rules.bounds entries) (point_of recovery) trial →
     survives trial.result ≡ false
 
--- Behind an adopted trial the next failure has taken more items.
+-- Behind an adopted trial the next failure has taken more items: with more entries, which brought more items.
 abbrev pub PointsRise : Type 0
 PointsRise =
-    (rules : Rules) (image : Image) (entries : List Entry) (recovery : Recovery) (trial : Trial) (items : List Item) (failed : Path) (cause : Cause) → IsRecovery rules image entries recovery → survivor_in recovery.trials ≡ Some trial →
-    Served rules.limits items (adopted_by recovery trial).plan trial.path failed → FailsBy rules.limits (adopted_by recovery trial).plan failed cause → point_of recovery < failed.state.machine.taken
+    (rules : Rules) (image : Image) (entries later : List Entry) (more : List Item) (recovery next : Recovery) (trial : Trial) → items_in rules.bounds later ≡ items_in rules.bounds entries ++ more → IsRecovery rules image entries recovery →
+    survivor_in recovery.trials ≡ Some trial → next.survivor.plan ≡ (adopted_by recovery trial).plan → IsRecovery rules image later next → point_of recovery < point_of next
 
 -- The survivors of a session: the first one, one that goes on, and behind a recovery the trial that survived.
 abbrev pub RecoveredFirst : Type 0

@@ -49,15 +49,15 @@ adopted_by recovery trial = record {
   now = trial.path;
 }
 
--- one survivor is another one that went on
-abbrev pub WentOn : Survivor → Survivor → Type 0
-WentOn first later = (later.plan ≡ first.plan) × (later.begun ≡ first.begun)
+-- one survivor begins where another one does, under its plan
+abbrev pub BeginsAs : Survivor → Survivor → Type 0
+BeginsAs first later = (later.plan ≡ first.plan) × (later.begun ≡ first.begun)
 
 -- The survivors of a session, behind some entries and from one that begins: each chapter's failed and was recovered, and the next one is the
 -- trial that survived, up to the one that stands now.
 abbrev pub AreRecovered : Rules → Image → List Entry → Survivor → List Chapter → List Recovery → Survivor → Type 0
-AreRecovered rules image before first [] [] now = WentOn first now
+AreRecovered rules image before first [] [] now = BeginsAs first now
 AreRecovered rules image before first (chapter ∷ chapters) (recovery ∷ recoveries) now =
-    WentOn first chapter.survivor × (recovery.survivor ≡ chapter.survivor) × IsRecovery rules image (before ++ chapter.entries) recovery
+    BeginsAs first chapter.survivor × (recovery.survivor ≡ chapter.survivor) × IsRecovery rules image (before ++ chapter.entries) recovery
     × MatchOption (survivor_in recovery.trials) ⊥ (λ trial. AreRecovered rules image (before ++ chapter.entries) (adopted_by recovery trial) chapters recoveries now)
 AreRecovered rules image before first _ _ now = ⊥

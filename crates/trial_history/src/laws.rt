@@ -77,7 +77,7 @@ pub fn recovery_gives_up()
     ensures { RecoveryGivesUp }
 {}
 
-/// Behind an adopted trial the next failure has taken more items.
+/// The next failure behind an adopted trial has taken more items.
 pub fn points_rise()
     ensures { PointsRise }
 {}
@@ -87,12 +87,12 @@ pub fn recovered_first()
     ensures { RecoveredFirst }
 {}
 
-/// A survivor may go on.
+/// A survivor may go on, to any run.
 pub fn recovered_on()
     ensures { RecoveredOn }
 {}
 
-/// Behind a recovery stands the trial that survived.
+/// Behind a recovery the trial that survived stands in its place.
 pub fn recovered_then()
     ensures { RecoveredThen }
 {}
