@@ -9,14 +9,14 @@ use Rattle.rv_asm.specs.Assembling.{IsAssembled, AnswersFault}
 use Rattle.rv_asm.specs.Refusals.{refusal_of}
 use Rattle.run_history.specs.declared.answer.Answer.{Answer}
 use Rattle.run_history.specs.declared.answer.Answer.TheVariants as answer
-use Rattle.rx_serve.specs.Limits.{assembly_window, program_limit}
+use Rattle.rx_serve.specs.Limits.{assembly_window, source_limit}
 use Rattle.rx_serve.specs.Loading.{Has}
 
 -- the text of this name has an image, or why it has none; a fault comes only where the files' count of them rose
 abbrev pub LoadsText : Option Contents → List ℕ → ℕ → ℕ → Result Image Answer → Type 0
-LoadsText told name before now (Ok image) = (text : List ℕ) × Has told name text × (length text ≤ program_limit) × IsAssembled text assembly_window image
-LoadsText told name before now (Err (answer.AsmRefused kind line)) = (text : List ℕ) × Has told name text × (length text ≤ program_limit) × AnswersFault (refusal_of text) kind line
-LoadsText told name before now (Err answer.TooLarge) = IfSome told (λ files. IsSomeAnd (files name) (λ bytes. program_limit < length bytes))
+LoadsText told name before now (Ok image) = (text : List ℕ) × Has told name text × (length text ≤ source_limit) × IsAssembled text assembly_window image
+LoadsText told name before now (Err (answer.AsmRefused kind line)) = (text : List ℕ) × Has told name text × (length text ≤ source_limit) × AnswersFault (refusal_of text) kind line
+LoadsText told name before now (Err answer.TooLarge) = IfSome told (λ files. IsSomeAnd (files name) (λ bytes. source_limit < length bytes))
 LoadsText told name before now (Err answer.FileFault) = Rose before now
 LoadsText told name before now (Err answer.Memory) = Unit {0}
 LoadsText told name before now (Err _) = ⊥
@@ -45,7 +45,7 @@ pub record WritesAssembled (old new : Option Contents) (source out : List ℕ) (
   pub text : List ℕ
   pub image : Image
   pub has : Has old source text
-  pub small : length text ≤ program_limit
+  pub small : length text ≤ source_limit
   pub assembled : IsAssembled text assembly_window image
   pub writes : Writes old new out (written image) end
 
@@ -61,9 +61,9 @@ Assembles old new source out _ = ⊥
 
 -- what is behind each answer, of the files as they were
 abbrev pub HasAsmCause : Option Contents → List ℕ → Answer → Type 0
-HasAsmCause told source answer.Finished = (text : List ℕ) × Has told source text × (length text ≤ program_limit) × (refusal_of text ≡ None)
-HasAsmCause told source (answer.AsmRefused kind line) = (text : List ℕ) × Has told source text × (length text ≤ program_limit) × AnswersFault (refusal_of text) kind line
-HasAsmCause told source answer.TooLarge = IfSome told (λ files. IsSomeAnd (files source) (λ bytes. program_limit < length bytes))
+HasAsmCause told source answer.Finished = (text : List ℕ) × Has told source text × (length text ≤ source_limit) × (refusal_of text ≡ None)
+HasAsmCause told source (answer.AsmRefused kind line) = (text : List ℕ) × Has told source text × (length text ≤ source_limit) × AnswersFault (refusal_of text) kind line
+HasAsmCause told source answer.TooLarge = IfSome told (λ files. IsSomeAnd (files source) (λ bytes. source_limit < length bytes))
 HasAsmCause told source answer.FileFault = Unit {0}
 HasAsmCause told source answer.Memory = Unit {0}
 HasAsmCause told source _ = ⊥

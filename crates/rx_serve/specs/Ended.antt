@@ -1,14 +1,16 @@
--- What an end says.
-use Rattle.std.specs.Prelude.{◌≡◌, ℕ, []}
-use Rattle.run_history.specs.declared.answer.Answer.{Answer}
-use Rattle.rx_serve.specs.declared.run.End.{End}
-use Rattle.rx_serve.specs.Status.{status_of}
+-- What an end says of a command.
+use Rattle.std.specs.Prelude.{◌≡◌, ℕ, List, [], Option}
+use Rattle.rx_io.specs.Outside.{Stream}
+use Rattle.rx_serve.specs.declared.ending.End.{End}
 
--- an end with this answer, so many items taken and so many instructions done, and no choices
-pub record IsEndOf (end : End) (answer : Answer) (taken steps : ℕ) : Type 0 where
-  pub answered : end.answer ≡ answer
-  pub status : end.status ≡ status_of answer
+-- an end without a session: nothing was recorded, run or taken
+pub record HasNoSession (end : End) : Type 0 where
   pub recorded : end.recorded ≡ 0
   pub tail : end.tail ≡ []
-  pub steps_are : end.steps ≡ steps
-  pub taken_are : end.taken ≡ taken
+  pub steps : end.steps ≡ 0
+  pub taken : end.taken ≡ 0
+
+-- nothing was read or written
+pub record IsUntouched (source source_later : Option Stream) (sink sink_later : Option (List ℕ)) : Type 0 where
+  pub read : source_later ≡ source
+  pub written : sink_later ≡ sink

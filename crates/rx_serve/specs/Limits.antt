@@ -1,18 +1,16 @@
--- What a command is held to where its words don't say otherwise.
+-- What a command is held to whatever its words are.
 use Rattle.std.specs.Prelude.{ℕ}
+use Rattle.rx_serve.specs.declared.loading.TheConstants.{MAX_PROGRAM}
+use Rattle.rx_serve.specs.declared.assembly.TheConstants.{MAX_SOURCE, ASSEMBLY_WINDOW}
 
--- the bytes of a program's window: 4 MiB
-abbrev pub default_window : ℕ
-default_window = 4194304
-
--- the instructions that a program may do between two items
-abbrev pub default_budget : ℕ
-default_budget = 1000000
-
--- the greatest number of bytes of a program file, and of an assembler's text: 16 MiB
+-- the greatest number of bytes of a program file
 abbrev pub program_limit : ℕ
-program_limit = 16777216
+program_limit = MAX_PROGRAM
 
--- the window that a text is assembled for: 1 MiB
+-- and of an assembler's text
+abbrev pub source_limit : ℕ
+source_limit = MAX_SOURCE
+
+-- the window that a text is assembled for
 abbrev pub assembly_window : ℕ
-assembly_window = 1048576
+assembly_window = ASSEMBLY_WINDOW

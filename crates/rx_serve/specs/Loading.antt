@@ -1,22 +1,39 @@
 -- The program file, by its name.
 use Rattle.std.specs.Prelude.{◌≡◌, ℕ, ◌<◌, ◌≤◌, List, length, Option, Some, IfSome, IsSomeAnd, Result, Ok, Err}
-use Rattle.rx_io.specs.Faults.{Rose}
 use Rattle.rx_io.specs.Named.{Contents}
 use Rattle.elf_image.specs.declared.image.Image.{Image}
 use Rattle.elf_image.specs.Refusals.{refusal, IsImage}
 use Rattle.run_history.specs.declared.answer.Answer.{Answer}
 use Rattle.run_history.specs.declared.answer.Answer.TheVariants.{ElfRefused, TooLarge, FileFault, Memory}
-use Rattle.rx_serve.specs.Limits.{default_window, program_limit}
+use Rattle.rx_serve.specs.Limits.{program_limit}
 
 -- the files say that a name has these bytes, if they tell
 abbrev pub Has : Option Contents → List ℕ → List ℕ → Type 0
 Has told name bytes = IfSome told (λ files. files name ≡ Some bytes)
 
--- the file of this name has an image, or why it has none; a fault comes only where the files' count of them rose
-abbrev pub LoadsImage : Option Contents → List ℕ → ℕ → ℕ → Result Image Answer → Type 0
-LoadsImage told name before now (Ok image) = (file : List ℕ) × Has told name file × (length file ≤ program_limit) × IsImage file default_window image
-LoadsImage told name before now (Err (ElfRefused kind)) = (file : List ℕ) × Has told name file × (length file ≤ program_limit) × (refusal file default_window ≡ Some kind)
-LoadsImage told name before now (Err TooLarge) = IfSome told (λ files. IsSomeAnd (files name) (λ bytes. program_limit < length bytes))
-LoadsImage told name before now (Err FileFault) = Rose before now
-LoadsImage told name before now (Err Memory) = Unit {0}
-LoadsImage told name before now (Err _) = ⊥
+-- the file of a name is a program file with this image in a window of so many bytes
+pub record HasImage (told : Option Contents) (name : List ℕ) (window : ℕ) (image : Image) : Type 0 where
+  pub file : List ℕ
+  pub has : Has told name file
+  pub small : length file ≤ program_limit
+  pub is : IsImage file window image
+
+-- and here it is none, by the number of the first refusal that holds
+pub record HasRefusal (told : Option Contents) (name : List ℕ) (window kind : ℕ) : Type 0 where
+  pub file : List ℕ
+  pub has : Has told name file
+  pub small : length file ≤ program_limit
+  pub refused : refusal file window ≡ Some kind
+
+-- why there is no image: the file is refused, it is too large, or can't be read, or memory ran out
+abbrev pub HasLoadCause : Option Contents → List ℕ → ℕ → Answer → Type 0
+HasLoadCause told name window (ElfRefused kind) = HasRefusal told name window kind
+HasLoadCause told name window TooLarge = IfSome told (λ files. IsSomeAnd (files name) (λ bytes. program_limit < length bytes))
+HasLoadCause told name window FileFault = Unit {0}
+HasLoadCause told name window Memory = Unit {0}
+HasLoadCause told name window _ = ⊥
+
+-- the image of the file of a name, or why it has none
+abbrev pub LoadsImage : Option Contents → List ℕ → ℕ → Result Image Answer → Type 0
+LoadsImage told name window (Ok image) = HasImage told name window image
+LoadsImage told name window (Err answer) = HasLoadCause told name window answer

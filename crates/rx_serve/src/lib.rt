@@ -1,14 +1,12 @@
-//! The recovery system's command `run` over any outside: the words in, the answer and its status out.
+//! The recovery system's commands over any outside: the words in, the answer and its status out.
 #![tactic(auto)]
 
 mod assembly;
-mod call_gate;
-mod guest_cpu;
-mod laws;
+mod ending;
+mod loading;
 mod run;
-mod session;
-mod trunk_wire;
-mod words;
+mod serving;
+mod settings;
 
-pub use laws::{one_due, one_outcome, one_reading};
-pub use run::{End, WINDOW, run_rx};
+pub use ending::End;
+pub use run::run_rx;

@@ -1,109 +1,26 @@
 // The top call: the words in, the answer and its status out.
-ghost use Rattle.std.specs.Prelude.{◌≡◌, ◌⊎◌, ℕ, List, ◌≤◌, ◌+◌, ◌↔◌, map, string_bytes};
-ghost use Rattle.elf_image.specs.declared.image.Image.{Image};
+ghost use Rattle.std.specs.Prelude.{◌≡◌, ◌≢◌, ◌+◌, ◌≤◌, ◌↔◌, Some, None};
+ghost use Rattle.command_line.specs.Parts.{texts_of};
+ghost use Rattle.command_line.specs.Commands.{RunValue, AsmValue, command_of, run, asm};
 ghost use Rattle.rx_io.specs.Faults.{Rose};
-ghost use Rattle.rx_serve.specs.Causes.{RefusesWords, IsTooLarge, IsElfRefused, IsAsmAnswer, IsOfSession, IsOfRun, RunsProgram, Serves};
-ghost use Rattle.rx_serve.specs.Assembly.{Assembles};
-ghost use Rattle.rx_serve.specs.Words.{AreAsmWords};
-ghost use Rattle.rx_serve.specs.Headline.{NamesImage, Headline};
-ghost use Rattle.rx_serve.specs.Loading.{LoadsImage};
-ghost use Rattle.rx_serve.specs.Outcome.{IsExact};
-ghost use Rattle.rx_serve.specs.Patience.{IsPatient, IsBeforeSession, IsUntouched};
+ghost use Rattle.rx_serve.specs.Commands.{RunEnds, AsmEnds};
+ghost use Rattle.rx_serve.specs.Ended.{HasNoSession, IsUntouched};
 ghost use Rattle.rx_serve.specs.Status.{status_of};
 
 use crate::assembly::assemble_file;
-use crate::session::serve;
-use crate::words::{read_asm_words, read_words};
-use block_book::Choices;
-use elf_image::{ElfRefusal, Image, read_image};
+use crate::ending::End;
+use crate::serving::run_program;
+use command_line::{Command, read_command};
 use run_history::Answer;
-use rx_io::{Files, Listener, LoadFault, Sink, Source, Steps};
+use rx_io::{Files, Listener, Sink, Source, Steps};
 use std::alloc::Global;
 use std::sync::ledger::Ledger;
 
-/// The bytes of a program's window.
-pub const WINDOW: u32 = 4 << 20;
-
-/// The greatest number of bytes of a program file.
-const MAX_PROGRAM: u64 = 16 << 20;
-
-/// How a command ended: its answer, the status for the shell, how many of the run's choices were recorded and those
-/// that weren't, and how many instructions the run has and how many items it took.
-#[derive(Debug, Drop)]
-pub struct End {
-    pub answer: Answer,
-    pub status: u8,
-    pub recorded: u64,
-    pub tail: Choices,
-    pub steps: u64,
-    pub taken: u64,
-}
-
-// The status of an answer.
-fn status_of_answer(answer: Answer) -> u8
-    ensures { result ≡ status_of answer }
-{
-    match answer {
-        Answer::Finished | Answer::Exited(0) => 0,
-        Answer::Exited(_) => 1,
-        Answer::BadWords => 2,
-        Answer::ElfRefused(_)
-        | Answer::AsmRefused { .. }
-        | Answer::RecordRefused { .. }
-        | Answer::CountsRefused { .. }
-        | Answer::Short { .. }
-        | Answer::Mismatch { .. }
-        | Answer::TooLarge => 3,
-        Answer::InputRefused { .. } | Answer::MessageTooLong { .. } => 4,
-        Answer::GaveUp { .. } => 5,
-        Answer::LimitItems | Answer::LimitEvents => 6,
-        Answer::ReadFault => 7,
-        Answer::WriteFault => 8,
-        Answer::FileFault => 9,
-        Answer::Memory => 10,
-    }
-}
-
-// Loads a program file and reads its image.
-fn load_image<F: Files>(alloc: Global, files: &mut F, name: &str) -> Result<Image, Answer>
-    ensures loads { LoadsImage (F.told files.old) name.now (F.faults files.old) (F.faults files.new) result }
-    ensures same { F.told files.new ≡ F.told files.old }
-    ensures later { F.faults files.old ≤ F.faults files.new }
-{
-    let file = match files.load(alloc, name, MAX_PROGRAM) {
-        Ok(file) => file,
-        Err(LoadFault::Failed) => return Err(Answer::FileFault),
-        Err(LoadFault::TooLarge) => return Err(Answer::TooLarge),
-        Err(LoadFault::Memory) => return Err(Answer::Memory),
-    };
-    match read_image(alloc, file.as_slice(), WINDOW) {
-        Ok(image) => Ok(image),
-        Err(ElfRefusal::Refused(kind)) => Err(Answer::ElfRefused(kind)),
-        Err(ElfRefusal::Memory) => Err(Answer::Memory),
-    }
-}
-
-impl End {
-    ghost use Rattle.rx_serve.specs.Ended.{IsEndOf};
-
-    // An answer that comes before a session, or a session's.
-    fn of(alloc: Global, answer: Answer, taken: u64, steps: u64) -> End
-        ensures { IsEndOf result answer taken steps }
-    {
-        End {
-            answer,
-            status: status_of_answer(answer),
-            recorded: 0,
-            tail: Choices::from_vec(Vec::new(alloc)),
-            steps,
-            taken,
-        }
-    }
-}
-
-/// Runs a command over any outside: `words` are those behind the program's own name. `run PROGRAM --record RECORD
-/// --report REPORT --frame whole` loads the program, gives it the frames of `input` as it asks for them, and gives what it
-/// sends to `output` as frames. `asm SOURCE OUT` loads a text, assembles it in a window of 1 MiB, and writes its executable.
+/// Runs a command over any outside: `words` are those behind the program's own name.
+///
+/// `run PROGRAM --record RECORD --report REPORT` loads the program, and lets it serve the trunk of `input` and `output`: its
+/// events are taken as the program asks for them, and its sends are passed as frames. `asm SOURCE OUT` loads a text,
+/// assembles it in a window of 1 MiB, and writes its executable.
 pub fn run_rx<F: Files, S: Source, K: Sink, N: Listener, L: Ledger>(
     alloc: Global,
     words: &[String],
@@ -113,54 +30,41 @@ pub fn run_rx<F: Files, S: Source, K: Sink, N: Listener, L: Ledger>(
     listener: &mut N,
     steps: &mut Steps<L>,
 ) -> End
-    ensures headline { (image : Image) → NamesImage (F.told files.old) (map string_bytes words.now) image
-        → Headline image (S.told input.old) (S.told input.new) (K.told output.old) (K.told output.new) result }
+    // The headline, with the account that it is true of; or no session began, by its cause, and nothing was touched.
+    ensures headline { (value : RunValue) → command_of (texts_of words.now) ≡ Some (run value)
+        → RunEnds value (F.told files.old) (S.told input.old) (S.told input.new) (K.told output.old) (K.told output.new) result }
 
-    // Replies come in time, and no input is read before the program needs it.
-    ensures patience { (image : Image) → NamesImage (F.told files.old) (map string_bytes words.now) image
-        → IsPatient image (S.told input.old) (S.told input.new) (K.told output.old) (K.told output.new) result }
+    // `asm` writes the executable of the text's image, and touches nothing else.
+    ensures assembles { (value : AsmValue) → command_of (texts_of words.now) ≡ Some (asm value)
+        → AsmEnds value (F.told files.old) (F.told files.new) (S.told input.old) (S.told input.new) (K.told output.old) (K.told output.new) result }
 
-    // The answer is the one whose cause holds, and no other one's does; or a fault or want of memory came in its place.
-    ensures exact { IsExact (F.told files.old) (map string_bytes words.now) (S.told input.old) result.answer }
+    // Words of no command are refused, and nothing is touched.
+    ensures bad_words { (result.answer ≡ Answer.BadWords) ↔ (command_of (texts_of words.now) ≡ None) }
+    ensures untouched { command_of (texts_of words.now) ≡ None → IsUntouched (S.told input.old) (S.told input.new) (K.told output.old) (K.told output.new) }
+    ensures nothing { command_of (texts_of words.now) ≡ None → HasNoSession result }
 
-    // Each answer by its own cause, also where files or input don't tell their bytes.
-    ensures bad_words { (result.answer ≡ Answer.BadWords) ↔ RefusesWords (map string_bytes words.now) }
-    ensures too_large { result.answer ≡ Answer.TooLarge → IsTooLarge (F.told files.old) (map string_bytes words.now) ⊎ IsAsmAnswer (F.told files.old) (map string_bytes words.now) Answer.TooLarge }
-    ensures elf_refused { (kind : ℕ) → result.answer ≡ Answer.ElfRefused kind → IsElfRefused (F.told files.old) (map string_bytes words.now) kind }
-    ensures asm_refused { (kind line : ℕ) → result.answer ≡ Answer.AsmRefused kind line → IsAsmAnswer (F.told files.old) (map string_bytes words.now) (Answer.AsmRefused kind line) }
-    ensures session { IsOfSession result.answer → RunsProgram (map string_bytes words.now) → Serves (F.told files.old) (map string_bytes words.now)
-        (S.told input.old) (S.told input.new) (K.told output.old) (K.told output.new) result }
+    // A fault is answered only where the count of that object's own faults rose.
     ensures file_fault { result.answer ≡ Answer.FileFault → Rose (F.faults files.old) (F.faults files.new) }
     ensures read_fault { result.answer ≡ Answer.ReadFault → Rose (S.faults input.old) (S.faults input.new) }
     ensures write_fault { result.answer ≡ Answer.WriteFault → Rose (K.faults output.old) (K.faults output.new) }
-    ensures only { IsOfRun result.answer }
-
-    // `asm` writes the executable of the text's image, and touches nothing else.
-    ensures assembles { (source out : List ℕ) → AreAsmWords (map string_bytes words.now) source out
-        → Assembles (F.told files.old) (F.told files.new) source out result.answer
-        × IsUntouched (S.told input.old) (S.told input.new) (K.told output.old) (K.told output.new) result }
 
     // What is left alone.
-    ensures untouched { IsBeforeSession result.answer → IsUntouched (S.told input.old) (S.told input.new) (K.told output.old) (K.told output.new) result }
-    ensures files { ((source out : List ℕ) → AreAsmWords (map string_bytes words.now) source out → ⊥) → F.told files.new ≡ F.told files.old }
+    ensures files { ((value : AsmValue) → command_of (texts_of words.now) ≡ Some (asm value) → ⊥) → F.told files.new ≡ F.told files.old }
     ensures listener { listener.new ≡ listener.old }
 
     ensures status { result.status ≡ status_of result.answer }
-    ensures counted { steps.new ≡ steps.old + result.steps }
+    ensures counted { result.answer ≢ Answer.Memory → steps.new ≡ steps.old + result.steps }
+    ensures counted_at_least { steps.old + result.steps ≤ steps.new }
 {
     // `run` has one trunk, its input and output: no command of today listens.
     let _ = listener;
-    if let Some(asm) = read_asm_words(words) {
-        let answer = assemble_file(alloc, files, asm.source, asm.out);
-        return End::of(alloc, answer, 0, 0);
+    match read_command(alloc, words) {
+        Ok(Some(Command::Run(run))) => run_program(alloc, &run, files, input, output, steps),
+        Ok(Some(Command::Asm(asm))) => {
+            let answer = assemble_file(alloc, files, asm.source, asm.out);
+            End::without_session(alloc, answer)
+        }
+        Ok(None) => End::without_session(alloc, Answer::BadWords),
+        Err(_) => End::without_session(alloc, Answer::Memory),
     }
-    let Some(run) = read_words(words) else {
-        return End::of(alloc, Answer::BadWords, 0, 0);
-    };
-    let image = match load_image(alloc, files, run.program) {
-        Ok(image) => image,
-        Err(answer) => return End::of(alloc, answer, 0, 0),
-    };
-    let (answer, counts) = serve(alloc, &image, input, output, steps);
-    End::of(alloc, answer, counts.taken, counts.steps)
 }

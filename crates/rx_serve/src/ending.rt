@@ -1,0 +1,84 @@
+// How a command ended.
+ghost use Rattle.std.specs.Prelude.{◌≡◌};
+ghost use Rattle.rx_serve.specs.Status.{status_of};
+
+use block_book::Choices;
+use run_history::Answer;
+use rx_engine::Left;
+use std::alloc::Global;
+
+/// How a command ended: its answer, the status for the shell, and of a session's run how many answers of malloc stand in
+/// the record, those behind them, its instructions, and the items that it took. Without a session these are 0 and empty.
+#[derive(Debug, Drop)]
+pub struct End {
+    pub answer: Answer,
+    pub status: u8,
+    pub recorded: u64,
+    pub tail: Choices,
+    pub steps: u64,
+    pub taken: u64,
+}
+
+// The status of an answer.
+fn status_of_answer(answer: Answer) -> u8
+    ensures { result ≡ status_of answer }
+{
+    match answer {
+        Answer::Finished | Answer::Exited(0) => 0,
+        Answer::Exited(_) => 1,
+        Answer::BadWords => 2,
+        Answer::ElfRefused(_)
+        | Answer::AsmRefused { .. }
+        | Answer::RecordRefused { .. }
+        | Answer::CountsRefused { .. }
+        | Answer::Short { .. }
+        | Answer::Mismatch { .. }
+        | Answer::TooLarge => 3,
+        Answer::InputRefused { .. } | Answer::MessageTooLong { .. } => 4,
+        Answer::GaveUp { .. } => 5,
+        Answer::LimitItems | Answer::LimitEvents => 6,
+        Answer::ReadFault => 7,
+        Answer::WriteFault => 8,
+        Answer::FileFault => 9,
+        Answer::Memory => 10,
+    }
+}
+
+impl End {
+    ghost use Rattle.rx_serve.specs.Ended.{HasNoSession};
+
+    /// The end of a command without a session, or before it began.
+    pub(crate) fn without_session(alloc: Global, answer: Answer) -> End
+        ensures answer { result.answer ≡ answer }
+        ensures status { result.status ≡ status_of answer }
+        ensures nothing { HasNoSession result }
+    {
+        End {
+            answer,
+            status: status_of_answer(answer),
+            recorded: 0,
+            tail: Choices::from_vec(Vec::new(alloc)),
+            steps: 0,
+            taken: 0,
+        }
+    }
+
+    /// The end of a session.
+    pub(crate) fn of_session(answer: Answer, left: Left) -> End
+        ensures answer { result.answer ≡ answer }
+        ensures status { result.status ≡ status_of answer }
+        ensures recorded { result.recorded ≡ left.recorded }
+        ensures tail { result.tail ≡ left.tail }
+        ensures steps { result.steps ≡ left.steps }
+        ensures taken { result.taken ≡ left.taken }
+    {
+        End {
+            answer,
+            status: status_of_answer(answer),
+            recorded: left.recorded,
+            tail: left.tail,
+            steps: left.steps,
+            taken: left.taken,
+        }
+    }
+}

@@ -1,0 +1,39 @@
+// The program of a session.
+ghost use Rattle.std.specs.Prelude.{◌≡◌, ◌≤◌};
+ghost use Rattle.elf_image.specs.Layout.{IsWindow};
+ghost use Rattle.rx_io.specs.Faults.{Rose};
+ghost use Rattle.rx_serve.specs.Loading.{LoadsImage};
+
+use elf_image::{ElfRefusal, Image, read_image};
+use run_history::Answer;
+use rx_io::{Files, LoadFault};
+use std::alloc::Global;
+
+/// The greatest number of bytes of a program file: 16 MiB.
+const MAX_PROGRAM: u64 = 16 << 20;
+
+/// Loads a program file, and reads its image in a window of so many bytes.
+pub fn load_image<F: Files>(
+    alloc: Global,
+    files: &mut F,
+    name: &str,
+    window: u32,
+) -> Result<Image, Answer>
+    requires { IsWindow window }
+    ensures loads { LoadsImage (F.told files.old) name.now window result }
+    ensures same { F.told files.new ≡ F.told files.old }
+    ensures later { F.faults files.old ≤ F.faults files.new }
+    ensures file_fault { result ≡ Err Answer.FileFault → Rose (F.faults files.old) (F.faults files.new) }
+{
+    let file = match files.load(alloc, name, MAX_PROGRAM) {
+        Ok(file) => file,
+        Err(LoadFault::Failed) => return Err(Answer::FileFault),
+        Err(LoadFault::TooLarge) => return Err(Answer::TooLarge),
+        Err(LoadFault::Memory) => return Err(Answer::Memory),
+    };
+    match read_image(alloc, file.as_slice(), window) {
+        Ok(image) => Ok(image),
+        Err(ElfRefusal::Refused(kind)) => Err(Answer::ElfRefused(kind)),
+        Err(ElfRefusal::Memory) => Err(Answer::Memory),
+    }
+}

@@ -1,0 +1,51 @@
+// The command `run`: a program is loaded, and serves the trunk of input and output.
+ghost use Rattle.std.specs.Prelude.{◌≡◌, ◌≢◌, ◌+◌, ◌≤◌};
+ghost use Rattle.command_line.specs.Commands.{run_shown};
+ghost use Rattle.command_line.specs.Ranges.{AreInRange};
+ghost use Rattle.rx_io.specs.Faults.{Rose};
+ghost use Rattle.rx_serve.specs.Commands.{RunEnds};
+ghost use Rattle.rx_serve.specs.Status.{status_of};
+
+use crate::ending::End;
+use crate::loading::load_image;
+use crate::settings::options_of;
+use command_line::RunCommand;
+use guest_space::AllMapped;
+use run_history::Answer;
+use rx_engine::Session;
+use rx_io::{Files, Sink, Source, Steps};
+use std::alloc::Global;
+use std::sync::ledger::Ledger;
+use trunk_session::serve_trunk;
+
+/// Loads the program of a command and lets it serve. Record and report are named and not written yet.
+pub fn run_program<F: Files, S: Source, K: Sink, L: Ledger>(
+    alloc: Global,
+    run: &RunCommand<'_>,
+    files: &mut F,
+    input: &mut S,
+    output: &mut K,
+    steps: &mut Steps<L>,
+) -> End
+    requires in_range { AreInRange (run_shown run.now) }
+    ensures ends { RunEnds (run_shown run.now) (F.told files.old) (S.told input.old) (S.told input.new) (K.told output.old) (K.told output.new) result }
+    ensures same { F.told files.new ≡ F.told files.old }
+    ensures file_fault { result.answer ≡ Answer.FileFault → Rose (F.faults files.old) (F.faults files.new) }
+    ensures read_fault { result.answer ≡ Answer.ReadFault → Rose (S.faults input.old) (S.faults input.new) }
+    ensures write_fault { result.answer ≡ Answer.WriteFault → Rose (K.faults output.old) (K.faults output.new) }
+    ensures status { result.status ≡ status_of result.answer }
+    ensures counted { result.answer ≢ Answer.Memory → steps.new ≡ steps.old + result.steps }
+    ensures counted_at_least { steps.old + result.steps ≤ steps.new }
+{
+    let options = options_of(run);
+    let image = match load_image(alloc, files, run.program, options.window) {
+        Ok(image) => image,
+        Err(answer) => return End::without_session(alloc, answer),
+    };
+    let mut session = match Session::begin(alloc, &image, &options, AllMapped) {
+        Ok(session) => session,
+        Err(_) => return End::without_session(alloc, Answer::Memory),
+    };
+    let answer = serve_trunk(alloc, &mut session, input, output, steps);
+    End::of_session(answer, session.into_end())
+}
