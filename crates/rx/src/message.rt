@@ -1,112 +1,59 @@
-// What a person reads on standard error.
+// The sentences for a person: what was wrong, where, and what would be right.
 use elf_image::{ElfRefusal, RefusedField};
+use msg_frame::MAX_MESSAGE;
 use run_history::{Answer, Cause};
 use std::fmt;
 
-/// The sentence for an answer to these words: what was wrong, where, and what would be right.
+// The limits of a session: how many items it may receive, and how many events it may have.
+const MAX_ITEMS: u64 = 1 << 20;
+
+const MAX_EVENTS: u64 = 1 << 32;
+
+// The greatest number of bytes of a program file, and of a text.
+const MAX_FILE: u64 = 16 << 20;
+
+/// The sentence for an answer to `run`.
 #[derive(Debug, Drop)]
-pub struct Message<'a> {
+pub struct RunMessage<'a> {
     pub answer: Answer,
-    pub words: &'a [String],
-    /// The field that a program file is refused for, where it was found.
+    pub program: &'a str,
+    /// How many instructions may go by between two items.
+    pub budget: u32,
+    /// The field that the program file is refused for, where it was found.
     pub field: Option<RefusedField>,
+}
+
+/// The sentence for an answer to `asm`.
+#[derive(Debug, Drop)]
+pub struct AsmMessage<'a> {
+    pub answer: Answer,
+    pub source: &'a str,
+    pub out: &'a str,
     /// What is wrong with a refused text, where it was found.
     pub explanation: Option<String>,
 }
 
-/// The words of the commands, with the names that a person gives in capital letters.
-const USAGE: &str =
-    "rx run PROGRAM --record RECORD --report REPORT --frame whole, or rx asm SOURCE OUT";
-
-impl Message<'_> {
-    // The word at a place, if there is one.
-    fn word(&self, place: usize) -> &str {
-        match self.words.get(place) {
-            Some(word) => word.as_str(),
-            None => "",
+// What is wrong with a frame of the input, by the number of the refusal.
+fn frame_flaw(kind: u8) -> &'static str {
+    match kind {
+        1 => "its kind has to be 1 (opens), 2 (bytes), 3 (closes) or 4 (settles)",
+        2 => "its connection has to be 0 to 4095",
+        3 =>
+            "it opens a connection that was opened before: each opens once, by one frame of kind 1",
+        4 => {
+            "its connection isn't open: a frame of kind 1 has to open it, and none of kind 3 may have closed it"
         }
+        5 => {
+            "the input ends within it: a frame is its kind in one byte, its connection and its length in two bytes each, the lower one first, and as many bytes as its length says"
+        }
+        6 => "its length has to be 0: only a frame of kind 2 has bytes",
+        _ => "it may not stand there",
     }
+}
 
-    fn bad_words<W: fmt::Write>(&self, f: &mut fmt::Formatter<W>) -> fmt::Result {
-        match self.word(0) {
-            "run" => self.bad_run_words(f),
-            "asm" => self.bad_asm_words(f),
-            "" => write!(f, "no command is named: {USAGE}"),
-            command => write!(f, "there is no command {command:?}: {USAGE}"),
-        }
-    }
-
-    // A place that wants a name, and has none.
-    fn missing_name(&self, places: &[usize]) -> Option<usize> {
-        for place in places {
-            let word = self.word(*place);
-            if word.is_empty() || word.starts_with('-') {
-                return Some(*place);
-            }
-        }
-        None
-    }
-
-    fn no_name<W: fmt::Write>(&self, f: &mut fmt::Formatter<W>, place: usize) -> fmt::Result {
-        let word = self.word(place);
-        write!(
-            f,
-            "{word:?} stands where a name is wanted that doesn't begin with a dash: {USAGE}"
-        )
-    }
-
-    fn bad_run_words<W: fmt::Write>(&self, f: &mut fmt::Formatter<W>) -> fmt::Result {
-        let count = self.words.len();
-        if count != 8 {
-            return write!(
-                f,
-                "the number of words behind rx is {count}, where 8 are wanted: {USAGE}"
-            );
-        }
-        for (place, wanted) in [
-            (2, "--record"),
-            (4, "--report"),
-            (6, "--frame"),
-            (7, "whole"),
-        ] {
-            let word = self.word(place);
-            if word != wanted {
-                return write!(f, "{word:?} stands where {wanted} is wanted: {USAGE}");
-            }
-        }
-        match self.missing_name(&[1, 3, 5]) {
-            Some(place) => self.no_name(f, place),
-            None => write!(
-                f,
-                "PROGRAM, RECORD and REPORT have to be three different names: {USAGE}"
-            ),
-        }
-    }
-
-    fn bad_asm_words<W: fmt::Write>(&self, f: &mut fmt::Formatter<W>) -> fmt::Result {
-        let count = self.words.len();
-        if count != 3 {
-            return write!(
-                f,
-                "the number of words behind rx is {count}, where 3 are wanted: {USAGE}"
-            );
-        }
-        match self.missing_name(&[1, 2]) {
-            Some(place) => self.no_name(f, place),
-            None => write!(f, "SOURCE and OUT have to be different names: {USAGE}"),
-        }
-    }
-
-    fn text_refused<W: fmt::Write>(&self, f: &mut fmt::Formatter<W>, line: u32) -> fmt::Result {
-        let source = self.word(1);
-        match &self.explanation {
-            Some(explanation) => write!(f, "the text {source} isn't assembled: {explanation}"),
-            None => write!(f, "the text {source} isn't assembled: line {line} is wrong"),
-        }
-    }
-
+impl RunMessage<'_> {
     fn refused<W: fmt::Write>(&self, f: &mut fmt::Formatter<W>, kind: u8) -> fmt::Result {
-        let program = self.word(1);
+        let program = self.program;
         let refusal = ElfRefusal::Refused(kind);
         write!(f, "the program file {program} isn't run: {refusal}")?;
         match &self.field {
@@ -116,6 +63,7 @@ impl Message<'_> {
     }
 
     fn cause<W: fmt::Write>(&self, f: &mut fmt::Formatter<W>, cause: Cause) -> fmt::Result {
+        let budget = self.budget;
         match cause {
             Cause::BadAccess => write!(f, "it touched memory that it may not touch so"),
             Cause::BadJump => write!(f, "it jumped to an address that is no multiple of 4"),
@@ -123,53 +71,45 @@ impl Message<'_> {
             Cause::AssertFailed(code) => write!(f, "its assertion {code} failed"),
             Cause::Hang => write!(
                 f,
-                "1000000 instructions came since the last item or the start, which is the limit"
+                "{budget} instructions came since the last item or the start, which is the limit that --budget sets"
             ),
             Cause::BadFree => write!(f, "it freed what wasn't its own"),
-            Cause::BadCall => write!(
-                f,
-                "it made a call with a number in a7 that isn't 1, 2, 5 or 6"
-            ),
+            Cause::BadCall => write!(f, "it made a call with a number in a7 that isn't 1 to 6"),
         }
     }
-}
 
-impl fmt::Display for Message<'_> {
-    fn fmt<W: fmt::Write>(&self, f: &mut fmt::Formatter<W>) -> fmt::Result {
-        let program = self.word(1);
+    fn gave_up<W: fmt::Write>(
+        &self,
+        f: &mut fmt::Formatter<W>,
+        point: u64,
+        cause: Cause,
+    ) -> fmt::Result {
+        let program = self.program;
+        write!(
+            f,
+            "the program {program} failed with {point} items taken, opens and closes among them: "
+        )?;
+        self.cause(f, cause)
+    }
+
+    // What ended a session from without.
+    fn outside<W: fmt::Write>(&self, f: &mut fmt::Formatter<W>) -> fmt::Result {
         match self.answer {
-            Answer::BadWords => self.bad_words(f),
-            Answer::FileFault if self.word(0) == "asm" => {
-                let out = self.word(2);
-                write!(
-                    f,
-                    "the text {program} can't be read, or {out} can't be written"
-                )
+            Answer::InputRefused { kind, offset } => {
+                let flaw = frame_flaw(kind);
+                write!(f, "the input's frame at byte {offset} is refused: {flaw}")
             }
-            Answer::FileFault => write!(
+            Answer::MessageTooLong { conn } => write!(
                 f,
-                "the program file {program} can't be read: give the name of a file that is there and may be read"
+                "a message of more than {MAX_MESSAGE} bytes, which is the limit, came on connection {conn}"
             ),
-            Answer::TooLarge => write!(
+            Answer::LimitItems => write!(
                 f,
-                "the file {program} has more than 16777216 bytes, which is the limit"
+                "more than {MAX_ITEMS} items came, which is the limit of a session"
             ),
-            Answer::ElfRefused(kind) => self.refused(f, kind),
-            Answer::AsmRefused { line, .. } => self.text_refused(f, line),
-            Answer::InputRefused { offset, .. } => write!(
+            Answer::LimitEvents => write!(
                 f,
-                "the input has no whole frame at byte {offset}: first a frame that opens connection 0 (01 00 00 00 00), then at most 1000 messages on it (02 00 00, the length in two bytes, 1 to 4096 bytes)"
-            ),
-            Answer::GaveUp { point, cause } => {
-                write!(
-                    f,
-                    "the program {program} failed with {point} items taken, the opening among them: "
-                )?;
-                self.cause(f, cause)
-            }
-            Answer::Exited(code) => write!(
-                f,
-                "the program {program} ended itself with the code {code}"
+                "more than {MAX_EVENTS} events came, which is the limit of a session"
             ),
             Answer::ReadFault => write!(
                 f,
@@ -179,6 +119,61 @@ impl fmt::Display for Message<'_> {
                 f,
                 "standard output can't be written: it has to be open, and its reader still there"
             ),
+            Answer::Memory => write!(f, "memory ran out"),
+            _ => write!(f, "the command ended with {:?}", self.answer),
+        }
+    }
+}
+
+impl fmt::Display for RunMessage<'_> {
+    fn fmt<W: fmt::Write>(&self, f: &mut fmt::Formatter<W>) -> fmt::Result {
+        let program = self.program;
+        match self.answer {
+            Answer::FileFault => write!(
+                f,
+                "the program file {program} can't be read: give the name of a file that is there and may be read"
+            ),
+            Answer::TooLarge => write!(
+                f,
+                "the program file {program} has more than {MAX_FILE} bytes, which is the limit"
+            ),
+            Answer::ElfRefused(kind) => self.refused(f, kind),
+            Answer::GaveUp { point, cause } => self.gave_up(f, point, cause),
+            Answer::Exited(code) => write!(
+                f,
+                "the program {program} ended itself with the code {code}"
+            ),
+            _ => self.outside(f),
+        }
+    }
+}
+
+impl AsmMessage<'_> {
+    fn refused<W: fmt::Write>(&self, f: &mut fmt::Formatter<W>, line: u32) -> fmt::Result {
+        let source = self.source;
+        match &self.explanation {
+            Some(explanation) => write!(f, "the text {source} isn't assembled: {explanation}"),
+            None => write!(f, "the text {source} isn't assembled: line {line} is wrong"),
+        }
+    }
+}
+
+impl fmt::Display for AsmMessage<'_> {
+    fn fmt<W: fmt::Write>(&self, f: &mut fmt::Formatter<W>) -> fmt::Result {
+        let source = self.source;
+        let out = self.out;
+        match self.answer {
+            Answer::FileFault => {
+                write!(
+                    f,
+                    "the text {source} can't be read, or {out} can't be written"
+                )
+            }
+            Answer::TooLarge => write!(
+                f,
+                "the text {source} has more than {MAX_FILE} bytes, which is the limit"
+            ),
+            Answer::AsmRefused { line, .. } => self.refused(f, line),
             Answer::Memory => write!(f, "memory ran out"),
             _ => write!(f, "the command ended with {:?}", self.answer),
         }

@@ -1,0 +1,117 @@
+// Standard error: what was wrong, where, and what would be right.
+ghost use Rattle.std.specs.Prelude.{◌≡◌};
+ghost use Rattle.elf_image.specs.Layout.{IsWindow};
+ghost use Rattle.command_line.specs.Commands.{run_shown};
+ghost use Rattle.command_line.specs.Ranges.{AreInRange};
+
+use crate::message::{AsmMessage, RunMessage};
+use command_line::{AsmCommand, Command, RunCommand, complaint, read_command, usage};
+use elf_image::{RefusedField, field_of_refusal};
+use run_history::Answer;
+use rv_asm::explain;
+use rx_io::{Files, StdFiles};
+
+// The greatest number of bytes of a program file, and of a text.
+const MAX_FILE: u64 = 16 << 20;
+
+/// Tells that memory ran out.
+pub fn tell_memory(rt: &HostRuntime) {
+    let _ = eprintln!(rt; "rx: memory ran out");
+}
+
+/// Tells that a word isn't UTF-8, and how the commands are written.
+pub fn tell_not_utf8(rt: &HostRuntime) {
+    let _ = eprintln!(rt; "rx: a word isn't UTF-8, so no command has these words");
+    tell_usage(rt, "");
+}
+
+// How a command is written; all of them, where the name is that of none.
+fn tell_usage(rt: &HostRuntime, name: &str) {
+    match usage(rt.alloc(), name) {
+        Ok(lines) => {
+            let _ = eprint!(rt; "{lines}");
+        }
+        Err(_) => tell_memory(rt),
+    }
+}
+
+// What is wrong with words that are those of no command.
+fn tell_words(rt: &HostRuntime, words: &[String]) {
+    match complaint(rt.alloc(), words) {
+        Ok(line) => {
+            let _ = eprintln!(rt; "rx: {line}");
+        }
+        Err(_) => tell_memory(rt),
+    }
+    match words {
+        [] => tell_usage(rt, ""),
+        [command, ..] => tell_usage(rt, command.as_str()),
+    }
+}
+
+// The bytes of a program's window.
+fn window_bytes(run: &RunCommand<'_>) -> u32
+    requires { AreInRange (run_shown run.now) }
+    ensures { IsWindow result }
+{
+    run.window << 20
+}
+
+// The field that the program file is refused for, where that was the answer.
+fn refused_field(
+    rt: &HostRuntime,
+    answer: Answer,
+    program: &str,
+    window: u32,
+) -> Option<RefusedField>
+    requires { IsWindow window }
+{
+    let Answer::ElfRefused(kind) = answer else {
+        return None;
+    };
+    let file = StdFiles::make(rt).load(rt.alloc(), program, MAX_FILE).ok()?;
+    field_of_refusal(rt.alloc(), file.as_slice(), kind, window)
+        .ok()
+        .flatten()
+}
+
+// What is wrong with the text, where that was the answer.
+fn explanation(rt: &HostRuntime, answer: Answer, source: &str) -> Option<String> {
+    let Answer::AsmRefused { kind, line } = answer else {
+        return None;
+    };
+    let text = StdFiles::make(rt).load(rt.alloc(), source, MAX_FILE).ok()?;
+    explain(rt.alloc(), text.as_slice(), kind, line).ok()
+}
+
+fn tell_run(rt: &HostRuntime, answer: Answer, run: &RunCommand<'_>)
+    requires { AreInRange (run_shown run.now) }
+{
+    let message = RunMessage {
+        answer,
+        program: run.program,
+        budget: run.budget,
+        field: refused_field(rt, answer, run.program, window_bytes(run)),
+    };
+    let _ = eprintln!(rt; "rx: {message}");
+}
+
+fn tell_asm(rt: &HostRuntime, answer: Answer, asm: &AsmCommand<'_>) {
+    let message = AsmMessage {
+        answer,
+        source: asm.source,
+        out: asm.out,
+        explanation: explanation(rt, answer, asm.source),
+    };
+    let _ = eprintln!(rt; "rx: {message}");
+}
+
+/// Tells what an answer to these words means. The names and numbers in it are those of the command that the words ask for.
+pub fn tell(rt: &HostRuntime, answer: Answer, words: &[String]) {
+    match read_command(rt.alloc(), words) {
+        Ok(Some(Command::Run(run))) => tell_run(rt, answer, &run),
+        Ok(Some(Command::Asm(asm))) => tell_asm(rt, answer, &asm),
+        Ok(None) => tell_words(rt, words),
+        Err(_) => tell_memory(rt),
+    }
+}
