@@ -1,4 +1,5 @@
 pub mod ReadLemmas
 pub mod WriteLemmas
+pub mod PayloadLemmas
 pub mod StopLemmas
 pub mod ServeLemmas

@@ -25,7 +25,8 @@ use Rattle.trunk_session.specs.Trunk.{TookTrunk, TakesTrunk, StopsTrunk, WritesT
 use Rattle.trunk_session.specs.Serving.{IsOfSession, ServesTrunk}
 use Rattle.trunk_session.proofs.ReadLemmas.{Countable, tail_none, tail_asked, events_told, stands_behind}
 use Rattle.trunk_session.proofs.StopLemmas.{HasTaken, stops_at, took_no_part}
-use Rattle.trunk_session.proofs.WriteLemmas.{Short, wrote_trunk, wrote_frames, carried}
+use Rattle.trunk_session.proofs.PayloadLemmas.{carried}
+use Rattle.trunk_session.proofs.WriteLemmas.{Short, wrote_trunk, wrote_frames}
 
 -- what a link comes to
 abbrev upcoming : Intake → Option Coming

@@ -1,21 +1,16 @@
 -- What a trunk's session wrote, by what its link told.
-use Rattle.std.proofs.Common.{◌≡◌, ℕ, ◌^◌, ◌-◌, ◌<◌, Bool, true, false, List, [], ◌∷◌, ◌++◌, All, length, Option, None, Some, IfSome, if◌then◌else◌, ◌==◌, arith, append-nil, length-append, refl, sym, ap, ◌∙◌, subst}
+use Rattle.std.proofs.Common.{◌≡◌, ℕ, ◌^◌, ◌-◌, ◌<◌, Bool, true, false, List, [], ◌∷◌, ◌++◌, All, length, Option, None, Some, IfSome, if◌then◌else◌, arith, append-nil, length-append, refl, sym, ap, ◌∙◌, subst}
 use Rattle.std.specs.Io.KnownBytes.{Appends}
-use Rattle.rx_io.specs.Links.{Piece, Grew, pieces_in}
+use Rattle.rx_io.specs.Links.{Piece, Grew}
 use Rattle.rx_io.specs.Prefix.{Prefix}
-use Rattle.rx_io.specs.Sends.{sent_to}
-use Rattle.rx_io.specs.declared.journal.Entry.{Entry}
-use Rattle.rx_io.specs.declared.journal.Entry.TheVariants as entry
-use Rattle.session_history.specs.Heeding.{Bounds}
-use Rattle.session_history.specs.Passing.{passed_behind}
 use Rattle.trunk_wire.specs.Calls.{count_after}
 use Rattle.trunk_wire.specs.Frames.{piece_frame, frames}
 use Rattle.trunk_wire.specs.Going.{IsFramed, IsCut}
 use Rattle.trunk_wire.specs.Parts.{last_bytes}
-use Rattle.trunk_wire.specs.Pieces.{pieces, given_to}
+use Rattle.trunk_wire.specs.Pieces.{pieces}
 use Rattle.trunk_wire.specs.Tellings.{is_whole, told_pieces}
 use Rattle.trunk_wire.proofs.StreamLaws.{framed_sent, pieces-frames, pieces-cut}
-use Rattle.trunk_session.specs.Trunk.{WroteTrunk, WroteWhole, Carried}
+use Rattle.trunk_session.specs.Trunk.{WroteTrunk, WroteWhole}
 use Rattle.trunk_session.proofs.ReadLemmas.{last_all}
 
 abbrev pub Short : Option (List ℕ) → Type 0
@@ -38,7 +33,7 @@ cut_frame true tail is = subst CutFrame (sym is) (record { piece = one_byte; fra
 cut_frame false tail (piece, framed, first) = record { piece = piece; framed = framed; first = first }
 
 -- the pieces that are told are those of the bytes that were written
-pieces_told : (old : List ℕ) (new : Option (List ℕ)) (wrote : ℕ) (gives : Bool) (list : List Piece) (bytes : List ℕ) → Short new → Appends (Some old) new bytes → wrote ≡ count_after 0 (length bytes)
+pub pieces_told : (old : List ℕ) (new : Option (List ℕ)) (wrote : ℕ) (gives : Bool) (list : List Piece) (bytes : List ℕ) → Short new → Appends (Some old) new bytes → wrote ≡ count_after 0 (length bytes)
     → Grew (Some []) (told_pieces new wrote gives) list → pieces bytes ≡ list
 pieces_told old None wrote gives list bytes few gained count grew = absurd gained
 pieces_told old (Some new) wrote gives list bytes few gained count grew = by_test (is_whole wrote gives new) grew
@@ -77,19 +72,3 @@ wrote_frames old new wrote gives list went tail few gained count framed cut stil
     let same : went ≡ list =
     sym (pieces-frames went (framed_sent went framed)) ∙ ap pieces (sym bytes) ∙ pieces_told old new wrote gives list (frames went ++ tail) few gained count grew in
     subst (WroteWhole (Some old) new) same (record { framed = framed; wrote = subst (Appends (Some old) new) bytes gained })
-
--- the pieces of a journal have for each connection what was passed to it
-given_passed : (bounds : Bounds) (conn : ℕ) (before entries : List Entry) → given_to conn (pieces_in entries) ≡ sent_to conn (passed_behind bounds before entries)
-given_passed bounds conn before [] = refl
-given_passed bounds conn before (entry.Took event ∷ entries) = given_passed bounds conn (before ++ entry.Took event ∷ []) entries
-given_passed bounds conn before (entry.Gave to bytes gone ∷ entries) =
-    ap (λ l. (if to == conn then bytes else []) ++ l) (given_passed bounds conn (before ++ entry.Gave to bytes gone ∷ []) entries)
-
--- and so has the payload of the bytes that were written
-pub carried : (bounds : Bounds) (old : List ℕ) (new : Option (List ℕ)) (wrote : ℕ) (gives : Bool) (entries : List Entry) (bytes : List ℕ) → Short new → Appends (Some old) new bytes → wrote ≡ count_after 0 (length bytes)
-    → Grew (Some []) (told_pieces new wrote gives) (pieces_in entries) → Carried bounds (Some old) new entries
-carried bounds old new wrote gives entries bytes few gained count grew = record {
-  written = bytes;
-  wrote = gained;
-  payload_is = λ conn. ap (given_to conn) (pieces_told old new wrote gives (pieces_in entries) bytes few gained count grew) ∙ given_passed bounds conn [] entries;
-}

@@ -16,7 +16,9 @@ use std::alloc::Global;
 use std::sync::ledger::Ledger;
 use trunk_wire::TrunkLink;
 
-/// Serves a trunk of many connections over a source and a sink with a session that was begun.
+/// Serves a trunk of many connections over a source and a sink with a session that was begun, and answers how it ended. The frames
+/// of events are taken from `input`, none before the program waits for an item, and no byte behind one; pieces go to `output` as
+/// frames. `alloc` is for the payloads.
 pub fn serve_trunk<R: AccessRule, S: Source, K: Sink, L: Ledger>(
     alloc: Global,
     session: &mut Session<R>,

@@ -25,3 +25,9 @@ pub returns-clause-only : goal.returns-clause-only
 returns-clause-only g c =
     let served = c.serve.ensures.served c.requires.begun.image c.requires.begun.begun in
     of_session _ _ served.session c.serve.result served.ends
+
+pub returns-clause-counted : goal.returns-clause-counted
+returns-clause-counted g c = c.serve.ensures.counted
+
+pub returns-clause-counted_at_least : goal.returns-clause-counted_at_least
+returns-clause-counted_at_least g c = c.serve.ensures.counted_at_least
