@@ -1,0 +1,11 @@
+//! Tests of sessions over a link: what no clause of the engine says.
+#![tactic(auto)]
+
+#[cfg(test)]
+mod played;
+#[cfg(test)]
+mod programs;
+#[cfg(test)]
+mod rx_engine_tests;
+#[cfg(test)]
+mod short_link;
