@@ -305,6 +305,23 @@ fn a_link_fails_in_mid_stream(rt: HostRuntime) -> Result<(), Fail> {
         (9, "o0|p0a\nb\n", 5, write, 3, "o0|p0a\nb\n|e0|g0a\n|"),
         (9, "o0|p0a\n|o0", 99, refused, 2, "o0|p0a\n|g0a\n|"),
         (9, "o0|p0a\n|o0", 4, write, 2, "o0|p0a\n|"),
+        (
+            0,
+            "p0x\n",
+            99,
+            Answer::InputRefused { kind: 4, offset: 0 },
+            0,
+            "",
+        ),
+        (
+            0,
+            "o0|p1x\n",
+            99,
+            Answer::InputRefused { kind: 4, offset: 1 },
+            1,
+            "o0|",
+        ),
+        (0, "o0|c0|p0x\n", 99, refused, 2, "o0|c0|"),
     ];
     for (hold, events, call, answer, taken, journal) in cases {
         let fails = [call];
@@ -409,6 +426,52 @@ fn a_program_fails(rt: HostRuntime) -> Result<(), Fail> {
     ];
     for case in cases {
         for_each_hold(&rt, rt.alloc(), case)?;
+    }
+    Ok(())
+}
+
+// The least and the most of each number that a session is asked for.
+#[test]
+fn each_number_has_two_ends(rt: HostRuntime) -> Result<(), Fail> {
+    let image = image_of(rt.alloc(), "echo")?;
+    let least = Options {
+        ring: 1,
+        every: 1,
+        frames: 2,
+        budget: 1,
+        max_items: 1,
+        max_events: 1,
+        ..USUAL
+    };
+    let most = Options {
+        hold: 1000,
+        ring: 16,
+        every: 64,
+        frames: 16,
+        budget: 1 << 24,
+        ..USUAL
+    };
+    let hang = Answer::GaveUp {
+        point: 0,
+        cause: Cause::Hang,
+    };
+    // The options, the answer, how many items are taken, and the journal.
+    let cases = [
+        (least, hang, 0, ""),
+        (
+            Options {
+                budget: 10,
+                ..least
+            },
+            Answer::LimitEvents,
+            1,
+            "o0|p0hi\n|",
+        ),
+        (most, Answer::Finished, 2, "o0|p0hi\n|e0|g0hi\n|"),
+    ];
+    for (options, answer, taken, journal) in cases {
+        let setting = Setting::of(&image, options, "o0|p0hi\n");
+        expect_session(&rt, rt.alloc(), &setting, answer, taken, journal)?;
     }
     Ok(())
 }
