@@ -3,7 +3,7 @@ use Rattle.std.proofs.Common.{◌≡◌, ℕ, Bool, true, false, List, [], ◌�
 use Rattle.rx_io.specs.declared.bytes.Item.{Item}
 use Rattle.rx_io.specs.declared.journal.Entry.{Entry}
 use Rattle.rx_io.specs.declared.journal.Entry.TheVariants as entry
-use Rattle.rx_io.specs.Links.{Told, Tells, events_in}
+use Rattle.rx_io.specs.Links.{Told, Tells}
 use Rattle.rx_io.specs.Sends.{Send}
 use Rattle.elf_image.specs.declared.image.Image.{Image}
 use Rattle.run_history.specs.Served.{Served}
@@ -11,7 +11,7 @@ use Rattle.session_history.specs.Heeding.{items_in}
 use Rattle.session_history.specs.Lawful.{Rules, Survivor, Chapter, entries_of, IsDue, IsDueAt}
 use Rattle.session_history.specs.Giving.{AreDuePieces, AreGiven}
 use Rattle.session_history.specs.Serving.{moment_of, Serving}
-use Rattle.session_history.proofs.Heeding.{events_in-gave, items_in-gave}
+use Rattle.session_history.proofs.Heeding.{items_in-gave}
 use Rattle.session_history.proofs.Paths.{served_same}
 use Rattle.session_history.proofs.Sessions.{serving_piece}
 use Rattle.rx_engine.specs.Standing.{Story, entries, moment, sends, then_story, IsTold}

@@ -1,7 +1,6 @@
 -- What the parts of a session's code make of it.
-use Rattle.std.specs.Prelude.{◌≡◌, ◌≢◌, ◌⊎◌, ℕ, ◌≤◌, List, [], ◌∷◌, Bool, true, false, Option, None, Some, IsSome, Result, Ok, Err, IsErrOf}
+use Rattle.std.specs.Prelude.{◌≡◌, ◌≢◌, ◌⊎◌, ℕ, ◌≤◌, List, Bool, true, false, Option, None, Some, IsSome, Result, Ok, Err, IsErrOf}
 use Rattle.rx_io.specs.declared.journal.Entry.{Entry}
-use Rattle.rx_io.specs.declared.journal.Entry.TheVariants as entry
 use Rattle.rx_io.specs.Faults.{Rose}
 use Rattle.rx_io.specs.Links.{Phases, Told, Coming, Counts}
 use Rattle.rx_io.specs.Sends.{Send}

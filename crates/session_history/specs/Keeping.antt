@@ -1,5 +1,5 @@
 -- What the parts of a session's code know of its journal: the ledger of its replies, the log of its items, and the phases of its link.
-use Rattle.std.specs.Prelude.{◌≡◌, ℕ, ◌<◌, ◌≤◌, List, [], ◌∷◌, ◌++◌, length, take, Bool, true, not, ◌&&◌, ◌==◌, if◌then◌else◌, Option, None, Some, is_some}
+use Rattle.std.specs.Prelude.{◌≡◌, ℕ, ◌<◌, ◌≤◌, List, [], ◌∷◌, length, take, Bool, true, not, ◌&&◌, ◌==◌, if◌then◌else◌, Option, None, Some, is_some}
 use Rattle.rx_io.specs.declared.journal.Entry.{Entry}
 use Rattle.rx_io.specs.declared.journal.LinkEvent.{LinkEvent}
 use Rattle.rx_io.specs.Sends.{Send, sent_to}
