@@ -1,0 +1,53 @@
+-- Where a session stands whose program failed.
+use Rattle.std.specs.Prelude.{◌≡◌, ℕ, ◌≤◌, ◌^◌, List, [], ◌∷◌, length, true, Option, None, option_map, slice_get}
+use Rattle.rx_io.specs.declared.journal.Entry.{Entry}
+use Rattle.rx_io.specs.Links.{events_in}
+use Rattle.elf_image.specs.declared.image.Image.{Image}
+use Rattle.item_log.specs.Log.{Log}
+use Rattle.reply_ledger.specs.Ledger.{Ledger}
+use Rattle.ckpt_ring.specs.Rings.{from_newest}
+use Rattle.run_history.specs.Call.{may_send}
+use Rattle.run_history.specs.Served.{Override, Path}
+use Rattle.guest_cpu.specs.Cpus.{CpuState}
+use Rattle.guest_cpu.specs.Serving.{standing_of}
+use Rattle.guest_runs.specs.Runs.{IsBounded}
+use Rattle.session_history.specs.Heeding.{heeded, items_in, received}
+use Rattle.session_history.specs.Opened.{opens}
+use Rattle.session_history.specs.Passing.{passed_in, Covers, IsFeasible, AreBetween}
+use Rattle.session_history.specs.Lawful.{Rules}
+use Rattle.session_history.specs.Keeping.{KeepsReplies, KeepsItems, AreSendable}
+use Rattle.trial_history.specs.Chains.{AreCheckpoints, AreChained}
+
+-- A run of a session, from which its guest can go on unless it has ended: it is within the budget, it may send to connections alone that
+-- were opened, and its sends stand in the order of time and have as many bytes as a piece may.
+pub record CanGoOn (rules : Rules) (entries : List Entry) (path : Path) : Type 0 where
+  pub bounded : path.state.ended ≡ None → IsBounded rules.limits.budget path
+  pub within : (conn : ℕ) → may_send path.state.machine conn ≡ true → opens conn (heeded rules.bounds (events_in entries)) ≡ true
+  pub timed : AreBetween 0 path.state.machine.taken path.state.sends
+  pub sendable : AreSendable path.state.sends
+
+-- a checkpoint from which a trial can begin: log and ledger have kept all that came after it
+pub record IsKept (rules : Rules) (entries : List Entry) (log : Log) (ledger : Ledger) (checkpoint : Path) : Type 0 where
+  pub lives : checkpoint.state.ended ≡ None
+  pub goes : CanGoOn rules entries checkpoint
+  pub items : log.first ≤ checkpoint.state.machine.taken
+  pub sends : ledger.first ≤ length checkpoint.state.sends
+
+abbrev pub AreKept : Rules → List Entry → Log → Ledger → List Path → Type 0
+AreKept rules entries log ledger [] = Unit {0}
+AreKept rules entries log ledger (newest ∷ older) = IsKept rules entries log ledger newest × AreKept rules entries log ledger older
+
+-- A session whose survivor failed here, with the checkpoints of its ring as runs, from the newest to the oldest: the guest's slots have
+-- them, log and ledger have the journal's items and replies, and the survivor emits what was passed, each byte in time.
+pub record HasFailed {R : Type 0} (rules : Rules) (image : Image) (entries : List Entry) (plan : List Override) (failed : Path) (ring : List Path) (cpu : CpuState R) (log : Log) (ledger : Ledger) : Type 0 where
+  pub items : KeepsItems rules.bounds entries log
+  pub few_items : rules.bounds.max_items ≤ 2 ^ 20
+  pub replies : KeepsReplies rules.bounds entries None failed.state.sends ledger
+  pub taken : failed.state.machine.taken ≤ received rules.bounds entries
+  pub covers : Covers (passed_in rules.bounds entries) failed.state
+  pub feasible : IsFeasible (passed_in rules.bounds entries) failed.state
+  pub chained : AreChained rules.limits (items_in rules.bounds entries) plan image failed ring
+  pub checkpoints : AreCheckpoints rules.limits image ring
+  pub kept : AreKept rules entries log ledger ring
+  pub as_many : length cpu.slots.saved ≡ length ring
+  pub saved : (index : ℕ) → option_map (λ one. one.state) (from_newest cpu.slots.saved index) ≡ option_map standing_of (slice_get ring index)

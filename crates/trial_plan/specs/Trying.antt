@@ -1,0 +1,87 @@
+-- What a trial, and a walk over the table, make of a session whose program failed.
+use Rattle.std.specs.Prelude.{◌≡◌, ℕ, ◌+◌, ◌-◌, ◌/◌, ◌<◌, ◌≤◌, ◌^◌, List, [], ◌∷◌, ◌++◌, length, map, sum, drop, Option, None, Some, slice_get, true, false, MatchBool, MatchOption, if◌then◌else◌, Result, Ok, Err}
+use Rattle.std.specs.declared.alloc.AllocError.{AllocError}
+use Rattle.rx_io.specs.declared.journal.Entry.{Entry}
+use Rattle.elf_image.specs.declared.image.Image.{Image}
+use Rattle.alloc_env.specs.declared.env.Env.{Env}
+use Rattle.block_book.specs.declared.choice.Choice.{Choice}
+use Rattle.item_log.specs.Log.{Log}
+use Rattle.reply_ledger.specs.Ledger.{Ledger}
+use Rattle.reply_ledger.specs.Trials.{discarded}
+use Rattle.ckpt_ring.specs.Slots.{Slots, slot_numbers}
+use Rattle.ckpt_ring.specs.Rings.{from_newest}
+use Rattle.run_history.specs.Served.{Limits, Override, Path}
+use Rattle.guest_cpu.specs.Cpus.{CpuState}
+use Rattle.guest_cpu.specs.Serving.{standing_of}
+use Rattle.session_history.specs.Heeding.{items_in}
+use Rattle.session_history.specs.Passing.{passed_in}
+use Rattle.session_history.specs.Lawful.{Rules}
+use Rattle.session_history.specs.Keeping.{KeepsReplies}
+use Rattle.episodes.specs.declared.episode.Tried.{Tried}
+use Rattle.episodes.specs.declared.episode.Try.{Try}
+use Rattle.episodes.specs.Survival.{survives}
+use Rattle.trial_history.specs.Trials.{plan_of_trial, IsTrial}
+use Rattle.trial_history.specs.Tables.{Chance, Trial, try_of, table, WalksOver}
+use Rattle.trial_plan.specs.Sessions.{CanGoOn, HasFailed}
+
+-- no call of a walk changes anything of a ledger but its trial
+abbrev pub KeepsLedger : Ledger → Ledger → Type 0
+KeepsLedger old new = discarded new ≡ discarded old
+
+-- how many instructions trials did, each from its checkpoint
+abbrev pub steps_of : List Trial → ℕ
+steps_of trials = sum (map (λ trial. trial.path.steps - trial.chance.checkpoint.steps) trials)
+
+module _ {R : Type 0} where
+  -- nor what is saved of a guest, nor its rule
+  pub record KeepsSaved (old new : CpuState R) : Type 0 where
+    pub rule : new.rule ≡ old.rule
+    pub base : new.base ≡ old.base
+    pub saved : new.slots.saved ≡ old.slots.saved
+    pub count : new.slots.count ≡ old.slots.count
+    pub pages : new.slots.pages ≡ old.slots.pages
+    pub frames : new.slots.frames ≡ old.slots.frames
+
+  -- the guest stands on the checkpoint of an index
+  abbrev pub StandsOn : CpuState R → ℕ → Type 0
+  StandsOn cpu index = cpu.slots.base ≡ from_newest (slot_numbers cpu.slots.saved) index
+
+  -- A trial from a checkpoint came to this result: the guest stands where it has come, and these are its answers of malloc since the checkpoint.
+  -- Where it survives, the ledger has its sends, and else it has no trial.
+  pub record HasTried (rules : Rules) (entries : List Entry) (plan : List Override) (point : ℕ) (checkpoint : Path) (env : Env) (cpu : CpuState R) (choices : List Choice) (ledger : Ledger) (result : Tried) : Type 0 where
+    pub path : Path
+    pub trial : IsTrial rules.limits (items_in rules.bounds entries) (plan_of_trial plan checkpoint.state.machine.taken env point) checkpoint (passed_in rules.bounds entries) point path result
+    pub stands : cpu.slots.live ≡ standing_of path
+    pub chose : path.choices ≡ checkpoint.choices ++ choices
+    pub goes : CanGoOn rules entries path
+    pub sent : MatchBool (survives result) (ledger.trial ≡ Some (drop ledger.first path.state.sends)) (ledger.trial ≡ None)
+
+  -- by the answer: after want of memory only what stays is known
+  abbrev pub TriesBy : Rules → List Entry → List Override → ℕ → Path → Env → CpuState R → List Choice → Ledger → Result Tried AllocError → Type 0
+  TriesBy rules entries plan point checkpoint env cpu choices ledger (Ok result) = HasTried rules entries plan point checkpoint env cpu choices ledger result
+  TriesBy rules entries plan point checkpoint env cpu choices ledger (Err fault) = Unit {0}
+
+  -- the run that a walk leaves as the survivor: that of the last trial, from the checkpoint of this index; the ledger has its sends
+  pub record HasAdopted (rules : Rules) (entries : List Entry) (ring : List Path) (number : ℕ) (trial : Trial) (cpu : CpuState R) (choices : List Choice) (ledger : Ledger) : Type 0 where
+    pub index : ℕ
+    pub by_number : index ≡ (number - 1) / 5
+    pub at : slice_get ring index ≡ Some trial.chance.checkpoint
+    pub stands_on : StandsOn cpu index
+    pub stands : cpu.slots.live ≡ standing_of trial.path
+    pub chose : trial.path.choices ≡ trial.chance.checkpoint.choices ++ choices
+    pub goes : CanGoOn rules entries trial.path
+    pub replies : KeepsReplies rules.bounds entries None trial.path.state.sends ledger
+
+  -- what is left behind a walk: its last trial is adopted, or no trial survived and the ledger is as it was
+  abbrev pub LeavesBy : Rules → List Entry → List Path → List Trial → ℕ → CpuState R → List Choice → Ledger → Ledger → Type 0
+  LeavesBy rules entries ring [] number cpu choices old new = new ≡ discarded old
+  LeavesBy rules entries ring (last ∷ []) number cpu choices old new = MatchBool (survives last.result) (HasAdopted rules entries ring number last cpu choices new) (new ≡ discarded old)
+  LeavesBy rules entries ring (first ∷ (second ∷ trials)) number cpu choices old new = LeavesBy rules entries ring (second ∷ trials) number cpu choices old new
+
+  -- A walk over the whole table of a ring, or up to the first trial that survives.
+  pub record HasWalked (rules : Rules) (entries : List Entry) (plan : List Override) (point : ℕ) (ring : List Path) (cpu : CpuState R) (choices : List Choice) (old new : Ledger) (before now : ℕ) (tries : List Try) : Type 0 where
+    pub trials : List Trial
+    pub tries_are : tries ≡ map try_of trials
+    pub walks : WalksOver rules.limits (items_in rules.bounds entries) plan (passed_in rules.bounds entries) point (table ring) trials
+    pub leaves : LeavesBy rules entries ring trials (length trials) cpu choices old new
+    pub counted : now ≡ before + steps_of trials

@@ -1,0 +1,2 @@
+//! What is tried after a failure: the program goes on from its checkpoints in other environments, until it comes past the failure.
+#![tactic(auto)]
