@@ -22,7 +22,7 @@ use Rattle.episodes.specs.declared.episode.Try.{Try}
 use Rattle.episodes.specs.Survival.{survives}
 use Rattle.trial_history.specs.Trials.{plan_of_trial, IsTrial}
 use Rattle.trial_history.specs.Tables.{Chance, Trial, try_of, table, WalksOver}
-use Rattle.trial_plan.specs.Sessions.{CanGoOn, HasFailed}
+use Rattle.trial_plan.specs.Sessions.{CanGoOn, Failure, items_of, pieces_of}
 
 -- no call of a walk changes anything of a ledger but its trial
 abbrev pub KeepsLedger : Ledger → Ledger → Type 0
@@ -48,40 +48,40 @@ module _ {R : Type 0} where
 
   -- A trial from a checkpoint came to this result: the guest stands where it has come, and these are its answers of malloc since the checkpoint.
   -- Where it survives, the ledger has its sends, and else it has no trial.
-  pub record HasTried (rules : Rules) (entries : List Entry) (plan : List Override) (point : ℕ) (checkpoint : Path) (env : Env) (cpu : CpuState R) (choices : List Choice) (ledger : Ledger) (result : Tried) : Type 0 where
+  pub record HasTried (failure : Failure) (point : ℕ) (checkpoint : Path) (env : Env) (cpu : CpuState R) (choices : List Choice) (ledger : Ledger) (result : Tried) : Type 0 where
     pub path : Path
-    pub trial : IsTrial rules.limits (items_in rules.bounds entries) (plan_of_trial plan checkpoint.state.machine.taken env point) checkpoint (passed_in rules.bounds entries) point path result
+    pub trial : IsTrial failure.rules.limits (items_of failure) (plan_of_trial failure.plan checkpoint.state.machine.taken env point) checkpoint (pieces_of failure) point path result
     pub stands : cpu.slots.live ≡ standing_of path
     pub chose : path.choices ≡ checkpoint.choices ++ choices
-    pub goes : CanGoOn rules entries path
+    pub goes : CanGoOn failure.rules failure.entries path
     pub sent : MatchBool (survives result) (ledger.trial ≡ Some (drop ledger.first path.state.sends)) (ledger.trial ≡ None)
 
   -- by the answer: after want of memory only what stays is known
-  abbrev pub TriesBy : Rules → List Entry → List Override → ℕ → Path → Env → CpuState R → List Choice → Ledger → Result Tried AllocError → Type 0
-  TriesBy rules entries plan point checkpoint env cpu choices ledger (Ok result) = HasTried rules entries plan point checkpoint env cpu choices ledger result
-  TriesBy rules entries plan point checkpoint env cpu choices ledger (Err fault) = Unit {0}
+  abbrev pub TriesBy : Failure → ℕ → Path → Env → CpuState R → List Choice → Ledger → Result Tried AllocError → Type 0
+  TriesBy failure point checkpoint env cpu choices ledger (Ok result) = HasTried failure point checkpoint env cpu choices ledger result
+  TriesBy failure point checkpoint env cpu choices ledger (Err fault) = Unit {0}
 
   -- the run that a walk leaves as the survivor: that of the last trial, from the checkpoint of this index; the ledger has its sends
-  pub record HasAdopted (rules : Rules) (entries : List Entry) (ring : List Path) (number : ℕ) (trial : Trial) (cpu : CpuState R) (choices : List Choice) (ledger : Ledger) : Type 0 where
+  pub record HasAdopted (failure : Failure) (number : ℕ) (trial : Trial) (cpu : CpuState R) (choices : List Choice) (ledger : Ledger) : Type 0 where
     pub index : ℕ
     pub by_number : index ≡ (number - 1) / 5
-    pub at : slice_get ring index ≡ Some trial.chance.checkpoint
+    pub checkpoint_is : slice_get failure.ring index ≡ Some trial.chance.checkpoint
     pub stands_on : StandsOn cpu index
     pub stands : cpu.slots.live ≡ standing_of trial.path
     pub chose : trial.path.choices ≡ trial.chance.checkpoint.choices ++ choices
-    pub goes : CanGoOn rules entries trial.path
-    pub replies : KeepsReplies rules.bounds entries None trial.path.state.sends ledger
+    pub goes : CanGoOn failure.rules failure.entries trial.path
+    pub replies : KeepsReplies failure.rules.bounds failure.entries None trial.path.state.sends ledger
 
   -- what is left behind a walk: its last trial is adopted, or no trial survived and the ledger is as it was
-  abbrev pub LeavesBy : Rules → List Entry → List Path → List Trial → ℕ → CpuState R → List Choice → Ledger → Ledger → Type 0
-  LeavesBy rules entries ring [] number cpu choices old new = new ≡ discarded old
-  LeavesBy rules entries ring (last ∷ []) number cpu choices old new = MatchBool (survives last.result) (HasAdopted rules entries ring number last cpu choices new) (new ≡ discarded old)
-  LeavesBy rules entries ring (first ∷ (second ∷ trials)) number cpu choices old new = LeavesBy rules entries ring (second ∷ trials) number cpu choices old new
+  abbrev pub LeavesBy : Failure → List Trial → ℕ → CpuState R → List Choice → Ledger → Ledger → Type 0
+  LeavesBy failure [] number cpu choices old new = new ≡ discarded old
+  LeavesBy failure (last ∷ []) number cpu choices old new = MatchBool (survives last.result) (HasAdopted failure number last cpu choices new) (new ≡ discarded old)
+  LeavesBy failure (first ∷ (second ∷ trials)) number cpu choices old new = LeavesBy failure (second ∷ trials) number cpu choices old new
 
   -- A walk over the whole table of a ring, or up to the first trial that survives.
-  pub record HasWalked (rules : Rules) (entries : List Entry) (plan : List Override) (point : ℕ) (ring : List Path) (cpu : CpuState R) (choices : List Choice) (old new : Ledger) (before now : ℕ) (tries : List Try) : Type 0 where
+  pub record HasWalked (failure : Failure) (point : ℕ) (cpu : CpuState R) (choices : List Choice) (old new : Ledger) (before now : ℕ) (tries : List Try) : Type 0 where
     pub trials : List Trial
     pub tries_are : tries ≡ map try_of trials
-    pub walks : WalksOver rules.limits (items_in rules.bounds entries) plan (passed_in rules.bounds entries) point (table ring) trials
-    pub leaves : LeavesBy rules entries ring trials (length trials) cpu choices old new
+    pub walks : WalksOver failure.rules.limits (items_of failure) failure.plan (pieces_of failure) point (table failure.ring) trials
+    pub leaves : LeavesBy failure trials (length trials) cpu choices old new
     pub counted : now ≡ before + steps_of trials

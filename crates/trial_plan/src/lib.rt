@@ -1,2 +1,7 @@
 //! What is tried after a failure: the program goes on from its checkpoints in other environments, until it comes past the failure.
 #![tactic(auto)]
+
+mod going;
+mod trying;
+
+pub use trying::attempt;
