@@ -1,0 +1,1 @@
+use Rattle.trial_plan.proofs.Joining.{Beside}
