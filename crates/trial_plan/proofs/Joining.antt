@@ -2,8 +2,8 @@
 use Rattle.std.proofs.Common.{◌≡◌, ℕ, ◌+◌, ◌<◌, ◌≤◌, Bool, true, false, ◌&&◌, cond, List, [], ◌∷◌, ◌++◌, length, take, drop, Option, Some, refl, sym, ◌∙◌, ap, subst, arith, append-nil, length-append}
 use Rattle.std.specs.Prelude.{◌==◌, unwrap_or, nat_le, eqb}
 use Rattle.std.specs.List.{AllByRecursion, flat_map}
-use Rattle.std.proofs.lemmas.List.{take-append-drop, drop_all}
-use Rattle.std.proofs.lemmas.Bool.{eqb-true}
+use Rattle.std.proofs.lemmas.List.{take-append-drop, drop_all, drop-drop}
+use Rattle.std.proofs.lemmas.Bool.{eqb-true, eq-eqb}
 use Rattle.rx_io.specs.Sends.{Send, sent_to}
 use Rattle.rx_io.specs.Prefix.{Prefix}
 use Rattle.reply_ledger.specs.Ledger.{Passed, Ledger, IsInOrder, stamped, stamps_of, passed_to}
@@ -13,6 +13,7 @@ use Rattle.reply_ledger.specs.Shows.{Shows, stamped_of, pieces_until}
 use Rattle.reply_ledger.proofs.ShowsLemmas.{shown_passed, shows-covers, covers-shows, shows-covers_before, covers_before-shows}
 use Rattle.run_history.proofs.Outputs.{sent_to-append, sent_to-more}
 use Rattle.session_history.specs.Passing.{until, AreBetween, AreInOrder}
+use Rattle.trial_plan.specs.Going.{agrees_next}
 
 -- stamps stand in order
 all_after : (low : ℕ) (stamp : ℕ) (bytes : List ℕ) (rest : List Passed) → low ≤ stamp → AllByRecursion (λ y. low ≤ y) (stamps_of rest) → AllByRecursion (λ y. low ≤ y) (stamps_of (stamped stamp bytes ++ rest))
@@ -96,3 +97,35 @@ agree-append (x ∷ xs) ys [] = sym (none ys (length (x ∷ xs)))
     none [] n = refl
     none (y ∷ ys) n = ap (agree (y ∷ ys)) (drop_all {X = ℕ} n [] (omega arith))
 agree-append (x ∷ xs) ys (p ∷ ps) = ap (λ (b : Bool). (x == p) && b) (agree-append xs ys ps) ∙ sym (and_assoc (x == p) (agree xs ps) (agree ys (drop (length xs) ps)))
+
+-- what comes next of a trial is compared with what was passed behind its run
+pub next_agrees : (high : ℕ) (ledger : Ledger) (sends now pieces : List Send) (send : Send) → Beside high ledger sends now pieces
+    → agrees_next ledger send ≡ agree send.bytes (drop (length (sent_to send.conn now)) (sent_to send.conn pieces))
+next_agrees high ledger sends now pieces send b =
+    let early : List ℕ = sent_to send.conn (take ledger.first sends) in
+    let tried : List ℕ = sent_to send.conn (trial_sends ledger) in
+    let whole : length (sent_to send.conn now) ≡ length early + length tried =
+    ap (λ (all : List Send). length (sent_to send.conn all)) (sym (now_is high ledger sends now pieces b))
+    ∙ (ap length (sent_to-append send.conn (take ledger.first sends) (trial_sends ledger)) ∙ length-append (sent_to send.conn (take ledger.first sends)) (sent_to send.conn (trial_sends ledger))) in
+    ap (λ (l : List ℕ). agree send.bytes (drop (length tried) l)) (shown_passed ledger sends pieces b.shows send.conn)
+    ∙ (ap (agree send.bytes) (drop-drop (length tried) (length early) (sent_to send.conn pieces)) ∙ ap (λ n. agree send.bytes (drop n (sent_to send.conn pieces))) (sym whole))
+
+-- one more send agrees where its bytes do
+agrees_more : (sends pieces : List Send) (send : Send) (same : Bool) → agree send.bytes (drop (length (sent_to send.conn sends)) (sent_to send.conn pieces)) ≡ same → agree (sent_to send.conn sends) (sent_to send.conn pieces) ≡ true
+    → agree (sent_to send.conn (sends ++ send ∷ [])) (sent_to send.conn pieces) ≡ same
+agrees_more sends pieces send same next before =
+    ap (λ (l : List ℕ). agree l (sent_to send.conn pieces)) (sent_to-more send.conn sends send ∙ ap (λ (b : Bool). sent_to send.conn sends ++ cond b send.bytes []) (eq-eqb send.conn send.conn refl))
+    ∙ (agree-append (sent_to send.conn sends) send.bytes (sent_to send.conn pieces) ∙ (ap (λ (b : Bool). b && agree send.bytes (drop (length (sent_to send.conn sends)) (sent_to send.conn pieces))) before ∙ next))
+
+pub differs_more : (sends pieces : List Send) (send : Send) → agree send.bytes (drop (length (sent_to send.conn sends)) (sent_to send.conn pieces)) ≡ false → ((conn : ℕ) → agree (sent_to conn sends) (sent_to conn pieces) ≡ true)
+    → agree (sent_to send.conn (sends ++ send ∷ [])) (sent_to send.conn pieces) ≡ false
+differs_more sends pieces send next before = agrees_more sends pieces send false next (before send.conn)
+
+pub agree_more : (sends pieces : List Send) (send : Send) → agree send.bytes (drop (length (sent_to send.conn sends)) (sent_to send.conn pieces)) ≡ true → ((conn : ℕ) → agree (sent_to conn sends) (sent_to conn pieces) ≡ true)
+    → (conn : ℕ) → agree (sent_to conn (sends ++ send ∷ [])) (sent_to conn pieces) ≡ true
+agree_more sends pieces send next before conn = of (eqb send.conn conn) refl
+  where
+    of : (b : Bool) → eqb send.conn conn ≡ b → agree (sent_to conn (sends ++ send ∷ [])) (sent_to conn pieces) ≡ true
+    of true same = subst (λ q. agree (sent_to q (sends ++ send ∷ [])) (sent_to q pieces) ≡ true) (eqb-true send.conn conn same) (agrees_more sends pieces send true next (before send.conn))
+    of false other =
+        ap (λ (l : List ℕ). agree l (sent_to conn pieces)) (sent_to-more conn sends send ∙ (ap (λ (b : Bool). sent_to conn sends ++ cond b send.bytes []) other ∙ append-nil (sent_to conn sends))) ∙ before conn

@@ -1,1 +1,4 @@
 pub mod Joining
+pub mod Few
+pub mod Starting
+pub mod Running

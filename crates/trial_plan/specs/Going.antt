@@ -35,9 +35,12 @@ SendsBy old send new (Ok (Some result)) = (new ≡ with_trial_send old send) × 
 SendsBy old send new (Err fault) = new ≡ old
 
 -- after an event with which a trial goes on, more instructions were done
+abbrev pub IsLaterIf : Option Tried → ℕ → ℕ → Type 0
+IsLaterIf None before now = before < now
+IsLaterIf (Some result) before now = Unit {0}
+
 abbrev pub IsLater : Result (Option Tried) AllocError → ℕ → ℕ → Type 0
-IsLater (Ok None) before now = before < now
-IsLater (Ok (Some result)) before now = Unit {0}
+IsLater (Ok found) before now = IsLaterIf found before now
 IsLater (Err fault) before now = Unit {0}
 
 module _ {R : Type 0} where

@@ -8,7 +8,7 @@ ghost use Rattle.run_history.specs.Served.{Path};
 ghost use Rattle.guest_cpu.specs.Cpus.{live_of, with_live};
 ghost use Rattle.trial_plan.specs.Sessions.{Failure, IsUnder};
 ghost use Rattle.trial_plan.specs.Trying.{KeepsLedger};
-ghost use Rattle.trial_plan.specs.Going.{IsJudged, SendsBy, IsLater, IsTrying, TriesSomewhere, IsAsking, AsksSomewhere, ComesIf, TurnsBy, ComesBy};
+ghost use Rattle.trial_plan.specs.Going.{IsJudged, SendsBy, IsLater, IsLaterIf, IsTrying, TriesSomewhere, IsAsking, AsksSomewhere, ComesIf, TurnsBy, ComesBy};
 
 use alloc_env::Env;
 use block_book::Choice;
@@ -66,7 +66,7 @@ fn ask<R: AccessRule, L: Ledger>(
         → ComesIf failure point checkpoint env cpu.new choices items.now replies.now result }
     ensures kept { cpu.new ≡ with_live (live_of cpu.new) cpu.old }
     ensures counted { steps.new + cpu.old.slots.live.steps ≡ steps.old + cpu.new.slots.live.steps }
-    ensures later { IsLater (Result::Ok result) cpu.old.slots.live.steps cpu.new.slots.live.steps }
+    ensures later { IsLaterIf result cpu.old.slots.live.steps cpu.new.slots.live.steps }
 {
     let taken = cpu.marks().taken;
     if taken == point {

@@ -1,1 +1,2 @@
 use Rattle.trial_plan.proofs.Joining.{Beside}
+use Rattle.trial_plan.proofs.Running.{ran_sends}
