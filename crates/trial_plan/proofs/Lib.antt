@@ -2,3 +2,5 @@ pub mod Joining
 pub mod Few
 pub mod Starting
 pub mod Running
+pub mod Coming
+pub mod Sending

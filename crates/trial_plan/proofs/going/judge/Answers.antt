@@ -1,2 +1,0 @@
-use Rattle.trial_plan.proofs.Joining.{Beside}
-use Rattle.trial_plan.proofs.Running.{ran_sends}
