@@ -1,9 +1,9 @@
 -- What the ledger of a trial says of what was passed is said of its run.
-use Rattle.std.proofs.Common.{◌≡◌, ℕ, ◌+◌, ◌<◌, ◌≤◌, Bool, true, false, ◌&&◌, cond, List, [], ◌∷◌, ◌++◌, length, take, drop, Option, Some, refl, sym, ◌∙◌, ap, subst, arith, append-nil, length-append}
-use Rattle.std.specs.Prelude.{◌==◌, unwrap_or, nat_le, eqb}
+use Rattle.std.proofs.Common.{◌≡◌, ℕ, ◌+◌, ◌<◌, ◌≤◌, Bool, true, false, ◌&&◌, cond, eqb, List, [], ◌∷◌, ◌++◌, length, take, drop, Option, Some, refl, sym, ◌∙◌, ap, subst, arith, append-nil, length-append}
+use Rattle.std.specs.Prelude.{◌==◌, unwrap_or, nat_le, IsTrue}
 use Rattle.std.specs.List.{AllByRecursion, flat_map}
 use Rattle.std.proofs.lemmas.List.{take-append-drop, drop_all, drop-drop}
-use Rattle.std.proofs.lemmas.Bool.{eqb-true, eq-eqb}
+use Rattle.std.proofs.lemmas.Bool.{eqb-true, eq-eqb, true≢false}
 use Rattle.rx_io.specs.Sends.{Send, sent_to}
 use Rattle.rx_io.specs.Prefix.{Prefix}
 use Rattle.reply_ledger.specs.Ledger.{Passed, Ledger, IsInOrder, stamped, stamps_of, passed_to}
@@ -129,3 +129,10 @@ agree_more sends pieces send next before conn = of (eqb send.conn conn) refl
     of true same = subst (λ q. agree (sent_to q (sends ++ send ∷ [])) (sent_to q pieces) ≡ true) (eqb-true send.conn conn same) (agrees_more sends pieces send true next (before send.conn))
     of false other =
         ap (λ (l : List ℕ). agree l (sent_to conn pieces)) (sent_to-more conn sends send ∙ (ap (λ (b : Bool). sent_to conn sends ++ cond b send.bytes []) other ∙ append-nil (sent_to conn sends))) ∙ before conn
+
+-- what a test says
+pub test_holds : (b : Bool) (P : Type 0) → b ≡ true → (IsTrue b → P) → P
+test_holds b P is holds = holds is
+
+pub test_fails : (b : Bool) (P : Type 0) → b ≡ false → (P → IsTrue b) → P → ⊥
+test_fails b P is holds p = true≢false (sym (holds p) ∙ is)

@@ -40,7 +40,7 @@ use Rattle.trial_history.specs.Trials.{IsUnharmed}
 use Rattle.trial_history.specs.Laws.{everywhere}
 use Rattle.trial_history.proofs.Planned.{env_within}
 use Rattle.trial_plan.specs.Sessions.{CanGoOn, Failure, items_of, pieces_of, IsUnder, FailedAt}
-use Rattle.trial_plan.specs.Trying.{KeepsLedger, KeepsSaved}
+use Rattle.trial_plan.specs.Trying.{KeepsSaved, KeepsBase}
 use Rattle.trial_plan.specs.Going.{IsTrying}
 use Rattle.trial_plan.proofs.Few.{few_items}
 use Rattle.trial_plan.proofs.Starting.{failed_still}
@@ -124,6 +124,25 @@ module _ {R : Type 0} where
     pages = ap (λ (c : CpuState R). c.slots.pages) kept;
     frames = ap (λ (c : CpuState R). c.slots.frames) kept;
   }
+
+  pub same_base : (cpu : CpuState R) → KeepsBase cpu cpu
+  same_base cpu = record { saved = record { rule = refl; base = refl; saved = refl; count = refl; pages = refl; frames = refl }; base = refl }
+
+  pub saved_on : (old mid new : CpuState R) → KeepsSaved old mid → KeepsSaved mid new → KeepsSaved old new
+  saved_on old mid new one other = record {
+    rule = other.rule ∙ one.rule;
+    base = other.base ∙ one.base;
+    saved = other.saved ∙ one.saved;
+    count = other.count ∙ one.count;
+    pages = other.pages ∙ one.pages;
+    frames = other.frames ∙ one.frames;
+  }
+
+  pub base_on : (old mid new : CpuState R) → KeepsBase old mid → KeepsBase mid new → KeepsBase old new
+  base_on old mid new one other = record { saved = saved_on old mid new one.saved other.saved; base = other.base ∙ one.base }
+
+  pub live_base : (old new : CpuState R) → new ≡ with_live (live_of new) old → KeepsBase old new
+  live_base old new kept = record { saved = live_keeps old new kept; base = ap (λ (c : CpuState R). c.slots.base) kept }
 
   -- a trial that went on, and sent nothing
   pub goes_silently : (failure : Failure) (point : ℕ) (checkpoint : Path) (env : Env) (old new : CpuState R) (before choices : List Choice) (log : Log) (ledger : Ledger) (t : IsTrying failure point checkpoint env old before log ledger) (now : Path)

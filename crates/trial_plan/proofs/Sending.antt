@@ -45,7 +45,7 @@ use Rattle.trial_plan.specs.Trying.{KeepsSaved}
 use Rattle.trial_plan.specs.Going.{agrees_next, IsTrying, IsAsking, HasCome}
 use Rattle.trial_plan.proofs.Joining.{next_agrees, agree_more, differs_more, covers_before_now}
 use Rattle.trial_plan.proofs.Starting.{failed_still}
-use Rattle.trial_plan.proofs.Running.{SendsOn, unharmed_still, may_send_by}
+use Rattle.trial_plan.proofs.Running.{SendsOn, unharmed_still, may_send_by, trying_room}
 use Rattle.trial_plan.proofs.Coming.{beside, comes_at}
 
 -- no send was made with more items taken than there are
@@ -188,6 +188,10 @@ module _ {R : Type 0} where
       → does None None cpu.slots.live.guest.machine ≡ Wants
   takes_wants failure point checkpoint env cpu choices log ledger a =
       subst (λ (s : Standing). does None None s.guest.machine ≡ Wants) (sym a.trying.stands) (asks_wants failure.rules.limits (everywhere env point) a.trying.path a.trying.path.state.machine.taken a.asks)
+
+  -- there is room for one instruction more
+  pub takes_room : (failure : Failure) (point : ℕ) (checkpoint : Path) (env : Env) (cpu : CpuState R) (choices : List Choice) (log : Log) (ledger : Ledger) → IsAsking failure point checkpoint env cpu choices log ledger → cpu.slots.live.steps < 2 ^ 64 - 1
+  takes_room failure point checkpoint env cpu choices log ledger a = let few = trying_room failure point checkpoint env cpu choices log ledger a.trying in omega (arith, few)
 
   -- the log has the item of its number
   pub takes_kept : (failure : Failure) (point : ℕ) (checkpoint : Path) (env : Env) (cpu : CpuState R) (choices : List Choice) (log : Log) (ledger : Ledger) (taken : ℕ) (a : IsAsking failure point checkpoint env cpu choices log ledger)

@@ -42,6 +42,11 @@ module _ {R : Type 0} where
     pub pages : new.slots.pages ≡ old.slots.pages
     pub frames : new.slots.frames ≡ old.slots.frames
 
+  -- and its live state stands on the same checkpoint
+  pub record KeepsBase (old new : CpuState R) : Type 0 where
+    pub saved : KeepsSaved old new
+    pub base : new.slots.base ≡ old.slots.base
+
   -- the guest stands on the checkpoint of an index
   abbrev pub StandsOn : CpuState R → ℕ → Type 0
   StandsOn cpu index = cpu.slots.base ≡ from_newest (slot_numbers cpu.slots.saved) index

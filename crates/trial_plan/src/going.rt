@@ -5,9 +5,8 @@ ghost use Rattle.block_book.specs.declared.choice.Choice.{Choice};
 ghost use Rattle.reply_ledger.specs.Ledger.{IsOpened, NotBefore, times_of};
 ghost use Rattle.reply_ledger.specs.Trials.{trial_sends, Agrees, Covers};
 ghost use Rattle.run_history.specs.Served.{Path};
-ghost use Rattle.guest_cpu.specs.Cpus.{live_of, with_live};
 ghost use Rattle.trial_plan.specs.Sessions.{Failure, IsUnder};
-ghost use Rattle.trial_plan.specs.Trying.{KeepsLedger};
+ghost use Rattle.trial_plan.specs.Trying.{KeepsLedger, KeepsBase};
 ghost use Rattle.trial_plan.specs.Going.{IsJudged, SendsBy, IsLater, IsLaterIf, IsTrying, TriesSomewhere, IsAsking, AsksSomewhere, ComesIf, TurnsBy, ComesBy};
 
 use alloc_env::Env;
@@ -64,7 +63,7 @@ fn ask<R: AccessRule, L: Ledger>(
     requires asks { AsksSomewhere point cpu.old items.now replies.now }
     ensures comes { (failure : Failure) (checkpoint : Path) (env : Env) (choices : List Choice) → IsAsking failure point checkpoint env cpu.old choices items.now replies.now
         → ComesIf failure point checkpoint env cpu.new choices items.now replies.now result }
-    ensures kept { cpu.new ≡ with_live (live_of cpu.new) cpu.old }
+    ensures kept { KeepsBase cpu.old cpu.new }
     ensures counted { steps.new + cpu.old.slots.live.steps ≡ steps.old + cpu.new.slots.live.steps }
     ensures later { IsLaterIf result cpu.old.slots.live.steps cpu.new.slots.live.steps }
 {
@@ -94,7 +93,7 @@ fn turn<R: AccessRule, L: Ledger>(
     requires tries { TriesSomewhere budget (R.rule cpu.old.rule) point env cpu.old choices.old.items items.now replies.old }
     ensures comes { (failure : Failure) (checkpoint : Path) → IsUnder failure budget (R.rule cpu.old.rule) → IsTrying failure point checkpoint env cpu.old choices.old.items items.now replies.old
         → TurnsBy failure point checkpoint env cpu.new choices.new.items items.now replies.new result }
-    ensures kept { cpu.new ≡ with_live (live_of cpu.new) cpu.old }
+    ensures kept { KeepsBase cpu.old cpu.new }
     ensures ledger { KeepsLedger replies.old replies.new }
     ensures counted { steps.new + cpu.old.slots.live.steps ≡ steps.old + cpu.new.slots.live.steps }
     ensures later { IsLater result cpu.old.slots.live.steps cpu.new.slots.live.steps }
@@ -130,7 +129,7 @@ pub(crate) fn go_on<R: AccessRule, L: Ledger>(
     requires tries { TriesSomewhere budget (R.rule cpu.old.rule) point env cpu.old choices.old.items items.now replies.old }
     ensures comes { (failure : Failure) (checkpoint : Path) → IsUnder failure budget (R.rule cpu.old.rule) → IsTrying failure point checkpoint env cpu.old choices.old.items items.now replies.old
         → ComesBy failure point checkpoint env cpu.new choices.new.items replies.new result }
-    ensures kept { cpu.new ≡ with_live (live_of cpu.new) cpu.old }
+    ensures kept { KeepsBase cpu.old cpu.new }
     ensures ledger { KeepsLedger replies.old replies.new }
     ensures counted { steps.new + cpu.old.slots.live.steps ≡ steps.old + cpu.new.slots.live.steps }
 {
