@@ -4,3 +4,4 @@ pub mod Starting
 pub mod Running
 pub mod Coming
 pub mod Sending
+pub mod Turning

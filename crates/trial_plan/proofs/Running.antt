@@ -145,7 +145,7 @@ module _ {R : Type 0} where
   live_base old new kept = record { saved = live_keeps old new kept; base = ap (λ (c : CpuState R). c.slots.base) kept }
 
   -- a trial that went on, and sent nothing
-  pub goes_silently : (failure : Failure) (point : ℕ) (checkpoint : Path) (env : Env) (old new : CpuState R) (before choices : List Choice) (log : Log) (ledger : Ledger) (t : IsTrying failure point checkpoint env old before log ledger) (now : Path)
+  unfoldable pub goes_silently : (failure : Failure) (point : ℕ) (checkpoint : Path) (env : Env) (old new : CpuState R) (before choices : List Choice) (log : Log) (ledger : Ledger) (t : IsTrying failure point checkpoint env old before log ledger) (now : Path)
       → KeepsSaved old new → GoesOn failure.rules.limits (items_of failure) (everywhere env point) t.path now → now.state.ended ≡ None → now.state.sends ≡ t.path.state.sends → now.choices ≡ checkpoint.choices ++ choices → standing_of now ≡ new.slots.live
       → IsTrying failure point checkpoint env new choices log ledger
   goes_silently failure point checkpoint env old new before choices log ledger t now saved goes lives sends chose stands =
