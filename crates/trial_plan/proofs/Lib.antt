@@ -5,3 +5,4 @@ pub mod Running
 pub mod Coming
 pub mod Sending
 pub mod Turning
+pub mod Looping
