@@ -6,3 +6,4 @@ pub mod Coming
 pub mod Sending
 pub mod Turning
 pub mod Looping
+pub mod Ending

@@ -84,9 +84,10 @@ pub fn attempt<R: AccessRule, L: Ledger>(
         alloc, cpu, env, point, budget, items, replies, choices, steps,
     ) {
         Ok(tried) => {
-            if !tried.survives() {
-                replies.discard();
+            if tried.survives() {
+                return Ok(tried);
             }
+            replies.discard();
             Ok(tried)
         }
         Err(e) => Err(e),

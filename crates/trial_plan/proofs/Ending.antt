@@ -1,0 +1,73 @@
+-- A trial from its checkpoint to its result.
+use Rattle.std.proofs.Common.{◌≡◌, ℕ, ◌+◌, ◌<◌, ◌≤◌, Bool, true, false, List, [], length, drop, Option, Some, None, refl, sym, ◌∙◌, ap, subst, arith}
+use Rattle.std.specs.Prelude.{slice_get, IsSomeAnd, MatchBool, Result, Ok, Err}
+use Rattle.std.specs.declared.alloc.AllocError.{AllocError}
+use Rattle.std.proofs.lemmas.List.{length-map}
+use Rattle.std.proofs.lemmas.Bool.{true≢false}
+use Rattle.alloc_env.specs.declared.env.Env.{Env}
+use Rattle.block_book.specs.declared.choice.Choice.{Choice}
+use Rattle.block_book.specs.Heap.{Heap}
+use Rattle.item_log.specs.Log.{Log}
+use Rattle.ckpt_ring.specs.Slots.{Saved, slot_numbers}
+use Rattle.ckpt_ring.specs.Rings.{from_newest, checkpoint_of, checkpoints_of}
+use Rattle.ckpt_ring.specs.declared.checkpoint.Checkpoint.{Checkpoint}
+use Rattle.reply_ledger.specs.Ledger.{Ledger}
+use Rattle.reply_ledger.specs.Trials.{discarded}
+use Rattle.run_history.specs.Served.{Path}
+use Rattle.guest_cpu.specs.Cpus.{CpuState}
+use Rattle.guest_cpu.specs.Standing.{Standing}
+use Rattle.episodes.specs.declared.episode.Tried.{Tried}
+use Rattle.episodes.specs.Survival.{survives}
+use Rattle.trial_plan.specs.Sessions.{Failure, IsUnder, FailedAt, CanTry, taken_in}
+use Rattle.trial_plan.specs.Trying.{KeepsBase, KeepsSaved, StandsOn, HasTried}
+use Rattle.trial_plan.specs.Going.{IsTrying, TriesSomewhere, HasCome}
+use Rattle.trial_plan.proofs.Starting.{found_at}
+
+-- a fact by a test
+by_true : (b : Bool) (P Q : Type 0) → b ≡ true → P → MatchBool b P Q
+by_true b P Q is p = subst (λ (c : Bool). MatchBool c P Q) (sym is) p
+
+by_false : (b : Bool) (P Q : Type 0) → b ≡ false → Q → MatchBool b P Q
+by_false b P Q is q = subst (λ (c : Bool). MatchBool c P Q) (sym is) q
+
+-- the number of instructions of the state that was restored
+pub counted_from : (o : Option (Saved Standing)) (live : Standing) (before after now : ℕ) → IsSomeAnd o (λ one. live ≡ one.state) → after + live.steps ≡ before + now → IsSomeAnd o (λ one. after + one.state.steps ≡ before + now)
+counted_from None live before after now is counted = is
+counted_from (Some one) live before after now is counted = ap (λ (s : Standing). after + s.steps) (sym is) ∙ counted
+
+-- there is a checkpoint at each index of the ring
+pub checkpoint_there : (saved : List (Saved Standing)) (standing : List Checkpoint) (ring : List Path) (index : ℕ) → length saved ≡ length ring → standing ≡ checkpoints_of taken_in saved → index < length standing
+    → (checkpoint : Path) × (slice_get ring index ≡ Some checkpoint)
+checkpoint_there saved standing ring index many same less =
+    let all : length standing ≡ length ring = ap length same ∙ (length-map {A = Saved Standing} {B = Checkpoint} saved (checkpoint_of taken_in) ∙ many) in
+    found_at ring index (omega (arith, less, all))
+
+module _ {R : Type 0} where
+  pub survives_tried : (failure : Failure) (point : ℕ) (checkpoint : Path) (env : Env) (cpu : CpuState R) (choices : List Choice) (ledger : Ledger) (result : Tried) → survives result ≡ true → HasCome failure point checkpoint env cpu choices ledger result
+      → HasTried failure point checkpoint env cpu choices ledger result
+  survives_tried failure point checkpoint env cpu choices ledger result is h = record {
+    path = h.path;
+    trial = h.trial;
+    stands = h.stands;
+    chose = h.chose;
+    goes = h.goes;
+    sent = by_true (survives result) (ledger.trial ≡ Some (drop ledger.first h.path.state.sends)) (ledger.trial ≡ None) is (h.sent is);
+  }
+
+  pub fails_tried : (failure : Failure) (point : ℕ) (checkpoint : Path) (env : Env) (cpu : CpuState R) (choices : List Choice) (ledger after : Ledger) (result : Tried) → survives result ≡ false → after ≡ discarded ledger
+      → HasCome failure point checkpoint env cpu choices ledger result → HasTried failure point checkpoint env cpu choices after result
+  fails_tried failure point checkpoint env cpu choices ledger after result is gone h = record {
+    path = h.path;
+    trial = h.trial;
+    stands = h.stands;
+    chose = h.chose;
+    goes = h.goes;
+    sent = by_false (survives result) (after.trial ≡ Some (drop after.first h.path.state.sends)) (after.trial ≡ None) is (ap (λ (l : Ledger). l.trial) gone);
+  }
+
+  pub under_saved : (permits : R → Heap → ℕ → ℕ → Bool) (budget : ℕ) (old new : CpuState R) (failure : Failure) → KeepsSaved old new → IsUnder failure budget (permits old.rule) → IsUnder failure budget (permits new.rule)
+  under_saved permits budget old new failure saved under = subst (λ (rule : R). IsUnder failure budget (permits rule)) (sym saved.rule) under
+
+  -- the guest still stands on the checkpoint from which it went on
+  pub stands_still : (old new : CpuState R) (index : ℕ) → KeepsBase old new → StandsOn old index → StandsOn new index
+  stands_still old new index kept stands = kept.base ∙ (stands ∙ ap (λ (all : List (Saved Standing)). from_newest (slot_numbers all) index) (sym kept.saved.saved))

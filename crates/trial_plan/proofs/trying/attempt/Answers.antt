@@ -1,0 +1,30 @@
+use Rattle.std.proofs.Common.{◌≡◌, ℕ, ◌+◌, ◌<◌, None, Some, refl, sym, ◌∙◌, ap, subst, arith}
+use Rattle.trial_plan.proofs.Running.{saved_on}
+use Rattle.trial_plan.proofs.Ending.{counted_from, checkpoint_there, survives_tried, fails_tried, under_saved, stands_still}
+use Rattle.trial_plan.proofs.trying.attempt.Goals as goal
+
+pub begin-requires-clause-failed : goal.begin-requires-clause-failed
+begin-requires-clause-failed g c = (c.requires.failed.failure, c.requires.failed.failed)
+
+pub go_on-requires : goal.go_on-requires
+go_on-requires g c =
+    let w = c.requires.failed in
+    let f = checkpoint_there c.args.cpu.now.slots.saved c.args.ring.now.standing w.failure.ring c.args.index w.failed.has.as_many c.requires.same c.requires.within in
+    record {
+      tries = record {
+        failure = w.failure;
+        checkpoint = f.0;
+        under = under_saved g.R.AccessRule.rule c.args.budget c.args.cpu.now c.begin.new.cpu w.failure c.begin.ensures.saved w.under;
+        trying = c.begin.ensures.begins w.failure f.0 c.args.env w.failed f.1;
+      };
+    }
+
+pub returns-then-survives-clause-tries : goal.returns-then-survives-clause-tries
+returns-then-survives-clause-tries g c failure checkpoint under failed found =
+    survives_tried failure c.args.point checkpoint c.args.env c.go_on.new.cpu c.go_on.new.choices.items c.go_on.new.replies c.in-Ok.tried (sym c.survives.ensures ∙ c.if-survives.true)
+    (c.in-Ok.ensures.comes failure checkpoint (under_saved g.R.AccessRule.rule c.args.budget c.args.cpu.now c.begin.new.cpu failure c.begin.ensures.saved under) (c.begin.ensures.begins failure checkpoint c.args.env failed found))
+
+pub returns-else-survives-clause-tries : goal.returns-else-survives-clause-tries
+returns-else-survives-clause-tries g c failure checkpoint under failed found =
+    fails_tried failure c.args.point checkpoint c.args.env c.go_on.new.cpu c.go_on.new.choices.items c.go_on.new.replies c.discard.new.self c.in-Ok.tried (sym c.survives.ensures ∙ c.if-survives.false) c.discard.ensures
+    (c.in-Ok.ensures.comes failure checkpoint (under_saved g.R.AccessRule.rule c.args.budget c.args.cpu.now c.begin.new.cpu failure c.begin.ensures.saved under) (c.begin.ensures.begins failure checkpoint c.args.env failed found))
