@@ -52,10 +52,10 @@ pub record Beside (high : ℕ) (ledger : Ledger) (sends now pieces : List Send) 
   pub front : take ledger.first now ≡ take ledger.first sends
   pub sent : ledger.trial ≡ Some (drop ledger.first now)
 
-trial_is : (high : ℕ) (ledger : Ledger) (sends now pieces : List Send) → Beside high ledger sends now pieces → trial_sends ledger ≡ drop ledger.first now
+pub trial_is : (high : ℕ) (ledger : Ledger) (sends now pieces : List Send) → Beside high ledger sends now pieces → trial_sends ledger ≡ drop ledger.first now
 trial_is high ledger sends now pieces b = ap (λ (o : Option (List Send)). unwrap_or o []) b.sent
 
-now_is : (high : ℕ) (ledger : Ledger) (sends now pieces : List Send) → Beside high ledger sends now pieces → take ledger.first sends ++ trial_sends ledger ≡ now
+pub now_is : (high : ℕ) (ledger : Ledger) (sends now pieces : List Send) → Beside high ledger sends now pieces → take ledger.first sends ++ trial_sends ledger ≡ now
 now_is high ledger sends now pieces b =
     ap (λ (all : List Send). take ledger.first sends ++ all) (trial_is high ledger sends now pieces b) ∙ ap (λ (all : List Send). all ++ drop ledger.first now) (sym b.front) ∙ take-append-drop ledger.first now
 

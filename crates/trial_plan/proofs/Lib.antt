@@ -7,3 +7,4 @@ pub mod Sending
 pub mod Turning
 pub mod Looping
 pub mod Ending
+pub mod Adopting

@@ -1,3 +1,4 @@
 pub mod Sessions
 pub mod Going
 pub mod Trying
+pub mod Walking

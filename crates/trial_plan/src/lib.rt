@@ -3,5 +3,6 @@
 
 mod going;
 mod trying;
+mod walking;
 
 pub use trying::attempt;

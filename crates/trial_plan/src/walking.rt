@@ -1,0 +1,106 @@
+// A walk over the table of trials: from each checkpoint, the newest first, in each environment.
+ghost use Rattle.std.specs.Prelude.{◌≡◌, ◌+◌, ◌<◌, length, Some, slice_get, IfOk, IsSomeAnd, []};
+ghost use Rattle.ckpt_ring.specs.Rings.{checkpoints_of};
+ghost use Rattle.run_history.specs.Served.{Path};
+ghost use Rattle.trial_plan.specs.Sessions.{CanTry, Failure, FailedAt, IsUnder, taken_in};
+ghost use Rattle.trial_plan.specs.Trying.{KeepsSaved};
+ghost use Rattle.trial_plan.specs.Walking.{OneBy, AllBy, StandsBy, LedgerBy, StaysBy, IsEpisode, WalksBy};
+
+use crate::trying::attempt;
+use alloc_env::Env;
+use block_book::Choice;
+use ckpt_ring::Ring;
+use episodes::{Episode, Tries, Try};
+use guest_cpu::Cpu;
+use guest_space::AccessRule;
+use item_log::ItemLog;
+use reply_ledger::Replies;
+use run_history::Cause;
+use rx_io::Steps;
+use std::alloc::{AllocError, Global};
+use std::sync::ledger::Ledger;
+
+// The environments in which a program is tried, in their order.
+const ENVIRONMENTS: [Env; 5] = [Env::Pad, Env::Zero, Env::Isolate, Env::Delay, Env::All];
+
+// Tries a checkpoint in one environment, and adopts the trial where it survives. Whether it does.
+fn try_one<R: AccessRule, L: Ledger>(
+    alloc: Global,
+    cpu: &mut Cpu<R>,
+    ring: &Ring,
+    index: u32,
+    env: Env,
+    point: u64,
+    budget: u32,
+    items: &ItemLog,
+    replies: &mut Replies,
+    choices: &mut Vec<Choice>,
+    steps: &mut Steps<L>,
+    tries: &mut Vec<Try>,
+) -> Result<bool, AllocError>
+    requires failed { CanTry budget (R.rule cpu.old.rule) point cpu.old items.now replies.old }
+    requires within { index < length ring.now.standing }
+    requires same { ring.now.standing ≡ checkpoints_of taken_in cpu.old.slots.saved }
+    ensures tries { (failure : Failure) (checkpoint : Path) → IsUnder failure budget (R.rule cpu.old.rule) → FailedAt point failure cpu.old items.now replies.old → slice_get failure.ring index ≡ Some checkpoint
+        → OneBy failure point (record { checkpoint = checkpoint; env = env }) cpu.new choices.new.items replies.new tries.old.items tries.new.items steps.old steps.new result }
+    ensures saved { KeepsSaved cpu.old cpu.new }
+    ensures ledger { LedgerBy replies.old replies.new result }
+    ensures stands { StandsBy cpu.new index result }
+{
+    match attempt(
+        alloc, cpu, ring, index, env, point, budget, items, replies, choices, steps,
+    ) {
+        Ok(tried) => {
+            let checkpoint = ring.taken_at(index);
+            if let Err(_) = tries.push(Try {
+                checkpoint,
+                env,
+                tried,
+            }) {
+                return Err(AllocError);
+            }
+            if !tried.survives() {
+                return Ok(false);
+            }
+            replies.adopt();
+            Ok(true)
+        }
+        Err(e) => Err(e),
+    }
+}
+
+// Tries a checkpoint in each environment, up to the first in which the trial survives. Whether one does.
+fn try_all<R: AccessRule, L: Ledger>(
+    alloc: Global,
+    cpu: &mut Cpu<R>,
+    ring: &Ring,
+    index: u32,
+    point: u64,
+    budget: u32,
+    items: &ItemLog,
+    replies: &mut Replies,
+    choices: &mut Vec<Choice>,
+    steps: &mut Steps<L>,
+    tries: &mut Vec<Try>,
+) -> Result<bool, AllocError>
+    requires failed { CanTry budget (R.rule cpu.old.rule) point cpu.old items.now replies.old }
+    requires within { index < length ring.now.standing }
+    requires same { ring.now.standing ≡ checkpoints_of taken_in cpu.old.slots.saved }
+    ensures tries { (failure : Failure) (checkpoint : Path) → IsUnder failure budget (R.rule cpu.old.rule) → FailedAt point failure cpu.old items.now replies.old → slice_get failure.ring index ≡ Some checkpoint
+        → AllBy failure point checkpoint cpu.new choices.new.items replies.new tries.old.items tries.new.items steps.old steps.new result }
+    ensures saved { KeepsSaved cpu.old cpu.new }
+    ensures ledger { LedgerBy replies.old replies.new result }
+    ensures stands { StandsBy cpu.new index result }
+{
+    'environments: for place in 0..ENVIRONMENTS.len() {
+        let env = ENVIRONMENTS[place];
+        match try_one(
+            alloc, cpu, ring, index, env, point, budget, items, replies, choices, steps, tries,
+        ) {
+            Ok(false) => {}
+            Ok(true) => return Ok(true),
+            Err(e) => return Err(e),
+        }
+    }
+    Ok(false)
+}
