@@ -8,3 +8,4 @@ pub mod Turning
 pub mod Looping
 pub mod Ending
 pub mod Adopting
+pub mod WalkLemmas

@@ -57,8 +57,8 @@ pub record IsEpisode (point : ℕ) (cause : Cause) (pc : ℕ) (episode : Episode
   pub pc_is : episode.pc ≡ pc
 
 -- by the answer of a walk
-abbrev pub StaysBy : Ledger → Ledger → Result Episode AllocError → Type 0
-StaysBy old new (Ok episode) = HasSameBytes old new
+abbrev pub StaysBy : {X : Type 0} → Ledger → Ledger → Result X AllocError → Type 0
+StaysBy old new (Ok done) = HasSameBytes old new
 StaysBy old new (Err fault) = KeepsLedger old new
 
 -- by the answer of a part of it, that a trial was adopted or that none survived

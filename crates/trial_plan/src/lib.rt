@@ -6,3 +6,4 @@ mod trying;
 mod walking;
 
 pub use trying::attempt;
+pub use walking::walk;

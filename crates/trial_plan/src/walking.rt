@@ -3,7 +3,7 @@ ghost use Rattle.std.specs.Prelude.{◌≡◌, ◌+◌, ◌<◌, length, Some, s
 ghost use Rattle.ckpt_ring.specs.Rings.{checkpoints_of};
 ghost use Rattle.run_history.specs.Served.{Path};
 ghost use Rattle.trial_plan.specs.Sessions.{CanTry, Failure, FailedAt, IsUnder, taken_in};
-ghost use Rattle.trial_plan.specs.Trying.{KeepsSaved};
+ghost use Rattle.trial_plan.specs.Trying.{KeepsSaved, HasWalked};
 ghost use Rattle.trial_plan.specs.Walking.{OneBy, AllBy, StandsBy, LedgerBy, StaysBy, IsEpisode, WalksBy};
 
 use crate::trying::attempt;
@@ -103,4 +103,84 @@ fn try_all<R: AccessRule, L: Ledger>(
         }
     }
     Ok(false)
+}
+
+// Tries all checkpoints, from the newest on, up to the first trial that survives.
+fn try_ring<R: AccessRule, L: Ledger>(
+    alloc: Global,
+    cpu: &mut Cpu<R>,
+    ring: &Ring,
+    point: u64,
+    budget: u32,
+    items: &ItemLog,
+    replies: &mut Replies,
+    choices: &mut Vec<Choice>,
+    steps: &mut Steps<L>,
+    tries: &mut Vec<Try>,
+) -> Result<(), AllocError>
+    requires failed { CanTry budget (R.rule cpu.old.rule) point cpu.old items.now replies.old }
+    requires same { ring.now.standing ≡ checkpoints_of taken_in cpu.old.slots.saved }
+    requires none { tries.old.items ≡ [] }
+    ensures walks { (failure : Failure) → IsUnder failure budget (R.rule cpu.old.rule) → FailedAt point failure cpu.old items.now replies.old
+        → IfOk result (λ _. HasWalked failure point cpu.new choices.new.items replies.old replies.new steps.old steps.new tries.new.items) }
+    ensures saved { KeepsSaved cpu.old cpu.new }
+    ensures ledger { StaysBy replies.old replies.new result }
+{
+    'checkpoints: for index in 0..ring.len() {
+        match try_all(
+            alloc, cpu, ring, index, point, budget, items, replies, choices, steps, tries,
+        ) {
+            Ok(false) => {}
+            Ok(true) => return Ok(()),
+            Err(e) => return Err(e),
+        }
+    }
+    replies.discard();
+    Ok(())
+}
+
+/// Tries to come past a failure: goes on from each checkpoint of the ring, the newest first, in each of five environments, up to the
+/// first trial that survives, and adopts that one. `point` says how many items the program had taken, `cause` and `pc` why and where it
+/// failed; they stand in the episode, with all trials in their order.
+///
+/// Where the last trial of the episode survived, the guest stands where that trial has come, on its checkpoint; malloc's answers
+/// since the checkpoint stand in `choices`, and its sends are the survivor's in `replies`. Where none survived, the guest may stand
+/// anywhere. The checkpoints, the items, and what was passed stay as they are. `steps` counts the instructions of all trials.
+///
+/// # Errors
+///
+/// `AllocError` where memory runs out. The guest may then stand anywhere, and a trial may be left in `replies`.
+pub fn walk<R: AccessRule, L: Ledger>(
+    alloc: Global,
+    cpu: &mut Cpu<R>,
+    ring: &Ring,
+    point: u64,
+    cause: Cause,
+    pc: u32,
+    budget: u32,
+    items: &ItemLog,
+    replies: &mut Replies,
+    choices: &mut Vec<Choice>,
+    steps: &mut Steps<L>,
+) -> Result<Episode, AllocError>
+    requires failed { CanTry budget (R.rule cpu.old.rule) point cpu.old items.now replies.old }
+    requires same { ring.now.standing ≡ checkpoints_of taken_in cpu.old.slots.saved }
+    ensures walks { (failure : Failure) → IsUnder failure budget (R.rule cpu.old.rule) → FailedAt point failure cpu.old items.now replies.old
+        → WalksBy failure point cpu.new choices.new.items replies.old replies.new steps.old steps.new result }
+    ensures episode { IfOk result (IsEpisode point cause pc) }
+    ensures saved { KeepsSaved cpu.old cpu.new }
+    ensures ledger { StaysBy replies.old replies.new result }
+{
+    let mut tries = Vec::new(alloc);
+    match try_ring(
+        alloc, cpu, ring, point, budget, items, replies, choices, steps, &mut tries,
+    ) {
+        Ok(()) => Ok(Episode {
+            point,
+            cause,
+            pc,
+            tries: Tries::from_vec(tries),
+        }),
+        Err(e) => Err(e),
+    }
 }
