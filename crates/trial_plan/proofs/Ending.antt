@@ -42,6 +42,9 @@ checkpoint_there saved standing ring index many same less =
     let all : length standing ≡ length ring = ap length same ∙ (length-map {A = Saved Standing} {B = Checkpoint} saved (checkpoint_of taken_in) ∙ many) in
     found_at ring index (omega (arith, less, all))
 
+pub ring_length : (saved : List (Saved Standing)) (standing : List Checkpoint) (ring : List Path) → length saved ≡ length ring → standing ≡ checkpoints_of taken_in saved → length standing ≡ length ring
+ring_length saved standing ring many same = ap length same ∙ (length-map {A = Saved Standing} {B = Checkpoint} saved (checkpoint_of taken_in) ∙ many)
+
 module _ {R : Type 0} where
   pub survives_tried : (failure : Failure) (point : ℕ) (checkpoint : Path) (env : Env) (cpu : CpuState R) (choices : List Choice) (ledger : Ledger) (result : Tried) → survives result ≡ true → HasCome failure point checkpoint env cpu choices ledger result
       → HasTried failure point checkpoint env cpu choices ledger result

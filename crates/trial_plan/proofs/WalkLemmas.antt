@@ -1,7 +1,7 @@
 -- A walk goes on from chance to chance.
 use Rattle.std.proofs.Common.{◌≡◌, ℕ, zero, suc, ◌+◌, ◌-◌, ◌*◌, ◌/◌, ◌<◌, ◌≤◌, Bool, true, false, List, [], ◌∷◌, ◌++◌, length, take, drop, Option, Some, None, refl, sym, ◌∙◌, ap, subst, arith, append-nil, append_assoc, length-append, add-one}
 use Rattle.std.specs.Prelude.{slice_get, map, sum, MatchBool}
-use Rattle.std.proofs.lemmas.List.{length-map}
+use Rattle.std.proofs.lemmas.List.{length-map, take_all}
 use Rattle.std.proofs.lemmas.List.Sums.{sum_by-append}
 use Rattle.std.proofs.lemmas.Option.{same_Some, none-some}
 use Rattle.std.proofs.lemmas.Bool.{true≢false}
@@ -18,7 +18,7 @@ use Rattle.episodes.specs.Survival.{survives}
 use Rattle.trial_history.specs.Tables.{Chance, Trial, try_of, chances_at, environments, table, IsRight, WalksOver}
 use Rattle.trial_plan.specs.Sessions.{Failure, items_of, pieces_of, IsUnder, FailedAt, CanTry}
 use Rattle.trial_plan.specs.Trying.{KeepsLedger, KeepsSaved, steps_of, StandsOn, HasAdopted, LeavesBy, HasWalked}
-use Rattle.trial_plan.specs.Walking.{IsMade, AreTried, FailedOne, FailedSome, IsAdopted, AdoptedOne, AdoptedLast}
+use Rattle.trial_plan.specs.Walking.{IsMade, AreTried, FailedOne, FailedSome, IsAdopted, AdoptedOne, AdoptedLast, HasSameBytes}
 use Rattle.trial_plan.proofs.Starting.{failed_still}
 use Rattle.trial_plan.proofs.Running.{saved_on}
 
@@ -278,3 +278,15 @@ module _ {R : Type 0} where
 
   pub same_saved : (cpu : CpuState R) → KeepsSaved cpu cpu
   same_saved cpu = record { rule = refl; base = refl; saved = refl; count = refl; pages = refl; frames = refl }
+
+-- what was passed stays over the parts of a walk
+pub same_bytes_on : (old mid new : Ledger) → KeepsLedger old mid → HasSameBytes mid new → HasSameBytes old new
+same_bytes_on old mid new same h = record { no_trial = h.no_trial; first = h.first ∙ ap (λ (l : Ledger). l.first) same; connections = h.connections ∙ ap (λ (l : Ledger). l.connections) same }
+
+pub same_bytes_discarded : (old new : Ledger) → new ≡ discarded old → HasSameBytes old new
+same_bytes_discarded old new is = record { no_trial = ap (λ (l : Ledger). l.trial) is; first = ap (λ (l : Ledger). l.first) is; connections = ap (λ (l : Ledger). l.connections) is }
+
+-- a walk past the last checkpoint has tried the whole table
+pub failed_all : (failure : Failure) (point index : ℕ) (noted new : List Try) (before after : ℕ) → length failure.ring ≤ index → FailedSome failure point (table (take index failure.ring)) noted new before after
+    → FailedSome failure point (table failure.ring) noted new before after
+failed_all failure point index noted new before after past some = subst (λ (all : List Path). FailedSome failure point (table all) noted new before after) (take_all index failure.ring past) some

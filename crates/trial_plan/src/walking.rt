@@ -2,6 +2,7 @@
 ghost use Rattle.std.specs.Prelude.{◌≡◌, ◌+◌, ◌<◌, length, Some, slice_get, IfOk, IsSomeAnd, []};
 ghost use Rattle.ckpt_ring.specs.Rings.{checkpoints_of};
 ghost use Rattle.run_history.specs.Served.{Path};
+ghost use Rattle.trial_history.specs.Tables.{environments};
 ghost use Rattle.trial_plan.specs.Sessions.{CanTry, Failure, FailedAt, IsUnder, taken_in};
 ghost use Rattle.trial_plan.specs.Trying.{KeepsSaved, HasWalked};
 ghost use Rattle.trial_plan.specs.Walking.{OneBy, AllBy, StandsBy, LedgerBy, StaysBy, IsEpisode, WalksBy};
@@ -22,6 +23,14 @@ use std::sync::ledger::Ledger;
 
 // The environments in which a program is tried, in their order.
 const ENVIRONMENTS: [Env; 5] = [Env::Pad, Env::Zero, Env::Isolate, Env::Delay, Env::All];
+
+// The environment at a place.
+fn environment(place: usize) -> Env
+    requires { place < 5 }
+    ensures { slice_get environments place ≡ Some result }
+{
+    ENVIRONMENTS[place]
+}
 
 // Tries a checkpoint in one environment, and adopts the trial where it survives. Whether it does.
 fn try_one<R: AccessRule, L: Ledger>(
@@ -93,7 +102,7 @@ fn try_all<R: AccessRule, L: Ledger>(
     ensures stands { StandsBy cpu.new index result }
 {
     'environments: for place in 0..ENVIRONMENTS.len() {
-        let env = ENVIRONMENTS[place];
+        let env = environment(place);
         match try_one(
             alloc, cpu, ring, index, env, point, budget, items, replies, choices, steps, tries,
         ) {
