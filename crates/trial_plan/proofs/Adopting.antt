@@ -140,8 +140,7 @@ module _ {R : Type 0} where
   adopt_asks failure point checkpoint env old cpu choices log before_ledger ledger result index failed found saved same is h =
       let b = beside_tried failure point checkpoint env old cpu choices log before_ledger ledger result index failed found saved same is h in
       let high = received failure.rules.bounds failure.entries in
-      let good = survives_covers failure.rules.limits (items_of failure) (plan_of_trial failure.plan checkpoint.state.machine.taken env point) checkpoint (pieces_of failure) point h.path result is h.trial.comes in
-      (
+      let good = survives_covers failure.rules.limits (items_of failure) (plan_of_trial failure.plan checkpoint.state.machine.taken env point) checkpoint (pieces_of failure) point h.path result is h.trial.comes in (
         ap is_some b.sent,
         now_agrees high ledger failure.failed.state.sends h.path.state.sends (pieces_of failure) b good.0.agrees,
         now_covers high ledger failure.failed.state.sends h.path.state.sends (pieces_of failure) b good.1,

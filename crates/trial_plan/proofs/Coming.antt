@@ -87,12 +87,17 @@ module _ {R : Type 0} where
   pub asks_behind : (failure : Failure) (point : ℕ) (checkpoint : Path) (env : Env) (cpu : CpuState R) (choices : List Choice) (log : Log) (ledger : Ledger) (a : IsAsking failure point checkpoint env cpu choices log ledger) (taken : ℕ)
       → taken ≡ a.trying.path.state.machine.taken → (taken ≡ point → ⊥) → (ledgers.CoversBefore ledger taken → ⊥) → HasCome failure point checkpoint env cpu choices ledger tried.Behind
   asks_behind failure point checkpoint env cpu choices log ledger a taken is other short =
-      comes_here failure point checkpoint env cpu choices log ledger tried.Behind a.trying
-      (a.trying.unharmed, inl (taken, record {
-        early = omega (arith, is, other, a.trying.unharmed.early);
-        asks = subst (AsksFor failure.rules.limits (everywhere env point) a.trying.path) (sym is) a.asks;
-        behind = λ covers. short (now_covers_before (received failure.rules.bounds failure.entries) taken ledger failure.failed.state.sends a.trying.path.state.sends (pieces_of failure) (beside failure point checkpoint env cpu choices log ledger a.trying) covers);
-      }))
+      comes_here failure point checkpoint env cpu choices log ledger tried.Behind a.trying (
+        a.trying.unharmed,
+        inl (
+          taken,
+          record {
+            early = omega (arith, is, other, a.trying.unharmed.early);
+            asks = subst (AsksFor failure.rules.limits (everywhere env point) a.trying.path) (sym is) a.asks;
+            behind = λ covers. short (now_covers_before (received failure.rules.bounds failure.entries) taken ledger failure.failed.state.sends a.trying.path.state.sends (pieces_of failure) (beside failure point checkpoint env cpu choices log ledger a.trying) covers);
+          },
+        ),
+      )
 
   -- it ended itself
   pub exits_past : (failure : Failure) (point : ℕ) (checkpoint : Path) (env : Env) (old new : CpuState R) (choices : List Choice) (log : Log) (ledger : Ledger) (code : ℕ) (result : Tried) (t : IsTrying failure point checkpoint env old choices log ledger) (now : Path)

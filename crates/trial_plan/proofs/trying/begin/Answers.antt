@@ -31,6 +31,6 @@ returns-clause-begins g c failure checkpoint env failed found =
     let stands = restored_at c.args.point failure c.args.cpu.now c.restore.new.t c.args.items.now c.args.replies.now c.args.index checkpoint failed found c.restore.ensures.restored in
     let sends : c.marks.result.sends ≡ length checkpoint.state.sends = ap (λ (m : Marks). m.sends) c.marks.ensures ∙ ap (λ (s : Standing). s.sends) stands in
     let keeps = restored_keeps c.args.cpu.now c.restore.new.t c.args.index c.restore.ensures.restored (ap (λ p. p.0) c.restore.ensures.fixed) (ap (λ p. p.1) c.restore.ensures.fixed) in
-    subst (λ (all : List Choice). IsTrying failure c.args.point checkpoint env c.restore.new.t all c.args.items.now c.begin_trial.new.self) (sym c.clear.ensures.items)
+    subst (λ (all : List Choice). IsTrying failure c.args.point checkpoint env c.restore.new.t all c.args.items.now c.begin_trial.new.self) (sym {A = List Choice} c.clear.ensures.items)
     (begins c.args.point failure c.args.cpu.now c.restore.new.t c.args.items.now c.args.replies.now c.begin_trial.new.self c.args.index checkpoint env failed found keeps stands
     (c.begin_trial.ensures.begun ∙ (ap (λ (l : Ledger). begun l c.marks.result.sends) c.discard.ensures ∙ ap (begun (discarded c.args.replies.now)) sends)) c.begin_trial.ensures.agrees)

@@ -47,8 +47,8 @@ returns-in-Ok-true-clause-walks g c failure under failed =
     walked_found failure c.args.point c.checkpoints.index f.0 c.try_all.new.cpu c.try_all.new.choices.items c.args.replies.now c.try_all.new.replies c.args.steps.now c.checkpoints.steps c.try_all.new.steps c.checkpoints.tries.items c.try_all.new.tries.items f.1
     (subst (λ (b : Bool). StandsBy c.try_all.new.cpu c.checkpoints.index (Ok b)) c.in-Ok-true.field-0-test c.in-Ok-true.ensures.stands) (inv.tried failure under failed)
     (subst (λ (b : Bool). AllBy failure c.args.point f.0 c.try_all.new.cpu c.try_all.new.choices.items c.try_all.new.replies c.checkpoints.tries.items c.try_all.new.tries.items c.checkpoints.steps c.try_all.new.steps (Ok b)) c.in-Ok-true.field-0-test
-          (c.in-Ok-true.ensures.tries failure f.0 (under_saved g.R.AccessRule.rule c.args.budget c.args.cpu.now c.checkpoints.cpu failure inv.saved under)
-          (failed_still c.args.point failure c.args.cpu.now c.checkpoints.cpu c.args.items.now c.args.replies.now c.checkpoints.replies inv.saved inv.ledger failed) f.1))
+    (c.in-Ok-true.ensures.tries failure f.0 (under_saved g.R.AccessRule.rule c.args.budget c.args.cpu.now c.checkpoints.cpu failure inv.saved under)
+    (failed_still c.args.point failure c.args.cpu.now c.checkpoints.cpu c.args.items.now c.args.replies.now c.checkpoints.replies inv.saved inv.ledger failed) f.1))
 
 pub returns-in-Ok-true-clause-ledger : goal.returns-in-Ok-true-clause-ledger
 returns-in-Ok-true-clause-ledger g c =
