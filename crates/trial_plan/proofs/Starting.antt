@@ -2,7 +2,7 @@
 use Rattle.std.proofs.Common.{◌≡◌, ℕ, zero, suc, ◌+◌, ◌-◌, ◌<◌, ◌≤◌, List, [], ◌∷◌, ◌++◌, length, take, drop, Option, Some, None, refl, sym, ◌∙◌, ap, subst, arith, append-nil, length-append, length-drop}
 use Rattle.std.specs.Prelude.{slice_get, option_map, IsSomeAnd, IsSome}
 use Rattle.std.proofs.lemmas.List.{drop-append-le, take-append-le, length-map}
-use Rattle.std.proofs.lemmas.Option.{same_Some, none-some}
+use Rattle.std.proofs.lemmas.Option.{same_Some, none-some, slice_get_within}
 use Rattle.std.proofs.Math.Seq.{take-append_seam}
 use Rattle.rx_io.specs.declared.journal.Entry.{Entry}
 use Rattle.rx_io.specs.Sends.{Send}
@@ -91,7 +91,7 @@ module _ {R : Type 0} where
       checkpoints = h.has.checkpoints;
       kept = are_kept_still failure.rules failure.entries log before after failure.ring (ap (λ (l : Ledger). l.first) same) h.has.kept;
       as_many = ap length saved.saved ∙ h.has.as_many;
-      saved = λ index. ap (λ (all : List (Saved Standing)). option_map (λ one. one.state) (from_newest all index)) saved.saved ∙ h.has.saved index;
+      saved = λ index less. ap (λ (all : List (Saved Standing)). option_map (λ one. one.state) (from_newest all index)) saved.saved ∙ h.has.saved index less;
     };
     point_is = h.point_is;
     few_steps = h.few_steps;
@@ -184,7 +184,7 @@ module _ {R : Type 0} where
   pub restored_at : (point : ℕ) (failure : Failure) (old new : CpuState R) (log : Log) (ledger : Ledger) (index : ℕ) (checkpoint : Path) → FailedAt point failure old log ledger → slice_get failure.ring index ≡ Some checkpoint
       → IsSomeAnd (from_newest old.slots.saved index) (λ one. new.slots ≡ restored one old.slots) → new.slots.live ≡ standing_of checkpoint
   restored_at point failure old new log ledger index checkpoint h found is =
-      restored_live (from_newest old.slots.saved index) old.slots new.slots (standing_of checkpoint) is (h.has.saved index ∙ ap (λ (o : Option Path). option_map standing_of o) found)
+      restored_live (from_newest old.slots.saved index) old.slots new.slots (standing_of checkpoint) is (h.has.saved index (slice_get_within failure.ring index checkpoint found) ∙ ap (λ (o : Option Path). option_map standing_of o) found)
 
   -- and all else of it is as it was
   pub restored_keeps : (old new : CpuState R) (index : ℕ) → IsSomeAnd (from_newest old.slots.saved index) (λ one. new.slots ≡ restored one old.slots) → new.rule ≡ old.rule → new.base ≡ old.base → KeepsSaved old new

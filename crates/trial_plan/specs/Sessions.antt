@@ -1,5 +1,5 @@
 -- Where a session stands whose program failed.
-use Rattle.std.specs.Prelude.{◌≡◌, ℕ, ◌≤◌, ◌^◌, List, [], ◌∷◌, length, Bool, true, false, Option, None, option_map, slice_get}
+use Rattle.std.specs.Prelude.{◌≡◌, ℕ, ◌<◌, ◌≤◌, ◌^◌, List, [], ◌∷◌, length, Bool, true, false, Option, None, option_map, slice_get}
 use Rattle.rx_io.specs.declared.journal.Entry.{Entry}
 use Rattle.rx_io.specs.Links.{events_in}
 use Rattle.rx_io.specs.Sends.{Send, sent_to}
@@ -57,7 +57,7 @@ pub record HasFailed {R : Type 0} (rules : Rules) (image : Image) (entries : Lis
   pub checkpoints : AreCheckpoints rules.limits image ring
   pub kept : AreKept rules entries log ledger ring
   pub as_many : length cpu.slots.saved ≡ length ring
-  pub saved : (index : ℕ) → option_map (λ one. one.state) (from_newest cpu.slots.saved index) ≡ option_map standing_of (slice_get ring index)
+  pub saved : (index : ℕ) → index < length ring → option_map (λ one. one.state) (from_newest cpu.slots.saved index) ≡ option_map standing_of (slice_get ring index)
 
 -- A failure as data: the session that it befell, as above.
 pub record Failure : Type 0 where
