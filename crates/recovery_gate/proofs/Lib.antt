@@ -1,0 +1,4 @@
+pub mod Mirrors
+pub mod Chains
+pub mod RingLemmas
+pub mod Forces

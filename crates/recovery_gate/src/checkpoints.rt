@@ -1,0 +1,53 @@
+// The checkpoints that a session makes.
+ghost use Rattle.std.specs.Prelude.{◌≡◌, ◌<◌, ◌≤◌, ℕ, List, [], ◌∷◌, length};
+ghost use Rattle.rx_io.specs.declared.journal.Entry.{Entry};
+ghost use Rattle.elf_image.specs.declared.image.Image.{Image};
+ghost use Rattle.item_log.specs.Log.{Log};
+ghost use Rattle.reply_ledger.specs.Ledger.{Ledger};
+ghost use Rattle.ckpt_ring.specs.Rings.{saved_in_ring};
+ghost use Rattle.run_history.specs.Served.{Override, Path, origin, AsksFor};
+ghost use Rattle.guest_cpu.specs.Serving.{standing_of};
+ghost use Rattle.session_history.specs.Lawful.{Rules};
+ghost use Rattle.trial_plan.specs.Sessions.{CanGoOn};
+ghost use Rattle.recovery_gate.specs.Rings.{IsRingOf, KeepsRing, is_due, SavesIf, ring_if};
+
+use ckpt_ring::Ring;
+use guest_cpu::Cpu;
+use guest_space::AccessRule;
+
+/// Saves a guest at the start of its program as the first checkpoint.
+pub fn begin_ring<R: AccessRule>(cpu: &mut Cpu<R>, ring: &mut Ring)
+    requires none_saved { cpu.old.slots.saved ≡ [] }
+    requires no_base { cpu.old.slots.base ≡ None }
+    requires empty { ring.old.standing ≡ [] }
+    requires capacity { ring.old.capacity ≤ cpu.old.slots.count }
+    ensures keeps { (rules : Rules) (image : Image) (log : Log) (ledger : Ledger) → cpu.old.slots.live ≡ standing_of (origin image) → log.first ≡ 0 → ledger.first ≡ 0
+        → KeepsRing rules image [] [] (origin image) (origin image ∷ []) cpu.new ring.new log ledger }
+    ensures saved { (slot : ℕ) × (cpu.new.slots ≡ saved_in_ring ring.old.capacity slot cpu.old.slots) }
+    ensures rule { cpu.new.rule ≡ cpu.old.rule }
+    ensures base { cpu.new.base ≡ cpu.old.base }
+    ensures capacity { ring.new.capacity ≡ ring.old.capacity }
+{
+    ring.save(cpu);
+}
+
+/// Saves a guest at its request for an item as the newest checkpoint, where `every` items or more were taken since the newest
+/// one. `taken` is how many it has taken. The oldest checkpoints are dropped for want of room. It takes no memory.
+pub fn checkpoint<R: AccessRule>(cpu: &mut Cpu<R>, ring: &mut Ring, taken: u64, every: u32)
+    requires ring { IsRingOf cpu.old ring.old }
+    requires often { 0 < every }
+    ensures keeps { (rules : Rules) (image : Image) (entries : List Entry) (plan : List Override) (now : Path) (paths : List Path) (log : Log) (ledger : Ledger) → KeepsRing rules image entries plan now paths cpu.old ring.old log ledger
+        → cpu.old.slots.live ≡ standing_of now → AsksFor rules.limits plan now taken → CanGoOn rules entries now → log.first ≤ taken → ledger.first ≤ length now.state.sends
+        → KeepsRing rules image entries plan now (ring_if (is_due every taken ring.old.standing) (length cpu.new.slots.saved) now paths) cpu.new ring.new log ledger }
+    ensures saved { SavesIf (is_due every taken ring.old.standing) ring.old.capacity cpu.old.slots cpu.new.slots }
+    ensures live { cpu.new.slots.live ≡ cpu.old.slots.live }
+    ensures rule { cpu.new.rule ≡ cpu.old.rule }
+    ensures base { cpu.new.base ≡ cpu.old.base }
+    ensures capacity { ring.new.capacity ≡ ring.old.capacity }
+    ensures ring { IsRingOf cpu.new ring.new }
+{
+    if taken.saturating_sub(ring.taken_at(0)) < u64::from(every) {
+        return;
+    }
+    ring.save(cpu);
+}
