@@ -30,8 +30,8 @@ module _ {X Y S : Type 0} where
         ap (λ n. option_map f (slice_get (xs ++ x ∷ []) n)) place ∙ (ap (option_map f) (slice_get-append_left xs (x ∷ []) (length xs - index - 1) (omega (arith, many, low))) ∙ m.each index low)
 
   -- without the first of the one and the last of the other
-  pub mirrors_later : (f : X → S) (g : Y → S) (xs : List X) (ys : List Y) (count : ℕ) → count ≤ length xs → Mirrors f g xs ys → Mirrors f g (drop count xs) (take (length xs - count) ys)
-  mirrors_later f g xs ys count few m =
+  pub mirrors_later : (f : X → S) (g : Y → S) (xs : List X) (ys : List Y) (count : ℕ) → Mirrors f g xs ys → Mirrors f g (drop count xs) (take (length xs - count) ys)
+  mirrors_later f g xs ys count m =
       let many : length xs ≡ length ys = m.many in
       let left : length (take (length xs - count) ys) ≡ length xs - count = length-take-le (length xs - count) ys (omega (arith, many)) in
       let right : length (drop count xs) ≡ length xs - count = length-drop count xs in

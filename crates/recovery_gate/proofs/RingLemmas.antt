@@ -1,10 +1,14 @@
 -- The ring of a session's checkpoints, one lemma for each event of a session.
 use Rattle.std.proofs.Common.{◌≡◌, ◌⊎◌, inl, inr, ℕ, zero, suc, ◌+◌, ◌-◌, ◌<◌, ◌≤◌, Bool, true, false, List, [], ◌∷◌, ◌++◌, length, map, take, drop, Option, Some, None, refl, sym, ◌∙◌, ap, subst, arith, length-append, length-drop, append-nil}
-use Rattle.std.specs.Prelude.{slice_get, ◌^◌, nat_le}
+use Rattle.std.specs.Prelude.{slice_get, ◌^◌, IsSomeAnd}
 use Rattle.std.specs.Option.{option_map}
 use Rattle.std.proofs.lemmas.List.{length-map, length-take-le, map-append}
 use Rattle.std.specs.List.{drop-map}
-use Rattle.std.proofs.lemmas.Bool.{leb-true}
+use Rattle.std.proofs.lemmas.Bool.{both_ways, le-leb, lt-leb}
+use Rattle.run_history.specs.Machine as M
+use Rattle.run_history.specs.Call.{may_send}
+use Rattle.run_history.proofs.Connections.{no_connections_may}
+use Rattle.guest_runs.proofs.RunLemmas.{runs_start}
 use Rattle.std.proofs.lemmas.Option.{none-some, same_Some, slice_get_within}
 use Rattle.rx_io.specs.declared.bytes.Item.{Item}
 use Rattle.rx_io.specs.declared.journal.Entry.{Entry}
@@ -42,6 +46,104 @@ state_of one = one.state
 
 abbrev AreSaved : List (Saved Standing) → List Path → Type 0
 AreSaved saved ring = Mirrors state_of standing_of saved ring
+
+-- at the start no connection may be sent to
+start_may : (image : Image) (conn : ℕ) → may_send (origin image).state.machine conn ≡ false
+unfolding M.start M.start_machine
+start_may image conn = no_connections_may conn
+
+-- the start of a program can go on, and log and ledger have all that comes after it
+start_kept : (rules : Rules) (image : Image) (log : Log) (ledger : Ledger) → log.first ≡ 0 → ledger.first ≡ 0 → IsKept rules [] log ledger (origin image)
+unfolding M.start M.start_machine
+start_kept rules image log ledger whole all =
+    let first = runs_start image rules.limits.budget in
+    record {
+      lives = first.lives;
+      goes = record { bounded = λ lives. first.bounded; within = λ conn may. absurd (both_ways (may_send (origin image).state.machine conn) (start_may image conn) may); opened = λ conn none. refl; timed = tt; sendable = tt };
+      items = omega (arith, whole);
+      sends = omega (arith, all);
+    }
+
+whole_states : (pages : ℕ) (list : List (Saved Standing)) → map state_of (with_whole_oldest pages list) ≡ map state_of list
+whole_states pages [] = refl
+whole_states pages (oldest ∷ later) = refl
+
+-- after a save the slots have the newest ones of the run that was saved and the checkpoints before it
+saved_then : (capacity slot : ℕ) (old : Slots Standing) (new : List (Saved Standing)) (now : Path) (ring : List Path) → AreSaved old.saved ring → old.live ≡ standing_of now → new ≡ (saved_in_ring capacity slot old).saved
+    → AreSaved new (take (length new) (now ∷ ring))
+saved_then capacity slot old new now ring m live is =
+    let newest : Saved Standing = record { slot = slot; state = old.live; pages = old.written } in
+    let all : List (Saved Standing) = old.saved ++ newest ∷ [] in
+    let pushed : AreSaved all (now ∷ ring) = mirrors_push state_of standing_of old.saved ring newest now m live in
+    let d = longest_end_drops (λ (end : List (Saved Standing)). has_room capacity old.pages old.frames (map (λ (one : Saved Standing). one.pages) end)) all in
+    let same : map state_of new ≡ map state_of (drop d.0 all) =
+    ap (map state_of) is ∙ (whole_states old.pages (kept capacity old.pages old.frames (λ one. one.pages) all) ∙ ap (map state_of) d.1) in
+    let there : AreSaved new (take (length all - d.0) (now ∷ ring)) =
+    mirrors_as state_of standing_of (drop d.0 all) new (take (length all - d.0) (now ∷ ring)) same (mirrors_later state_of standing_of all (now ∷ ring) d.0 pushed) in
+    let many : length new ≡ length all - d.0 =
+    there.many ∙ length-take-le (length all - d.0) (now ∷ ring) (let both : length all ≡ length (now ∷ ring) = pushed.many in omega (arith, both)) in
+    subst (λ n. AreSaved new (take n (now ∷ ring))) (sym many) there
+
+-- and one at least
+some_saved : (saved : List (Saved Standing)) (slot : ℕ) → newest_slot saved ≡ Some slot → 0 < length saved
+some_saved [] slot is = absurd (none-some slot is)
+some_saved (one ∷ saved) slot is = omega arith
+
+take_one : (count : ℕ) (path : Path) → 0 < count → take count (path ∷ []) ≡ path ∷ []
+take_one zero path some = absurd (omega (arith, some))
+take_one (suc zero) path some = refl
+take_one (suc (suc count)) path some = refl
+
+module _ {R : Type 0} where
+  -- what a save leaves
+  ring_saved : (rules : Rules) (image : Image) (entries : List Entry) (plan : List Override) (now : Path) (ring : List Path) (old new : CpuState R) (checkpoints : Checkpoints) (log : Log) (ledger : Ledger) (capacity slot : ℕ)
+      → AreChained rules.limits (items_in rules.bounds entries) plan image now (now ∷ ring) → AreCheckpoints rules.limits image (now ∷ ring) → AreKept rules entries log ledger (now ∷ ring)
+      → AreSaved old.slots.saved ring → old.slots.live ≡ standing_of now → new.slots ≡ saved_in_ring capacity slot old.slots
+      → checkpoints.standing ≡ checkpoints_of taken_in new.slots.saved → checkpoints.capacity ≤ old.slots.count → new.slots.base ≡ newest_slot new.slots.saved
+      → KeepsRing rules image entries plan now (take (length new.slots.saved) (now ∷ ring)) new checkpoints log ledger
+  ring_saved rules image entries plan now ring old new checkpoints log ledger capacity slot chained are kept m live saves standing few base =
+      let there : AreSaved new.slots.saved (take (length new.slots.saved) (now ∷ ring)) =
+      saved_then capacity slot old.slots new.slots.saved now ring m live (ap (λ (slots : Slots Standing). slots.saved) saves) in
+      let some : 0 < length new.slots.saved = some_saved new.slots.saved slot (sym base ∙ ap (λ (slots : Slots Standing). slots.base) saves) in
+      let many : length new.slots.saved ≡ length (take (length new.slots.saved) (now ∷ ring)) = there.many in
+      let count : new.slots.count ≡ old.slots.count = ap (λ (slots : Slots Standing). slots.count) saves in
+      record {
+        some = omega (arith, some, many);
+        chained = chained_take rules.limits (items_in rules.bounds entries) plan image now (now ∷ ring) (length new.slots.saved) chained;
+        are = are_take rules.limits image (now ∷ ring) (length new.slots.saved) are;
+        kept = kept_take rules entries log ledger (now ∷ ring) (length new.slots.saved) kept;
+        as_many = there.many;
+        saved = there.each;
+        standing = standing;
+        capacity = omega (arith, few, count);
+        base = base;
+      }
+
+  -- The start is saved as the first checkpoint.
+  pub ring_begins : (rules : Rules) (image : Image) (old new : CpuState R) (checkpoints : Checkpoints) (log : Log) (ledger : Ledger) (capacity slot : ℕ)
+      → old.slots.saved ≡ [] → old.slots.live ≡ standing_of (origin image) → log.first ≡ 0 → ledger.first ≡ 0 → new.slots ≡ saved_in_ring capacity slot old.slots
+      → checkpoints.standing ≡ checkpoints_of taken_in new.slots.saved → checkpoints.capacity ≤ old.slots.count → new.slots.base ≡ newest_slot new.slots.saved
+      → KeepsRing rules image [] [] (origin image) (origin image ∷ []) new checkpoints log ledger
+  ring_begins rules image old new checkpoints log ledger capacity slot none live whole all saves standing few base =
+      let same = served_same rules.limits (items_in rules.bounds []) [] (origin image) in
+      let m : AreSaved old.slots.saved [] = subst (λ (list : List (Saved Standing)). AreSaved list []) (sym none) (mirrors_none state_of standing_of) in
+      let some : 0 < length new.slots.saved = some_saved new.slots.saved slot (sym base ∙ ap (λ (slots : Slots Standing). slots.base) saves) in
+      subst (λ (ring : List Path). KeepsRing rules image [] [] (origin image) ring new checkpoints log ledger) (take_one (length new.slots.saved) (origin image) some)
+      (ring_saved rules image [] [] (origin image) [] old new checkpoints log ledger capacity slot (same, same) (inl refl, tt) (start_kept rules image log ledger whole all, tt) m live saves standing few base)
+
+  -- A run at its request, which isn't the start, is saved as the newest checkpoint.
+  pub ring_saves : (rules : Rules) (image : Image) (entries : List Entry) (plan : List Override) (now : Path) (ring : List Path) (old new : CpuState R) (checkpoints later : Checkpoints) (log : Log) (ledger : Ledger) (capacity slot taken : ℕ)
+      → KeepsRing rules image entries plan now ring old checkpoints log ledger → old.slots.live ≡ standing_of now → AsksFor rules.limits plan now taken → 0 < taken → CanGoOn rules entries now
+      → log.first ≤ taken → ledger.first ≤ length now.state.sends → new.slots ≡ saved_in_ring capacity slot old.slots
+      → later.standing ≡ checkpoints_of taken_in new.slots.saved → later.capacity ≡ checkpoints.capacity → new.slots.base ≡ newest_slot new.slots.saved
+      → KeepsRing rules image entries plan now (take (length new.slots.saved) (now ∷ ring)) new later log ledger
+  ring_saves rules image entries plan now ring old new checkpoints later log ledger capacity slot taken k live asks some goes items sends saves standing same base =
+      let number : now.state.machine.taken ≡ taken = asks.taken in
+      let here : AsksFor rules.limits plan now now.state.machine.taken = record { lives = asks.lives; taken = refl; asks = asks.asks } in
+      let few : checkpoints.capacity ≤ old.slots.count = k.capacity in
+      ring_saved rules image entries plan now ring old new later log ledger capacity slot (served_same rules.limits (items_in rules.bounds entries) plan now, k.chained)
+      (inr (omega (arith, some, number), asks_under_all rules.limits plan [] now now.state.machine.taken here), k.are)
+      (record { lives = asks.lives; goes = goes; items = omega (arith, items, number); sends = sends }, k.kept) (record { many = k.as_many; each = k.saved }) live saves standing (omega (arith, few, same)) base
 
 module _ {R : Type 0} where
   saved_of : (rules : Rules) (image : Image) (entries : List Entry) (plan : List Override) (now : Path) (ring : List Path) (cpu : CpuState R) (checkpoints : Checkpoints) (log : Log) (ledger : Ledger)
@@ -142,3 +244,12 @@ module _ {R : Type 0} where
         capacity = omega (arith, count, capacity, k.capacity);
         base = base;
       }
+
+-- whether a checkpoint is due, by what the newest one has taken
+pub due_when : (every taken number : ℕ) (newest : Option Checkpoint) → IsSomeAnd newest (λ one. number ≡ one.taken) → every ≤ taken - number → is_due_after every taken newest ≡ true
+due_when every taken number None is enough = absurd is
+due_when every taken number (Some newest) is enough = le-leb every (taken - newest.taken) (omega (arith, is, enough))
+
+pub due_unless : (every taken number : ℕ) (newest : Option Checkpoint) → IsSomeAnd newest (λ one. number ≡ one.taken) → taken - number < every → is_due_after every taken newest ≡ false
+due_unless every taken number None is few = absurd is
+due_unless every taken number (Some newest) is few = lt-leb every (taken - newest.taken) (omega (arith, is, few))
