@@ -1,5 +1,5 @@
 -- What holds of all checkpoints of a ring, as the session goes on.
-use Rattle.std.proofs.Common.{◌≡◌, ℕ, zero, suc, ◌<◌, ◌≤◌, Bool, true, false, List, [], ◌∷◌, ◌++◌, length, take, drop, refl, sym, ◌∙◌, ap, subst, arith}
+use Rattle.std.proofs.Common.{◌≡◌, ℕ, zero, suc, ◌≤◌, Bool, true, false, List, [], ◌∷◌, ◌++◌, length, take, drop, refl, sym, subst}
 use Rattle.std.proofs.lemmas.Bool.{both_ways}
 use Rattle.rx_io.specs.declared.bytes.Item.{Item}
 use Rattle.rx_io.specs.declared.journal.Entry.{Entry}
@@ -8,13 +8,13 @@ use Rattle.elf_image.specs.declared.image.Image.{Image}
 use Rattle.item_log.specs.Log.{Log}
 use Rattle.reply_ledger.specs.Ledger.{Ledger}
 use Rattle.run_history.specs.Served.{Limits, Override, Path, origin, Served}
-use Rattle.session_history.specs.Heeding.{heeded, items_in}
+use Rattle.session_history.specs.Heeding.{heeded}
 use Rattle.session_history.specs.Opened.{opens}
 use Rattle.session_history.specs.Lawful.{Rules}
 use Rattle.session_history.proofs.Paths.{served_on, served_with}
 use Rattle.trial_history.specs.Chains.{AreCheckpoints, AreChained}
 use Rattle.trial_history.proofs.Chained.{chained_from}
-use Rattle.trial_plan.specs.Sessions.{CanGoOn, IsKept, AreKept}
+use Rattle.trial_plan.specs.Sessions.{CanGoOn, AreKept}
 use Rattle.recovery_gate.specs.Rings.{Brings}
 
 -- the latest run goes on

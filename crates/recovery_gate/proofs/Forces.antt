@@ -1,5 +1,5 @@
 -- The environment that is in force.
-use Rattle.std.proofs.Common.{◌≡◌, ◌⊎◌, inl, inr, ℕ, ◌+◌, ◌<◌, ◌≤◌, Bool, true, false, cond, eqb, ltb, List, [], ◌∷◌, refl, sym, ◌∙◌, ap, arith}
+use Rattle.std.proofs.Common.{◌≡◌, ◌⊎◌, inl, inr, ℕ, ◌+◌, ◌<◌, ◌≤◌, Bool, true, false, cond, eqb, ltb, List, [], refl, ap, arith}
 use Rattle.std.proofs.lemmas.Bool.{cond_both, eqb-false, le-ltb}
 use Rattle.alloc_env.specs.declared.env.Env.{Env}
 use Rattle.alloc_env.specs.declared.env.Env.TheVariants.{Plain}

@@ -1,15 +1,16 @@
 -- Two lists of which one is the other from its end: saved slots from the oldest on, and checkpoints from the newest on.
-use Rattle.std.proofs.Common.{◌≡◌, ℕ, zero, suc, ◌+◌, ◌-◌, ◌<◌, ◌≤◌, List, [], ◌∷◌, ◌++◌, length, map, take, drop, Option, Some, None, refl, sym, ◌∙◌, ap, arith, length-append, length-drop}
+use Rattle.std.proofs.Common.{◌≡◌, ℕ, zero, suc, ◌+◌, ◌-◌, ◌<◌, List, [], ◌∷◌, ◌++◌, length, map, take, drop, Some, refl, sym, ◌∙◌, ap, arith, length-append, length-drop}
 use Rattle.std.specs.Prelude.{slice_get}
 use Rattle.std.specs.Option.{option_map}
 use Rattle.std.proofs.lemmas.Option.{slice_get-map}
-use Rattle.std.proofs.lemmas.List.{length-map, length-take-le, map-append}
+use Rattle.std.proofs.lemmas.List.{length-map, length-take-le}
 use Rattle.circular_buffer.proofs.Places.{slice_get-append_left, slice_get-drop, slice_get-take}
 use Rattle.ckpt_ring.specs.Rings.{from_newest}
 use Rattle.ckpt_ring.proofs.SlotLemmas.{from_newest_push}
 
 module _ {X S : Type 0} where
-  from_map : (f : X → S) (xs : List X) (index : ℕ) → option_map f (from_newest xs index) ≡ from_newest (map f xs) index
+  -- what is read of the newest ones
+  pub from_map : (f : X → S) (xs : List X) (index : ℕ) → option_map f (from_newest xs index) ≡ from_newest (map f xs) index
   from_map f xs index = sym (slice_get-map f xs (length xs - index - 1)) ∙ ap (λ n. slice_get (map f xs) (n - index - 1)) (sym (length-map xs f))
 
 module _ {X Y S : Type 0} where

@@ -1,5 +1,5 @@
 -- The ring of a session's checkpoints beside its guest, its log and its ledger.
-use Rattle.std.specs.Prelude.{◌≡◌, ℕ, ◌-◌, ◌<◌, ◌≤◌, Bool, true, false, List, [], ◌∷◌, ◌++◌, length, take, nat_le, nat_lt, if◌then◌else◌, Option, Some, None, option_map, slice_get}
+use Rattle.std.specs.Prelude.{◌≡◌, ℕ, ◌-◌, ◌<◌, ◌≤◌, Bool, true, false, List, ◌∷◌, ◌++◌, length, take, nat_le, nat_lt, if◌then◌else◌, Option, Some, None, option_map, slice_get}
 use Rattle.rx_io.specs.declared.bytes.Item.{Item}
 use Rattle.rx_io.specs.declared.journal.Entry.{Entry}
 use Rattle.rx_io.specs.Links.{events_in}
@@ -9,10 +9,9 @@ use Rattle.alloc_env.specs.declared.env.Env.TheVariants.{Plain}
 use Rattle.item_log.specs.Log.{Log}
 use Rattle.reply_ledger.specs.Ledger.{Ledger}
 use Rattle.ckpt_ring.specs.declared.checkpoint.Checkpoint.{Checkpoint}
-use Rattle.ckpt_ring.specs.Slots.{Slots, newest_slot}
+use Rattle.ckpt_ring.specs.Slots.{newest_slot}
 use Rattle.ckpt_ring.specs.Rings.{Checkpoints, checkpoints_of, from_newest, saved_in_ring}
 use Rattle.run_history.specs.Served.{Override, env_at, Path}
-use Rattle.guest_cpu.specs.Standing.{Standing}
 use Rattle.guest_cpu.specs.Cpus.{CpuState}
 use Rattle.guest_cpu.specs.Serving.{standing_of}
 use Rattle.session_history.specs.Heeding.{heeded, items_in}
@@ -53,10 +52,11 @@ is_due_after every taken (Some newest) = nat_le every (taken - newest.taken)
 abbrev pub is_due : ℕ → ℕ → List Checkpoint → Bool
 is_due every taken standing = is_due_after every taken (from_newest standing 0)
 
--- where it is due the live state was saved, as a ring of this capacity saves it; else nothing changed
-abbrev pub SavesIf : Bool → ℕ → Slots Standing → Slots Standing → Type 0
-SavesIf true capacity old new = (slot : ℕ) × (new ≡ saved_in_ring capacity slot old)
-SavesIf false capacity old new = new ≡ old
+module _ {R : Type 0} where
+  -- where it is due the live state was saved, as a ring of this capacity saves it; else nothing changed
+  abbrev pub SavesIf : Bool → ℕ → CpuState R → CpuState R → Type 0
+  SavesIf true capacity old new = (slot : ℕ) × (new.slots ≡ saved_in_ring capacity slot old.slots)
+  SavesIf false capacity old new = new ≡ old
 
 -- the checkpoints as runs then: of the run that was saved and those before it the newest ones, so many as slots are saved
 abbrev pub ring_if : Bool → ℕ → Path → List Path → List Path

@@ -35,11 +35,10 @@ pub fn begin_ring<R: AccessRule>(cpu: &mut Cpu<R>, ring: &mut Ring)
 /// one. `taken` is how many it has taken. The oldest checkpoints are dropped for want of room. It takes no memory.
 pub fn checkpoint<R: AccessRule>(cpu: &mut Cpu<R>, ring: &mut Ring, taken: u64, every: u32)
     requires ring { IsRingOf cpu.old ring.old }
-    requires often { 0 < every }
     ensures keeps { (rules : Rules) (image : Image) (entries : List Entry) (plan : List Override) (now : Path) (paths : List Path) (log : Log) (ledger : Ledger) → KeepsRing rules image entries plan now paths cpu.old ring.old log ledger
-        → cpu.old.slots.live ≡ standing_of now → AsksFor rules.limits plan now taken → CanGoOn rules entries now → log.first ≤ taken → ledger.first ≤ length now.state.sends
+        → cpu.old.slots.live ≡ standing_of now → AsksFor rules.limits plan now taken → 0 < every → CanGoOn rules entries now → log.first ≤ taken → ledger.first ≤ length now.state.sends
         → KeepsRing rules image entries plan now (ring_if (is_due every taken ring.old.standing) (length cpu.new.slots.saved) now paths) cpu.new ring.new log ledger }
-    ensures saved { SavesIf (is_due every taken ring.old.standing) ring.old.capacity cpu.old.slots cpu.new.slots }
+    ensures saved { SavesIf (is_due every taken ring.old.standing) ring.old.capacity cpu.old cpu.new }
     ensures live { cpu.new.slots.live ≡ cpu.old.slots.live }
     ensures rule { cpu.new.rule ≡ cpu.old.rule }
     ensures base { cpu.new.base ≡ cpu.old.base }

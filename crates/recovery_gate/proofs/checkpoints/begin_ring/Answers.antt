@@ -1,5 +1,5 @@
 use Rattle.recovery_gate.proofs.RingLemmas.{ring_begins}
-use Rattle.std.proofs.Common.{◌≤◌, arith}
+use Rattle.std.proofs.Common.{arith}
 use Rattle.recovery_gate.proofs.checkpoints.begin_ring.Goals as goal
 
 pub returns-clause-keeps : goal.returns-clause-keeps
