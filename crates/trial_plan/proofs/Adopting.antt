@@ -2,7 +2,7 @@
 use Rattle.std.proofs.Common.{◌≡◌, ℕ, zero, suc, ◌+◌, ◌-◌, ◌<◌, ◌≤◌, Bool, true, false, ◌&&◌, List, [], ◌∷◌, ◌++◌, length, take, drop, Option, Some, None, refl, sym, ◌∙◌, ap, subst, arith, append-nil}
 use Rattle.std.specs.Prelude.{slice_get, option_map, map, IsSomeAnd, IsSome, MatchBool, unwrap_or, is_some}
 use Rattle.std.proofs.lemmas.List.{length-map, take-append-le, take-append-drop}
-use Rattle.std.proofs.lemmas.Option.{same_Some, slice_get-map}
+use Rattle.std.proofs.lemmas.Option.{same_Some, slice_get-map, slice_get_within}
 use Rattle.std.proofs.lemmas.Bool.{true≢false}
 use Rattle.rx_io.specs.Sends.{Send, sent_to}
 use Rattle.rx_io.specs.Links.{events_in}
@@ -107,7 +107,7 @@ module _ {R : Type 0} where
       → (h : HasTried failure point checkpoint env cpu choices ledger result)
       → IsMade failure point (record { checkpoint = checkpoint; env = env }) (trial_of failure point checkpoint env cpu choices ledger result h) noted tries before after
   is_made failure point checkpoint env old cpu choices log before_ledger ledger result index taken standing before after noted tries failed found same at counted pushed h =
-      let here : option_map (λ one. one.state) (from_newest old.slots.saved index) ≡ Some (standing_of checkpoint) = failed.has.saved index ∙ ap (λ (o : Option Path). option_map standing_of o) found in
+      let here : option_map (λ one. one.state) (from_newest old.slots.saved index) ≡ Some (standing_of checkpoint) = failed.has.saved index (slice_get_within failure.ring index checkpoint found) ∙ ap (λ (o : Option Path). option_map standing_of o) found in
       let number : taken ≡ checkpoint.state.machine.taken = taken_in_ring old.slots.saved standing index checkpoint taken same here at in
       record {
         chance_is = refl;
