@@ -1,5 +1,5 @@
 -- What holds of all checkpoints of a ring, as the session goes on.
-use Rattle.std.proofs.Common.{◌≡◌, ℕ, zero, suc, ◌≤◌, Bool, true, false, List, [], ◌∷◌, ◌++◌, length, take, drop, refl, sym, subst}
+use Rattle.std.proofs.Common.{◌≡◌, ℕ, zero, suc, ◌≤◌, Bool, true, false, Option, Some, None, List, [], ◌∷◌, ◌++◌, length, take, drop, refl, sym, ◌∙◌, subst}
 use Rattle.std.proofs.lemmas.Bool.{both_ways}
 use Rattle.rx_io.specs.declared.bytes.Item.{Item}
 use Rattle.rx_io.specs.declared.journal.Entry.{Entry}
@@ -7,6 +7,12 @@ use Rattle.rx_io.specs.Links.{events_in}
 use Rattle.elf_image.specs.declared.image.Image.{Image}
 use Rattle.item_log.specs.Log.{Log}
 use Rattle.reply_ledger.specs.Ledger.{Ledger}
+use Rattle.reply_ledger.specs.Ledger.{connection_of}
+use Rattle.run_history.specs.Call.{may_send}
+use Rattle.guest_runs.specs.Runs.{IsBounded}
+use Rattle.session_history.specs.Serving.{Carries}
+use Rattle.session_history.specs.Keeping.{KeepsReplies}
+use Rattle.std.specs.Prelude.{is_some}
 use Rattle.run_history.specs.Served.{Limits, Override, Path, origin, Served}
 use Rattle.session_history.specs.Heeding.{heeded}
 use Rattle.session_history.specs.Opened.{opens}
@@ -79,3 +85,18 @@ kept_with rules before after more log log' ledger ledger' (newest ∷ older) bri
   },
   kept_with rules before after more log log' ledger ledger' older brings same still are.1,
 )
+
+none_of : {X : Type 0} (o : Option X) → is_some o ≡ false → o ≡ None
+none_of None is = refl
+none_of (Some x) is = cc
+
+-- The survivor of a session that serves can go on.
+pub survivor_goes : (rules : Rules) (image : Image) (entries : List Entry) (plan : List Override) (now : Path) (ledger : Ledger) → Carries rules image entries plan now → KeepsReplies rules.bounds entries None now.state.sends ledger
+    → (now.state.ended ≡ None → IsBounded rules.limits.budget now) → ((conn : ℕ) → may_send now.state.machine conn ≡ true → opens conn (heeded rules.bounds (events_in entries)) ≡ true) → CanGoOn rules entries now
+survivor_goes rules image entries plan now ledger carries replies bounded within = record {
+  bounded = bounded;
+  within = within;
+  opened = λ conn none. replies.shows.opened conn (none_of (connection_of ledger.connections conn) (replies.opened conn ∙ none));
+  timed = carries.timed;
+  sendable = replies.sendable;
+}
