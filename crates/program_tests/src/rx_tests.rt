@@ -1,6 +1,6 @@
 // The example guests, from their texts to their replies: each is assembled by `asm`, and then run by `run`. What they reply
 // is worked by hand from their descriptions.
-use crate::rx_serve_tests::{Setting, outcome_of};
+use crate::rx_serve_tests::{Setting, outcome_of, program_of};
 use example_guests::source_of;
 use run_history::{Answer, Cause};
 use std::alloc::Global;
@@ -28,10 +28,7 @@ fn expect_replies(
     want: Answer,
     replies: &[&str],
 ) -> Result<(), Fail> {
-    let text = source_of(name).ok_or("no guest")?;
-    let mut asm = Setting::of(alloc, text.as_bytes(), &[]);
-    asm.words = "asm p o";
-    let program = outcome_of(&asm)?.written.ok_or("not assembled")?;
+    let program = program_of(alloc, source_of(name).ok_or("no guest")?)?;
     let outcome = outcome_of(&Setting::of(alloc, &program, input))?;
     assert_eq!(rt; outcome.end.answer, want, "at {name}");
     let frames = frames_of(alloc, replies)?;
