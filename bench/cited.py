@@ -6,7 +6,7 @@ its name. A line is printed for each file, with what is cited there and, behind 
 followed through their ghost fields. Words of the standard library aren't followed.
 
 usage: cited.py CRATE.FILE.NAME ..
-as cited.py rx_serve.Headline.NamesImage rx_serve.Headline.Headline
+as cited.py rx_serve.Commands.RunEnds
 """
 
 import collections
