@@ -93,31 +93,31 @@ pub const WINDOW: OptionRow = RowOf {
     takes: TakesOf::Number(1, 64),
     default: Some("4"),
 };
-/// How many items may be held.
+/// How many items more are taken before a reply is passed.
 pub const HOLD: OptionRow = RowOf {
     name: "hold",
     takes: TakesOf::Number(0, 1000),
     default: Some("0"),
 };
-/// How many checkpoints stand.
+/// How many checkpoints stand at most.
 pub const RING: OptionRow = RowOf {
     name: "ring",
     takes: TakesOf::Number(1, 16),
     default: Some("8"),
 };
-/// After how many items a checkpoint is taken.
+/// How many items lie between two checkpoints at least.
 pub const EVERY: OptionRow = RowOf {
     name: "every",
     takes: TakesOf::Number(1, 64),
     default: Some("1"),
 };
-/// How many pools of frames stand.
+/// How many frames the pages of the program have, as a multiple of the pages of its window.
 pub const FRAMES: OptionRow = RowOf {
     name: "frames",
     takes: TakesOf::Number(2, 16),
     default: Some("4"),
 };
-/// How many instructions may go by between two events.
+/// How many instructions may come between two items.
 pub const BUDGET: OptionRow = RowOf {
     name: "budget",
     takes: TakesOf::Number(1, 16_777_216),

@@ -2,15 +2,8 @@
 use elf_image::{ElfRefusal, RefusedField};
 use msg_frame::MAX_MESSAGE;
 use run_history::{Answer, Cause};
+use rx_serve::{MAX_EVENTS, MAX_ITEMS, MAX_PROGRAM, MAX_SOURCE};
 use std::fmt;
-
-// The limits of a session: how many items it may receive, and how many events it may have.
-const MAX_ITEMS: u64 = 1 << 20;
-
-const MAX_EVENTS: u64 = 1 << 32;
-
-// The greatest number of bytes of a program file, and of a text.
-const MAX_FILE: u64 = 16 << 20;
 
 /// The sentence for an answer to `run`.
 #[derive(Debug, Drop)]
@@ -135,7 +128,7 @@ impl fmt::Display for RunMessage<'_> {
             ),
             Answer::TooLarge => write!(
                 f,
-                "the program file {program} has more than {MAX_FILE} bytes, which is the limit"
+                "the program file {program} has more than {MAX_PROGRAM} bytes, which is the limit"
             ),
             Answer::ElfRefused(kind) => self.refused(f, kind),
             Answer::GaveUp { point, cause } => self.gave_up(f, point, cause),
@@ -171,7 +164,7 @@ impl fmt::Display for AsmMessage<'_> {
             }
             Answer::TooLarge => write!(
                 f,
-                "the text {source} has more than {MAX_FILE} bytes, which is the limit"
+                "the text {source} has more than {MAX_SOURCE} bytes, which is the limit"
             ),
             Answer::AsmRefused { line, .. } => self.refused(f, line),
             Answer::Memory => write!(f, "memory ran out"),

@@ -10,9 +10,7 @@ use elf_image::{RefusedField, field_of_refusal};
 use run_history::Answer;
 use rv_asm::explain;
 use rx_io::{Files, StdFiles};
-
-// The greatest number of bytes of a program file, and of a text.
-const MAX_FILE: u64 = 16 << 20;
+use rx_serve::{MAX_PROGRAM, MAX_SOURCE};
 
 /// Tells that memory ran out.
 pub fn tell_memory(rt: &HostRuntime) {
@@ -69,7 +67,7 @@ fn refused_field(
     let Answer::ElfRefused(kind) = answer else {
         return None;
     };
-    let file = StdFiles::make(rt).load(rt.alloc(), program, MAX_FILE).ok()?;
+    let file = StdFiles::make(rt).load(rt.alloc(), program, MAX_PROGRAM).ok()?;
     field_of_refusal(rt.alloc(), file.as_slice(), kind, window)
         .ok()
         .flatten()
@@ -80,7 +78,7 @@ fn explanation(rt: &HostRuntime, answer: Answer, source: &str) -> Option<String>
     let Answer::AsmRefused { kind, line } = answer else {
         return None;
     };
-    let text = StdFiles::make(rt).load(rt.alloc(), source, MAX_FILE).ok()?;
+    let text = StdFiles::make(rt).load(rt.alloc(), source, MAX_SOURCE).ok()?;
     explain(rt.alloc(), text.as_slice(), kind, line).ok()
 }
 

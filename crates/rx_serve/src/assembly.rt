@@ -10,7 +10,7 @@ use rx_io::{Files, IoFault, LoadFault};
 use std::alloc::Global;
 
 /// The greatest number of bytes of a text.
-const MAX_SOURCE: u64 = 16 << 20;
+pub const MAX_SOURCE: u64 = 16 << 20;
 
 /// The window that a text is assembled for.
 const ASSEMBLY_WINDOW: u32 = 1 << 20;

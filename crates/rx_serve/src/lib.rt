@@ -8,5 +8,8 @@ mod run;
 mod serving;
 mod settings;
 
+pub use assembly::MAX_SOURCE;
 pub use ending::End;
+pub use loading::MAX_PROGRAM;
 pub use run::run_rx;
+pub use settings::{MAX_EVENTS, MAX_ITEMS};

@@ -10,7 +10,7 @@ use rx_io::{Files, LoadFault};
 use std::alloc::Global;
 
 /// The greatest number of bytes of a program file: 16 MiB.
-const MAX_PROGRAM: u64 = 16 << 20;
+pub const MAX_PROGRAM: u64 = 16 << 20;
 
 /// Loads a program file, and reads its image in a window of so many bytes.
 pub fn load_image<F: Files>(

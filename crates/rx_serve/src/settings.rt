@@ -7,10 +7,10 @@ use command_line::RunCommand;
 use rx_engine::Options;
 
 /// How many items a session may receive.
-const MAX_ITEMS: u64 = 1 << 20;
+pub const MAX_ITEMS: u64 = 1 << 20;
 
 /// How many events a session may have.
-const MAX_EVENTS: u64 = 1 << 32;
+pub const MAX_EVENTS: u64 = 1 << 32;
 
 /// The options of the session that a command asks for.
 pub fn options_of(run: &RunCommand<'_>) -> Options
