@@ -8,6 +8,7 @@ from second.machine import MIB
 from second.session import Options
 
 NUMBERS = [0, 1, 2, 3, 4095]
+MOST_PIECE = 65535
 
 
 def some_message(rng):
@@ -47,6 +48,8 @@ def some_pieces(rng, frame):
         return cuts(rng, content)
     if kind < 0.26:
         return [b"z" * rng.choice([4096, 4097])]
+    if kind < 0.263:
+        return [(framed(rng, frame, b"y" * 4090) * 17)[:MOST_PIECE]]
     return [content]
 
 
@@ -93,7 +96,7 @@ def break_stream(rng, events):
     behind = b"".join(trunk.frame_of(event) for event in events[place:])
     opened = [event[1] for event in events[:place] if event[0] == "opens"]
     closed = [event[1] for event in events[:place] if event[0] == "closes"]
-    kind = rng.randrange(8)
+    kind = rng.randrange(9)
     if kind == 0:
         wrong = trunk.frame(rng.choice([0, 5, 255]), rng.choice([0, 5000]))
     elif kind == 1:
@@ -107,6 +110,10 @@ def break_stream(rng, events):
     elif kind == 5:
         wrong = trunk.frame(2, rng.choice(opened + [0]), b"some bytes\n")[:-rng.randrange(1, 12)]
         behind = b""
+    elif kind == 6:
+        # any header: which refusal goes first
+        wrong = struct.pack("<BHH", rng.choice([0, 1, 2, 3, 4, 5]), rng.choice(NUMBERS + [77, 4096, 65535]), rng.choice([0, 1, 3, 65535]))
+        behind = rng.choice([b"", b"x", b"xy\n", behind])
     else:
         whole = before + behind
         return whole[:rng.randrange(len(whole) + 1)]

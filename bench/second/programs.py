@@ -16,11 +16,11 @@ MAGIC = 0x600DCAFE
 
 
 class Author:
-    """Writes one program."""
+    """Writes one program. One that is sound has no fault, and tells more often where its blocks stand."""
 
-    def __init__(self, rng):
-        self.rng, self.lines, self.labels = rng, [], 0
-        self.later = rng.choice(["overrun", "stale", "unset"]) if rng.random() < 0.25 else None
+    def __init__(self, rng, sound=False):
+        self.rng, self.sound, self.lines, self.labels = rng, sound, [], 0
+        self.later = rng.choice(["overrun", "stale", "unset"]) if rng.random() < 0.25 and not sound else None
         self.spoiled = None if rng.random() < 0.2 else rng.randrange(1, 8)  # the item, or None for the start
 
     # -- words
@@ -85,7 +85,7 @@ class Author:
         self.send(self.connection(), "t0", 4)
 
     def perhaps_tell(self, register, chance=0.2):
-        if self.rng.random() < chance:
+        if self.rng.random() < (0.8 if self.sound else chance):
             self.tell(register)
 
     # -- work that is right
@@ -113,6 +113,7 @@ class Author:
         """Puts a new block in a slot; the old one is lost."""
         self.malloc(self.word_size(), "s6")
         self.mark("s6")
+        self.perhaps_tell("s6", 0.05)
         self.add("la t0, slots", "sw s6, %d(t0)" % (4 * self.rng.randrange(SLOTS)))
 
     def give_up_block(self):
@@ -350,7 +351,7 @@ class Author:
             self.free("s6")
         for _ in range(rng.choice([0, 0, 1])):
             getattr(self, rng.choice(["use_block", "keep_block", "two_sends"]))()
-        if rng.random() < 0.02:
+        if rng.random() < 0.02 and not self.sound:
             getattr(self, rng.choice(["unset", "twice", "overrun", "stale"]))()
         if self.later and self.spoiled is None:
             self.spoil(self.later)
@@ -367,7 +368,8 @@ class Author:
         rng = self.rng
         self.begin()
         self.receive()
-        works = rng.choices(self.RIGHT, k=rng.randrange(1, 4)) + rng.choices(self.FAULTS, k=rng.choice([0, 1, 1, 2, 2]))
+        works = rng.choices(self.RIGHT, k=rng.randrange(1, 4))
+        works += rng.choices(["use_block", "keep_block"] if self.sound else self.FAULTS, k=rng.choice([0, 1, 1, 2, 2]))
         if self.later and rng.random() < 0.5:
             works = ["lag"] * rng.choice([1, 2]) + rng.choices(["use_block", "stack"], k=1)
         rng.shuffle(works)
@@ -387,6 +389,6 @@ class Author:
         return "\n".join(self.lines) + "\n"
 
 
-def some_server(rng):
+def some_server(rng, sound=False):
     """Segments and entry of a server."""
-    return assemble(Author(rng).text())
+    return assemble(Author(rng, sound).text())

@@ -25,6 +25,8 @@ class HeapWriter(wild.Writer):
         rng = self.rng
         if rng.random() < 0.5:
             self.words += wild.load_number(10, rng.choice([0, 1, 16, 100, 5000, 1 << 20])) + [wild.i_type(3, 0, 0, 17), wild.ECALL]
+            if rng.random() < 0.5:
+                self.words.append(wild.i_type(0, 10, 0, self.register()))  # so that where the block stands is sent
             if rng.random() < 0.9:
                 self.words += [wild.i_type(rng.choice([0, 0, 0, 16]), 10, 0, 10)] * (rng.random() < 0.3)
                 self.words += [wild.i_type(4, 0, 0, 17), wild.ECALL]
@@ -107,6 +109,11 @@ KINDS = {
 }
 
 
+def lacking(kinds, counters):
+    """The kinds of each name that its counter hasn't."""
+    return ["%s (%s)" % (kind, name) for name, of_name in kinds.items() for kind in of_name if not counters[name][kind]]
+
+
 class Counts:
     """How often each kind of thing was seen."""
 
@@ -146,8 +153,8 @@ class Counts:
 
     def lines(self):
         found = ["%s: %s" % (name, ", ".join("%s %d" % pair for pair in sorted(counter.items()))) for name, counter in self.of.items()]
-        lacking = ["%s (%s)" % (kind, name) for name, kinds in KINDS.items() for kind in kinds if not self.of[name][kind]]
-        return found + ["not seen: %s" % ", ".join(lacking)] * bool(lacking)
+        missing = lacking(KINDS, self.of)
+        return found + ["not seen: %s" % ", ".join(missing)] * bool(missing)
 
 
 def check(runs, seed):
