@@ -17,7 +17,7 @@ const READ: u32 = 4;
 const PAGE: u32 = 4096;
 const WINDOW: u32 = 4 << 20;
 const STACK: u32 = 65536;
-const BUDGET: u64 = 1_000_000;
+const BUDGET: u64 = 2_000_000;
 const CONNECTIONS: usize = 4096;
 
 type Registers = [u32; 32];

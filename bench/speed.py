@@ -2,19 +2,19 @@
 """How many instructions a second rx does, and a plain interpreter in Rust (interpreter.rs) beside it.
 
 A program does a loop of nine instructions, a load and a store among them, 100,000 times for each of 112 messages. That
-is 100.8 million instructions, fewer than a million between two items. It is run twice: with the words that it loads and
-stores in a data segment, and on the stack. Each run's replies are checked.
+is 100.8 million instructions. It is run twice: with the words that it loads and stores in a data segment, and on the stack.
+A third program does eleven in its loop, two loads and two stores, by turns in both places. Each run's replies are checked.
 
 It tells how many instructions of the host each of the two does for one of the guest, as valgrind's callgrind counts them:
 that doesn't move with what else the machine does. It is the difference between a run of six messages and one of two.
 Then it tells processor times. The runs of both take turns, and each run of rx is set beside the interpreter's run that
 follows it: of these ratios it tells the middle one, the lowest and the highest. With --count it tells no times.
 
-usage: speed.py [--runs N] [--messages N] [--count] [RX]
+usage: speed.py [--runs N] [--messages N] [--count] [RX] [OPTION ..]
 
-RX is the built rx, crates/rx/out/rx unless it is given. The interpreter is compiled by `rustc -O`; where there is no
-rustc, rx is measured alone, and where there is no valgrind, nothing is counted. Programs and input are made in a temporary
-folder.
+RX is the built rx, crates/rx/out/rx unless it is given. The options are further ones of `rx run`, such as `--window 1`.
+The interpreter is compiled by `rustc -O`; where there is no rustc, rx is measured alone, and where there is no valgrind,
+nothing is counted. Programs and input are made in a temporary folder.
 """
 
 import argparse
@@ -30,6 +30,7 @@ import tempfile
 HERE = os.path.dirname(os.path.abspath(__file__))
 
 TURNS = 100_000
+BUDGET = 2_000_000  # instructions between two items
 SEEDS = [1, 0x12345678, 0x80000000, 0xFFFFFFFF]
 
 TEXT, DATA = 0x10000, 0x11000
@@ -96,18 +97,22 @@ def li(rd, number):
     return [lui(rd, upper), addi(rd, rd, number - (upper << 12))]
 
 
-# What a turn does. The word at s0 is the message, and the one behind it is the reply.
-LOOP = [
-    lw(T0, 0, S0),
-    add(T1, T1, T0),
-    slli(T2, T1, 7),
-    xor(T1, T1, T2),
-    srli(T2, T1, 9),
-    xor(T1, T1, T2),
-    sw(T1, 4, S0),
-    addi(S1, S1, -1),
-    bne(S1, ZERO, -4 * 8),
-]
+def loop(load):
+    """What a turn does. The word at s0 is the message, and the one behind it is the reply."""
+    body = load + [
+        add(T1, T1, T0),
+        slli(T2, T1, 7),
+        xor(T1, T1, T2),
+        srli(T2, T1, 9),
+        xor(T1, T1, T2),
+        sw(T1, 4, S0),
+        addi(S1, S1, -1),
+    ]
+    return body + [bne(S1, ZERO, -4 * len(body))]
+
+
+LOOP = loop([lw(T0, 0, S0)])
+BY_WAY_OF_THE_STACK = loop([lw(T0, 0, S0), sw(T0, -8, SP), lw(T0, -8, SP)])
 
 
 def reply_to(seed):
@@ -123,15 +128,15 @@ def reply_to(seed):
 class Program:
     """The program, with its two words at an address that the given code puts into s0."""
 
-    def __init__(self, place):
+    def __init__(self, place, turn):
         receive = [addi(A0, S0, 0), addi(A1, ZERO, 4), addi(A7, ZERO, 1), ECALL]
         skip = [addi(T0, ZERO, 2), bne(A2, T0, -4 * 5)]  # an item that is no message
         begin = [addi(S2, A1, 0), addi(T1, ZERO, 0)] + li(S1, TURNS)
         send = [addi(A0, S2, 0), addi(A1, S0, 4), addi(A2, ZERO, 4), addi(A7, ZERO, 2), ECALL]
-        around = receive + skip + begin + LOOP + send
+        around = receive + skip + begin + turn + send
         self.code = place + around + [jal(ZERO, -4 * len(around))]
         self.at_start = len(place) + len(receive + skip)  # to the open
-        self.per_message = len(around) + 1 + (TURNS - 1) * len(LOOP)
+        self.per_message = len(around) + 1 + (TURNS - 1) * len(turn)
         self.at_end = len(receive) - 1  # the last receive isn't done
 
     def steps(self, messages):
@@ -149,8 +154,9 @@ class Program:
 
 
 PROGRAMS = [
-    ("data segment", Program(li(S0, DATA))),
-    ("stack", Program([addi(S0, SP, -16)])),
+    ("data segment", Program(li(S0, DATA), LOOP)),
+    ("stack", Program([addi(S0, SP, -16)], LOOP)),
+    ("both", Program(li(S0, DATA), BY_WAY_OF_THE_STACK)),
 ]
 
 
@@ -198,23 +204,36 @@ def compare(name, of_rx, of_interpreter):
     print("%-13s %-12s %7.2f times the interpreter's time (%.2f to %.2f)" % (name, "rx", middle, ratios[0], ratios[-1]))
 
 
-def measure(name, program, runs, messages, rx, interpreter, folder):
-    path = os.path.join(folder, "program")
-    with open(path, "wb") as file:
-        file.write(program.file())
-    rx_words = [rx, "run", path, "--record", folder + "/record", "--report", folder + "/report", "--frame", "whole"]
+class Engines:
+    """Both, and the folder in which they run."""
+
+    def __init__(self, rx, options, interpreter, folder):
+        self.rx, self.options, self.interpreter, self.folder = rx, options, interpreter, folder
+
+    def words(self, program):
+        """The words that run a program in rx, and in the interpreter."""
+        path = os.path.join(self.folder, "program")
+        with open(path, "wb") as file:
+            file.write(program.file())
+        names = ["--record", self.folder + "/record", "--report", self.folder + "/report"]
+        options = ["--frame", "whole"] + ["--budget", str(BUDGET)] * ("--budget" not in self.options) + self.options
+        return [self.rx, "run", path] + names + options, [self.interpreter, path]
+
+
+def measure(name, program, runs, messages, engines):
+    rx_words, interpreter_words = engines.words(program)
     frames, output = conversation(messages)
     steps = program.steps(messages)
     of_rx, of_interpreter = [], []
     for _ in range(runs):
         of_rx.append(timed(rx_words, frames, output)[0])
-        if interpreter:
-            seconds, note = timed([interpreter, path], frames, output)
+        if engines.interpreter:
+            seconds, note = timed(interpreter_words, frames, output)
             of_interpreter.append(seconds)
             if note != str(steps):
                 sys.exit("the interpreter did %s instructions, not %d" % (note, steps))
     report(name, "rx", steps, of_rx)
-    if interpreter:
+    if engines.interpreter:
         report(name, "interpreter", steps, of_interpreter)
         compare(name, of_rx, of_interpreter)
 
@@ -229,14 +248,10 @@ def host_instructions(words, frames):
     return int(re.search(r"Collected : (\d+)", done.stderr).group(1))
 
 
-def count(name, program, rx, interpreter, folder):
-    path = os.path.join(folder, "program")
-    with open(path, "wb") as file:
-        file.write(program.file())
-    rx_words = [rx, "run", path, "--record", folder + "/record", "--report", folder + "/report", "--frame", "whole"]
+def count(name, program, engines):
     few, many = 2, 6
     steps = program.steps(many) - program.steps(few)
-    for what, words in (("rx", rx_words), ("interpreter", [interpreter, path])):
+    for what, words in zip(("rx", "interpreter"), engines.words(program)):
         if words[0]:
             host = host_instructions(words, conversation(many)[0]) - host_instructions(words, conversation(few)[0])
             print("%-13s %-12s %7.1f host instructions for one of the guest" % (name, what, host / steps))
@@ -257,14 +272,16 @@ def main():
     parser.add_argument("--messages", type=int, default=112)
     parser.add_argument("--count", action="store_true")
     parser.add_argument("rx", nargs="?", default=os.path.join(HERE, "..", "crates", "rx", "out", "rx"))
+    parser.add_argument("options", nargs=argparse.REMAINDER)
     words = parser.parse_args()
     with tempfile.TemporaryDirectory() as folder:
-        interpreter = compiled(folder)
+        engines = Engines(os.path.abspath(words.rx), words.options, compiled(folder), folder)
         for name, program in PROGRAMS:
             if shutil.which("valgrind"):
-                count(name, program, os.path.abspath(words.rx), interpreter, folder)
+                count(name, program, engines)
             if not words.count:
-                measure(name, program, words.runs, words.messages, os.path.abspath(words.rx), interpreter, folder)
+                measure(name, program, words.runs, words.messages, engines)
+    print("load of the machine: %.1f %.1f %.1f" % os.getloadavg())
 
 
 if __name__ == "__main__":
