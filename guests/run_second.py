@@ -4,7 +4,8 @@
 Standard input, standard output, the record, the report and the status are those of rx. The program has to be one that rx takes:
 that isn't looked at here. Options that aren't given have the values that rx gives them. All of the input is read at once.
 
-usage: run_second.py run PROGRAM --record RECORD --report REPORT [--frame line|length|whole] [--hold N] [--ring N] [--every N]
+usage: run_second.py run PROGRAM --record RECORD --report REPORT [--form text|json] [--frame line|length|whole] [--window MIB] [--hold N]
+                         [--ring N] [--every N] [--frames N] [--budget N]
 """
 
 import argparse
@@ -18,15 +19,16 @@ sys.path.insert(0, os.path.join(HERE, "..", "bench"))
 # pylint: disable=wrong-import-position
 from second.command import run  # noqa: E402
 from second.items import FRAMINGS  # noqa: E402
-from second.machine import Image  # noqa: E402
+from second.machine import Image, MIB  # noqa: E402
 from second.outside import MemoryFiles, MemorySink, MemorySource  # noqa: E402
+from second.report import JSON, TEXT  # noqa: E402
 from second.session import Options  # noqa: E402
 
 PT_LOAD = 1
 
 
-def image_of(file):
-    """The image of an executable that rx takes."""
+def image_of(file, window=4 * MIB):
+    """The image of an executable that rx takes, in a window of so many bytes."""
     entry, at = struct.unpack_from("<II", file, 24)
     (count,) = struct.unpack_from("<H", file, 44)
     segments = []
@@ -34,7 +36,7 @@ def image_of(file):
         kind, offset, vaddr, _, filesz, memsz, flags, _ = struct.unpack_from("<8I", file, at + 32 * k)
         if kind == PT_LOAD and memsz > 0:
             segments.append((vaddr, file[offset:offset + filesz] + bytes(memsz - filesz), flags))
-    return Image(segments, entry)
+    return Image(segments, entry, window)
 
 
 def words_of(words):
@@ -44,8 +46,10 @@ def words_of(words):
     parser.add_argument("program")
     parser.add_argument("--record", required=True)
     parser.add_argument("--report", required=True)
+    parser.add_argument("--form", choices=[TEXT, JSON], default=TEXT)
     parser.add_argument("--frame", choices=sorted(FRAMINGS), default=defaults.frame)
-    for name in ("hold", "ring", "every"):
+    parser.add_argument("--window", type=int, default=defaults.window // MIB)
+    for name in ("hold", "ring", "every", "frames", "budget"):
         parser.add_argument("--" + name, type=int, default=getattr(defaults, name))
     return parser.parse_args(words)
 
@@ -53,10 +57,10 @@ def words_of(words):
 def main(words):
     asked = words_of(words)
     with open(asked.program, "rb") as file:
-        image = image_of(file.read())
-    options = Options(frame=asked.frame, hold=asked.hold, ring=asked.ring, every=asked.every)
+        image = image_of(file.read(), asked.window * MIB)
+    options = Options(image.window, asked.frame, asked.hold, asked.ring, asked.every, asked.frames, asked.budget)
     sink, files = MemorySink(), MemoryFiles({"p": b""})
-    done = run(image, MemorySource(sys.stdin.buffer.read()), sink, options, files)
+    done = run(image, MemorySource(sys.stdin.buffer.read()), sink, options, files, asked.form)
     for path, name in ((asked.record, "r"), (asked.report, "t")):
         with open(path, "wb") as file:
             file.write(files.files[name])
