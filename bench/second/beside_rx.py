@@ -43,7 +43,7 @@ class Pair:
         else:
             # where the first failure is the end, half of the servers have none, and go on
             self.segments = programs.some_server(rng, not recovers and rng.random() < 0.5)
-        events = inputs.some_events(rng, self.options.frame)
+        events = inputs.some_events(rng, self.options.frame, large=True)
         self.stream = b"".join(trunk.frame_of(event) for event in events)
         if rng.random() < 0.25:
             self.stream = inputs.break_stream(rng, events)

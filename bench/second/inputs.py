@@ -36,8 +36,8 @@ def cuts(rng, content):
     return pieces
 
 
-def some_pieces(rng, frame):
-    """The pieces of a message or a few, or an empty piece."""
+def some_pieces(rng, frame, large):
+    """The pieces of a message or a few, or an empty piece; where `large` says so, now and then a piece as large as a frame holds."""
     kind = rng.random()
     if kind < 0.03:
         return [b""]
@@ -48,7 +48,7 @@ def some_pieces(rng, frame):
         return cuts(rng, content)
     if kind < 0.26:
         return [b"z" * rng.choice([4096, 4097])]
-    if kind < 0.263:
+    if kind < 0.265 and large:
         return [(framed(rng, frame, b"y" * 4090) * 17)[:MOST_PIECE]]
     return [content]
 
@@ -56,8 +56,8 @@ def some_pieces(rng, frame):
 class Clients:
     """Writes the events of a session."""
 
-    def __init__(self, rng, frame):
-        self.rng, self.frame, self.events = rng, frame, []
+    def __init__(self, rng, frame, large):
+        self.rng, self.frame, self.large, self.events = rng, frame, large, []
         self.unopened = rng.sample(NUMBERS, rng.choice([1, 1, 2, 3, 4]))
         if rng.random() < 0.8 and 0 not in self.unopened:
             self.unopened[0] = 0
@@ -75,7 +75,7 @@ class Clients:
             self.events.append(("settles",))
         else:
             connection = rng.choice(self.open)
-            self.events += [("piece", connection, piece) for piece in some_pieces(rng, self.frame)]
+            self.events += [("piece", connection, piece) for piece in some_pieces(rng, self.frame, self.large)]
 
     def session(self):
         for _ in range(self.rng.choice([4, 8, 12, 20, 30])):
@@ -85,8 +85,8 @@ class Clients:
         return self.events
 
 
-def some_events(rng, frame):
-    return Clients(rng, frame).session()
+def some_events(rng, frame, large=False):
+    return Clients(rng, frame, large).session()
 
 
 def break_stream(rng, events):
