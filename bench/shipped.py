@@ -56,7 +56,8 @@ ECHO = [
     Run("echo", "", lines_in(b"hi\n", b"two words\n"), out((0, b"hi\n"), (0, b"two words\n"))),
     Run("echo", "", b"", b""),
     # lines of three connections, in pieces
-    Run("echo", "--frame line", opens(0, 4095, 7) + piece(4095, b"x") + piece(0, b"a\nb\nc") + piece(7, b"") + piece(4095, b"y\n\n") + piece(0, b"\n"),
+    Run("echo", "--frame line", opens(0, 4095, 7) + piece(4095, b"x") + piece(0, b"a\nb\nc") + piece(7, b"") + piece(4095, b"y\n\n")
+        + piece(0, b"\n"),
         out((0, b"a\n"), (0, b"b\n"), (4095, b"xy\n"), (4095, b"\n"), (0, b"c\n"))),
     Run("echo", "", lines_in(LONGEST), out((0, LONGEST))),
     Run("echo", "", lines_in(b"hi\n", b"l" + LONGEST), out((0, b"hi\n")), ("MessageTooLong", 0)),
