@@ -5,41 +5,38 @@ use Rattle.std.proofs.lemmas.List.{length-map, take-append-le, take-append-drop}
 use Rattle.std.proofs.lemmas.Option.{same_Some, slice_get-map, slice_get_within}
 use Rattle.std.proofs.lemmas.Bool.{true≢false}
 use Rattle.rx_io.specs.Sends.{Send, sent_to}
-use Rattle.rx_io.specs.Links.{events_in}
 use Rattle.alloc_env.specs.declared.env.Env.{Env}
 use Rattle.block_book.specs.declared.choice.Choice.{Choice}
 use Rattle.item_log.specs.Log.{Log}
 use Rattle.ckpt_ring.specs.Slots.{Saved}
 use Rattle.ckpt_ring.specs.Rings.{from_newest, checkpoint_of, checkpoints_of}
 use Rattle.ckpt_ring.specs.declared.checkpoint.Checkpoint.{Checkpoint}
-use Rattle.reply_ledger.specs.Ledger.{Ledger, connection_of, passed_to}
+use Rattle.reply_ledger.specs.Ledger.{Ledger, connection_of}
 use Rattle.reply_ledger.specs.Trials.{agree, trial_sends, adopted}
 use Rattle.reply_ledger.specs.Trials as ledgers
 use Rattle.reply_ledger.specs.Shows.{Shows}
 use Rattle.reply_ledger.proofs.ShowsLemmas.{shown_passed, shows-adopted}
-use Rattle.run_history.specs.Served.{Limits, Override, Path, Served}
+use Rattle.run_history.specs.Served.{Limits, Override, Path}
 use Rattle.run_history.proofs.Outputs.{sent_to-append}
 use Rattle.rx_io.specs.declared.bytes.Item.{Item}
 use Rattle.guest_cpu.specs.Cpus.{CpuState}
 use Rattle.guest_cpu.specs.Standing.{Standing}
 use Rattle.guest_cpu.specs.Serving.{standing_of}
-use Rattle.session_history.specs.Heeding.{received, heeded}
-use Rattle.session_history.specs.Opened.{opens}
+use Rattle.session_history.specs.Heeding.{received}
 use Rattle.session_history.specs.Passing.{Covers}
 use Rattle.session_history.specs.Keeping.{KeepsReplies}
-use Rattle.session_history.proofs.Growing.{Grows}
 use Rattle.episodes.specs.declared.episode.Try.{Try}
 use Rattle.episodes.specs.declared.episode.Tried.{Tried}
 use Rattle.episodes.specs.declared.episode.Tried.TheVariants as tried
 use Rattle.episodes.specs.Survival.{survives}
 use Rattle.trial_history.specs.Trials.{plan_of_trial, IsUnharmed, ComesTo}
-use Rattle.trial_history.specs.Tables.{Chance, Trial, try_of}
+use Rattle.trial_history.specs.Tables.{Trial}
 use Rattle.trial_history.proofs.Going.{served_grows, steps_later}
 use Rattle.trial_plan.specs.Sessions.{Failure, items_of, pieces_of, FailedAt, taken_in}
 use Rattle.trial_plan.specs.Trying.{KeepsLedger, KeepsSaved, HasTried}
-use Rattle.trial_plan.specs.Walking.{IsMade, FailedOne, HasSameBytes, IsAdopted, AdoptedOne}
-use Rattle.trial_plan.proofs.Joining.{Beside, agree-append, now_is, trial_is, now_covers}
-use Rattle.trial_plan.proofs.Starting.{From, from_at, failed_still, same_front}
+use Rattle.trial_plan.specs.Walking.{IsMade}
+use Rattle.trial_plan.proofs.Joining.{Beside, agree-append, now_is, now_covers}
+use Rattle.trial_plan.proofs.Starting.{from_at, failed_still, same_front}
 
 -- what survives is unharmed, and emits all that was passed
 survives_covers : (limits : Limits) (items : List Item) (plan : List Override) (checkpoint : Path) (pieces : List Send) (point : ℕ) (path : Path) (result : Tried) → survives result ≡ true → ComesTo limits items plan checkpoint pieces point path result

@@ -1,8 +1,7 @@
 -- A trial comes to its result.
-use Rattle.std.proofs.Common.{◌≡◌, ℕ, ◌+◌, ◌<◌, ◌≤◌, Bool, true, false, List, [], ◌∷◌, ◌++◌, length, take, drop, Option, Some, None, inl, inr, ◌⊎◌, refl, sym, ◌∙◌, ap, subst, arith}
-use Rattle.std.specs.Prelude.{IsSome, is_some, unwrap_or}
-use Rattle.rx_io.specs.Sends.{Send, sent_to}
-use Rattle.rx_io.specs.Prefix.{Prefix}
+use Rattle.std.proofs.Common.{◌≡◌, ℕ, true, List, ◌++◌, drop, Some, inl, inr, sym, ◌∙◌, ap, subst, arith}
+use Rattle.std.specs.Prelude.{is_some}
+use Rattle.rx_io.specs.Sends.{Send}
 use Rattle.alloc_env.specs.declared.env.Env.{Env}
 use Rattle.block_book.specs.declared.choice.Choice.{Choice}
 use Rattle.item_log.specs.Log.{Log}
@@ -17,15 +16,14 @@ use Rattle.episodes.specs.declared.episode.Tried.{Tried}
 use Rattle.episodes.specs.declared.episode.Tried.TheVariants as tried
 use Rattle.episodes.specs.Survival.{survives}
 use Rattle.session_history.specs.Heeding.{received}
-use Rattle.session_history.specs.Passing.{Covers, CoversBefore}
 use Rattle.session_history.proofs.Paths.{served_on}
 use Rattle.trial_history.specs.Trials.{IsUnharmed, ComesTo}
 use Rattle.trial_history.specs.Chains.{IsCheckpoint}
 use Rattle.trial_history.specs.Laws.{everywhere}
 use Rattle.trial_history.proofs.Planned.{trial_comes}
-use Rattle.trial_plan.specs.Sessions.{CanGoOn, Failure, items_of, pieces_of, FailedAt}
+use Rattle.trial_plan.specs.Sessions.{CanGoOn, Failure, items_of, pieces_of}
 use Rattle.trial_plan.specs.Going.{IsJudged, IsTrying, IsAsking, HasCome}
-use Rattle.trial_plan.proofs.Joining.{Beside, covers_now, now_covers, covers_before_now, now_covers_before}
+use Rattle.trial_plan.proofs.Joining.{Beside, covers_now, now_covers, now_covers_before}
 use Rattle.trial_plan.proofs.Running.{unharmed_still, can_still}
 
 module _ {R : Type 0} where

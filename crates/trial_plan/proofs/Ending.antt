@@ -1,13 +1,10 @@
 -- A trial from its checkpoint to its result.
-use Rattle.std.proofs.Common.{◌≡◌, ℕ, ◌+◌, ◌<◌, ◌≤◌, Bool, true, false, List, [], length, drop, Option, Some, None, refl, sym, ◌∙◌, ap, subst, arith}
-use Rattle.std.specs.Prelude.{slice_get, IsSomeAnd, MatchBool, Result, Ok, Err}
-use Rattle.std.specs.declared.alloc.AllocError.{AllocError}
+use Rattle.std.proofs.Common.{refl, false, true, ◌≡◌, ℕ, ◌+◌, ◌<◌, Bool, List, length, drop, Option, Some, None, sym, ◌∙◌, ap, subst, arith}
+use Rattle.std.specs.Prelude.{slice_get, IsSomeAnd, MatchBool}
 use Rattle.std.proofs.lemmas.List.{length-map}
-use Rattle.std.proofs.lemmas.Bool.{true≢false}
 use Rattle.alloc_env.specs.declared.env.Env.{Env}
 use Rattle.block_book.specs.declared.choice.Choice.{Choice}
 use Rattle.block_book.specs.Heap.{Heap}
-use Rattle.item_log.specs.Log.{Log}
 use Rattle.ckpt_ring.specs.Slots.{Saved, slot_numbers}
 use Rattle.ckpt_ring.specs.Rings.{from_newest, checkpoint_of, checkpoints_of}
 use Rattle.ckpt_ring.specs.declared.checkpoint.Checkpoint.{Checkpoint}
@@ -18,17 +15,10 @@ use Rattle.guest_cpu.specs.Cpus.{CpuState}
 use Rattle.guest_cpu.specs.Standing.{Standing}
 use Rattle.episodes.specs.declared.episode.Tried.{Tried}
 use Rattle.episodes.specs.Survival.{survives}
-use Rattle.trial_plan.specs.Sessions.{Failure, IsUnder, FailedAt, CanTry, taken_in}
-use Rattle.trial_plan.specs.Trying.{KeepsBase, KeepsSaved, StandsOn, HasTried}
-use Rattle.trial_plan.specs.Going.{IsTrying, TriesSomewhere, HasCome}
+use Rattle.trial_plan.specs.Sessions.{Failure, IsUnder, taken_in}
+use Rattle.trial_plan.specs.Trying.{KeepsLedger, KeepsBase, KeepsSaved, StandsOn, HasTried}
+use Rattle.trial_plan.specs.Going.{HasCome}
 use Rattle.trial_plan.proofs.Starting.{found_at}
-
--- a fact by a test
-by_true : (b : Bool) (P Q : Type 0) → b ≡ true → P → MatchBool b P Q
-by_true b P Q is p = subst (λ (c : Bool). MatchBool c P Q) (sym is) p
-
-by_false : (b : Bool) (P Q : Type 0) → b ≡ false → Q → MatchBool b P Q
-by_false b P Q is q = subst (λ (c : Bool). MatchBool c P Q) (sym is) q
 
 -- the number of instructions of the state that was restored
 pub counted_from : (o : Option (Saved Standing)) (live : Standing) (before after now : ℕ) → IsSomeAnd o (λ one. live ≡ one.state) → after + live.steps ≡ before + now → IsSomeAnd o (λ one. after + one.state.steps ≡ before + now)
@@ -46,27 +36,21 @@ pub ring_length : (saved : List (Saved Standing)) (standing : List Checkpoint) (
 ring_length saved standing ring many same = ap length same ∙ (length-map {A = Saved Standing} {B = Checkpoint} saved (checkpoint_of taken_in) ∙ many)
 
 module _ {R : Type 0} where
-  pub survives_tried : (failure : Failure) (point : ℕ) (checkpoint : Path) (env : Env) (cpu : CpuState R) (choices : List Choice) (ledger : Ledger) (result : Tried) → survives result ≡ true → HasCome failure point checkpoint env cpu choices ledger result
-      → HasTried failure point checkpoint env cpu choices ledger result
-  survives_tried failure point checkpoint env cpu choices ledger result is h = record {
+  -- a trial that has come to its result, and is given up unless it survives
+  pub settled_tried : (failure : Failure) (point : ℕ) (checkpoint : Path) (env : Env) (cpu : CpuState R) (choices : List Choice) (ledger after : Ledger) (result : Tried)
+      → MatchBool (survives result) (after ≡ ledger) (after ≡ discarded ledger) → HasCome failure point checkpoint env cpu choices ledger result → HasTried failure point checkpoint env cpu choices after result
+  settled_tried failure point checkpoint env cpu choices ledger after result left h = record {
     path = h.path;
     trial = h.trial;
     stands = h.stands;
     chose = h.chose;
     goes = h.goes;
-    sent = by_true (survives result) (ledger.trial ≡ Some (drop ledger.first h.path.state.sends)) (ledger.trial ≡ None) is (h.sent is);
+    sent = of (survives result) refl left;
   }
-
-  pub fails_tried : (failure : Failure) (point : ℕ) (checkpoint : Path) (env : Env) (cpu : CpuState R) (choices : List Choice) (ledger after : Ledger) (result : Tried) → survives result ≡ false → after ≡ discarded ledger
-      → HasCome failure point checkpoint env cpu choices ledger result → HasTried failure point checkpoint env cpu choices after result
-  fails_tried failure point checkpoint env cpu choices ledger after result is gone h = record {
-    path = h.path;
-    trial = h.trial;
-    stands = h.stands;
-    chose = h.chose;
-    goes = h.goes;
-    sent = by_false (survives result) (after.trial ≡ Some (drop after.first h.path.state.sends)) (after.trial ≡ None) is (ap (λ (l : Ledger). l.trial) gone);
-  }
+    where
+      of : (b : Bool) → survives result ≡ b → MatchBool b (after ≡ ledger) (after ≡ discarded ledger) → MatchBool b (after.trial ≡ Some (drop after.first h.path.state.sends)) (after.trial ≡ None)
+      of true is same = subst (λ (l : Ledger). l.trial ≡ Some (drop l.first h.path.state.sends)) (sym same) (h.sent is)
+      of false is gone = ap (λ (l : Ledger). l.trial) gone
 
   pub under_saved : (permits : R → Heap → ℕ → ℕ → Bool) (budget : ℕ) (old new : CpuState R) (failure : Failure) → KeepsSaved old new → IsUnder failure budget (permits old.rule) → IsUnder failure budget (permits new.rule)
   under_saved permits budget old new failure saved under = subst (λ (rule : R). IsUnder failure budget (permits rule)) (sym saved.rule) under
@@ -74,3 +58,8 @@ module _ {R : Type 0} where
   -- the guest still stands on the checkpoint from which it went on
   pub stands_still : (old new : CpuState R) (index : ℕ) → KeepsBase old new → StandsOn old index → StandsOn new index
   stands_still old new index kept stands = kept.base ∙ (stands ∙ ap (λ (all : List (Saved Standing)). from_newest (slot_numbers all) index) (sym kept.saved.saved))
+
+-- all but the trial stays
+pub settled_keeps : (b : Bool) (old mid new : Ledger) → KeepsLedger old mid → MatchBool b (new ≡ mid) (new ≡ discarded mid) → KeepsLedger old new
+settled_keeps true old mid new same is = ap discarded is ∙ same
+settled_keeps false old mid new same is = ap discarded is ∙ same

@@ -1,12 +1,12 @@
 -- What the ledger of a trial says of what was passed is said of its run.
-use Rattle.std.proofs.Common.{◌≡◌, ℕ, ◌+◌, ◌<◌, ◌≤◌, Bool, true, false, ◌&&◌, cond, eqb, List, [], ◌∷◌, ◌++◌, length, take, drop, Option, Some, refl, sym, ◌∙◌, ap, subst, arith, append-nil, length-append}
-use Rattle.std.specs.Prelude.{◌==◌, unwrap_or, nat_le, IsTrue}
-use Rattle.std.specs.List.{AllByRecursion, flat_map}
+use Rattle.std.proofs.Common.{◌≡◌, ℕ, ◌+◌, ◌≤◌, Bool, true, false, ◌&&◌, cond, eqb, List, [], ◌∷◌, ◌++◌, length, take, drop, Option, Some, refl, sym, ◌∙◌, ap, subst, arith, append-nil, length-append}
+use Rattle.std.specs.Prelude.{◌==◌, unwrap_or, IsTrue}
+use Rattle.std.specs.List.{AllByRecursion}
 use Rattle.std.proofs.lemmas.List.{take-append-drop, drop_all, drop-drop}
 use Rattle.std.proofs.lemmas.Bool.{eqb-true, eq-eqb, true≢false}
 use Rattle.rx_io.specs.Sends.{Send, sent_to}
 use Rattle.rx_io.specs.Prefix.{Prefix}
-use Rattle.reply_ledger.specs.Ledger.{Passed, Ledger, IsInOrder, stamped, stamps_of, passed_to}
+use Rattle.reply_ledger.specs.Ledger.{Passed, Ledger, IsInOrder, stamped, stamps_of}
 use Rattle.reply_ledger.specs.Trials.{agree, trial_sends}
 use Rattle.reply_ledger.specs.Trials as ledgers
 use Rattle.reply_ledger.specs.Shows.{Shows, stamped_of, pieces_until}

@@ -1,6 +1,6 @@
 -- The guest of a trial runs to its next event: what that makes of the trial.
-use Rattle.std.proofs.Common.{◌≡◌, ℕ, zero, suc, ◌+◌, ◌-◌, ◌*◌, ◌^◌, ◌<◌, ◌≤◌, Bool, true, false, cond, List, [], ◌∷◌, ◌++◌, length, take, drop, Option, Some, None, refl, sym, ◌∙◌, ap, subst, arith, append-nil, length-append}
-use Rattle.std.specs.Prelude.{Ok, Err, Result, slice_get, unwrap_or}
+use Rattle.std.proofs.Common.{◌≡◌, ℕ, ◌+◌, ◌-◌, ◌*◌, ◌^◌, ◌<◌, ◌≤◌, Bool, true, false, List, [], ◌∷◌, ◌++◌, length, take, drop, Option, Some, None, refl, sym, ◌∙◌, ap, subst, arith}
+use Rattle.std.specs.Prelude.{Ok, Result, slice_get, unwrap_or}
 use Rattle.std.specs.declared.alloc.AllocError.{AllocError}
 use Rattle.std.proofs.lemmas.Nat.{mul-le}
 use Rattle.rx_io.specs.declared.bytes.Item.{Item}
@@ -13,11 +13,10 @@ use Rattle.block_book.specs.Heap.{Heap}
 use Rattle.item_log.specs.Log.{Log}
 use Rattle.item_log.specs.Heard as heard
 use Rattle.reply_ledger.specs.Ledger.{Ledger}
-use Rattle.reply_ledger.specs.Trials as ledgers
 use Rattle.reply_ledger.specs.Trials.{agree}
 use Rattle.run_history.specs.Machine.{Machine, State}
 use Rattle.run_history.specs.Call.{may_send}
-use Rattle.run_history.specs.Served.{Limits, Override, Path, Served, env_at, planned_next, served_next}
+use Rattle.run_history.specs.Served.{Limits, Override, Path, env_at, planned_next, served_next}
 use Rattle.rv_exec.specs.Stepping.{limits_of}
 use Rattle.guest_cpu.specs.declared.event.Event.{Event}
 use Rattle.guest_cpu.specs.declared.event.Event.TheVariants as event
@@ -26,7 +25,7 @@ use Rattle.guest_cpu.specs.Cpus.{CpuState, live_of, with_live}
 use Rattle.guest_cpu.specs.Running.{RunsBy}
 use Rattle.guest_cpu.specs.Serving.{standing_of, Adds}
 use Rattle.guest_cpu.proofs.ServingLemmas.{turns_serve}
-use Rattle.guest_runs.specs.Runs.{GoesOn, IsSilent, ComesTo, RunsOn}
+use Rattle.guest_runs.specs.Runs.{GoesOn, IsSilent, RunsOn}
 use Rattle.guest_runs.proofs.OneMore.{one_more}
 use Rattle.guest_runs.proofs.TurnEvents.{Means, turn_means}
 use Rattle.guest_runs.proofs.QuietRuns.{goes_one, goes_on, Comes, comes_quietly}
@@ -39,7 +38,7 @@ use Rattle.session_history.specs.Keeping.{KeepsItems}
 use Rattle.trial_history.specs.Trials.{IsUnharmed}
 use Rattle.trial_history.specs.Laws.{everywhere}
 use Rattle.trial_history.proofs.Planned.{env_within}
-use Rattle.trial_plan.specs.Sessions.{CanGoOn, Failure, items_of, pieces_of, IsUnder, FailedAt}
+use Rattle.trial_plan.specs.Sessions.{CanGoOn, Failure, items_of, pieces_of, IsUnder}
 use Rattle.trial_plan.specs.Trying.{KeepsSaved, KeepsBase}
 use Rattle.trial_plan.specs.Going.{IsTrying}
 use Rattle.trial_plan.proofs.Few.{few_items}

@@ -8,7 +8,6 @@ use Rattle.rx_io.specs.declared.bytes.Item.{Item}
 use Rattle.rx_io.specs.Links.{events_in}
 use Rattle.rx_io.specs.Sends.{Send, sent_to}
 use Rattle.rx_io.specs.Prefix.{Prefix}
-use Rattle.rx_io.specs.declared.journal.Entry.{Entry}
 use Rattle.alloc_env.specs.declared.env.Env.{Env}
 use Rattle.block_book.specs.declared.choice.Choice.{Choice}
 use Rattle.item_log.specs.Log.{Log, IsItemOf}
@@ -19,16 +18,14 @@ use Rattle.reply_ledger.specs.Trials as ledgers
 use Rattle.run_history.specs.Machine.{State, Wants}
 use Rattle.run_history.specs.Run.{does}
 use Rattle.run_history.specs.Call.{may_send}
-use Rattle.run_history.specs.Served.{Path, Served, AsksFor, planned_next}
+use Rattle.run_history.specs.Served.{Path}
 use Rattle.run_history.proofs.Connections.{OpenWithin, within_after}
 use Rattle.run_history.proofs.Outputs.{sent_to-more, prefix_sent, prefix_trans}
 use Rattle.guest_cpu.specs.Cpus.{CpuState}
-use Rattle.guest_cpu.specs.Serving.{standing_of}
 use Rattle.guest_cpu.specs.Standing.{Standing}
 use Rattle.guest_cpu.specs.Receiving.{taken_standing}
-use Rattle.guest_runs.specs.Runs.{GoesOn, IsSilent, TakesOn}
+use Rattle.guest_runs.specs.Runs.{TakesOn}
 use Rattle.guest_runs.proofs.TakeLemmas.{takes_serve, asks_wants}
-use Rattle.episodes.specs.declared.episode.Tried.{Tried}
 use Rattle.episodes.specs.declared.episode.Tried.TheVariants as tried
 use Rattle.session_history.specs.Heeding.{heeded, received}
 use Rattle.session_history.specs.Opened.{opens}
@@ -38,9 +35,9 @@ use Rattle.session_history.proofs.Growing.{Grows, between_append, between_wider}
 use Rattle.session_history.proofs.Passing.{all_until}
 use Rattle.session_history.proofs.Paths.{served_on}
 use Rattle.event_gate.proofs.ItemLemmas.{item_is, item_fits, opened_items, received_is}
-use Rattle.trial_history.specs.Trials.{IsUnharmed, IsContradicted}
+use Rattle.trial_history.specs.Trials.{IsContradicted}
 use Rattle.trial_history.specs.Laws.{everywhere}
-use Rattle.trial_plan.specs.Sessions.{CanGoOn, Failure, items_of, pieces_of, FailedAt}
+use Rattle.trial_plan.specs.Sessions.{CanGoOn, Failure, items_of, pieces_of}
 use Rattle.trial_plan.specs.Trying.{KeepsSaved}
 use Rattle.trial_plan.specs.Going.{agrees_next, IsTrying, IsAsking, HasCome}
 use Rattle.trial_plan.proofs.Joining.{next_agrees, agree_more, differs_more, covers_before_now}

@@ -1,6 +1,6 @@
 -- Where a trial begins.
 use Rattle.std.proofs.Common.{◌≡◌, ℕ, zero, suc, ◌+◌, ◌-◌, ◌<◌, ◌≤◌, List, [], ◌∷◌, ◌++◌, length, take, drop, Option, Some, None, refl, sym, ◌∙◌, ap, subst, arith, append-nil, length-append, length-drop}
-use Rattle.std.specs.Prelude.{slice_get, option_map, IsSomeAnd, IsSome}
+use Rattle.std.specs.Prelude.{slice_get, option_map, IsSomeAnd}
 use Rattle.std.proofs.lemmas.List.{drop-append-le, take-append-le, length-map}
 use Rattle.std.proofs.lemmas.Option.{same_Some, none-some, slice_get_within}
 use Rattle.std.proofs.Math.Seq.{take-append_seam}
@@ -15,8 +15,7 @@ use Rattle.ckpt_ring.specs.declared.checkpoint.Checkpoint.{Checkpoint}
 use Rattle.reply_ledger.specs.Ledger.{Ledger}
 use Rattle.reply_ledger.specs.Trials.{begun, discarded}
 use Rattle.reply_ledger.specs.Trials as ledgers
-use Rattle.reply_ledger.specs.Shows.{Shows}
-use Rattle.run_history.specs.Served.{Limits, Override, Path, Served}
+use Rattle.run_history.specs.Served.{Limits, Path, Served}
 use Rattle.guest_cpu.specs.Standing.{Standing}
 use Rattle.guest_cpu.specs.Cpus.{CpuState}
 use Rattle.guest_cpu.specs.Serving.{standing_of}
@@ -31,7 +30,7 @@ use Rattle.trial_history.specs.Laws.{everywhere}
 use Rattle.trial_history.proofs.Going.{served_grows}
 use Rattle.trial_history.proofs.Chained.{chained_at}
 use Rattle.trial_history.proofs.Agreeing.{checkpoint_unharmed}
-use Rattle.trial_plan.specs.Sessions.{IsKept, AreKept, HasFailed, Failure, items_of, pieces_of, FailedAt, taken_in}
+use Rattle.trial_plan.specs.Sessions.{IsKept, AreKept, Failure, items_of, pieces_of, FailedAt, taken_in}
 use Rattle.trial_plan.specs.Trying.{KeepsLedger, KeepsSaved}
 use Rattle.trial_plan.specs.Going.{IsTrying}
 

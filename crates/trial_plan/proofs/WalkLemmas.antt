@@ -1,10 +1,9 @@
 -- A walk goes on from chance to chance.
-use Rattle.std.proofs.Common.{◌≡◌, ℕ, zero, suc, ◌+◌, ◌-◌, ◌*◌, ◌/◌, ◌<◌, ◌≤◌, Bool, true, false, List, [], ◌∷◌, ◌++◌, length, take, drop, Option, Some, None, refl, sym, ◌∙◌, ap, subst, arith, append-nil, append_assoc, length-append, add-one}
+use Rattle.std.proofs.Common.{◌≡◌, ℕ, zero, suc, ◌+◌, ◌-◌, ◌*◌, ◌/◌, ◌<◌, ◌≤◌, Bool, true, false, List, [], ◌∷◌, ◌++◌, length, take, Some, refl, sym, ◌∙◌, ap, subst, arith, append-nil, append_assoc, length-append, add-one}
 use Rattle.std.specs.Prelude.{slice_get, map, sum, MatchBool}
 use Rattle.std.proofs.lemmas.List.{length-map, take_all}
 use Rattle.std.proofs.lemmas.List.Sums.{sum_by-append}
 use Rattle.std.proofs.lemmas.Option.{same_Some, none-some}
-use Rattle.std.proofs.lemmas.Bool.{true≢false}
 use Rattle.alloc_env.specs.declared.env.Env.{Env}
 use Rattle.block_book.specs.declared.choice.Choice.{Choice}
 use Rattle.block_book.specs.Heap.{Heap}
@@ -18,9 +17,8 @@ use Rattle.episodes.specs.Survival.{survives}
 use Rattle.trial_history.specs.Tables.{Chance, Trial, try_of, chances_at, environments, table, IsRight, WalksOver}
 use Rattle.trial_plan.specs.Sessions.{Failure, items_of, pieces_of, IsUnder, FailedAt, CanTry}
 use Rattle.trial_plan.specs.Trying.{KeepsLedger, KeepsSaved, steps_of, StandsOn, HasAdopted, LeavesBy, HasWalked}
-use Rattle.trial_plan.specs.Walking.{IsMade, AreTried, FailedOne, FailedSome, IsAdopted, AdoptedOne, AdoptedLast, HasSameBytes}
+use Rattle.trial_plan.specs.Walking.{AreTried, FailedOne, FailedSome, AdoptedOne, AdoptedLast, HasSameBytes}
 use Rattle.trial_plan.proofs.Starting.{failed_still}
-use Rattle.trial_plan.proofs.Running.{saved_on}
 
 -- lists, part by part
 map-append : {X Y : Type 0} (f : X → Y) (xs ys : List X) → map f (xs ++ ys) ≡ map f xs ++ map f ys

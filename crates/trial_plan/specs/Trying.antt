@@ -1,27 +1,21 @@
 -- What a trial, and a walk over the table, make of a session whose program failed.
-use Rattle.std.specs.Prelude.{◌≡◌, ℕ, ◌+◌, ◌-◌, ◌/◌, ◌<◌, ◌≤◌, ◌^◌, List, [], ◌∷◌, ◌++◌, length, map, sum, drop, Option, None, Some, slice_get, true, false, MatchBool, MatchOption, if◌then◌else◌, Result, Ok, Err}
+use Rattle.std.specs.Prelude.{◌≡◌, ℕ, ◌+◌, ◌-◌, ◌/◌, List, [], ◌∷◌, ◌++◌, length, map, sum, drop, None, Some, slice_get, MatchBool, Result, Ok, Err}
 use Rattle.std.specs.declared.alloc.AllocError.{AllocError}
-use Rattle.rx_io.specs.declared.journal.Entry.{Entry}
-use Rattle.elf_image.specs.declared.image.Image.{Image}
 use Rattle.alloc_env.specs.declared.env.Env.{Env}
 use Rattle.block_book.specs.declared.choice.Choice.{Choice}
-use Rattle.item_log.specs.Log.{Log}
 use Rattle.reply_ledger.specs.Ledger.{Ledger}
 use Rattle.reply_ledger.specs.Trials.{discarded}
-use Rattle.ckpt_ring.specs.Slots.{Slots, slot_numbers}
+use Rattle.ckpt_ring.specs.Slots.{slot_numbers}
 use Rattle.ckpt_ring.specs.Rings.{from_newest}
-use Rattle.run_history.specs.Served.{Limits, Override, Path}
+use Rattle.run_history.specs.Served.{Path}
 use Rattle.guest_cpu.specs.Cpus.{CpuState}
 use Rattle.guest_cpu.specs.Serving.{standing_of}
-use Rattle.session_history.specs.Heeding.{items_in}
-use Rattle.session_history.specs.Passing.{passed_in}
-use Rattle.session_history.specs.Lawful.{Rules}
 use Rattle.session_history.specs.Keeping.{KeepsReplies}
 use Rattle.episodes.specs.declared.episode.Tried.{Tried}
 use Rattle.episodes.specs.declared.episode.Try.{Try}
 use Rattle.episodes.specs.Survival.{survives}
 use Rattle.trial_history.specs.Trials.{plan_of_trial, IsTrial}
-use Rattle.trial_history.specs.Tables.{Chance, Trial, try_of, table, WalksOver}
+use Rattle.trial_history.specs.Tables.{Trial, try_of, table, WalksOver}
 use Rattle.trial_plan.specs.Sessions.{CanGoOn, Failure, items_of, pieces_of}
 
 -- no call of a walk changes anything of a ledger but its trial

@@ -1,9 +1,10 @@
 -- A walk on its way over the table of trials.
-use Rattle.std.specs.Prelude.{◌≡◌, ℕ, ◌+◌, ◌-◌, List, [], ◌∷◌, ◌++◌, map, take, drop, Bool, true, false, Option, None, Some, slice_get, Result, Ok, Err}
+use Rattle.std.specs.Prelude.{◌≡◌, ℕ, ◌+◌, ◌-◌, List, [], ◌∷◌, ◌++◌, map, take, Bool, true, false, None, Some, slice_get, Result, Ok, Err}
 use Rattle.std.specs.declared.alloc.AllocError.{AllocError}
 use Rattle.alloc_env.specs.declared.env.Env.{Env}
 use Rattle.block_book.specs.declared.choice.Choice.{Choice}
 use Rattle.reply_ledger.specs.Ledger.{Ledger}
+use Rattle.reply_ledger.specs.Trials.{discarded}
 use Rattle.run_history.specs.Served.{Path}
 use Rattle.guest_cpu.specs.Cpus.{CpuState}
 use Rattle.guest_cpu.specs.Serving.{standing_of}
@@ -12,7 +13,7 @@ use Rattle.episodes.specs.declared.episode.Try.{Try}
 use Rattle.episodes.specs.declared.episode.Episode.{Episode}
 use Rattle.run_history.specs.declared.answer.Cause.{Cause}
 use Rattle.episodes.specs.Survival.{survives}
-use Rattle.trial_history.specs.Tables.{Chance, Trial, try_of, chances_at, environments, table, IsRight}
+use Rattle.trial_history.specs.Tables.{Chance, Trial, try_of, chances_at, environments, IsRight}
 use Rattle.trial_plan.specs.Sessions.{CanGoOn, Failure, items_of, pieces_of}
 use Rattle.trial_plan.specs.Trying.{KeepsLedger, steps_of, StandsOn, HasWalked}
 
@@ -60,6 +61,11 @@ pub record IsEpisode (point : ℕ) (cause : Cause) (pc : ℕ) (episode : Episode
 abbrev pub StaysBy : {X : Type 0} → Ledger → Ledger → Result X AllocError → Type 0
 StaysBy old new (Ok done) = HasSameBytes old new
 StaysBy old new (Err fault) = KeepsLedger old new
+
+-- by the answer of who looks at a failure
+abbrev pub LeavesNoTrial : Ledger → Ledger → Result (Unit {0}) AllocError → Type 0
+LeavesNoTrial old new (Ok done) = new ≡ discarded old
+LeavesNoTrial old new (Err fault) = KeepsLedger old new
 
 -- by the answer of a part of it, that a trial was adopted or that none survived
 abbrev pub LedgerBy : Ledger → Ledger → Result Bool AllocError → Type 0

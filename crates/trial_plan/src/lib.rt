@@ -4,6 +4,8 @@
 mod going;
 mod trying;
 mod walking;
+mod watching;
 
 pub use trying::attempt;
 pub use walking::walk;
+pub use watching::{NoWatch, Watch};

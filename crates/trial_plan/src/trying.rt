@@ -1,6 +1,8 @@
 // A trial: to go on from a checkpoint in an environment.
-ghost use Rattle.std.specs.Prelude.{◌≡◌, ◌+◌, ◌<◌, length, Some, slice_get, IfOk, IsSomeAnd, []};
+ghost use Rattle.std.specs.Prelude.{◌≡◌, ◌+◌, ◌<◌, length, Some, slice_get, IfOk, IsSomeAnd, MatchBool};
 ghost use Rattle.ckpt_ring.specs.Rings.{checkpoints_of, from_newest};
+ghost use Rattle.reply_ledger.specs.Trials.{discarded};
+ghost use Rattle.episodes.specs.Survival.{survives};
 ghost use Rattle.alloc_env.specs.declared.env.Env.{Env};
 ghost use Rattle.run_history.specs.Served.{Path};
 ghost use Rattle.trial_plan.specs.Sessions.{CanTry, Failure, FailedAt, IsUnder, taken_in};
@@ -46,6 +48,15 @@ fn begin<R: AccessRule>(
     choices.clear();
 }
 
+// A trial that doesn't survive is given up.
+fn settle(tried: Tried, replies: &mut Replies)
+    ensures { MatchBool (survives tried) (replies.new ≡ replies.old) (replies.new ≡ discarded replies.old) }
+{
+    if !tried.survives() {
+        replies.discard();
+    }
+}
+
 /// Goes on from the checkpoint at an index of the ring, where 0 is the newest one, in an environment, with the items that were
 /// received, up to a result: whether the program comes past the failure, at which so many items were taken as `point` says. What
 /// malloc answered since the checkpoint stands in `choices`. Where the trial survives, `replies` has its sends as a trial, which
@@ -84,10 +95,7 @@ pub fn attempt<R: AccessRule, L: Ledger>(
         alloc, cpu, env, point, budget, items, replies, choices, steps,
     ) {
         Ok(tried) => {
-            if tried.survives() {
-                return Ok(tried);
-            }
-            replies.discard();
+            settle(tried, replies);
             Ok(tried)
         }
         Err(e) => Err(e),

@@ -135,7 +135,8 @@ fn try_ring<R: AccessRule, L: Ledger>(
     ensures saved { KeepsSaved cpu.old cpu.new }
     ensures ledger { StaysBy replies.old replies.new result }
 {
-    'checkpoints: for index in 0..ring.len() {
+    let count = ring.len();
+    'checkpoints: for index in 0..count {
         match try_all(
             alloc, cpu, ring, index, point, budget, items, replies, choices, steps, tries,
         ) {

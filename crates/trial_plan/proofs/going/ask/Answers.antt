@@ -1,4 +1,4 @@
-use Rattle.std.proofs.Common.{◌≡◌, ℕ, ◌+◌, ◌≤◌, ◌<◌, refl, sym, ◌∙◌, ap, subst, arith}
+use Rattle.std.proofs.Common.{◌∙◌, ap}
 use Rattle.guest_cpu.specs.declared.marks.Marks.{Marks}
 use Rattle.guest_cpu.specs.Standing.{Live, Standing}
 use Rattle.reply_ledger.specs.Trials.{CoversBefore}

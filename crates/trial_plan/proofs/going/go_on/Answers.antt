@@ -1,4 +1,4 @@
-use Rattle.std.proofs.Common.{◌≡◌, ℕ, ◌+◌, ◌<◌, None, Some, refl, sym, ◌∙◌, ap, subst, arith}
+use Rattle.std.proofs.Common.{◌<◌, ◌∙◌, subst, arith}
 use Rattle.trial_plan.specs.Going.{IsLaterIf, ComesIf}
 use Rattle.trial_plan.proofs.Running.{base_on}
 use Rattle.trial_plan.proofs.Looping.{gone_none, under_now, tries_now, tries_few}

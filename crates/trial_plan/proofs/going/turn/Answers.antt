@@ -1,4 +1,4 @@
-use Rattle.std.proofs.Common.{◌≡◌, ℕ, List, ◌+◌, ◌≤◌, ◌<◌, refl, sym, ◌∙◌, ap, subst, arith}
+use Rattle.std.proofs.Common.{◌≡◌, List, sym, ◌∙◌, ap, subst, arith}
 use Rattle.guest_cpu.specs.declared.marks.Marks.{Marks}
 use Rattle.guest_cpu.specs.Standing.{Standing}
 use Rattle.run_history.specs.Served.{Limits}

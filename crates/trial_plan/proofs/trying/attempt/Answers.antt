@@ -1,6 +1,6 @@
-use Rattle.std.proofs.Common.{◌≡◌, ℕ, ◌+◌, ◌<◌, None, Some, refl, sym, ◌∙◌, ap, subst, arith}
-use Rattle.trial_plan.proofs.Running.{saved_on}
-use Rattle.trial_plan.proofs.Ending.{counted_from, checkpoint_there, survives_tried, fails_tried, under_saved, stands_still}
+use Rattle.std.proofs.Common.{◌∙◌}
+use Rattle.episodes.specs.Survival.{survives}
+use Rattle.trial_plan.proofs.Ending.{checkpoint_there, settled_tried, settled_keeps, under_saved}
 use Rattle.trial_plan.proofs.trying.attempt.Goals as goal
 
 pub begin-requires-clause-failed : goal.begin-requires-clause-failed
@@ -19,12 +19,10 @@ go_on-requires g c =
       };
     }
 
-pub returns-then-survives-clause-tries : goal.returns-then-survives-clause-tries
-returns-then-survives-clause-tries g c failure checkpoint under failed found =
-    survives_tried failure c.args.point checkpoint c.args.env c.go_on.new.cpu c.go_on.new.choices.items c.go_on.new.replies c.in-Ok.tried (sym c.survives.ensures ∙ c.if-survives.true)
+pub returns-in-Ok-clause-tries : goal.returns-in-Ok-clause-tries
+returns-in-Ok-clause-tries g c failure checkpoint under failed found =
+    settled_tried failure c.args.point checkpoint c.args.env c.go_on.new.cpu c.go_on.new.choices.items c.go_on.new.replies c.settle.new.replies c.in-Ok.tried c.settle.ensures
     (c.in-Ok.ensures.comes failure checkpoint (under_saved g.R.AccessRule.rule c.args.budget c.args.cpu.now c.begin.new.cpu failure c.begin.ensures.saved under) (c.begin.ensures.begins failure checkpoint c.args.env failed found))
 
-pub returns-else-survives-clause-tries : goal.returns-else-survives-clause-tries
-returns-else-survives-clause-tries g c failure checkpoint under failed found =
-    fails_tried failure c.args.point checkpoint c.args.env c.go_on.new.cpu c.go_on.new.choices.items c.go_on.new.replies c.discard.new.self c.in-Ok.tried (sym c.survives.ensures ∙ c.if-survives.false) c.discard.ensures
-    (c.in-Ok.ensures.comes failure checkpoint (under_saved g.R.AccessRule.rule c.args.budget c.args.cpu.now c.begin.new.cpu failure c.begin.ensures.saved under) (c.begin.ensures.begins failure checkpoint c.args.env failed found))
+pub returns-in-Ok-clause-ledger : goal.returns-in-Ok-clause-ledger
+returns-in-Ok-clause-ledger g c = settled_keeps (survives c.in-Ok.tried) c.args.replies.now c.go_on.new.replies c.settle.new.replies (c.in-Ok.ensures.ledger ∙ c.begin.ensures.ledger) c.settle.ensures

@@ -1,10 +1,9 @@
-use Rattle.std.proofs.Common.{◌≡◌, ◌+◌, ◌≤◌, ℕ, List, [], length, refl, sym, ◌∙◌, ap, subst, arith}
+use Rattle.std.proofs.Common.{◌≡◌, List, length, sym, ◌∙◌, ap, subst, arith}
 use Rattle.block_book.specs.declared.choice.Choice.{Choice}
 use Rattle.reply_ledger.specs.Ledger.{Ledger}
 use Rattle.reply_ledger.specs.Trials.{begun, discarded}
 use Rattle.guest_cpu.specs.declared.marks.Marks.{Marks}
 use Rattle.guest_cpu.specs.Standing.{Standing}
-use Rattle.trial_plan.specs.Trying.{KeepsSaved}
 use Rattle.trial_plan.specs.Going.{IsTrying}
 use Rattle.trial_plan.proofs.Starting.{begins, restored_at, restored_keeps, restored_sends}
 use Rattle.trial_plan.proofs.trying.begin.Goals as goal

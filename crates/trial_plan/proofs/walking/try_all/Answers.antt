@@ -1,7 +1,7 @@
-use Rattle.std.proofs.Common.{◌≡◌, ℕ, Bool, true, false, take, refl, sym, ◌∙◌, ap, subst, arith}
+use Rattle.std.proofs.Common.{◌≡◌, Bool, take, refl, ◌∙◌, subst, arith}
 use Rattle.std.specs.Prelude.{Ok}
 use Rattle.trial_history.specs.Tables.{chances_at, environments}
-use Rattle.trial_plan.specs.Walking.{OneBy, LedgerBy, StandsBy, FailedSome}
+use Rattle.trial_plan.specs.Walking.{OneBy, LedgerBy, FailedSome}
 use Rattle.trial_plan.proofs.Starting.{failed_still}
 use Rattle.trial_plan.proofs.Running.{saved_on}
 use Rattle.trial_plan.proofs.Ending.{under_saved}

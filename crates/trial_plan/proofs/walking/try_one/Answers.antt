@@ -1,4 +1,4 @@
-use Rattle.std.proofs.Common.{◌≡◌, ℕ, sym, ◌∙◌, ap, subst, refl}
+use Rattle.std.proofs.Common.{sym, ◌∙◌, subst}
 use Rattle.reply_ledger.specs.Ledger.{Ledger}
 use Rattle.session_history.specs.Keeping.{KeepsReplies}
 use Rattle.std.proofs.Common.{None}

@@ -1,4 +1,4 @@
-use Rattle.std.proofs.Common.{◌≡◌, ℕ, ◌<◌, length, Bool, List, [], true, false, refl, sym, ◌∙◌, ap, subst, arith}
+use Rattle.std.proofs.Common.{◌<◌, length, Bool, List, [], refl, sym, ◌∙◌, subst, arith}
 use Rattle.std.specs.Prelude.{Ok}
 use Rattle.episodes.specs.declared.episode.Try.{Try}
 use Rattle.trial_plan.specs.Walking.{AllBy, LedgerBy, StandsBy, FailedSome}
@@ -23,7 +23,7 @@ pub checkpoints-preserved : goal.checkpoints-preserved
 checkpoints-preserved g c =
     let inv = c.checkpoints.invariant in
     let test = c.checkpoints-test.true in
-    let end = c.len-index-end.ensures in
+    let end = c.len-count.ensures in
     let less : c.checkpoints.index < length c.args.ring.now.standing = omega (arith, test, end) in
     let ledger = subst (λ (b : Bool). LedgerBy c.checkpoints.replies c.try_all.new.replies (Ok b)) c.in-Ok-false.field-0-test c.in-Ok-false.ensures.ledger in
     record {
@@ -41,7 +41,7 @@ pub returns-in-Ok-true-clause-walks : goal.returns-in-Ok-true-clause-walks
 returns-in-Ok-true-clause-walks g c failure under failed =
     let inv = c.checkpoints.invariant in
     let test = c.checkpoints-test.true in
-    let end = c.len-index-end.ensures in
+    let end = c.len-count.ensures in
     let less : c.checkpoints.index < length c.args.ring.now.standing = omega (arith, test, end) in
     let f = checkpoint_there c.args.cpu.now.slots.saved c.args.ring.now.standing failure.ring c.checkpoints.index failed.has.as_many c.requires.same less in
     walked_found failure c.args.point c.checkpoints.index f.0 c.try_all.new.cpu c.try_all.new.choices.items c.args.replies.now c.try_all.new.replies c.args.steps.now c.checkpoints.steps c.try_all.new.steps c.checkpoints.tries.items c.try_all.new.tries.items f.1
@@ -58,7 +58,7 @@ pub returns-clause-walks : goal.returns-clause-walks
 returns-clause-walks g c failure under failed =
     let inv = c.checkpoints.invariant in
     let test = c.checkpoints-test.false in
-    let end = c.len-index-end.ensures in
+    let end = c.len-count.ensures in
     let all = ring_length c.args.cpu.now.slots.saved c.args.ring.now.standing failure.ring failed.has.as_many c.requires.same in
     walked_none failure c.args.point c.checkpoints.cpu c.checkpoints.choices.items c.args.replies.now c.discard.new.self c.args.steps.now c.checkpoints.steps c.checkpoints.tries.items
     (failed_all failure c.args.point c.checkpoints.index [] c.checkpoints.tries.items c.args.steps.now c.checkpoints.steps (omega (arith, test, end, all)) (inv.tried failure under failed)) (c.discard.ensures ∙ inv.ledger)
