@@ -213,37 +213,52 @@ fn expect_row(rt: &impl Abort, alloc: Global, row: &str, most: usize) -> Result<
 }
 
 // The echo does 6 instructions up to its recv, 10 for an item that is no message, and 18 for one that is.
-const ROWS: &str = "\
+const ECHOED: &str = "\
 echo;; 0100000000 0200000300 68690a; Finished 0 0 [] 34 2; 0200000300 68690a;
 echo;; 0100000000 0200000100 68 0200000100 65 0200000100 6c 0200000100 6c 0200000200 6f0a; Finished 0 0 [] 34 2; 0200000600 68656c6c6f0a;
 echo;; 0100000000 0101000000 0201000100 78 0200000400 610a620a 0201000200 790a; Finished 0 0 [] 80 5; 0200000200 610a 0200000200 620a 0201000300 78790a;
 echo;; 0100000000 0300000000; Finished 0 0 [] 26 2;;
-divide;; 0100000000 0200000400 3720300a 0200000f00 2d32313437343833363438202d310a 0200000500 2d3720320a; Finished 0 0 [] 513 4; 0200000500 2d3120370a 0200000e00 2d3231343734383336343820300a 0200000600 2d33202d310a;
-three;;; Finished 0 0 [] 3 0;;
-three; --budget 4;; Finished 0 0 [] 3 0;;
-three; --budget 3;; GaveUp { point: 0, cause: Hang } 5 0 [] 3 0;;
-three;; 0100000000 0200000300 68690a; GaveUp { point: 1, cause: BadAccess } 5 0 [] 4 1;; 0200000300 68690a
-null;; 0100000000 0200000200 780a; GaveUp { point: 2, cause: BadAccess } 5 0 [] 20 2;;
 echo;; 0100000000 0200000300 68690a 020000; InputRefused { kind: 5, offset: 13 } 4 0 [] 34 2; 0200000300 68690a;
 echo;; 0100000000 0100000000; InputRefused { kind: 3, offset: 5 } 4 0 [] 16 1;;
 echo; --frame length; 0100000000 0200000600 02000000 6869; Finished 0 0 [] 34 2; 0200000200 6869;
 echo; --frame length; 0100000000 0200000400 00000000; Finished 0 0 [] 34 2;;
 echo; --frame length; 0100000000 0200000400 01100000; MessageTooLong { conn: 0 } 4 0 [] 16 1;;
 echo; --frame whole; 0100000000 0200000200 6869; Finished 0 0 [] 34 2; 0200000200 6869;
+";
+
+const GUESTS: &str = "\
+divide;; 0100000000 0200000400 3720300a 0200000f00 2d32313437343833363438202d310a 0200000500 2d3720320a; Finished 0 0 [] 513 4; 0200000500 2d3120370a 0200000e00 2d3231343734383336343820300a 0200000600 2d33202d310a;
+three;;; Finished 0 0 [] 3 0;;
+three; --budget 4;; Finished 0 0 [] 3 0;;
+three; --budget 3;; GaveUp { point: 0, cause: Hang } 5 0 [] 3 0;;
+three;; 0100000000 0200000300 68690a; GaveUp { point: 1, cause: BadAccess } 5 0 [] 4 1;; 0200000300 68690a
+null;; 0100000000 0200000200 780a; GaveUp { point: 2, cause: BadAccess } 5 0 [] 20 2;;
 overflow;; 0100000000 0200000300 68690a; Finished 0 0 [Choice { at: 73728, zeroed: false }, Choice { at: 73744, zeroed: false }] 81 2; 0200000300 68690a;
 tell_free;; 0100000000 0200000200 610a; GaveUp { point: 2, cause: BadFree } 5 0 [Choice { at: 77824, zeroed: false }] 111 2; 0200000900 30303031333030300a;
 ";
 
 // A call on source or sink moves so many bytes at most.
 #[test]
-fn a_session_ends_as_its_row_says(rt: HostRuntime) -> Result<(), Fail> {
-    for row in ROWS.lines() {
+fn an_echo_ends_as_its_row_says(rt: HostRuntime) -> Result<(), Fail> {
+    for row in ECHOED.lines() {
         expect_row(&rt, rt.alloc(), row, 10_000)?;
     }
-    for row in ROWS.lines().take(8) {
+    for row in ECHOED.lines().take(3) {
         expect_row(&rt, rt.alloc(), row, 1)?;
     }
     Ok(())
+}
+
+// The last program ends itself, and no item is taken.
+#[test]
+fn a_guest_ends_as_its_row_says(rt: HostRuntime) -> Result<(), Fail> {
+    let alloc = rt.alloc();
+    for row in GUESTS.lines() {
+        expect_row(&rt, alloc, row, 10_000)?;
+    }
+    let exit = program_of(alloc, "li a0, 1\nli a7, 5\necall\n")?;
+    let setting = Setting::of(alloc, &exit, &OPEN);
+    expect(&rt, &setting, "Exited(1) 1 0 [] 5 0", &[], &OPEN)
 }
 
 // The input of one line: 4096 bytes with the line feed go through, and 4097 don't.
@@ -285,8 +300,8 @@ fn a_fault_ends_a_session(rt: HostRuntime) -> Result<(), Fail> {
     expect(&rt, &setting, end, &[2, 0, 0], &[])
 }
 
-// No session begins, and nothing is read or written: words that are refused, a file that is missing or can't be loaded, and
-// one that is no executable.
+// No session begins, and nothing is read or written: words that are refused, where no file is touched, as its call would
+// fail; a file that is missing or can't be loaded, and one that is no executable.
 #[test]
 fn no_session_begins(rt: HostRuntime) -> Result<(), Fail> {
     let alloc = rt.alloc();
@@ -296,7 +311,7 @@ fn no_session_begins(rt: HostRuntime) -> Result<(), Fail> {
         *first = 0;
     }
     for (words, program, fails, end) in [
-        ("run p --record r", &three, 0, "BadWords 2 0 [] 0 0"),
+        ("run p --record r", &three, 1, "BadWords 2 0 [] 0 0"),
         (
             "run q --record r --report t",
             &three,
