@@ -14,13 +14,14 @@ use Rattle.session_history.specs.Lawful.{Rules, Survivor, entries_of, IsDue, IsD
 use Rattle.session_history.specs.Account.{Session, journal_of, IsAccount, IsBroken}
 use Rattle.session_history.specs.Giving.{AreDuePieces, then_entries}
 use Rattle.session_history.specs.Serving.{ending_at, Ending}
-use Rattle.session_history.specs.Ends.{IsEnd, StandsAt, EndsBy, before_end, OwesNothingAtEnd, WasAsked, HasServed}
+use Rattle.session_history.specs.Ends.{IsEnd, StandsAt, EndsBy, before_end, OwesNothingAtEnd, WasAsked}
 use Rattle.session_history.proofs.Heeding.{items_in-gave}
 use Rattle.session_history.proofs.Paths.{served_same}
 use Rattle.session_history.proofs.Endings.{ending_none, ending_piece, ending_account, broken_account}
 use Rattle.rx_engine.specs.Sessions.{SessionState}
 use Rattle.rx_engine.specs.Standing.{Story, entries, moment, sends, IsTold, AnswersFor, IsAsking, IsEnding, IsBrokenOff}
 use Rattle.session_history.proofs.Sessions.{serving_account}
+use Rattle.rx_engine.specs.Recovered.{HasRecovered}
 use Rattle.rx_engine.proofs.TellLemmas.{tells_on}
 use Rattle.rx_engine.proofs.PieceLemmas.{are_given, pieces}
 use Rattle.rx_engine.proofs.PieceLemmas as piece
@@ -138,62 +139,71 @@ module _ {R : Type 0} where
   -- all was passed
   pub served_end : (rules : Rules) (image : Image) (began before now : Told) (coming later : Option Coming) (takes : Bool) (session : SessionState R) (end : Answer) (e : IsEnding rules image began before coming session end) (more : List Entry)
       → later ≡ coming → AreDuePieces rules (sends e.story) (end_of e.story) more → Tells before now more → OwesNothing rules.bounds rules.hold (then_entries (end_of e.story) more) (sends e.story)
-      → (takes ≡ false → IsAsking rules e.story) → HasServed rules image began now later takes end session.choices session.taken session.steps
+      → (takes ≡ false → IsAsking rules e.story) → HasRecovered rules image began now later takes end session.choices session.taken session.steps
   served_end rules image began before now coming later takes session end e more same due tells owes asked =
       let story : Story = e.story in
       let stands : StandsAt rules (entries story) later story.survivor end = subst (λ (c : Option Coming). StandsAt rules (entries story) c story.survivor end) (sym same) e.stands in
       record {
-        session = ended_account story more [];
-        at_end = true;
-        tells = told_end rules image began before now coming session end e more [] (subst (Tells before now) (sym (append-nil more)) tells);
-        account = ending_account rules image story.earlier story.survivor story.since more true (stood_pieces rules image began before coming session end e more due).at;
-        alone = record { first = e.told.first; plain = e.told.plain };
-        comes = λ is. record { end = end; is_end = e.is_end; stands = stands };
-        ends = ends_end rules later (ended_account story more []) end e.is_end stands owes refl;
-        pieces = are_given rules (sends story) (end_of story) more due;
-        asked = asked;
-        choices_are = sym e.answers.choices;
-        taken_is = sym e.answers.taken;
-        steps_are = sym e.answers.steps;
+        served = record {
+          session = ended_account story more [];
+          at_end = true;
+          tells = told_end rules image began before now coming session end e more [] (subst (Tells before now) (sym (append-nil more)) tells);
+          account = ending_account rules image story.earlier story.survivor story.since more true (stood_pieces rules image began before coming session end e more due).at;
+          comes = λ is. record { end = end; is_end = e.is_end; stands = stands };
+          ends = ends_end rules later (ended_account story more []) end e.is_end stands owes refl;
+          pieces = are_given rules (sends story) (end_of story) more due;
+          asked = asked;
+          choices_are = sym e.answers.choices;
+          taken_is = sym e.answers.taken;
+          steps_are = sym e.answers.steps;
+        };
+        recoveries = e.story.recoveries;
+        recovered = e.told.recovered;
       }
 
   -- a fault came while it was passed
   pub served_broken : (rules : Rules) (image : Image) (began before now : Told) (coming later : Option Coming) (takes : Bool) (session : SessionState R) (end fault : Answer) (e : IsEnding rules image began before coming session end) (more broken : List Entry)
       → later ≡ coming → AreDuePieces rules (sends e.story) (end_of e.story) more → IsBroken rules (sends e.story) (then_entries (end_of e.story) more) broken → Tells before now (more ++ broken)
-      → EndsBy rules later (ended_account e.story more broken) fault → (takes ≡ false → IsAsking rules e.story) → HasServed rules image began now later takes fault session.choices session.taken session.steps
+      → EndsBy rules later (ended_account e.story more broken) fault → (takes ≡ false → IsAsking rules e.story) → HasRecovered rules image began now later takes fault session.choices session.taken session.steps
   served_broken rules image began before now coming later takes session end fault e more broken same due part tells ends asked =
       let story : Story = e.story in
       let stands : StandsAt rules (entries story) later story.survivor end = subst (λ (c : Option Coming). StandsAt rules (entries story) c story.survivor end) (sym same) e.stands in
       record {
-        session = ended_account story more broken;
-        at_end = true;
-        tells = told_end rules image began before now coming session end e more broken tells;
-        account = account_broken rules image story more broken (stood_pieces rules image began before coming session end e more due) part;
-        alone = record { first = e.told.first; plain = e.told.plain };
-        comes = λ is. record { end = end; is_end = e.is_end; stands = stands };
-        ends = ends;
-        pieces = are_given rules (sends story) (end_of story) more due;
-        asked = asked;
-        choices_are = sym e.answers.choices;
-        taken_is = sym e.answers.taken;
-        steps_are = sym e.answers.steps;
+        served = record {
+          session = ended_account story more broken;
+          at_end = true;
+          tells = told_end rules image began before now coming session end e more broken tells;
+          account = account_broken rules image story more broken (stood_pieces rules image began before coming session end e more due) part;
+          comes = λ is. record { end = end; is_end = e.is_end; stands = stands };
+          ends = ends;
+          pieces = are_given rules (sends story) (end_of story) more due;
+          asked = asked;
+          choices_are = sym e.answers.choices;
+          taken_is = sym e.answers.taken;
+          steps_are = sym e.answers.steps;
+        };
+        recoveries = e.story.recoveries;
+        recovered = e.told.recovered;
       }
 
   -- a session that was broken off has served
-  pub served_off : (rules : Rules) (image : Image) (began now : Told) (coming : Option Coming) (takes : Bool) (session : SessionState R) (end : Answer) → (off : IsBrokenOff rules image began now coming session end) → (takes ≡ false → WasAsked rules off.account) → HasServed rules image began now coming takes end session.choices session.taken session.steps
+  pub served_off : (rules : Rules) (image : Image) (began now : Told) (coming : Option Coming) (takes : Bool) (session : SessionState R) (end : Answer) → (off : IsBrokenOff rules image began now coming session end) → (takes ≡ false → WasAsked rules off.account) → HasRecovered rules image began now coming takes end session.choices session.taken session.steps
   served_off rules image began now coming takes session end off asked = record {
-    session = off.account;
-    at_end = false;
-    tells = off.tells;
-    account = off.is_account;
-    alone = off.alone;
-    comes = λ is. absurd (let no : ⊥ = cc in no);
-    ends = off.ends;
-    pieces = off.pieces;
-    asked = asked;
-    choices_are = sym off.choices;
-    taken_is = sym off.taken;
-    steps_are = sym off.steps;
+    served = record {
+      session = off.account;
+      at_end = false;
+      tells = off.tells;
+      account = off.is_account;
+      comes = λ is. absurd (let no : ⊥ = cc in no);
+      ends = off.ends;
+      pieces = off.pieces;
+      asked = asked;
+      choices_are = sym off.choices;
+      taken_is = sym off.taken;
+      steps_are = sym off.steps;
+    };
+    recoveries = off.recoveries;
+    recovered = off.recovered;
   }
 
   -- a fault came while what is due was passed
@@ -211,7 +221,8 @@ module _ {R : Type 0} where
         ends = ends;
         pieces = tt;
         no_end = no_end;
-        alone = record { first = told.first; plain = told.plain };
+        recoveries = story.recoveries;
+        recovered = told.recovered;
         choices = answers.choices;
         taken = answers.taken;
         steps = answers.steps;

@@ -44,8 +44,7 @@ told_event rules image began old now story event more told asks owes tells bring
           subst (λ its. Served rules.limits its survivor.plan survivor.begun survivor.now) (sym brings ∙ ap (items_in rules.bounds) same)
           (served_with rules.limits items more survivor.plan survivor.begun survivor.now told.way);
       tells = subst (Tells began now) same (tells_on began old now (entries story) (entry.Took event ∷ []) told.tells tells);
-      first = told.first;
-      plain = told.plain;
+      recovered = told.recovered;
     }
 
 -- the latest event of some entries and one that was taken last, which isn't Ends

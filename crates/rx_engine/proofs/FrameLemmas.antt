@@ -12,3 +12,6 @@ module _ {R : Type 0} where
 
   pub same_rules : (permits : R → Heap → ℕ → ℕ → Bool) (old new : SessionState R) → HasSameFrame old new → rules_of new.options (permits new.cpu.rule) ≡ rules_of old.options (permits old.cpu.rule)
   same_rules permits old new same = λ i. rules_of (same.options i) (permits (same.rule i))
+
+  pub saved_frame : (old new : SessionState R) → new ≡ record old { cpu = new.cpu; ring = new.ring } → new.cpu.rule ≡ old.cpu.rule → HasSameFrame old new
+  saved_frame old new same rule = record { options = ap (λ (s : SessionState R). s.options) same; rule = rule }

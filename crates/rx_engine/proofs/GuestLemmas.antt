@@ -36,6 +36,7 @@ use Rattle.rx_engine.specs.Sessions.{SessionState}
 use Rattle.rx_engine.specs.Standing.{Story, entries, moment, IsTold, AnswersFor, GoesWith, IsLatestDone, IsLatestBefore, HasPassedDue, HasPassed, IsGoing, IsBetween, IsWaitingFor, IsEnding, IsBrokenOff}
 use Rattle.rx_engine.specs.Serving.{IsCounted}
 use Rattle.rx_engine.proofs.StoryLemmas.{on_story, told_on, account_of, journal_of_story}
+use Rattle.rx_engine.proofs.CheckpointLemmas.{HasSameSide, saved_on}
 
 -- a log received as many items as its journal has
 pub received_is : (bounds : Bounds) (entries : List Entry) (log : Log) → KeepsItems bounds entries log → logs.received log ≡ received bounds entries
@@ -66,11 +67,10 @@ due_still rules story to none same due =
     (sym none) (λ send stands still early. due send stands still (subst (λ n. send.taken + rules.hold ≤ n) same early))
 
 module _ {R : Type 0} where
-  -- all but the guest, the counts and the answers of malloc is the same
+  -- so are the replies
   pub record HasSameParts (old new : SessionState R) : Type 0 where
-    pub log : new.log ≡ old.log
+    pub side : HasSameSide old new
     pub replies : new.replies ≡ old.replies
-    pub events : new.events ≡ old.events
 
   -- it answers for a run that its guest is
   pub answers_for : (story : Story) (session : SessionState R) (to : Path) → session.choices ≡ to.choices → IsCounted session → session.cpu.slots.live ≡ standing_of to → AnswersFor (on_story story to) session
@@ -104,7 +104,8 @@ module _ {R : Type 0} where
         story = on_story g.story to;
         told = told_on rules image began now g.story to g.told goes.served (still_received rules image began now g.story to g.told goes.taken);
         answers = answers_for g.story new to chosen counted stands;
-        goes = goes_with rules g.story old new phases to g.goes same.log same.events goes lives stands;
+        goes = goes_with rules g.story old new phases to g.goes same.side.log same.side.events goes lives stands;
+        saved = saved_on rules image g.story old new to same.side (ap (λ (ledger : Ledger). ledger.first) same.replies) goes.served (let still = goes.taken in omega (arith, still)) g.saved;
         passed = has_passed rules g.story old.replies new.replies to g.passed same.replies none;
         latest = subst (IsLatestBefore rules (moment g.story)) (sym goes.taken) g.latest;
       }
@@ -137,6 +138,7 @@ module _ {R : Type 0} where
           told = going.told;
           answers = going.answers;
           goes = going.goes;
+          saved = going.saved;
           passed = going.passed;
           asks = subst (AsksFor rules.limits story.survivor.plan to) (sym runs.goes.taken) asks;
           latest = λ last is. let before = going.latest last is in omega (arith, before);
@@ -154,7 +156,7 @@ module _ {R : Type 0} where
         story = on_story g.story to;
         told = told_on rules image began now g.story to g.told goes.served (still_received rules image began now g.story to g.told goes.taken);
         answers = answers_for g.story new to (chosen ∙ (g.answers.choices ∙ sym silent.choices)) counted stands;
-        received_are = ap (λ (log : Log). logs.received log) same.log ∙ received_is rules.bounds (entries g.story) old.log g.goes.items;
+        received_are = ap (λ (log : Log). logs.received log) same.side.log ∙ received_is rules.bounds (entries g.story) old.log g.goes.items;
         replies = passed.replies;
         no_trial = passed.no_trial;
         closed = λ send stands closing owed. passed.done send stands owed;
@@ -189,7 +191,8 @@ module _ {R : Type 0} where
       ends = ends;
       pieces = tt;
       no_end = no_end;
-      alone = record { first = told.first; plain = told.plain };
+      recoveries = story.recoveries;
+      recovered = told.recovered;
       choices = answers.choices;
       taken = answers.taken;
       steps = answers.steps;

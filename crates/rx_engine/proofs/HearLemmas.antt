@@ -5,15 +5,21 @@ use Rattle.rx_io.specs.declared.journal.Entry.TheVariants as entry
 use Rattle.rx_io.specs.declared.journal.LinkEvent.{LinkEvent}
 use Rattle.rx_io.specs.Links.{Phases, Told, Tells, events_in}
 use Rattle.elf_image.specs.declared.image.Image.{Image}
-use Rattle.run_history.specs.Served.{AsksFor}
-use Rattle.session_history.specs.Heeding.{Bounds, heeded, received}
+use Rattle.rx_io.specs.declared.bytes.Item.{Item}
+use Rattle.ckpt_ring.specs.Rings.{Checkpoints}
+use Rattle.guest_cpu.specs.Cpus.{CpuState}
+use Rattle.recovery_gate.specs.Rings.{KeepsRing, Brings}
+use Rattle.recovery_gate.proofs.RingLemmas.{ring_more}
+use Rattle.run_history.specs.Served.{Override, Path, AsksFor}
+use Rattle.session_history.specs.Heeding.{Bounds, heeded, items_in, received}
 use Rattle.session_history.specs.Opened.{opens}
 use Rattle.session_history.specs.Lawful.{Rules, entries_of}
 use Rattle.session_history.specs.Keeping.{KeepsItems, KeepsPhases}
 use Rattle.session_history.specs.Hearing.{IsHeard}
 use Rattle.session_history.proofs.Heeding.{events_in-append}
 use Rattle.rx_engine.specs.Sessions.{SessionState}
-use Rattle.rx_engine.specs.Standing.{Story, entries, sends, then_story, IsTold, AnswersFor, GoesWith, IsWaitingFor}
+use Rattle.rx_engine.specs.Standing.{Story, entries, sends, then_story, IsTold, AnswersFor, GoesWith, KeepsCheckpoints, IsWaitingFor}
+use Rattle.rx_engine.proofs.CheckpointLemmas.{in_force_by}
 use Rattle.rx_engine.proofs.EventLemmas.{owes_nothing, told_event, opens_more}
 
 -- the entries of a story with more behind them
@@ -35,6 +41,9 @@ module _ {R : Type 0} where
     pub taken : new.taken ≡ old.taken
     pub steps : new.steps ≡ old.steps
     pub first : new.log.first ≡ old.log.first
+    pub ring : new.ring ≡ old.ring
+    pub env : new.env ≡ old.env
+    pub until : new.until ≡ old.until
 
   pub answers_still : (story : Story) (old new : SessionState R) (more : List Entry) → HasSameRun old new → AnswersFor story old → AnswersFor (then_story story more) new
   answers_still story old new more same answers = record { choices = same.choices ∙ answers.choices; taken = same.taken ∙ answers.taken; steps = same.steps ∙ answers.steps }
@@ -53,6 +62,21 @@ module _ {R : Type 0} where
     events = events;
     phases_are = knows;
   }
+
+  -- the checkpoints and the environment behind more entries
+  pub saved_then : (rules : Rules) (image : Image) (story : Story) (old new : SessionState R) (more : List Entry) (items : List Item) → HasSameRun old new → new.replies.first ≡ old.replies.first
+      → Brings rules (entries story) (entries (then_story story more)) items → KeepsCheckpoints rules image story old → KeepsCheckpoints rules image (then_story story more) new
+  saved_then rules image story old new more items same kept brings k =
+      let plan : List Override = story.survivor.plan in
+      let now : Path = story.survivor.now in
+      record {
+        paths = k.paths;
+        ring =
+            subst (λ (c : Checkpoints). KeepsRing rules image (entries (then_story story more)) plan now k.paths new.cpu c new.log new.replies) (sym same.ring)
+            (subst (λ (cpu : CpuState R). KeepsRing rules image (entries (then_story story more)) plan now k.paths cpu old.ring new.log new.replies) (sym same.cpu)
+            (ring_more rules image (entries story) (entries (then_story story more)) items plan now k.paths old.cpu old.ring old.log new.log old.replies new.replies brings same.first kept k.ring));
+        in_force = in_force_by plan now.state.machine.taken old.env new.env old.until new.until same.env same.until k.in_force;
+      }
 
   -- what is known behind an event that was heard, but for the replies
   pub record HasHeard (rules : Rules) (image : Image) (began now : Told) (phases : Phases) (story : Story) (session : SessionState R) : Type 0 where
@@ -80,3 +104,17 @@ module _ {R : Type 0} where
             (subst (λ (es : List Entry). KeepsPhases es later) is knows);
         asks = asks;
       }
+
+  -- its checkpoints behind the event
+  pub saved_heard : (rules : Rules) (image : Image) (began before : Told) (phases : Phases) (event : LinkEvent) (old new : SessionState R) (w : IsWaitingFor rules image began before phases old) → HasSameRun old new → new.replies.first ≡ old.replies.first
+      → IsHeard rules.bounds (entries w.hearing.story) (sends w.hearing.story) event new.log new.replies → KeepsCheckpoints rules image (then_story w.hearing.story (entry.Took event ∷ [])) new
+  saved_heard rules image began before phases event old new w same kept heard =
+      let story : Story = w.hearing.story in
+      let is = more_entries story (entry.Took event ∷ []) in
+      saved_then rules image story old new (entry.Took event ∷ []) heard.more same kept
+      (record {
+        items = ap (items_in rules.bounds) (sym is) ∙ heard.brings;
+        opened = λ conn before.
+            opens_still rules.bounds (entries story) (entries (then_story story (entry.Took event ∷ []))) (entry.Took event ∷ []) conn (sym is) w.hearing.goes.items.all_heeded
+            (subst (λ es. heeded rules.bounds (events_in es) ≡ events_in es) is heard.items.all_heeded) before;
+      }) w.hearing.saved

@@ -44,14 +44,14 @@ use Rattle.rx_engine.specs.declared.stop.Stop.{Stop}
 use Rattle.rx_engine.specs.declared.stop.Stop.TheVariants as stop
 use Rattle.rx_engine.specs.Options.{rules_of}
 use Rattle.rx_engine.specs.Sessions.{SessionState}
-use Rattle.rx_engine.specs.Standing.{Story, entries, moment, sends, then_story, IsTold, IsLatestBefore, HasPassed, HasPassedDue, IsHearing, IsWaitingFor, IsEnding}
+use Rattle.rx_engine.specs.Standing.{Story, entries, moment, sends, then_story, IsTold, KeepsCheckpoints, IsLatestBefore, HasPassed, HasPassedDue, IsHearing, IsWaitingFor, IsEnding}
 use Rattle.rx_engine.specs.Serving.{IsStopAt, UnlessBroken, StaysKnown, CanGive, HasStopCause, HasSameGuest, CanPass, StopsBy, PassesStory, PassesDue, WaitsBy}
 use Rattle.rx_engine.proofs.StoryLemmas.{still_takes}
 use Rattle.rx_engine.proofs.EventLemmas.{IsNoEnd}
 use Rattle.rx_engine.proofs.GuestLemmas.{received_is}
 use Rattle.rx_engine.proofs.GivenLemmas.{latest-given}
-use Rattle.rx_engine.proofs.HearLemmas.{HasSameRun, HasHeard, has_heard, answers_still, more_entries}
-use Rattle.rx_engine.proofs.ArmLemmas.{IsQuiet, latest_story, before_story, before_given, hearing_items, same_run, goes_given, waits_on}
+use Rattle.rx_engine.proofs.HearLemmas.{HasSameRun, HasHeard, has_heard, saved_heard, answers_still, more_entries}
+use Rattle.rx_engine.proofs.ArmLemmas.{IsQuiet, latest_story, before_story, before_given, hearing_items, same_run, goes_given, saved_given, waits_on}
 use Rattle.rx_engine.proofs.SettleLemmas.{settle_ready, all_due, settle_done, close_ready}
 use Rattle.rx_engine.proofs.StopLemmas.{done_ended, waits_took, waits_still, ending_refused, ending_ended, ending_stopped, off_read, off_memory}
 
@@ -238,7 +238,7 @@ module _ {R : Type 0} where
       omega (arith, none_left, same, counts)
 
   pub run_of : (old : SessionState R) (log : Log) (ledger : Ledger) (events : ℕ) → log.first ≡ old.log.first → HasSameRun old (with_heard old log ledger events)
-  run_of old log ledger events first = record { cpu = refl; choices = refl; taken = refl; steps = refl; first = first }
+  run_of old log ledger events first = record { cpu = refl; choices = refl; taken = refl; steps = refl; first = first; ring = refl; env = refl; until = refl }
 
   -- what is known behind an event
   pub story_heard : (rules : Rules) (image : Image) (began before now : Told) (phases later : Phases) (old : SessionState R) (log : Log) (ledger : Ledger) (events : ℕ) (e : LinkEvent) (w : IsWaitingFor rules image began before phases old)
@@ -301,36 +301,44 @@ module _ {R : Type 0} where
   heard_last rules image began before phases old e w none_left no_end =
       before_story rules w.hearing.story e (w.hearing.story.survivor.now.state.machine.taken + 1) no_end (omega (arith, all_taken rules image began before phases old w none_left))
 
+  -- its checkpoints behind an event
+  pub heard_saved : (rules : Rules) (image : Image) (began before now : Told) (phases later : Phases) (old : SessionState R) (log : Log) (ledger : Ledger) (events : ℕ) (e : LinkEvent) (w : IsWaitingFor rules image began before phases old)
+      → log.first ≡ old.log.first → ledger.first ≡ old.replies.first → HeardEvent rules.bounds (entries w.hearing.story) (sends w.hearing.story) before now later log ledger events e
+      → KeepsCheckpoints rules image (then_story w.hearing.story (entry.Took e ∷ [])) (with_heard old log ledger events)
+  heard_saved rules image began before now phases later old log ledger events e w first kept h =
+      saved_heard rules image began before phases e old (with_heard old log ledger events) w (run_of old log ledger events first) kept h.heard
+
   -- items came, or none
   pub items_hearing : (rules : Rules) (image : Image) (began before now : Told) (phases later : Phases) (old : SessionState R) (log : Log) (ledger : Ledger) (events : ℕ) (e : LinkEvent) (w : IsWaitingFor rules image began before phases old)
-      → logs.received old.log ≤ old.taken → log.first ≡ old.log.first → ledger.trial ≡ old.replies.trial → IsQuiet e → HeardEvent rules.bounds (entries w.hearing.story) (sends w.hearing.story) before now later log ledger events e
+      → logs.received old.log ≤ old.taken → log.first ≡ old.log.first → ledger.first ≡ old.replies.first → ledger.trial ≡ old.replies.trial → IsQuiet e → HeardEvent rules.bounds (entries w.hearing.story) (sends w.hearing.story) before now later log ledger events e
       → IsHearing rules image began now later (with_heard old log ledger events)
-  items_hearing rules image began before now phases later old log ledger events e w none_left first trial is h =
+  items_hearing rules image began before now phases later old log ledger events e w none_left first kept trial is h =
       let story : Story = w.hearing.story in
       hearing_items rules image began now later story e (with_heard old log ledger events) is (story_heard rules image began before now phases later old log ledger events e w none_left first h)
       (all_taken rules image began before phases old w none_left)
       (subst (λ (es : List Entry). KeepsReplies rules.bounds es None (sends story) ledger) (more_entries story (entry.Took e ∷ []))
       (subst (λ (closing : Option ℕ). KeepsReplies rules.bounds (entries story ++ entry.Took e ∷ []) closing (sends story) ledger) (quiet_closing e is) h.heard.replies))
-      (trial ∙ w.hearing.passed.no_trial)
+      (trial ∙ w.hearing.passed.no_trial) (saved_heard rules image began before phases e old (with_heard old log ledger events) w (run_of old log ledger events first) kept h.heard)
 
   -- behind what was passed the guest waits, unless the session was broken off
   pub waits_due : (rules : Rules) (image : Image) (began before now : Told) (phases later : Phases) (coming : Option Coming) (takes : Bool) (old new : SessionState R) (h : IsHearing rules image began before phases old) (result : Result (Unit {0}) Stop)
-      → new ≡ record old { replies = new.replies } → ((conn : ℕ) → later conn ≡ phases conn) → takes ≡ true → PassesDue rules image began now coming h.story new result → WaitsBy rules image began now later coming takes new result
-  waits_due rules image began before now phases later coming takes old new h (Ok done) same stay still passes =
-      subst (λ (s : SessionState R). IsWaitingFor rules image began now later s) (sym same) (waits_on rules image began before now phases later old new.replies h passes.0 passes.1 stay passes.2 passes.3 passes.4)
-  waits_due rules image began before now phases later coming takes old new h (Err (stop.Ends end)) same stay still passes = absurd passes
-  waits_due rules image began before now phases later coming takes old new h (Err (stop.Breaks end)) same stay still passes = (passes, λ none. still_takes takes _ still none)
+      → new ≡ record old { replies = new.replies } → new.replies.first ≡ old.replies.first → ((conn : ℕ) → later conn ≡ phases conn) → takes ≡ true → PassesDue rules image began now coming h.story new result → WaitsBy rules image began now later coming takes new result
+  waits_due rules image began before now phases later coming takes old new h (Ok done) same kept stay still passes =
+      subst (λ (s : SessionState R). IsWaitingFor rules image began now later s) (sym same) (waits_on rules image began before now phases later old new.replies h passes.0 passes.1 stay passes.2 passes.3 passes.4 kept)
+  waits_due rules image began before now phases later coming takes old new h (Err (stop.Ends end)) same kept stay still passes = absurd passes
+  waits_due rules image began before now phases later coming takes old new h (Err (stop.Breaks end)) same kept stay still passes = (passes, λ none. still_takes takes _ still none)
 
   -- where what was due behind an event was passed, the guest waits on
   waits_heard : (rules : Rules) (image : Image) (began before now : Told) (phases later : Phases) (story : Story) (old : SessionState R) (replies : Ledger) (known : HasHeard rules image began before phases story old)
-      → IsLatestBefore rules (moment story) (story.survivor.now.state.machine.taken + 1) → (more : List Entry) → AreGiven more → ((conn : ℕ) → later conn ≡ phases conn) → IsTold rules image began now (then_story story more)
+      → KeepsCheckpoints rules image story old → replies.first ≡ old.replies.first → IsLatestBefore rules (moment story) (story.survivor.now.state.machine.taken + 1) → (more : List Entry) → AreGiven more → ((conn : ℕ) → later conn ≡ phases conn) → IsTold rules image began now (then_story story more)
       → HasPassed rules (then_story story more) replies → HasPassedDue rules (then_story story more) → IsWaitingFor rules image began now later (record old { replies = replies })
-  waits_heard rules image began before now phases later story old replies known last more given stay told passed due = record {
+  waits_heard rules image began before now phases later story old replies known saved kept last more given stay told passed due = record {
     hearing = record {
       story = then_story story more;
       told = told;
       answers = answers_still story old (record old { replies = replies }) more (same_run old replies) known.answers;
       goes = goes_given rules story old replies phases later more given stay known.goes;
+      saved = saved_given rules image story old replies more given kept saved;
       passed = passed;
       asks = known.asks;
       latest = before_given rules story more (story.survivor.now.state.machine.taken + 1) given last;
@@ -339,29 +347,29 @@ module _ {R : Type 0} where
   }
 
   pub waits_closed : (rules : Rules) (image : Image) (began before now : Told) (phases later : Phases) (coming : Option Coming) (takes : Bool) (story : Story) (old new : SessionState R) (known : HasHeard rules image began before phases story old) (result : Result (Unit {0}) Stop)
-      → IsLatestBefore rules (moment story) (story.survivor.now.state.machine.taken + 1) → new ≡ record old { replies = new.replies } → ((conn : ℕ) → later conn ≡ phases conn)
+      → KeepsCheckpoints rules image story old → IsLatestBefore rules (moment story) (story.survivor.now.state.machine.taken + 1) → new ≡ record old { replies = new.replies } → new.replies.first ≡ old.replies.first → ((conn : ℕ) → later conn ≡ phases conn)
       → takes ≡ true → PassesDue rules image began now coming story new result → WaitsBy rules image began now later coming takes new result
-  waits_closed rules image began before now phases later coming takes story old new known (Ok done) last same stay still passes =
-      subst (λ (s : SessionState R). IsWaitingFor rules image began now later s) (sym same) (waits_heard rules image began before now phases later story old new.replies known last passes.0 passes.1 stay passes.2 passes.3 passes.4)
-  waits_closed rules image began before now phases later coming takes story old new known (Err (stop.Ends end)) last same stay still passes = absurd passes
-  waits_closed rules image began before now phases later coming takes story old new known (Err (stop.Breaks end)) last same stay still passes = (passes, λ none. still_takes takes _ still none)
+  waits_closed rules image began before now phases later coming takes story old new known (Ok done) saved last same kept stay still passes =
+      subst (λ (s : SessionState R). IsWaitingFor rules image began now later s) (sym same) (waits_heard rules image began before now phases later story old new.replies known saved kept last passes.0 passes.1 stay passes.2 passes.3 passes.4)
+  waits_closed rules image began before now phases later coming takes story old new known (Err (stop.Ends end)) saved last same kept stay still passes = absurd passes
+  waits_closed rules image began before now phases later coming takes story old new known (Err (stop.Breaks end)) saved last same kept stay still passes = (passes, λ none. still_takes takes _ still none)
 
   -- all that was sent to open connections was passed behind a settle
   pub waits_settled : (rules : Rules) (image : Image) (began before now : Told) (phases later : Phases) (coming : Option Coming) (takes : Bool) (story : Story) (until : ℕ) (old new : SessionState R)
       (known : HasHeard rules image began before phases (then_story story (entry.Took event.Settles ∷ [])) old) (result : Result (Unit {0}) Stop) → story.survivor.now.state.machine.taken ≤ until
-      → received rules.bounds (entries story) ≤ story.survivor.now.state.machine.taken → new ≡ record old { replies = new.replies } → new.replies.trial ≡ None → ((conn : ℕ) → later conn ≡ phases conn)
+      → received rules.bounds (entries story) ≤ story.survivor.now.state.machine.taken → KeepsCheckpoints rules image (then_story story (entry.Took event.Settles ∷ [])) old → new ≡ record old { replies = new.replies } → new.replies.first ≡ old.replies.first → new.replies.trial ≡ None → ((conn : ℕ) → later conn ≡ phases conn)
       → takes ≡ true → PassesStory rules image began now coming (then_story story (entry.Took event.Settles ∷ [])) until new result → WaitsBy rules image began now later coming takes new result
-  waits_settled rules image began before now phases later coming takes story until old new known (Ok done) few all same no_trial stay still passes =
+  waits_settled rules image began before now phases later coming takes story until old new known (Ok done) few all saved same kept no_trial stay still passes =
       let after : Story = then_story story (entry.Took event.Settles ∷ []) in
       let more : List Entry = passes.0 in
       let last : Latest = record { before = story.since; event = event.Settles } in
       let whole = all_due rules image began now (then_story after more) until new.replies passes.2 few passes.3 passes.4 in
       let is = latest-given after.since more passes.1 ∙ latest_story story event.Settles tt in
       subst (λ (s : SessionState R). IsWaitingFor rules image began now later s) (sym same)
-      (waits_heard rules image began before now phases later after old new.replies known (before_story rules story event.Settles (story.survivor.now.state.machine.taken + 1) tt (omega (arith, all))) more passes.1 stay passes.2
+      (waits_heard rules image began before now phases later after old new.replies known saved kept (before_story rules story event.Settles (story.survivor.now.state.machine.taken + 1) tt (omega (arith, all))) more passes.1 stay passes.2
       (record { replies = passes.3; no_trial = no_trial; done = settle_done rules (then_story after more) last is refl whole }) (λ send stands still early. whole send stands still))
-  waits_settled rules image began before now phases later coming takes story until old new known (Err (stop.Ends end)) few all same no_trial stay still passes = absurd passes
-  waits_settled rules image began before now phases later coming takes story until old new known (Err (stop.Breaks end)) few all same no_trial stay still passes = (passes, λ none. still_takes takes _ still none)
+  waits_settled rules image began before now phases later coming takes story until old new known (Err (stop.Ends end)) few all saved same kept no_trial stay still passes = absurd passes
+  waits_settled rules image began before now phases later coming takes story until old new known (Err (stop.Breaks end)) few all saved same kept no_trial stay still passes = (passes, λ none. still_takes takes _ still none)
 
   -- what holds behind what was passed, unless the session was broken off
   pub due_unless : (rules : Rules) (image : Image) (began now : Told) (coming : Option Coming) (story : Story) (session : SessionState R) (result : Result (Unit {0}) Stop) (P : Type 0) → PassesDue rules image began now coming story session result → IfOk result (λ _. P) → UnlessBroken result P

@@ -1,4 +1,5 @@
 pub mod StoryLemmas
+pub mod CheckpointLemmas
 pub mod GuestLemmas
 pub mod TellLemmas
 pub mod PieceLemmas
@@ -16,6 +17,7 @@ pub mod ServeLemmas
 pub mod NeedLemmas
 pub mod DueLemmas
 pub mod TakeLemmas
+pub mod SaveLemmas
 pub mod FrameLemmas
 pub mod HearingLemmas
 pub mod TurnLemmas

@@ -79,8 +79,8 @@ module _ {R : Type 0} where
   sent_going rules image began now phases conn bytes old inside after ledger h same noted is =
       subst (λ (s : SessionState R). IsGoing rules image began now phases s) (sym is)
       (run_emits rules image began now phases conn bytes old (record inside { replies = ledger; taken = inside.cpu.slots.live.guest.machine.taken; steps = inside.cpu.slots.live.steps }) h
-      (ap (λ (s : SessionState R). s.log) same) (noted ∙ ap (λ (s : SessionState R). with_send s.replies (record { conn = conn; bytes = bytes; taken = s.taken })) same)
-      (ap (λ (s : SessionState R). s.events) same) (ap (λ (s : SessionState R). s.cpu) same) (ap (λ (s : SessionState R). s.choices) same) (record { taken = refl; steps = refl }))
+      (ap (λ (s : SessionState R). record s { replies = ledger; choices = inside.choices; taken = inside.cpu.slots.live.guest.machine.taken; steps = inside.cpu.slots.live.steps }) same) (noted ∙ ap (λ (s : SessionState R). with_send s.replies (record { conn = conn; bytes = bytes; taken = s.taken })) same)
+      (ap (λ (s : SessionState R). s.choices) same) (record { taken = refl; steps = refl }))
 
   -- a guest that is bounded has room for a budget more
   pub between_room : (rules : Rules) (image : Image) (began now : Told) (phases : Phases) (session : SessionState R) → IsBetween rules image began now phases session → rules.limits.budget ≤ 2 ^ 24 → rules.bounds.max_items ≤ 2 ^ 20

@@ -30,7 +30,8 @@ use Rattle.reply_ledger.proofs.ConnectionLemmas.{is_open-marked, closed-falls}
 use Rattle.reply_gate.specs.declared.pass_fault.PassFault.{PassFault}
 use Rattle.reply_gate.specs.declared.pass_fault.PassFault.TheVariants as pass_fault
 use Rattle.run_history.specs.declared.answer.Answer.{Answer}
-use Rattle.session_history.specs.Ends.{EndsBy, HasServed}
+use Rattle.session_history.specs.Ends.{EndsBy}
+use Rattle.rx_engine.specs.Recovered.{HasRecovered}
 use Rattle.session_history.specs.Heeding.{Bounds, heeded, received}
 use Rattle.session_history.specs.Opened.{opens, closes, is_gone, is_open}
 use Rattle.session_history.specs.Owing.{Moment, journal, latest, IsOwed, IsDueBy, IsPassed, OwesNothing}
@@ -304,7 +305,7 @@ module _ {R : Type 0} where
 
   -- at an end all is passed
   pub finish_ok : (rules : Rules) (image : Image) (began before now : Told) (coming later : Option Coming) (takes : Bool) (session : SessionState R) (end : Answer) (until : ℕ) (ledger : Ledger) (done : Unit {0}) (e : IsEnding rules image began before coming session end) → later ≡ coming → session.taken ≤ until
-      → Passes {E = PassFault} rules (sends e.story) (end_of e.story) until ledger before now (Ok done) → (takes ≡ false → IsAsking rules e.story) → HasServed rules image began now later takes end session.choices session.taken session.steps
+      → Passes {E = PassFault} rules (sends e.story) (end_of e.story) until ledger before now (Ok done) → (takes ≡ false → IsAsking rules e.story) → HasRecovered rules image began now later takes end session.choices session.taken session.steps
   finish_ok rules image began before now coming later takes session end until ledger done e same low passes asked =
       let few = e.answers.taken in
       served_end rules image began before now coming later takes session end e passes.0 same passes.1 passes.2
@@ -312,7 +313,7 @@ module _ {R : Type 0} where
 
   -- or a fault comes first
   pub finish_fault : (rules : Rules) (image : Image) (began before now : Told) (coming later : Option Coming) (takes : Bool) (session : SessionState R) (end : Answer) (until : ℕ) (ledger : Ledger) (why : PassFault) (fault : Answer) (e : IsEnding rules image began before coming session end) → later ≡ coming
-      → IsAnswerTo why fault → Passes rules (sends e.story) (end_of e.story) until ledger before now (Err why) → (takes ≡ false → IsAsking rules e.story) → HasServed rules image began now later takes fault session.choices session.taken session.steps
+      → IsAnswerTo why fault → Passes rules (sends e.story) (end_of e.story) until ledger before now (Err why) → (takes ≡ false → IsAsking rules e.story) → HasRecovered rules image began now later takes fault session.choices session.taken session.steps
   finish_fault rules image began before now coming later takes session end until ledger pass_fault.WriteFault fault e same is passes asked =
       served_broken rules image began before now coming later takes session end fault e passes.0 passes.1 same passes.2 passes.3 passes.4 (subst (EndsBy rules later (ended_account e.story passes.0 passes.1)) (sym is) tt) asked
   finish_fault rules image began before now coming later takes session end until ledger pass_fault.Memory fault e same is passes asked =

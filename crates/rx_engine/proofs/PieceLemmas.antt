@@ -64,6 +64,5 @@ told_pieces rules image began old now story more told due tells =
       serving = stood.serving;
       way = stood.way;
       tells = subst (Tells began now) (append_assoc (entries_of story.earlier) story.since more) (tells_on began old now (entries story) more told.tells tells);
-      first = told.first;
-      plain = told.plain;
+      recovered = told.recovered;
     }

@@ -27,6 +27,7 @@ use Rattle.rx_engine.specs.Sessions.{SessionState}
 use Rattle.rx_engine.specs.Standing.{Story, entries, moment, sends, GoesWith, IsLatestDone, IsLatestBefore, HasPassed, IsGoing, IsBetween, IsWaitingFor}
 use Rattle.rx_engine.specs.Serving.{IsCounted}
 use Rattle.rx_engine.proofs.StoryLemmas.{on_story, told_on}
+use Rattle.rx_engine.proofs.CheckpointLemmas.{HasSameSide, saved_on}
 use Rattle.rx_engine.proofs.GuestLemmas.{HasSameParts, answers_for, goes_with, has_passed, still_received}
 
 -- nothing is due by an event before which fewer items were received than the send was made with
@@ -76,10 +77,10 @@ module _ {R : Type 0} where
   may_opened rules story session phases conn goes passed may = is_known (connection_of session.replies.connections conn) (passed.replies.opened conn ∙ goes.within conn may)
 
   -- it sent: its ledger has one more send, of which what is due has to be passed
-  pub emits_going : (rules : Rules) (image : Image) (began now : Told) (phases : Phases) (conn : ℕ) (bytes : List ℕ) (old new : SessionState R) (b : IsBetween rules image began now phases old) → new.log ≡ old.log → new.events ≡ old.events → new.choices ≡ old.choices
+  pub emits_going : (rules : Rules) (image : Image) (began now : Told) (phases : Phases) (conn : ℕ) (bytes : List ℕ) (old new : SessionState R) (b : IsBetween rules image began now phases old) → HasSameSide old new → new.choices ≡ old.choices
       → IsCounted new → new.replies ≡ with_send old.replies (record { conn = conn; bytes = bytes; taken = b.going.story.survivor.now.state.machine.taken })
       → RunsOn rules.limits (items_in rules.bounds (entries b.going.story)) b.going.story.survivor.plan b.going.story.survivor.now (Ok (step.Emits conn bytes)) new.cpu.slots.live → IsGoing rules image began now phases new
-  emits_going rules image began now phases conn bytes old new b log events chosen counted replies runs =
+  emits_going rules image began now phases conn bytes old new b side chosen counted replies runs =
       let story : Story = b.going.story in
       let to : Path = runs.now in
       let comes = runs.comes in
@@ -90,7 +91,8 @@ module _ {R : Type 0} where
         story = on_story story to;
         told = told_on rules image began now story to b.going.told runs.goes.served (still_received rules image began now story to b.going.told runs.goes.taken);
         answers = answers_for story new to (chosen ∙ (b.going.answers.choices ∙ sym comes.0)) counted (sym runs.stands);
-        goes = goes_with rules story old new phases to b.going.goes log events runs.goes comes.5 (sym runs.stands);
+        goes = goes_with rules story old new phases to b.going.goes side.log side.events runs.goes comes.5 (sym runs.stands);
+        saved = saved_on rules image story old new to side (ap (λ (ledger : Ledger). ledger.first) replies) runs.goes.served (let still = runs.goes.taken in omega (arith, still)) b.going.saved;
         passed = record {
           replies =
               subst (λ (ledger : Ledger). KeepsReplies rules.bounds (entries story) None to.state.sends ledger) (sym replies)
@@ -127,11 +129,12 @@ module _ {R : Type 0} where
           bounded = t.bounded goes.bounded;
           few = subst (λ n. n ≤ rules.bounds.max_items) (sym t.taken) (omega (arith, low, few));
           within = after.each;
-          items = subst (KeepsItems rules.bounds (entries story)) (sym same.log) goes.items;
-          whole = ap (λ (log : Log). log.first) same.log ∙ goes.whole;
-          events = same.events ∙ goes.events;
+          items = subst (KeepsItems rules.bounds (entries story)) (sym same.side.log) goes.items;
+          whole = ap (λ (log : Log). log.first) same.side.log ∙ goes.whole;
+          events = same.side.events ∙ goes.events;
           phases_are = goes.phases_are;
         };
+        saved = saved_on rules image story old new to same.side (ap (λ (ledger : Ledger). ledger.first) same.replies) t.served (let more = t.taken in omega (arith, more)) w.hearing.saved;
         passed = has_passed rules story old.replies new.replies to w.hearing.passed same.replies t.silent.sends;
         latest = subst (IsLatestBefore rules (moment story)) (sym t.taken) w.hearing.latest;
       }

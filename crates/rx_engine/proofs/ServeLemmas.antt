@@ -9,7 +9,7 @@ use Rattle.run_history.specs.declared.answer.Cause.{Cause}
 use Rattle.rx_io.specs.declared.bytes.Item.{Item}
 use Rattle.run_history.specs.Served.{Limits, Override, Path}
 use Rattle.guest_cpu.specs.Standing.{Standing}
-use Rattle.guest_cpu.specs.Cpus.{CpuState}
+use Rattle.guest_cpu.specs.Cpus.{CpuState, live_of, with_live}
 use Rattle.guest_runs.specs.Runs.{RunsOn}
 use Rattle.guest_cpu.specs.declared.event.Event.{Event}
 use Rattle.guest_cpu.specs.declared.event.Event.TheVariants as step
@@ -17,6 +17,7 @@ use Rattle.session_history.specs.Lawful.{Rules}
 use Rattle.rx_engine.specs.Sessions.{SessionState}
 use Rattle.rx_engine.specs.Standing.{IsGoing, IsBetween, IsWaitingFor, IsEnding, IsBrokenOff}
 use Rattle.rx_engine.specs.Serving.{IsCounted, HasRun}
+use Rattle.rx_engine.proofs.CheckpointLemmas.{HasSameSide}
 use Rattle.rx_engine.proofs.GuestLemmas.{HasSameParts, broken_off, chooses_between, asks_waits, exits_ending, fails_ending}
 use Rattle.rx_engine.proofs.SendLemmas.{emits_going}
 
@@ -37,51 +38,66 @@ module _ {R : Type 0} where
         steps = steps ∙ (ap (λ (s : SessionState R). s.steps) h.same ∙ going.answers.steps);
       }) tt (λ is. is)
 
+  -- all but the replies, the answers of malloc and the counts is the same
+  abbrev pub IsSameBut : SessionState R → SessionState R → Type 0
+  IsSameBut session after = after ≡ record session { replies = after.replies; choices = after.choices; taken = after.taken; steps = after.steps }
+
   -- its parts but the guest are those from before
-  pub run_parts : (rules : Rules) (image : Image) (began now : Told) (phases : Phases) (happened : Event) (session after : SessionState R) (h : HasRun rules image began now phases happened session)
-      → after.log ≡ session.log → after.replies ≡ session.replies → after.events ≡ session.events → HasSameParts h.before after
-  run_parts rules image began now phases happened session after h log replies events = record {
-    log = log ∙ ap (λ (s : SessionState R). s.log) h.same;
+  run_side : (rules : Rules) (image : Image) (began now : Told) (phases : Phases) (happened : Event) (session after : SessionState R) (h : HasRun rules image began now phases happened session) → IsSameBut session after → HasSameSide h.before after
+  run_side rules image began now phases happened session after h same =
+      let is : after.cpu ≡ session.cpu = ap (λ (s : SessionState R). s.cpu) same in
+      record {
+        log = ap (λ (s : SessionState R). s.log) same ∙ ap (λ (s : SessionState R). s.log) h.same;
+        events = ap (λ (s : SessionState R). s.events) same ∙ ap (λ (s : SessionState R). s.events) h.same;
+        cpu = is ∙ (h.cpu ∙ ap (λ (cpu : CpuState R). with_live (live_of cpu) h.before.cpu) (sym is));
+        ring = ap (λ (s : SessionState R). s.ring) same ∙ ap (λ (s : SessionState R). s.ring) h.same;
+        env = ap (λ (s : SessionState R). s.env) same ∙ ap (λ (s : SessionState R). s.env) h.same;
+        until = ap (λ (s : SessionState R). s.until) same ∙ ap (λ (s : SessionState R). s.until) h.same;
+      }
+
+  run_parts : (rules : Rules) (image : Image) (began now : Told) (phases : Phases) (happened : Event) (session after : SessionState R) (h : HasRun rules image began now phases happened session) → IsSameBut session after → after.replies ≡ session.replies
+      → HasSameParts h.before after
+  run_parts rules image began now phases happened session after h same replies = record {
+    side = run_side rules image began now phases happened session after h same;
     replies = replies ∙ ap (λ (s : SessionState R). s.replies) h.same;
-    events = events ∙ ap (λ (s : SessionState R). s.events) h.same;
   }
 
   -- malloc was answered, and noted
   pub run_chooses : (rules : Rules) (image : Image) (began now : Told) (phases : Phases) (choice : Choice) (session after : SessionState R) (h : HasRun rules image began now phases (step.Chooses choice) session)
-      → after.log ≡ session.log → after.replies ≡ session.replies → after.events ≡ session.events → after.cpu ≡ session.cpu → after.choices ≡ session.choices ++ choice ∷ [] → IsCounted after → IsBetween rules image began now phases after
-  run_chooses rules image began now phases choice session after h log replies events cpu choices counted =
-      chooses_between rules image began now phases choice h.before after h.between (run_parts rules image began now phases (step.Chooses choice) session after h log replies events)
-      (choices ∙ ap (λ (s : SessionState R). s.choices ++ choice ∷ []) h.same) counted (runs_at _ _ _ _ _ _ _ (ap (λ (cpu : CpuState R). cpu.slots.live) cpu) h.runs)
+      → IsSameBut session after → after.replies ≡ session.replies → after.choices ≡ session.choices ++ choice ∷ [] → IsCounted after → IsBetween rules image began now phases after
+  run_chooses rules image began now phases choice session after h same replies choices counted =
+      chooses_between rules image began now phases choice h.before after h.between (run_parts rules image began now phases (step.Chooses choice) session after h same replies)
+      (choices ∙ ap (λ (s : SessionState R). s.choices ++ choice ∷ []) h.same) counted (runs_at _ _ _ _ _ _ _ (ap (λ (s : SessionState R). s.cpu.slots.live) same) h.runs)
 
   -- it asks for an item
   pub run_asks : (rules : Rules) (image : Image) (began now : Told) (phases : Phases) (session after : SessionState R) (h : HasRun rules image began now phases step.Asks session)
-      → after.log ≡ session.log → after.replies ≡ session.replies → after.events ≡ session.events → after.cpu ≡ session.cpu → after.choices ≡ session.choices → IsCounted after → IsWaitingFor rules image began now phases after
-  run_asks rules image began now phases session after h log replies events cpu choices counted =
-      asks_waits rules image began now phases h.before after h.between (run_parts rules image began now phases step.Asks session after h log replies events) (choices ∙ ap (λ (s : SessionState R). s.choices) h.same) counted
-      (runs_at _ _ _ _ _ _ _ (ap (λ (cpu : CpuState R). cpu.slots.live) cpu) h.runs)
+      → IsSameBut session after → after.replies ≡ session.replies → after.choices ≡ session.choices → IsCounted after → IsWaitingFor rules image began now phases after
+  run_asks rules image began now phases session after h same replies choices counted =
+      asks_waits rules image began now phases h.before after h.between (run_parts rules image began now phases step.Asks session after h same replies) (choices ∙ ap (λ (s : SessionState R). s.choices) h.same) counted
+      (runs_at _ _ _ _ _ _ _ (ap (λ (s : SessionState R). s.cpu.slots.live) same) h.runs)
 
   -- it ended itself
   pub run_exits : (rules : Rules) (image : Image) (began now : Told) (phases : Phases) (coming : Option Coming) (code : ℕ) (session after : SessionState R) (h : HasRun rules image began now phases (step.Exits code) session)
-      → after.log ≡ session.log → after.replies ≡ session.replies → after.events ≡ session.events → after.cpu ≡ session.cpu → after.choices ≡ session.choices → IsCounted after → IsEnding rules image began now coming after (answer.Exited code)
-  run_exits rules image began now phases coming code session after h log replies events cpu choices counted =
-      exits_ending rules image began now phases coming code h.before after h.between (run_parts rules image began now phases (step.Exits code) session after h log replies events) (choices ∙ ap (λ (s : SessionState R). s.choices) h.same)
-      counted (runs_at _ _ _ _ _ _ _ (ap (λ (cpu : CpuState R). cpu.slots.live) cpu) h.runs)
+      → IsSameBut session after → after.replies ≡ session.replies → after.choices ≡ session.choices → IsCounted after → IsEnding rules image began now coming after (answer.Exited code)
+  run_exits rules image began now phases coming code session after h same replies choices counted =
+      exits_ending rules image began now phases coming code h.before after h.between (run_parts rules image began now phases (step.Exits code) session after h same replies) (choices ∙ ap (λ (s : SessionState R). s.choices) h.same)
+      counted (runs_at _ _ _ _ _ _ _ (ap (λ (s : SessionState R). s.cpu.slots.live) same) h.runs)
 
   -- it failed
   pub run_fails : (rules : Rules) (image : Image) (began now : Told) (phases : Phases) (coming : Option Coming) (cause : Cause) (point : ℕ) (session after : SessionState R) (h : HasRun rules image began now phases (step.Failed cause) session)
-      → after.log ≡ session.log → after.replies ≡ session.replies → after.events ≡ session.events → after.cpu ≡ session.cpu → after.choices ≡ session.choices → IsCounted after → point ≡ after.taken
+      → IsSameBut session after → after.replies ≡ session.replies → after.choices ≡ session.choices → IsCounted after → point ≡ after.taken
       → IsEnding rules image began now coming after (answer.GaveUp point cause)
-  run_fails rules image began now phases coming cause point session after h log replies events cpu choices counted at =
-      fails_ending rules image began now phases coming cause point h.before after h.between (run_parts rules image began now phases (step.Failed cause) session after h log replies events) (choices ∙ ap (λ (s : SessionState R). s.choices) h.same)
-      counted at (runs_at _ _ _ _ _ _ _ (ap (λ (cpu : CpuState R). cpu.slots.live) cpu) h.runs)
+  run_fails rules image began now phases coming cause point session after h same replies choices counted at =
+      fails_ending rules image began now phases coming cause point h.before after h.between (run_parts rules image began now phases (step.Failed cause) session after h same replies) (choices ∙ ap (λ (s : SessionState R). s.choices) h.same)
+      counted at (runs_at _ _ _ _ _ _ _ (ap (λ (s : SessionState R). s.cpu.slots.live) same) h.runs)
 
   -- it sent
   pub run_emits : (rules : Rules) (image : Image) (began now : Told) (phases : Phases) (conn : ℕ) (bytes : List ℕ) (session after : SessionState R) (h : HasRun rules image began now phases (step.Emits conn bytes) session)
-      → after.log ≡ session.log → after.replies ≡ with_send session.replies (record { conn = conn; bytes = bytes; taken = session.taken }) → after.events ≡ session.events → after.cpu ≡ session.cpu → after.choices ≡ session.choices → IsCounted after
+      → IsSameBut session after → after.replies ≡ with_send session.replies (record { conn = conn; bytes = bytes; taken = session.taken }) → after.choices ≡ session.choices → IsCounted after
       → IsGoing rules image began now phases after
-  run_emits rules image began now phases conn bytes session after h log replies events cpu choices counted =
+  run_emits rules image began now phases conn bytes session after h same replies choices counted =
       let taken : session.taken ≡ h.between.going.story.survivor.now.state.machine.taken = ap (λ (s : SessionState R). s.taken) h.same ∙ h.between.going.answers.taken in
-      emits_going rules image began now phases conn bytes h.before after h.between (log ∙ ap (λ (s : SessionState R). s.log) h.same) (events ∙ ap (λ (s : SessionState R). s.events) h.same)
+      emits_going rules image began now phases conn bytes h.before after h.between (run_side rules image began now phases (step.Emits conn bytes) session after h same)
       (choices ∙ ap (λ (s : SessionState R). s.choices) h.same) counted
       (replies ∙ (ap (λ (ledger : Ledger). with_send ledger (record { conn = conn; bytes = bytes; taken = session.taken })) (ap (λ (s : SessionState R). s.replies) h.same)
-      ∙ ap (λ n. with_send h.before.replies (record { conn = conn; bytes = bytes; taken = n })) taken)) (runs_at _ _ _ _ _ _ _ (ap (λ (cpu : CpuState R). cpu.slots.live) cpu) h.runs)
+      ∙ ap (λ n. with_send h.before.replies (record { conn = conn; bytes = bytes; taken = n })) taken)) (runs_at _ _ _ _ _ _ _ (ap (λ (s : SessionState R). s.cpu.slots.live) same) h.runs)

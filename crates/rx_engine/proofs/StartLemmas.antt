@@ -8,8 +8,15 @@ use Rattle.reply_ledger.specs.Ledger.{Ledger, no_replies}
 use Rattle.reply_ledger.specs.Inside as I
 use Rattle.reply_ledger.specs.Shows as S
 use Rattle.reply_ledger.specs.Ledger as ledgers
+use Rattle.alloc_env.specs.declared.env.Env.TheVariants.{Plain}
+use Rattle.ckpt_ring.specs.Rings.{Checkpoints}
+use Rattle.guest_cpu.specs.Cpus.{CpuState}
+use Rattle.trial_history.proofs.Survivors.{recovered_first}
+use Rattle.recovery_gate.specs.Rings.{KeepsRing}
+use Rattle.recovery_gate.proofs.Forces.{in_force_none}
 use Rattle.run_history.specs.Served.{origin}
 use Rattle.guest_cpu.specs.Standing.{Standing}
+use Rattle.guest_cpu.specs.Serving.{standing_of}
 use Rattle.guest_runs.specs.Laws.{IsStart}
 use Rattle.guest_runs.proofs.RunLemmas.{runs_start}
 use Rattle.std.specs.Option.{unwrap_or}
@@ -27,12 +34,13 @@ use Rattle.session_history.proofs.Sessions.{serving_first}
 use Rattle.rx_engine.specs.Options.{rules_of}
 use Rattle.rx_engine.specs.Sessions.{SessionState, IsBegun}
 use Rattle.rx_engine.specs.Standing.{Story, IsBetween}
+use Rattle.rx_engine.proofs.CheckpointLemmas.{in_force_by}
 use Rattle.rx_engine.proofs.TellLemmas.{tells_same}
 use Rattle.rx_engine.specs.Serving.{CanGive, StaysKnown, IsCounted, HasSameFrame}
 
 -- the story of no event
 abbrev first_story : Image → Story
-first_story image = record { earlier = []; survivor = record { plan = []; begun = origin image; now = origin image }; since = [] }
+first_story image = record { earlier = []; recoveries = []; survivor = record { plan = []; begun = origin image; now = origin image }; since = [] }
 
 -- of no send there is none
 none_stands : (send : Send) → Stands [] send → ⊥
@@ -65,10 +73,16 @@ first_replies bounds = record {
 }
 
 module _ {R : Type 0} where
-  pub starts_between : (permits : R → Heap → ℕ → ℕ → Bool) (image : Image) (now : Told) (phases : Phases) (session : SessionState R) → IsBegun image session.options session.cpu.rule session → IsFresh phases
-      → IsBetween (rules_of session.options (permits session.cpu.rule)) image now now phases session
+  -- its guest stands at the start
+  pub starts_at : (image : Image) (session : SessionState R) → IsBegun image session.options session.cpu.rule session → session.cpu.slots.live ≡ standing_of (origin image)
+  starts_at image session begun = let start : IsStart image 0 = runs_start image 0 in begun.cpu.live_is ∙ sym start.stands
+
+  -- it begins with its start as its first checkpoint
+  starts_saved : (permits : R → Heap → ℕ → ℕ → Bool) (image : Image) (now : Told) (phases : Phases) (session : SessionState R) (cpu : CpuState R) (ring : Checkpoints) → IsBegun image session.options session.cpu.rule session → IsFresh phases
+      → KeepsRing (rules_of session.options (permits session.cpu.rule)) image [] [] (origin image) (origin image ∷ []) cpu ring session.log session.replies → cpu.slots.live ≡ session.cpu.slots.live
+      → IsBetween (rules_of session.options (permits session.cpu.rule)) image now now phases (record session { cpu = cpu; ring = ring })
   unfolding M.start M.start_machine H.heeded_behind
-  starts_between permits image now phases session begun fresh =
+  starts_saved permits image now phases session cpu ring begun fresh keeps live =
       let rules : Rules = rules_of session.options (permits session.cpu.rule) in
       let start : IsStart image rules.limits.budget = runs_start image rules.limits.budget in
       record {
@@ -78,13 +92,12 @@ module _ {R : Type 0} where
             serving = serving_first rules image;
             way = served_same rules.limits (items_in rules.bounds []) [] (origin image);
             tells = tells_same now;
-            first = refl;
-            plain = refl;
+            recovered = recovered_first rules image;
           };
           answers = record { choices = begun.no_choices; taken = begun.no_items; steps = begun.no_steps };
           goes = record {
             lives = start.lives;
-            guest = begun.cpu.live_is ∙ sym start.stands;
+            guest = live ∙ (begun.cpu.live_is ∙ sym start.stands);
             bounded = start.bounded;
             few = omega arith;
             within = λ conn may. absurd (let none : unwrap_or (slice_get no_connections conn) false ≡ false = none_known conn in let no : ⊥ = cc in no);
@@ -93,11 +106,19 @@ module _ {R : Type 0} where
             events = begun.no_events;
             phases_are = fresh;
           };
+          saved = record { paths = origin image ∷ []; ring = keeps; in_force = in_force_by [] 0 Plain session.env 0 session.until begun.plain begun.until_none (in_force_none 0) };
           passed = record { replies = subst (λ (ledger : Ledger). KeepsReplies rules.bounds [] None [] ledger) (sym begun.replies) (first_replies rules.bounds); no_trial = ap (λ (ledger : Ledger). ledger.trial) begun.replies; done = λ send stands due. absurd due };
           latest = λ last found. absurd (let no : ⊥ = cc in no);
         };
         due = λ send stands is taken. absurd (none_stands send stands);
       }
+
+  pub starts_between : (permits : R → Heap → ℕ → ℕ → Bool) (image : Image) (now : Told) (phases : Phases) (session after : SessionState R) → IsBegun image session.options session.cpu.rule session → IsFresh phases
+      → ((rules : Rules) → KeepsRing rules image [] [] (origin image) (origin image ∷ []) after.cpu after.ring session.log session.replies) → after ≡ record session { cpu = after.cpu; ring = after.ring } → after.cpu.slots.live ≡ session.cpu.slots.live
+      → IsBetween (rules_of session.options (permits session.cpu.rule)) image now now phases after
+  starts_between permits image now phases session after begun fresh keeps same live =
+      subst (λ (s : SessionState R). IsBetween (rules_of session.options (permits session.cpu.rule)) image now now phases s) (sym same)
+      (starts_saved permits image now phases session after.cpu after.ring begun fresh (keeps (rules_of session.options (permits session.cpu.rule))) live)
 
   -- how far a session has come that serves
   pub record HasTurned (Went : Type 0) (permits : R → Heap → ℕ → ℕ → Bool) (before now : Told) (phases : Phases) (coming upcoming : Option Coming) (from to : Counts) (takes gives : Bool) (gives_to : ℕ → Bool) (first last : ℕ) (old new : SessionState R) : Type 0 where
@@ -120,11 +141,11 @@ module _ {R : Type 0} where
     connected = λ conn is. absurd (let none : ledgers.is_open session.replies.connections conn ≡ false = ap (λ (ledger : Ledger). ledgers.is_open ledger.connections conn) begun.replies in let no : ⊥ = cc in no);
   }
 
-  pub starts_counted : (image : Image) (session : SessionState R) → IsBegun image session.options session.cpu.rule session → IsCounted session
+  pub starts_counted : (image : Image) (session after : SessionState R) → IsBegun image session.options session.cpu.rule session → after ≡ record session { cpu = after.cpu; ring = after.ring } → after.cpu.slots.live ≡ session.cpu.slots.live → IsCounted after
   unfolding M.start M.start_machine
-  starts_counted image session begun = record {
-    taken = begun.no_items ∙ sym (ap (λ (s : Standing). s.guest.machine.taken) begun.cpu.live_is);
-    steps = begun.no_steps ∙ sym (ap (λ (s : Standing). s.steps) begun.cpu.live_is);
+  starts_counted image session after begun same live = record {
+    taken = ap (λ (s : SessionState R). s.taken) same ∙ (begun.no_items ∙ sym (ap (λ (s : Standing). s.guest.machine.taken) (live ∙ begun.cpu.live_is)));
+    steps = ap (λ (s : SessionState R). s.steps) same ∙ (begun.no_steps ∙ sym (ap (λ (s : Standing). s.steps) (live ∙ begun.cpu.live_is)));
   }
 
   pub frame_then : (old mid new : SessionState R) → HasSameFrame old mid → HasSameFrame mid new → HasSameFrame old new

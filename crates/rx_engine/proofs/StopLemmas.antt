@@ -103,8 +103,7 @@ told_nothing rules image began before now story told tells = record {
   serving = told.serving;
   way = told.way;
   tells = subst (Tells began now) (append-nil (entries story)) (tells_on began before now (entries story) [] told.tells tells);
-  first = told.first;
-  plain = told.plain;
+  recovered = told.recovered;
 }
 
 module _ {R : Type 0} where

@@ -7,9 +7,10 @@ use Rattle.run_history.specs.Served.{Path, Served}
 use Rattle.session_history.specs.Heeding.{items_in, received}
 use Rattle.session_history.specs.Lawful.{Rules, entries_of}
 use Rattle.session_history.specs.Account.{Session, journal_of}
-use Rattle.session_history.specs.Serving.{gone_on}
+use Rattle.session_history.specs.Serving.{gone_on, first_survivor}
 use Rattle.session_history.proofs.Paths.{served_on}
 use Rattle.session_history.proofs.Sessions.{serving_on}
+use Rattle.trial_history.proofs.Survivors.{recovered_on}
 use Rattle.rx_engine.specs.Standing.{Story, entries, IsTold}
 
 -- the story with its survivor at another path
@@ -35,6 +36,5 @@ told_on rules image began now story to told on taken = record {
   serving = serving_on rules image story.earlier story.survivor story.since to told.serving on taken;
   way = served_on rules.limits (items_in rules.bounds (entries story)) story.survivor.plan story.survivor.begun story.survivor.now to told.way on;
   tells = told.tells;
-  first = told.first;
-  plain = told.plain;
+  recovered = recovered_on rules image [] (first_survivor image) story.earlier story.recoveries story.survivor to told.recovered;
 }

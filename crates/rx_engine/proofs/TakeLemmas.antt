@@ -12,7 +12,7 @@ use Rattle.item_log.specs.Log.{Log, IsItemOf}
 use Rattle.item_log.specs.Log as logs
 use Rattle.run_history.specs.Machine.{Wants}
 use Rattle.run_history.specs.Run.{does}
-use Rattle.guest_cpu.specs.Cpus.{CpuState}
+use Rattle.guest_cpu.specs.Cpus.{CpuState, live_of, with_live}
 use Rattle.guest_cpu.specs.Receiving.{taken_standing}
 use Rattle.guest_cpu.specs.Standing.{Standing}
 use Rattle.guest_runs.proofs.TakeLemmas.{asks_wants}
@@ -74,9 +74,9 @@ module _ {R : Type 0} where
 
   -- it takes the item, and its counts are those of the guest
   pub taken_going : (rules : Rules) (image : Image) (began now : Told) (phases : Phases) (item : Item) (old inside after : SessionState R) (cpu : CpuState R) → IsWaitingFor rules image began now phases old → inside ≡ old → IsItemOf inside.log inside.taken item
-      → old.taken < logs.received old.log → cpu.slots.live ≡ taken_standing item inside.cpu.slots.live
+      → old.taken < logs.received old.log → cpu ≡ with_live (live_of cpu) inside.cpu → cpu.slots.live ≡ taken_standing item inside.cpu.slots.live
       → after ≡ record inside { cpu = cpu; taken = cpu.slots.live.guest.machine.taken; steps = cpu.slots.live.steps } → IsGoing rules image began now phases after
-  taken_going rules image began now phases item old inside after cpu w same is there live becomes =
+  taken_going rules image began now phases item old inside after cpu w same is there kept live becomes =
       let h = w.hearing in
       let number : old.taken ≡ h.story.survivor.now.state.machine.taken = h.answers.taken in
       let count : logs.received old.log ≡ received rules.bounds (entries h.story) = received_is rules.bounds (entries h.story) old.log h.goes.items in
@@ -86,6 +86,16 @@ module _ {R : Type 0} where
       subst (λ events. length (items_of rules.bounds.framing events) ≤ rules.bounds.max_items) (sym h.goes.items.all_heeded) (few_items rules.bounds (events_in (entries h.story)) h.goes.items.all_heeded) in
       subst (λ (s : SessionState R). IsGoing rules image began now phases s) (sym becomes)
       (takes_going rules image began now phases item old (record inside { cpu = cpu; taken = cpu.slots.live.guest.machine.taken; steps = cpu.slots.live.steps }) w
-      (record { log = ap (λ (s : SessionState R). s.log) same; replies = ap (λ (s : SessionState R). s.replies) same; events = ap (λ (s : SessionState R). s.events) same })
+      (record {
+        side = record {
+          log = ap (λ (s : SessionState R). s.log) same;
+          events = ap (λ (s : SessionState R). s.events) same;
+          cpu = kept ∙ ap (λ (s : SessionState R). with_live (live_of cpu) s.cpu) same;
+          ring = ap (λ (s : SessionState R). s.ring) same;
+          env = ap (λ (s : SessionState R). s.env) same;
+          until = ap (λ (s : SessionState R). s.until) same;
+        };
+        replies = ap (λ (s : SessionState R). s.replies) same;
+      })
       (ap (λ (s : SessionState R). s.choices) same) (record { taken = refl; steps = refl }) (live ∙ ap (λ (s : SessionState R). taken_standing item s.cpu.slots.live) same)
       (ap (slice_get (items_in rules.bounds (entries h.story))) (sym number) ∙ found) (omega (arith, number, count, there)) few (opened_items rules.bounds (entries h.story) old.taken item found))

@@ -1,15 +1,16 @@
 -- Where the guest of a session ran from one of its events on.
-use Rattle.std.proofs.Common.{◌≡◌, ℕ, ◌<◌, ◌≤◌, Bool, List, Option, Result, Ok, Err, refl, sym, ◌∙◌, ap, subst, arith}
+use Rattle.std.proofs.Common.{cond, ltb, ◌≡◌, ℕ, ◌<◌, ◌≤◌, Bool, List, Option, Result, Ok, Err, refl, sym, ◌∙◌, ap, subst, arith}
 use Rattle.std.specs.Prelude.{IfOk}
 use Rattle.std.specs.declared.alloc.AllocError.{AllocError}
 use Rattle.block_book.specs.declared.choice.Choice.{Choice}
 use Rattle.block_book.specs.Heap.{Heap}
 use Rattle.rx_io.specs.Links.{Phases, Told, Coming}
 use Rattle.elf_image.specs.declared.image.Image.{Image}
+use Rattle.alloc_env.specs.declared.env.Env.{Env}
 use Rattle.alloc_env.specs.declared.env.Env.TheVariants.{Plain}
 use Rattle.run_history.specs.declared.answer.Answer.TheVariants as answer
 use Rattle.run_history.specs.declared.answer.Cause.{Cause}
-use Rattle.run_history.specs.Served.{Override, Path, env_at}
+use Rattle.run_history.specs.Served.{Path, env_at}
 use Rattle.rv_exec.specs.Stepping.{limits_of}
 use Rattle.guest_cpu.specs.declared.event.Event.{Event}
 use Rattle.guest_cpu.specs.declared.event.Event.TheVariants as step
@@ -22,74 +23,81 @@ use Rattle.session_history.specs.Heeding.{items_in}
 use Rattle.session_history.specs.Lawful.{Rules}
 use Rattle.rx_engine.specs.declared.stop.Stop.{Stop}
 use Rattle.rx_engine.specs.Options.{rules_of}
-use Rattle.rx_engine.specs.Sessions.{SessionState}
+use Rattle.rx_engine.specs.Sessions.{SessionState, env_of}
 use Rattle.rx_engine.specs.Standing.{entries, IsBetween, IsWaitingFor, IsEnding, IsBrokenOff}
 use Rattle.rx_engine.specs.Serving.{ComesBetween, HasRun, HasSameFrame}
 use Rattle.rx_engine.proofs.GuestLemmas.{broken_off}
 use Rattle.rx_engine.proofs.ServeLemmas.{run_asks, run_exits, run_fails}
 
 module _ {R : Type 0} where
-  -- how a guest runs in the plain environment, by the session that it is of
-  abbrev pub Ran : (R → Heap → ℕ → ℕ → Bool) → SessionState R → CpuState R → Result Event AllocError → Type 0
-  Ran permits session cpu result = RunsBy step.Emits (turn (limits_of session.options.budget (permits session.cpu.rule)) Plain) session.cpu.base (live_of session.cpu) result (live_of cpu)
+  -- how a guest runs in an environment, by the session that it is of
+  abbrev pub Ran : (R → Heap → ℕ → ℕ → Bool) → Env → SessionState R → CpuState R → Result Event AllocError → Type 0
+  Ran permits env session cpu result = RunsBy step.Emits (turn (limits_of session.options.budget (permits session.cpu.rule)) env) session.cpu.base (live_of session.cpu) result (live_of cpu)
+
+  -- the environment in force is that of the survivor's plan
+  env_is : (rules : Rules) (env : Env) (image : Image) (began now : Told) (phases : Phases) (old : SessionState R) (b : IsBetween rules image began now phases old) → env ≡ env_of old
+      → env_at b.going.story.survivor.plan b.going.story.survivor.now.state.machine.taken ≡ env
+  env_is rules env image began now phases old b force =
+      b.going.saved.in_force.in_force b.going.story.survivor.now.state.machine.taken (omega arith) ∙ (ap (λ n. cond (ltb n old.until) old.env Plain) (sym b.going.answers.taken) ∙ sym force)
 
   -- its run goes on so
-  pub ran_on : (permits : R → Heap → ℕ → ℕ → Bool) (image : Image) (began now : Told) (phases : Phases) (old inside : SessionState R) (cpu : CpuState R) (happened : Event) → inside ≡ old
-      → (b : IsBetween (rules_of old.options (permits old.cpu.rule)) image began now phases old) → Ran permits inside cpu (Ok happened)
+  pub ran_on : (permits : R → Heap → ℕ → ℕ → Bool) (env : Env) (image : Image) (began now : Told) (phases : Phases) (old inside : SessionState R) (cpu : CpuState R) (happened : Event) → env ≡ env_of old → inside ≡ old
+      → (b : IsBetween (rules_of old.options (permits old.cpu.rule)) image began now phases old) → Ran permits env inside cpu (Ok happened)
       → RunsOn (limits_of old.options.budget (permits old.cpu.rule)) (items_in (rules_of old.options (permits old.cpu.rule)).bounds (entries b.going.story)) b.going.story.survivor.plan b.going.story.survivor.now (Ok happened) cpu.slots.live
-  ran_on permits image began now phases old inside cpu happened same b ran =
+  ran_on permits env image began now phases old inside cpu happened force same b ran =
       let first : Path = b.going.story.survivor.now in
-      runs_serve (limits_of old.options.budget (permits old.cpu.rule)) (items_in (rules_of old.options (permits old.cpu.rule)).bounds (entries b.going.story)) b.going.story.survivor.plan Plain old.cpu.base first (live_of old.cpu) (live_of cpu)
-      (Ok happened) b.going.goes.lives (ap (λ (plan : List Override). env_at plan first.state.machine.taken) b.going.told.plain) b.going.goes.guest (subst (λ (s : SessionState R). Ran permits s cpu (Ok happened)) same ran)
+      runs_serve (limits_of old.options.budget (permits old.cpu.rule)) (items_in (rules_of old.options (permits old.cpu.rule)).bounds (entries b.going.story)) b.going.story.survivor.plan env old.cpu.base first (live_of old.cpu) (live_of cpu)
+      (Ok happened) b.going.goes.lives (env_is (rules_of old.options (permits old.cpu.rule)) env image began now phases old b force) b.going.goes.guest (subst (λ (s : SessionState R). Ran permits env s cpu (Ok happened)) same ran)
 
   -- it ran to this event
-  pub has_run : (permits : R → Heap → ℕ → ℕ → Bool) (image : Image) (began now : Told) (phases : Phases) (old inside : SessionState R) (cpu : CpuState R) (found happened : Event) → inside ≡ old → found ≡ happened
-      → IsBetween (rules_of old.options (permits old.cpu.rule)) image began now phases old → Ran permits inside cpu (Ok found)
+  pub has_run : (permits : R → Heap → ℕ → ℕ → Bool) (env : Env) (image : Image) (began now : Told) (phases : Phases) (old inside : SessionState R) (cpu : CpuState R) (found happened : Event) → env ≡ env_of old → inside ≡ old → found ≡ happened
+      → cpu ≡ with_live (live_of cpu) inside.cpu → IsBetween (rules_of old.options (permits old.cpu.rule)) image began now phases old → Ran permits env inside cpu (Ok found)
       → HasRun (rules_of old.options (permits old.cpu.rule)) image began now phases happened (record inside { cpu = cpu })
-  has_run permits image began now phases old inside cpu found happened same is b ran = record {
+  has_run permits env image began now phases old inside cpu found happened force same is kept b ran = record {
     before = old;
     between = b;
     same = ap (λ (s : SessionState R). record s { cpu = cpu }) same;
-    runs = ran_on permits image began now phases old inside cpu happened same b (subst (λ (e : Event). Ran permits inside cpu (Ok e)) is ran);
+    cpu = kept ∙ ap (λ (s : SessionState R). with_live (live_of cpu) s.cpu) same;
+    runs = ran_on permits env image began now phases old inside cpu happened force same b (subst (λ (e : Event). Ran permits env inside cpu (Ok e)) is ran);
   }
 
   -- its count of instructions didn't fall
-  pub ran_later : (permits : R → Heap → ℕ → ℕ → Bool) (image : Image) (began now : Told) (phases : Phases) (old inside : SessionState R) (cpu : CpuState R) (happened : Event) → inside ≡ old
-      → IsBetween (rules_of old.options (permits old.cpu.rule)) image began now phases old → Ran permits inside cpu (Ok happened) → old.cpu.slots.live.steps ≤ cpu.slots.live.steps
-  ran_later permits image began now phases old inside cpu happened same b ran =
-      let runs = ran_on permits image began now phases old inside cpu happened same b ran in
+  pub ran_later : (permits : R → Heap → ℕ → ℕ → Bool) (env : Env) (image : Image) (began now : Told) (phases : Phases) (old inside : SessionState R) (cpu : CpuState R) (happened : Event) → env ≡ env_of old → inside ≡ old
+      → IsBetween (rules_of old.options (permits old.cpu.rule)) image began now phases old → Ran permits env inside cpu (Ok happened) → old.cpu.slots.live.steps ≤ cpu.slots.live.steps
+  ran_later permits env image began now phases old inside cpu happened force same b ran =
+      let runs = ran_on permits env image began now phases old inside cpu happened force same b ran in
       let from : old.cpu.slots.live.steps ≡ b.going.story.survivor.now.steps = ap (λ (s : Standing). s.steps) b.going.goes.guest in
       let to : runs.now.steps ≡ cpu.slots.live.steps = ap (λ (s : Standing). s.steps) runs.stands in
       let later : b.going.story.survivor.now.steps ≤ runs.now.steps = runs.goes.later in
       omega (arith, from, to, later)
 
   -- and the session answers for no more of them
-  pub ran_low : (permits : R → Heap → ℕ → ℕ → Bool) (image : Image) (began now : Told) (phases : Phases) (old inside : SessionState R) (cpu : CpuState R) (result : Result Event AllocError) → inside ≡ old
-      → IsBetween (rules_of old.options (permits old.cpu.rule)) image began now phases old → Ran permits inside cpu result → inside.steps ≤ cpu.slots.live.steps
-  ran_low permits image began now phases old inside cpu result same b ran =
+  pub ran_low : (permits : R → Heap → ℕ → ℕ → Bool) (env : Env) (image : Image) (began now : Told) (phases : Phases) (old inside : SessionState R) (cpu : CpuState R) (result : Result Event AllocError) → env ≡ env_of old → inside ≡ old
+      → IsBetween (rules_of old.options (permits old.cpu.rule)) image began now phases old → Ran permits env inside cpu result → inside.steps ≤ cpu.slots.live.steps
+  ran_low permits env image began now phases old inside cpu result force same b ran =
       let first : Path = b.going.story.survivor.now in
-      let runs = runs_serve (limits_of old.options.budget (permits old.cpu.rule)) (items_in (rules_of old.options (permits old.cpu.rule)).bounds (entries b.going.story)) b.going.story.survivor.plan Plain old.cpu.base first (live_of old.cpu) (live_of cpu)
-      result b.going.goes.lives (ap (λ (plan : List Override). env_at plan first.state.machine.taken) b.going.told.plain) b.going.goes.guest (subst (λ (s : SessionState R). Ran permits s cpu result) same ran) in
+      let runs = runs_serve (limits_of old.options.budget (permits old.cpu.rule)) (items_in (rules_of old.options (permits old.cpu.rule)).bounds (entries b.going.story)) b.going.story.survivor.plan env old.cpu.base first (live_of old.cpu) (live_of cpu)
+      result b.going.goes.lives (env_is (rules_of old.options (permits old.cpu.rule)) env image began now phases old b force) b.going.goes.guest (subst (λ (s : SessionState R). Ran permits env s cpu result) same ran) in
       let answers : inside.steps ≡ first.steps = ap (λ (s : SessionState R). s.steps) same ∙ b.going.answers.steps in
       let to : runs.now.steps ≡ cpu.slots.live.steps = ap (λ (s : Standing). s.steps) runs.stands in
       let later : first.steps ≤ runs.now.steps = runs.goes.later in
       omega (arith, answers, to, later)
 
   -- and grew by a send
-  pub emits_later : (permits : R → Heap → ℕ → ℕ → Bool) (image : Image) (began now : Told) (phases : Phases) (old inside : SessionState R) (cpu : CpuState R) (conn : ℕ) (bytes : List ℕ) (found : Event) → inside ≡ old → found ≡ step.Emits conn bytes
-      → IsBetween (rules_of old.options (permits old.cpu.rule)) image began now phases old → Ran permits inside cpu (Ok found) → old.cpu.slots.live.steps < cpu.slots.live.steps
-  emits_later permits image began now phases old inside cpu conn bytes found same is b ran =
-      let runs = ran_on permits image began now phases old inside cpu (step.Emits conn bytes) same b (subst (λ (e : Event). Ran permits inside cpu (Ok e)) is ran) in
+  pub emits_later : (permits : R → Heap → ℕ → ℕ → Bool) (env : Env) (image : Image) (began now : Told) (phases : Phases) (old inside : SessionState R) (cpu : CpuState R) (conn : ℕ) (bytes : List ℕ) (found : Event) → env ≡ env_of old → inside ≡ old → found ≡ step.Emits conn bytes
+      → IsBetween (rules_of old.options (permits old.cpu.rule)) image began now phases old → Ran permits env inside cpu (Ok found) → old.cpu.slots.live.steps < cpu.slots.live.steps
+  emits_later permits env image began now phases old inside cpu conn bytes found force same is b ran =
+      let runs = ran_on permits env image began now phases old inside cpu (step.Emits conn bytes) force same b (subst (λ (e : Event). Ran permits env inside cpu (Ok e)) is ran) in
       let from : old.cpu.slots.live.steps ≡ b.going.story.survivor.now.steps = ap (λ (s : Standing). s.steps) b.going.goes.guest in
       let to : runs.now.steps ≡ cpu.slots.live.steps = ap (λ (s : Standing). s.steps) runs.stands in
       let later : b.going.story.survivor.now.steps < runs.now.steps = runs.comes.6 in
       omega (arith, from, to, later)
 
   -- and by an answer of malloc
-  pub chooses_later : (permits : R → Heap → ℕ → ℕ → Bool) (image : Image) (began now : Told) (phases : Phases) (old inside : SessionState R) (cpu : CpuState R) (choice : Choice) (found : Event) → inside ≡ old → found ≡ step.Chooses choice
-      → IsBetween (rules_of old.options (permits old.cpu.rule)) image began now phases old → Ran permits inside cpu (Ok found) → old.cpu.slots.live.steps < cpu.slots.live.steps
-  chooses_later permits image began now phases old inside cpu choice found same is b ran =
-      let runs = ran_on permits image began now phases old inside cpu (step.Chooses choice) same b (subst (λ (e : Event). Ran permits inside cpu (Ok e)) is ran) in
+  pub chooses_later : (permits : R → Heap → ℕ → ℕ → Bool) (env : Env) (image : Image) (began now : Told) (phases : Phases) (old inside : SessionState R) (cpu : CpuState R) (choice : Choice) (found : Event) → env ≡ env_of old → inside ≡ old → found ≡ step.Chooses choice
+      → IsBetween (rules_of old.options (permits old.cpu.rule)) image began now phases old → Ran permits env inside cpu (Ok found) → old.cpu.slots.live.steps < cpu.slots.live.steps
+  chooses_later permits env image began now phases old inside cpu choice found force same is b ran =
+      let runs = ran_on permits env image began now phases old inside cpu (step.Chooses choice) force same b (subst (λ (e : Event). Ran permits env inside cpu (Ok e)) is ran) in
       let from : old.cpu.slots.live.steps ≡ b.going.story.survivor.now.steps = ap (λ (s : Standing). s.steps) b.going.goes.guest in
       let to : runs.now.steps ≡ cpu.slots.live.steps = ap (λ (s : Standing). s.steps) runs.stands in
       let later : b.going.story.survivor.now.steps < runs.now.steps = runs.comes.3 in
@@ -110,19 +118,19 @@ module _ {R : Type 0} where
       → IsWaitingFor rules image began now phases after
   asks_now rules image began now phases old inside after cpu same is h =
       subst (λ (s : SessionState R). IsWaitingFor rules image began now phases s) (sym is)
-      (run_asks rules image began now phases (record inside { cpu = cpu }) (counted_by inside cpu) h refl refl refl refl refl (record { taken = refl; steps = refl }))
+      (run_asks rules image began now phases (record inside { cpu = cpu }) (counted_by inside cpu) h refl refl refl (record { taken = refl; steps = refl }))
 
   pub exits_now : (rules : Rules) (image : Image) (began now : Told) (phases : Phases) (coming : Option Coming) (code : ℕ) (old inside after : SessionState R) (cpu : CpuState R) → inside ≡ old → after ≡ counted_by inside cpu
       → HasRun rules image began now phases (step.Exits code) (record inside { cpu = cpu }) → IsEnding rules image began now coming after (answer.Exited code)
   exits_now rules image began now phases coming code old inside after cpu same is h =
       subst (λ (s : SessionState R). IsEnding rules image began now coming s (answer.Exited code)) (sym is)
-      (run_exits rules image began now phases coming code (record inside { cpu = cpu }) (counted_by inside cpu) h refl refl refl refl refl (record { taken = refl; steps = refl }))
+      (run_exits rules image began now phases coming code (record inside { cpu = cpu }) (counted_by inside cpu) h refl refl refl (record { taken = refl; steps = refl }))
 
   pub fails_now : (rules : Rules) (image : Image) (began now : Told) (phases : Phases) (coming : Option Coming) (cause : Cause) (point : ℕ) (old inside after : SessionState R) (cpu : CpuState R) → inside ≡ old → after ≡ counted_by inside cpu → point ≡ after.taken
       → HasRun rules image began now phases (step.Failed cause) (record inside { cpu = cpu }) → IsEnding rules image began now coming after (answer.GaveUp point cause)
   fails_now rules image began now phases coming cause point old inside after cpu same is at h =
       subst (λ (s : SessionState R). IsEnding rules image began now coming s (answer.GaveUp point cause)) (sym is)
-      (run_fails rules image began now phases coming cause point (record inside { cpu = cpu }) (counted_by inside cpu) h refl refl refl refl refl (record { taken = refl; steps = refl }) (at ∙ ap (λ (s : SessionState R). s.taken) is))
+      (run_fails rules image began now phases coming cause point (record inside { cpu = cpu }) (counted_by inside cpu) h refl refl refl (record { taken = refl; steps = refl }) (at ∙ ap (λ (s : SessionState R). s.taken) is))
 
   -- memory ran out within the run: the session answers for the run before it
   pub breaks_now : (rules : Rules) (image : Image) (began now : Told) (phases : Phases) (coming : Option Coming) (old inside : SessionState R) (cpu : CpuState R) → inside ≡ old → IsBetween rules image began now phases old

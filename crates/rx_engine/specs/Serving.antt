@@ -12,6 +12,7 @@ use Rattle.run_history.specs.declared.answer.Answer.{Answer}
 use Rattle.run_history.specs.declared.answer.Answer.TheVariants as answer
 use Rattle.guest_cpu.specs.declared.event.Event.{Event}
 use Rattle.guest_cpu.specs.declared.event.Event.TheVariants as step
+use Rattle.guest_cpu.specs.Cpus.{live_of, with_live}
 use Rattle.guest_runs.specs.Runs.{RunsOn}
 use Rattle.session_history.specs.Heeding.{Bounds, items_in, received}
 use Rattle.session_history.specs.Passing.{passed_in, AreInOrder}
@@ -180,6 +181,7 @@ module _ {R : Type 0} where
     pub before : SessionState R
     pub between : IsBetween rules image began now phases before
     pub same : session ≡ record before { cpu = session.cpu }
+    pub cpu : session.cpu ≡ with_live (live_of session.cpu) before.cpu
     pub runs : RunsOn rules.limits (items_in rules.bounds (entries between.going.story)) between.going.story.survivor.plan between.going.story.survivor.now (Ok happened) session.cpu.slots.live
 
   -- it stands so for some image, since some time

@@ -7,7 +7,7 @@ use Rattle.elf_image.specs.declared.image.Image.{Image}
 use Rattle.reply_ledger.specs.Ledger.{Ledger}
 use Rattle.run_history.specs.declared.answer.Answer.{Answer}
 use Rattle.run_history.specs.Call.{may_send}
-use Rattle.run_history.specs.Served.{Served, AsksFor}
+use Rattle.run_history.specs.Served.{Path, Served, AsksFor}
 use Rattle.guest_cpu.specs.Serving.{standing_of}
 use Rattle.guest_runs.specs.Runs.{IsBounded}
 use Rattle.session_history.specs.Heeding.{heeded, items_in, received}
@@ -16,15 +16,18 @@ use Rattle.session_history.specs.Opened.{opens, is_open}
 use Rattle.session_history.specs.Owing.{Moment, journal, Latest, latest, received_before, Stands, IsDueBy, IsPassed, OwesNothing}
 use Rattle.session_history.specs.Lawful.{Rules, Survivor, is_closing, Chapter, entries_of}
 use Rattle.session_history.specs.Account.{Session, journal_of, IsAccount}
-use Rattle.session_history.specs.Serving.{moment_of, Serving}
+use Rattle.session_history.specs.Serving.{moment_of, Serving, first_survivor}
 use Rattle.session_history.specs.Keeping.{KeepsReplies, KeepsItems, KeepsPhases}
 use Rattle.session_history.specs.Giving.{AreGiven}
-use Rattle.session_history.specs.Ends.{IsEnd, IsWaiting, StandsAt, EndsBy, IsAlone}
+use Rattle.session_history.specs.Ends.{IsEnd, IsWaiting, StandsAt, EndsBy}
+use Rattle.trial_history.specs.Episodes.{Recovery, AreRecovered}
+use Rattle.recovery_gate.specs.Rings.{KeepsRing, IsInForce}
 use Rattle.rx_engine.specs.Sessions.{SessionState}
 
--- a session so far, as data: the chapters of earlier survivors, the survivor, and the entries of its time
+-- a session so far, as data: the chapters of earlier survivors, with the recovery behind each, the survivor, and the entries of its time
 pub record Story : Type 0 where
   pub earlier : List Chapter
+  pub recoveries : List Recovery
   pub survivor : Survivor
   pub since : List Entry
 
@@ -46,8 +49,7 @@ pub record IsTold (rules : Rules) (image : Image) (began now : Told) (story : St
   pub serving : Serving rules image story.earlier story.survivor story.since
   pub way : Served rules.limits (items_in rules.bounds (entries story)) story.survivor.plan story.survivor.begun story.survivor.now
   pub tells : Tells began now (entries story)
-  pub first : story.earlier ≡ []
-  pub plain : story.survivor.plan ≡ []
+  pub recovered : AreRecovered rules image [] (first_survivor image) story.earlier story.recoveries story.survivor
 
 module _ {R : Type 0} where
   -- a session answers for the survivor's run
@@ -67,6 +69,12 @@ module _ {R : Type 0} where
     pub whole : session.log.first ≡ 0
     pub events : session.events ≡ length (events_in (entries story))
     pub phases_are : KeepsPhases (entries story) phases
+
+  -- it has the survivor's checkpoints, and the environment in which the survivor runs
+  pub record KeepsCheckpoints (rules : Rules) (image : Image) (story : Story) (session : SessionState R) : Type 0 where
+    pub paths : List Path
+    pub ring : KeepsRing rules image (entries story) story.survivor.plan story.survivor.now paths session.cpu session.ring session.log session.replies
+    pub in_force : IsInForce story.survivor.plan story.survivor.now.state.machine.taken session.env session.until
 
 -- what the latest event makes owed was passed
 abbrev pub IsLatestDone : Rules → Moment → List Send → Type 0
@@ -104,6 +112,7 @@ module _ {R : Type 0} where
     pub told : IsTold rules image began now story
     pub answers : AnswersFor story session
     pub goes : GoesWith rules story session phases
+    pub saved : KeepsCheckpoints rules image story session
     pub passed : HasPassed rules story session.replies
     pub latest : IsLatestBefore rules (moment story) story.survivor.now.state.machine.taken
 
@@ -118,6 +127,7 @@ module _ {R : Type 0} where
     pub told : IsTold rules image began now story
     pub answers : AnswersFor story session
     pub goes : GoesWith rules story session phases
+    pub saved : KeepsCheckpoints rules image story session
     pub passed : HasPassed rules story session.replies
     pub asks : AsksFor rules.limits story.survivor.plan story.survivor.now story.survivor.now.state.machine.taken
     pub latest : IsLatestBefore rules (moment story) (story.survivor.now.state.machine.taken + 1)
@@ -147,7 +157,8 @@ module _ {R : Type 0} where
     pub ends : EndsBy rules coming account end
     pub pieces : AreGiven account.ending
     pub no_end : IsEnd end → ⊥
-    pub alone : IsAlone account
+    pub recoveries : List Recovery
+    pub recovered : AreRecovered rules image [] (first_survivor image) account.earlier recoveries account.survivor
     pub choices : session.choices ≡ account.survivor.now.choices
     pub taken : session.taken ≡ account.survivor.now.state.machine.taken
     pub steps : session.steps ≡ account.survivor.now.steps

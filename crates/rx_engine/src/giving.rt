@@ -37,6 +37,7 @@ impl<R: AccessRule> Session<R> {
             → PassesStory rules image began (K.told link.new) (K.coming link.new) story until self.new result }
         ensures same { self.new ≡ record self.old { replies = self.new.replies } }
         ensures no_trial { self.new.replies.trial ≡ None }
+        ensures first { self.new.replies.first ≡ self.old.replies.first }
         ensures gives { IfOk result (λ _. CanGive (K.gives link.new) (K.gives_to link.new) self.new.replies) }
         ensures only { OnlyGives (K.phases link.old) (K.phases link.new) (K.takes link.old) (K.takes link.new) (K.coming link.old) (K.coming link.new) }
         ensures broken { BreaksPassing result }
@@ -59,6 +60,7 @@ impl<R: AccessRule> Session<R> {
             → PassesDue rules image began (K.told link.new) (K.coming link.new) story self.new result }
         ensures same { self.new ≡ record self.old { replies = self.new.replies } }
         ensures no_trial { self.new.replies.trial ≡ None }
+        ensures first { self.new.replies.first ≡ self.old.replies.first }
         ensures gives { IfOk result (λ _. CanGive (K.gives link.new) (K.gives_to link.new) self.new.replies) }
         ensures only { OnlyGives (K.phases link.old) (K.phases link.new) (K.takes link.old) (K.takes link.new) (K.coming link.old) (K.coming link.new) }
         ensures broken { BreaksPassing result }
@@ -81,6 +83,7 @@ impl<R: AccessRule> Session<R> {
             → PassesDue rules image began (K.told link.new) (K.coming link.new) story self.new result }
         ensures same { self.new ≡ record self.old { replies = self.new.replies } }
         ensures no_trial { self.new.replies.trial ≡ None }
+        ensures first { self.new.replies.first ≡ self.old.replies.first }
         ensures gives { IfOk result (λ _. CanGive (K.gives link.new) (K.gives_to link.new) self.new.replies) }
         ensures only { OnlyGives (K.phases link.old) (K.phases link.new) (K.takes link.old) (K.takes link.new) (K.coming link.old) (K.coming link.new) }
         ensures broken { BreaksPassing result }

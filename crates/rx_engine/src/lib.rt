@@ -5,6 +5,7 @@ mod giving;
 mod hearing;
 mod left;
 mod options;
+mod saving;
 mod serving;
 mod session;
 mod stop;

@@ -5,16 +5,16 @@ ghost use Rattle.elf_image.specs.declared.image.Image.{Image};
 ghost use Rattle.item_log.specs.Log.{received};
 ghost use Rattle.run_history.specs.declared.answer.Answer.TheVariants as answer;
 ghost use Rattle.guest_cpu.specs.declared.event.Event.TheVariants as event;
-ghost use Rattle.session_history.specs.Ends.{IsEnd, HasServed};
+ghost use Rattle.session_history.specs.Ends.{IsEnd};
 ghost use Rattle.rx_engine.specs.Options.{rules_of};
 ghost use Rattle.rx_engine.specs.Sessions.{IsBegun};
 ghost use Rattle.rx_engine.specs.Standing.{IsGoing, IsBetween, IsAsking, IsWaitingFor, IsEnding};
+ghost use Rattle.rx_engine.specs.Recovered.{HasRecovered};
 ghost use Rattle.rx_engine.specs.Serving.{CanGive, HasStopCause, HasAnswerCause, UnlessBroken, UnlessMemory, TakesAtEnd, TakesBy, BreaksPassing, BreaksAt, BreaksOnce, StaysKnown, IsCounted, IsOkOrMemory, HasSameFrame, HasRun, StandsBetween, StandsWaiting, StandsEmitting, StandsEnding, ComesBetween, IsReadyToServe};
 
 use crate::Session;
 use crate::giving::answer_to;
 use crate::stop::Stop;
-use alloc_env::Env;
 use block_book::Choice;
 use guest_cpu::Event;
 use guest_space::AccessRule;
@@ -25,14 +25,14 @@ use std::sync::ledger::Ledger;
 
 impl<R: AccessRule> Session<R> {
     /// Serves a link to which no connection was opened yet, from the start of the program to an end, a fault or want of memory, and
-    /// answers how it ended. At an end all that is held back is passed.
+    /// answers how it ended. At an end all that is held back is passed. Checkpoints of the program are saved on the way.
     pub fn serve<K: Link, L: Ledger>(&mut self, link: &mut K, steps: &mut Steps<L>) -> Answer
         requires begun { IsReadyToServe self.old }
         requires fresh { IsFresh (K.phases link.old) }
         requires takes { K.takes link.old ≡ true }
         requires gives { K.gives link.old ≡ true }
         ensures served { (image : Image) → IsBegun image self.old.options self.old.cpu.rule self.old
-            → HasServed (rules_of self.old.options (R.rule self.old.cpu.rule)) image (K.told link.old) (K.told link.new) (K.coming link.new) (K.takes link.new) result self.new.choices self.new.taken self.new.steps }
+            → HasRecovered (rules_of self.old.options (R.rule self.old.cpu.rule)) image (K.told link.old) (K.told link.new) (K.coming link.new) (K.takes link.new) result self.new.choices self.new.taken self.new.steps }
         ensures cause { HasAnswerCause (K.counts link.old) (K.counts link.new) result }
         ensures takes { TakesAtEnd (K.takes link.new) result }
         ensures gives { IsEnd result → K.gives link.new ≡ true }
@@ -42,6 +42,7 @@ impl<R: AccessRule> Session<R> {
         ensures counted_at_least { steps.old + self.new.steps ≤ steps.new }
         ensures went { K.Went link.old link.new }
     {
+        self.save_start();
         'turns: loop {
             match self.turn(link, steps) {
                 Ok(()) => {}
@@ -56,7 +57,7 @@ impl<R: AccessRule> Session<R> {
         requires ends { StandsEnding (rules_of self.old.options (R.rule self.old.cpu.rule)) (K.told link.old) (K.coming link.old) answer self.old }
         requires gives { CanGive (K.gives link.old) (K.gives_to link.old) self.old.replies }
         ensures served { (image : Image) (began : Told) (ending : IsEnding (rules_of self.old.options (R.rule self.old.cpu.rule)) image began (K.told link.old) (K.coming link.old) self.old answer)
-            → (K.takes link.old ≡ false → IsAsking (rules_of self.old.options (R.rule self.old.cpu.rule)) ending.story) → HasServed (rules_of self.old.options (R.rule self.old.cpu.rule)) image began (K.told link.new) (K.coming link.new) (K.takes link.new) result self.new.choices self.new.taken self.new.steps }
+            → (K.takes link.old ≡ false → IsAsking (rules_of self.old.options (R.rule self.old.cpu.rule)) ending.story) → HasRecovered (rules_of self.old.options (R.rule self.old.cpu.rule)) image began (K.told link.new) (K.coming link.new) (K.takes link.new) result self.new.choices self.new.taken self.new.steps }
         ensures cause { HasAnswerCause (K.counts link.old) (K.counts link.new) result }
         ensures same { self.new ≡ record self.old { replies = self.new.replies } }
         ensures takes { TakesAtEnd (K.takes link.old) answer → TakesAtEnd (K.takes link.new) result }
@@ -91,9 +92,10 @@ impl<R: AccessRule> Session<R> {
         ensures cause { HasStopCause (K.counts link.old) (K.counts link.new) result }
         ensures went { K.Went link.old link.new }
     {
+        let env = self.env_now();
         match self
             .cpu
-            .run_to_event(self.alloc, Env::Plain, self.options.budget, steps)
+            .run_to_event(self.alloc, env, self.options.budget, steps)
         {
             Ok(Event::Asks) => {
                 self.count_run();
@@ -114,8 +116,35 @@ impl<R: AccessRule> Session<R> {
         }
     }
 
-    // The guest waits for an item: it comes, and is taken.
+    // The guest waits for an item: it is saved where a checkpoint is due, and then the item comes, and is taken.
     fn ask<K: Link, L: Ledger>(&mut self, link: &mut K, steps: &mut Steps<L>) -> Result<(), Stop>
+        requires waits { StandsWaiting (rules_of self.old.options (R.rule self.old.cpu.rule)) (K.told link.old) (K.phases link.old) self.old }
+        requires takes { K.takes link.old ≡ true }
+        requires gives { CanGive (K.gives link.old) (K.gives_to link.old) self.old.replies }
+        requires marked { IsCounted self.old }
+        ensures turns { (image : Image) (began : Told) → IsWaitingFor (rules_of self.old.options (R.rule self.old.cpu.rule)) image began (K.told link.old) (K.phases link.old) self.old
+            → ComesBetween (rules_of self.old.options (R.rule self.old.cpu.rule)) image began (K.told link.new) (K.phases link.new) (K.coming link.new) (K.takes link.new) self.new result }
+        ensures frame { HasSameFrame self.old self.new }
+        ensures takes { TakesBy (K.takes link.new) result }
+        ensures gives { UnlessBroken result (CanGive (K.gives link.new) (K.gives_to link.new) self.new.replies) }
+        ensures coming { UnlessBroken result (StaysKnown (K.coming link.old) (K.coming link.new)) }
+        ensures once { BreaksOnce (K.coming link.old) (K.coming link.new) (K.gives link.new) result }
+        ensures marked { IsCounted self.new }
+        ensures later { IfOk result (λ _. self.old.cpu.slots.live.steps < self.new.cpu.slots.live.steps) }
+        ensures counted { steps.new + self.old.cpu.slots.live.steps ≡ steps.old + self.new.cpu.slots.live.steps }
+        ensures cause { HasStopCause (K.counts link.old) (K.counts link.new) result }
+        ensures went { K.Went link.old link.new }
+    {
+        self.save();
+        self.receive(link, steps)
+    }
+
+    // The guest waits for an item: it comes, and is taken.
+    fn receive<K: Link, L: Ledger>(
+        &mut self,
+        link: &mut K,
+        steps: &mut Steps<L>,
+    ) -> Result<(), Stop>
         requires waits { StandsWaiting (rules_of self.old.options (R.rule self.old.cpu.rule)) (K.told link.old) (K.phases link.old) self.old }
         requires takes { K.takes link.old ≡ true }
         requires gives { CanGive (K.gives link.old) (K.gives_to link.old) self.old.replies }

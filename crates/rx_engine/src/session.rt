@@ -1,10 +1,12 @@
 // A session of a program over a link.
 ghost use Rattle.std.specs.Prelude.{◌≡◌, ◌≤◌, IfOk};
 ghost use Rattle.rx_engine.specs.Options.{AreInRange};
-ghost use Rattle.rx_engine.specs.Sessions.{IsBegun};
+ghost use Rattle.rx_engine.specs.Sessions.{IsBegun, env_of};
 
 use crate::{Left, Options};
+use alloc_env::Env;
 use block_book::{Choice, Choices};
+use ckpt_ring::Ring;
 use elf_image::Image;
 use guest_cpu::Cpu;
 use guest_space::AccessRule;
@@ -21,12 +23,15 @@ pub struct Session<R: AccessRule> {
     pub(crate) alloc: Global,
     pub(crate) options: Options,
     pub(crate) cpu: Cpu<R>,
+    pub(crate) ring: Ring,
     pub(crate) log: ItemLog,
     pub(crate) replies: Replies,
     pub(crate) events: u64,
     pub(crate) choices: Vec<Choice>,
     pub(crate) taken: u64,
     pub(crate) steps: u64,
+    pub(crate) env: Env,
+    pub(crate) until: u64,
 }
 
 impl<R: AccessRule> Model for Session<R> {
@@ -35,7 +40,7 @@ impl<R: AccessRule> Model for Session<R> {
 
     ghost Value = { SessionState R };
 
-    ghost view = { λ s. record { options = s.options; cpu = s.cpu; log = s.log; replies = s.replies; events = s.events; choices = s.choices.items; taken = s.taken; steps = s.steps } };
+    ghost view = { λ s. record { options = s.options; cpu = s.cpu; ring = s.ring; log = s.log; replies = s.replies; events = s.events; choices = s.choices.items; taken = s.taken; steps = s.steps; env = s.env; until = s.until } };
 
     ghost invariant = { λ s. AreInRange s.options };
 }
@@ -57,12 +62,15 @@ impl<R: AccessRule + Drop> Session<R> {
             alloc,
             options: *options,
             cpu: Cpu::make(alloc, image, options.ring, frames, rule)?,
+            ring: Ring::make(alloc, options.ring)?,
             log: ItemLog::make(alloc, options.frame, options.max_items)?,
             replies: Replies::make(alloc)?,
             events: 0,
             choices: Vec::new(alloc),
             taken: 0,
             steps: 0,
+            env: Env::Plain,
+            until: 0,
         })
     }
 
@@ -108,6 +116,16 @@ impl<R: AccessRule> Session<R> {
         ensures { result.now ≡ self.now.choices }
     {
         self.choices.as_slice()
+    }
+
+    /// The environment that is in force with the items taken so far.
+    pub(crate) fn env_now(&self) -> Env
+        ensures { result ≡ env_of self.now }
+    {
+        if self.taken < self.until {
+            return self.env;
+        }
+        Env::Plain
     }
 
     /// The counts of the guest's run are those that the session answers for.

@@ -89,20 +89,13 @@ EndsBy rules coming session answer.WriteFault = Unit {0}
 EndsBy rules coming session answer.Memory = Unit {0}
 EndsBy rules coming session end = StandsAt rules (before_end session) coming session.survivor end × OwesNothingAtEnd rules session × (session.broken ≡ [])
 
--- there was one survivor, the first, in the plain environment
-pub record IsAlone (session : Session) : Type 0 where
-  pub first : session.earlier ≡ []
-  pub plain : session.survivor.plan ≡ []
-
 -- What a session leaves at each answer, by what its link told before and after, by whether events may still be taken there, and by its
--- counts: one account of it, with one survivor; where pieces were passed as at an end, the cause of that end; and what stands behind the
--- answer. At an end pieces alone are passed. And where no event may be taken any more, the take that failed was asked for.
+-- counts: one account of it; where pieces were passed as at an end, the cause of that end; and what stands behind the answer. At an end pieces alone are passed. And where no event may be taken any more, the take that failed was asked for.
 pub record HasServed (rules : Rules) (image : Image) (began now : Told) (coming : Option Coming) (takes : Bool) (end : Answer) (choices : List Choice) (taken steps : ℕ) : Type 0 where
   pub session : Session
   pub at_end : Bool
   pub tells : Tells began now (journal_of session)
   pub account : IsAccount rules image session at_end
-  pub alone : IsAlone session
   pub comes : at_end ≡ true → HasCome rules coming session
   pub ends : EndsBy rules coming session end
   pub pieces : AreGiven session.ending

@@ -12,7 +12,8 @@ use Rattle.elf_image.specs.declared.image.Image.{Image}
 use Rattle.run_history.specs.declared.answer.Answer.{Answer}
 use Rattle.run_history.specs.declared.answer.Answer.TheVariants as answer
 use Rattle.session_history.specs.Account.{Session, journal_of}
-use Rattle.session_history.specs.Ends.{IsEnd, EndsBy, WasAsked, HasServed}
+use Rattle.session_history.specs.Ends.{IsEnd, EndsBy, WasAsked}
+use Rattle.rx_engine.specs.Recovered.{HasRecovered}
 use Rattle.session_history.specs.Heeding.{Bounds}
 use Rattle.session_history.specs.Lawful.{Rules}
 use Rattle.rx_engine.specs.Serving.{StaysKnown, TakesAtEnd, BreaksAt}
@@ -145,9 +146,10 @@ breaks_trunk old new out later events pieces _ no_part whole once = tt
 pub serves : (rules : Rules) (image : Image) (old new : Intake) (out later : Output) (began : Told) (end : Answer) (choices : List Choice) (taken steps : ℕ) → IsFresh old.phases → old.took ≡ 0 → out.wrote ≡ 0
     → old.takes ≡ true → out.gives ≡ true → Countable new.told → Short later.told → began ≡ told_nothing old.told out.told → TakesOn old.takes old new → GivesOn out.gives out later
     → TakesAtEnd new.takes end → (IsEnd end → later.gives ≡ true) → (IsEnd end → StaysKnown (upcoming old) (upcoming new)) → BreaksAt (upcoming old) (upcoming new) later.gives end
-    → HasServed rules image began (trunk_told (told_events new.told new.took new.phases new.takes) (told_pieces later.told later.wrote later.gives)) (upcoming new) new.takes end choices taken steps
+    → HasRecovered rules image began (trunk_told (told_events new.told new.took new.phases new.takes) (told_pieces later.told later.wrote later.gives)) (upcoming new) new.takes end choices taken steps
     → ServesTrunk rules image old.told new.told out.told later.told end choices taken steps
-serves rules image old new out later began end choices taken steps is_fresh none nothing takes gives few short start taken_on given_on still gives_still known once served =
+serves rules image old new out later began end choices taken steps is_fresh none nothing takes gives few short start taken_on given_on still gives_still known once recovered =
+    let served = recovered.served in
     let went : TookFrames old new = subst (λ b. TakesOn b old new) takes taken_on in
     let wrote : WroteFrames out later = subst (λ b. GivesOn b out later) gives given_on in
     let events = subst (λ (told : Told). Grew told.events (told_events new.told new.took new.phases new.takes) (events_in (journal_of served.session))) start served.tells.events in
@@ -156,7 +158,8 @@ serves rules image old new out later began end choices taken steps is_fresh none
       at_end = served.at_end;
       coming = upcoming new;
       account = served.account;
-      alone = served.alone;
+      recoveries = recovered.recoveries;
+      recovered = recovered.recovered;
       comes = served.comes;
       ends = served.ends;
       pieces = served.pieces;

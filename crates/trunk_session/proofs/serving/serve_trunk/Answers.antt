@@ -24,7 +24,7 @@ returns-clause-served g c =
 pub returns-clause-only : goal.returns-clause-only
 returns-clause-only g c =
     let served = c.serve.ensures.served c.requires.begun.image c.requires.begun.begun in
-    of_session _ _ served.session c.serve.result served.ends
+    of_session _ _ served.served.session c.serve.result served.served.ends
 
 pub returns-clause-counted : goal.returns-clause-counted
 returns-clause-counted g c = c.serve.ensures.counted

@@ -16,5 +16,5 @@ returns-in-Err-clause-turns g c image began now phases coming h = (
 pub returns-clause-turns : goal.returns-clause-turns
 returns-clause-turns g c image began now phases coming h =
     subst (λ (s : SessionState _). IsBetween (rules_of c.args.self.now.options (g.R.AccessRule.rule c.args.self.now.cpu.rule)) image began now phases s) (sym c.count_run.ensures)
-    (run_chooses _ image began now phases c.args.choice c.args.self.now _ h (ap (λ (s : SessionState _). s.log) c.self.view_is) (ap (λ (s : SessionState _). s.replies) c.self.view_is) (ap (λ (s : SessionState _). s.events) c.self.view_is)
-    (ap (λ (s : SessionState _). s.cpu) c.self.view_is) (c.in_default.ensures.items ∙ ap (λ (s : SessionState _). s.choices ++ c.args.choice ∷ []) c.self.view_is) (record { taken = refl; steps = refl }))
+    (run_chooses _ image began now phases c.args.choice c.args.self.now _ h (ap (λ (s : SessionState _). record s { replies = c.self.inside.replies; choices = c.push.new.self.items; taken = c.self.inside.cpu.slots.live.guest.machine.taken; steps = c.self.inside.cpu.slots.live.steps }) c.self.view_is)
+    (ap (λ (s : SessionState _). s.replies) c.self.view_is) (c.in_default.ensures.items ∙ ap (λ (s : SessionState _). s.choices ++ c.args.choice ∷ []) c.self.view_is) (record { taken = refl; steps = refl }))

@@ -29,7 +29,7 @@ returns-clause-turns g c image began h =
     let rules = rules_of c.args.self.now.options (g.R.AccessRule.rule c.args.self.now.cpu.rule) in
     let going = sent_going rules image began (g.K.Link.told c.args.link.now) (g.K.Link.phases c.args.link.now) c.args.conn c.args.bytes c.args.self.now _ c.count_run.new.self c.sent.new.self h c.self.view_is c.in_default.ensures.ok c.count_run.ensures in
     let hold = sym (ap (λ (s : SessionState _). s.options.hold) c.count_run.ensures ∙ ap (λ (s : SessionState _). s.options.hold) c.self.view_is) in
-    comes_between rules image began _ _ _ _ _ true c.count_run.new.self _ going _ c.pass_due.ensures.same c.pass_due.ensures.only.phases refl
+    comes_between rules image began _ _ _ _ _ true c.count_run.new.self _ going _ c.pass_due.ensures.same c.pass_due.ensures.first c.pass_due.ensures.only.phases refl
     (c.pass_due.ensures.passes rules image began going.story hold going.told going.answers (received_is rules.bounds (entries going.story) c.count_run.new.self.log going.goes.items) going.passed)
 
 pub returns-clause-gives : goal.returns-clause-gives

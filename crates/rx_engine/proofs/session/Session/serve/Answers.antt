@@ -1,11 +1,12 @@
 use Rattle.std.proofs.Common.{◌≡◌, refl, sym, ◌∙◌, ap, subst, arith}
 use Rattle.session_history.specs.Lawful.{Rules}
-use Rattle.session_history.specs.Ends.{HasServed}
+use Rattle.rx_engine.specs.Recovered.{HasRecovered}
 use Rattle.rx_engine.specs.Options.{rules_of}
 use Rattle.rx_engine.specs.declared.stop.Stop.TheVariants.{Breaks, Ends}
 use Rattle.rx_engine.specs.Sessions.{SessionState}
 use Rattle.rx_engine.specs.Standing.{IsBrokenOff}
-use Rattle.rx_engine.specs.Serving.{StopsBy, IsCounted}
+use Rattle.reply_ledger.specs.Ledger.{Ledger}
+use Rattle.rx_engine.specs.Serving.{CanGive, StopsBy, IsCounted}
 use Rattle.rx_engine.proofs.EndLemmas.{served_off}
 use Rattle.rx_engine.proofs.FrameLemmas.{same_rules}
 use Rattle.rx_engine.proofs.HearingLemmas.{cause_then, stops_under}
@@ -16,14 +17,18 @@ use Rattle.rx_engine.proofs.session.Session.serve.Goals as goal
 pub turns-init : goal.turns-init
 turns-init g c =
     let begun = c.requires.begun.begun in
-    let marked = starts_counted c.requires.begun.image c.args.self.now begun in
-    let none : c.args.self.now.cpu.slots.live.steps ≡ 0 = sym marked.steps ∙ begun.no_steps in
+    let marked = starts_counted c.requires.begun.image c.args.self.now c.save_start.new.self begun c.save_start.ensures.same c.save_start.ensures.live in
+    let none : c.save_start.new.self.cpu.slots.live.steps ≡ 0 = sym marked.steps ∙ (ap (λ (s : SessionState _). s.steps) c.save_start.ensures.same ∙ begun.no_steps) in
     record {
-      stands = λ image is. starts_between g.R.AccessRule.rule image (g.K.Link.told c.args.link.now) (g.K.Link.phases c.args.link.now) c.args.self.now is c.requires.fresh;
-      frame = record { options = refl; rule = refl };
+      stands = λ image is.
+          starts_between g.R.AccessRule.rule image (g.K.Link.told c.args.link.now) (g.K.Link.phases c.args.link.now) c.args.self.now c.save_start.new.self is c.requires.fresh (λ rules. c.save_start.ensures.keeps rules image is) c.save_start.ensures.same
+          c.save_start.ensures.live;
+      frame = record { options = ap (λ (s : SessionState _). s.options) c.save_start.ensures.same; rule = c.save_start.ensures.rule };
       known = known_same _ _ refl;
       takes_still = c.requires.takes;
-      can_give = starts_giving c.requires.begun.image c.args.self.now _ _ begun c.requires.gives;
+      can_give =
+          subst (λ (ledger : Ledger). CanGive (g.K.Link.gives c.args.link.now) (g.K.Link.gives_to c.args.link.now) ledger) (sym (ap (λ (s : SessionState _). s.replies) c.save_start.ensures.same))
+          (starts_giving c.requires.begun.image c.args.self.now _ _ begun c.requires.gives);
       marked = marked;
       counted = omega (arith, none);
       no_takes_fell = omega arith;
@@ -98,7 +103,7 @@ returns-in-Err-Ends-clause-served g c image is =
     (subst (λ why. StopsBy here image began (g.K.Link.told c.turn.new.link) (g.K.Link.coming c.turn.new.link) (g.K.Link.takes c.turn.new.link) c.turn.new.self why) c.in-Err-Ends.field-0-is
     (c.in-Err-Ends.ensures.turns image began (between_under rules here (sym same) (c.turns.invariant.stands image is)))) in
     subst
-    (λ (r : Rules). HasServed r image began (g.K.Link.told c.finish.new.link) (g.K.Link.coming c.finish.new.link) (g.K.Link.takes c.finish.new.link) c.finish.result c.finish.new.self.choices c.finish.new.self.taken c.finish.new.self.steps)
+    (λ (r : Rules). HasRecovered r image began (g.K.Link.told c.finish.new.link) (g.K.Link.coming c.finish.new.link) (g.K.Link.takes c.finish.new.link) c.finish.result c.finish.new.self.choices c.finish.new.self.taken c.finish.new.self.steps)
     (then ∙ same) (c.finish.ensures.served image began stops.0 stops.1)
 
 pub returns-in-Err-Ends-clause-went : goal.returns-in-Err-Ends-clause-went

@@ -1,0 +1,46 @@
+-- The checkpoints of a session beside its story, as its survivor goes on.
+use Rattle.std.proofs.Common.{◌≡◌, ℕ, ◌≤◌, List, sym, ap, subst}
+use Rattle.alloc_env.specs.declared.env.Env.{Env}
+use Rattle.elf_image.specs.declared.image.Image.{Image}
+use Rattle.item_log.specs.Log.{Log}
+use Rattle.ckpt_ring.specs.Rings.{Checkpoints}
+use Rattle.run_history.specs.Served.{Override, Path, Served}
+use Rattle.guest_cpu.specs.Cpus.{live_of, with_live}
+use Rattle.session_history.specs.Heeding.{items_in}
+use Rattle.session_history.specs.Lawful.{Rules}
+use Rattle.recovery_gate.specs.Rings.{KeepsRing, IsInForce}
+use Rattle.recovery_gate.proofs.RingLemmas.{ring_on, ring_beside}
+use Rattle.recovery_gate.proofs.Forces.{in_force_later}
+use Rattle.rx_engine.specs.Sessions.{SessionState}
+use Rattle.rx_engine.specs.Standing.{Story, entries, KeepsCheckpoints}
+use Rattle.rx_engine.proofs.StoryLemmas.{on_story}
+
+-- an environment and a number that are the same
+pub in_force_by : (plan : List Override) (taken : ℕ) (env other : Env) (until till : ℕ) → other ≡ env → till ≡ until → IsInForce plan taken env until → IsInForce plan taken other till
+in_force_by plan taken env other until till same still is = subst (λ (e : Env). IsInForce plan taken e till) (sym same) (subst (λ n. IsInForce plan taken env n) (sym still) is)
+
+module _ {R : Type 0} where
+  -- all but the live state of the guest, the replies, the counts and the answers of malloc is the same
+  pub record HasSameSide (old new : SessionState R) : Type 0 where
+    pub log : new.log ≡ old.log
+    pub events : new.events ≡ old.events
+    pub cpu : new.cpu ≡ with_live (live_of new.cpu) old.cpu
+    pub ring : new.ring ≡ old.ring
+    pub env : new.env ≡ old.env
+    pub until : new.until ≡ old.until
+
+  -- the survivor goes on: its checkpoints stay, and its environment
+  pub saved_on : (rules : Rules) (image : Image) (story : Story) (old new : SessionState R) (to : Path) → HasSameSide old new → new.replies.first ≡ old.replies.first → Served rules.limits (items_in rules.bounds (entries story)) story.survivor.plan story.survivor.now to
+      → story.survivor.now.state.machine.taken ≤ to.state.machine.taken → KeepsCheckpoints rules image story old → KeepsCheckpoints rules image (on_story story to) new
+  saved_on rules image story old new to side first served more k =
+      let plan : List Override = story.survivor.plan in
+      let now : Path = story.survivor.now in
+      record {
+        paths = k.paths;
+        ring =
+            subst (λ (c : Checkpoints). KeepsRing rules image (entries story) plan to k.paths new.cpu c new.log new.replies) (sym side.ring)
+            (ring_beside rules image (entries story) plan to k.paths new.cpu old.ring old.log new.log old.replies new.replies (ap (λ (l : Log). l.first) side.log) first
+            (ring_on rules image (entries story) plan now to k.paths old.cpu new.cpu (live_of new.cpu) old.ring old.log old.replies served side.cpu k.ring));
+        in_force =
+            in_force_by plan to.state.machine.taken old.env new.env old.until new.until side.env side.until (in_force_later plan now.state.machine.taken to.state.machine.taken old.env old.until more k.in_force);
+      }
