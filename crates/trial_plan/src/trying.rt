@@ -1,5 +1,6 @@
 // A trial: to go on from a checkpoint in an environment.
-ghost use Rattle.std.specs.Prelude.{◌≡◌, ◌+◌, ◌<◌, length, Some, slice_get, IfOk, IsSomeAnd, MatchBool};
+ghost use Rattle.std.specs.Prelude.{◌≡◌, ℕ, ◌+◌, ◌<◌, length, Some, slice_get, IfOk, IsSomeAnd, MatchBool};
+ghost use Rattle.item_log.specs.Log.{Log};
 ghost use Rattle.ckpt_ring.specs.Rings.{checkpoints_of, from_newest};
 ghost use Rattle.reply_ledger.specs.Trials.{discarded};
 ghost use Rattle.episodes.specs.Survival.{survives};
@@ -27,16 +28,14 @@ fn begin<R: AccessRule>(
     cpu: &mut Cpu<R>,
     ring: &Ring,
     index: u32,
-    point: u64,
-    items: &ItemLog,
     replies: &mut Replies,
     choices: &mut Vec<Choice>,
 )
-    requires failed { (failure : Failure) × FailedAt point failure cpu.old items.now replies.old }
+    requires failed { (point : ℕ) × (items : Log) × (failure : Failure) × FailedAt point failure cpu.old items replies.old }
     requires within { index < length ring.now.standing }
     requires same { ring.now.standing ≡ checkpoints_of taken_in cpu.old.slots.saved }
-    ensures begins { (failure : Failure) (checkpoint : Path) (env : Env) → FailedAt point failure cpu.old items.now replies.old → slice_get failure.ring index ≡ Some checkpoint
-        → IsTrying failure point checkpoint env cpu.new choices.new.items items.now replies.new }
+    ensures begins { (point : ℕ) (items : Log) (failure : Failure) (checkpoint : Path) (env : Env) → FailedAt point failure cpu.old items replies.old → slice_get failure.ring index ≡ Some checkpoint
+        → IsTrying failure point checkpoint env cpu.new choices.new.items items replies.new }
     ensures saved { KeepsSaved cpu.old cpu.new }
     ensures ledger { KeepsLedger replies.old replies.new }
     ensures stands { StandsOn cpu.new index }
@@ -90,7 +89,7 @@ pub fn attempt<R: AccessRule, L: Ledger>(
     ensures stands { IfOk result (λ _. StandsOn cpu.new index) }
     ensures counted { IsSomeAnd (from_newest cpu.old.slots.saved index) (λ one. steps.new + one.state.steps ≡ steps.old + cpu.new.slots.live.steps) }
 {
-    begin(cpu, ring, index, point, items, replies, choices);
+    begin(cpu, ring, index, replies, choices);
     match go_on(
         alloc, cpu, env, point, budget, items, replies, choices, steps,
     ) {
