@@ -90,7 +90,8 @@ EndsBy rules coming session answer.Memory = Unit {0}
 EndsBy rules coming session end = StandsAt rules (before_end session) coming session.survivor end × OwesNothingAtEnd rules session × (session.broken ≡ [])
 
 -- What a session leaves at each answer, by what its link told before and after, by whether events may still be taken there, and by its
--- counts: one account of it; where pieces were passed as at an end, the cause of that end; and what stands behind the answer. At an end pieces alone are passed. And where no event may be taken any more, the take that failed was asked for.
+-- counts: one account of it; where pieces were passed as at an end, the cause of that end; and what stands behind the answer. At an end
+-- pieces alone are passed. And where no event may be taken any more, the take that failed was asked for.
 pub record HasServed (rules : Rules) (image : Image) (began now : Told) (coming : Option Coming) (takes : Bool) (end : Answer) (choices : List Choice) (taken steps : ℕ) : Type 0 where
   pub session : Session
   pub at_end : Bool
