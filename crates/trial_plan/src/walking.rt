@@ -1,5 +1,5 @@
 // A walk over the table of trials: from each checkpoint, the newest first, in each environment.
-ghost use Rattle.std.specs.Prelude.{◌≡◌, ◌+◌, ◌<◌, length, Some, slice_get, IfOk, IsSomeAnd, []};
+ghost use Rattle.std.specs.Prelude.{◌≡◌, ◌+◌, ◌<◌, length, Some, slice_get, IfOk, OnOk, [], ◌∷◌, ◌++◌};
 ghost use Rattle.ckpt_ring.specs.Rings.{checkpoints_of};
 ghost use Rattle.run_history.specs.Served.{Path};
 ghost use Rattle.trial_history.specs.Tables.{environments};
@@ -11,7 +11,7 @@ use crate::trying::attempt;
 use alloc_env::Env;
 use block_book::Choice;
 use ckpt_ring::Ring;
-use episodes::{Episode, Tries, Try};
+use episodes::{Episode, Tried, Tries, Try};
 use guest_cpu::Cpu;
 use guest_space::AccessRule;
 use item_log::ItemLog;
@@ -30,6 +30,20 @@ fn environment(place: usize) -> Env
     ensures { slice_get environments place ≡ Some result }
 {
     ENVIRONMENTS[place]
+}
+
+// Notes a trial behind those before it.
+fn note(tries: &mut Vec<Try>, checkpoint: u64, env: Env, tried: Tried) -> Result<(), AllocError>
+    ensures { OnOk result (tries.new.items ≡ tries.old.items ++ record { checkpoint = checkpoint; env = env; tried = tried } ∷ []) }
+{
+    match tries.push(Try {
+        checkpoint,
+        env,
+        tried,
+    }) {
+        Ok(()) => Ok(()),
+        Err(_) => Err(AllocError),
+    }
 }
 
 // Tries a checkpoint in one environment, and adopts the trial where it survives. Whether it does.
@@ -61,12 +75,8 @@ fn try_one<R: AccessRule, L: Ledger>(
     ) {
         Ok(tried) => {
             let checkpoint = ring.taken_at(index);
-            if let Err(_) = tries.push(Try {
-                checkpoint,
-                env,
-                tried,
-            }) {
-                return Err(AllocError);
+            if let Err(e) = note(tries, checkpoint, env, tried) {
+                return Err(e);
             }
             if !tried.survives() {
                 return Ok(false);

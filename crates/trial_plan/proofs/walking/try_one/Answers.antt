@@ -11,7 +11,7 @@ returns-then-not-survives-clause-tries g c failure checkpoint under failed found
     let h = c.in-Ok.ensures.tries failure checkpoint under failed found in
     record {
       trial = trial_of failure c.args.point checkpoint c.args.env c.attempt.new.cpu c.attempt.new.choices.items c.attempt.new.replies c.in-Ok.tried h;
-      made = is_made failure c.args.point checkpoint c.args.env c.args.cpu.now c.attempt.new.cpu c.attempt.new.choices.items c.args.items.now c.args.replies.now c.attempt.new.replies c.in-Ok.tried c.args.index c.taken_at-checkpoint.result c.args.ring.now.standing _ _ c.args.tries.now.items c.push.new.self.items failed found c.requires.same c.taken_at-checkpoint.ensures c.in-Ok.ensures.counted c.in_default.ensures.items h;
+      made = is_made failure c.args.point checkpoint c.args.env c.args.cpu.now c.attempt.new.cpu c.attempt.new.choices.items c.args.items.now c.args.replies.now c.attempt.new.replies c.in-Ok.tried c.args.index c.taken_at-checkpoint.result c.args.ring.now.standing _ _ c.args.tries.now.items c.note.new.tries.items failed found c.requires.same c.taken_at-checkpoint.ensures c.in-Ok.ensures.counted c.in_default.ensures h;
       failed = sym c.survives.ensures ∙ c.if-not-survives.true;
     }
 
@@ -28,7 +28,7 @@ returns-else-not-survives-clause-tries g c failure checkpoint under failed found
     let survived = sym c.survives.ensures ∙ c.if-not-survives.false in
     record {
       trial = trial_of failure c.args.point checkpoint c.args.env c.attempt.new.cpu c.attempt.new.choices.items c.attempt.new.replies c.in-Ok.tried h;
-      made = is_made failure c.args.point checkpoint c.args.env c.args.cpu.now c.attempt.new.cpu c.attempt.new.choices.items c.args.items.now c.args.replies.now c.attempt.new.replies c.in-Ok.tried c.args.index c.taken_at-checkpoint.result c.args.ring.now.standing _ _ c.args.tries.now.items c.push.new.self.items failed found c.requires.same c.taken_at-checkpoint.ensures c.in-Ok.ensures.counted c.in_default.ensures.items h;
+      made = is_made failure c.args.point checkpoint c.args.env c.args.cpu.now c.attempt.new.cpu c.attempt.new.choices.items c.args.items.now c.args.replies.now c.attempt.new.replies c.in-Ok.tried c.args.index c.taken_at-checkpoint.result c.args.ring.now.standing _ _ c.args.tries.now.items c.note.new.tries.items failed found c.requires.same c.taken_at-checkpoint.ensures c.in-Ok.ensures.counted c.in_default.ensures h;
       adopted = record {
         survived = survived;
         stands = h.stands;
