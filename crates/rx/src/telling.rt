@@ -67,7 +67,9 @@ fn refused_field(
     let Answer::ElfRefused(kind) = answer else {
         return None;
     };
-    let file = StdFiles::make(rt).load(rt.alloc(), program, MAX_PROGRAM).ok()?;
+    let file = StdFiles::make(rt)
+        .load(rt.alloc(), program, MAX_PROGRAM)
+        .ok()?;
     field_of_refusal(rt.alloc(), file.as_slice(), kind, window)
         .ok()
         .flatten()
@@ -78,7 +80,9 @@ fn explanation(rt: &HostRuntime, answer: Answer, source: &str) -> Option<String>
     let Answer::AsmRefused { kind, line } = answer else {
         return None;
     };
-    let text = StdFiles::make(rt).load(rt.alloc(), source, MAX_SOURCE).ok()?;
+    let text = StdFiles::make(rt)
+        .load(rt.alloc(), source, MAX_SOURCE)
+        .ok()?;
     explain(rt.alloc(), text.as_slice(), kind, line).ok()
 }
 
