@@ -1,0 +1,168 @@
+-- Each end has a cause of its own.
+use Rattle.std.proofs.Common.{◌≡◌, ◌≢◌, ℕ, ◌∷◌, ◌++◌, [], List, length, take, Option, Some, None, refl, sym, ◌∙◌, ap, subst, arith, length-append}
+use Rattle.std.specs.Prelude.{slice_get}
+use Rattle.std.proofs.Math.Seq.{take-append_seam}
+use Rattle.std.proofs.lemmas.Option.{none-some, same_Some}
+use Rattle.rx_io.specs.declared.journal.Entry.{Entry}
+use Rattle.rx_io.specs.declared.journal.Entry.TheVariants as entry
+use Rattle.rx_io.specs.declared.journal.LinkEvent.{LinkEvent}
+use Rattle.rx_io.specs.declared.journal.LinkEvent.TheVariants as event
+use Rattle.rx_io.specs.Links.{events_in, Coming, Comes, Refuses, HasEnded}
+use Rattle.item_log.specs.Log.{IsPieceOf}
+use Rattle.run_history.specs.declared.answer.Answer.{Answer}
+use Rattle.run_history.specs.declared.answer.Answer.TheVariants as answer
+use Rattle.run_history.specs.declared.answer.Cause.{Cause}
+use Rattle.run_history.specs.Machine.{Effect, Wants, Fails}
+use Rattle.run_history.specs.Served.{FailsBy}
+use Rattle.run_history.proofs.Runs.{element_behind}
+use Rattle.session_history.specs.Heeding.{Bounds, Unheeded, refusal}
+use Rattle.session_history.specs.Heeding as unheeded
+use Rattle.session_history.specs.Lawful.{Rules, Survivor}
+use Rattle.session_history.specs.Ends.{IsWaiting, IsLastRefused, IsLastTooLong, StandsAt}
+use Rattle.account_laws.specs.Laws.{IsToldAlone, IsRefusedAlone, OneEnd}
+
+-- of two lists with one more element each that are one, the lists before are one, and so are the elements
+same_before : {X : Type 0} (xs ys : List X) (x y : X) → xs ++ x ∷ [] ≡ ys ++ y ∷ [] → xs ≡ ys
+same_before xs ys x y same =
+    let count : length xs ≡ length ys = omega (arith, ap length same, length-append xs (x ∷ []), length-append ys (y ∷ [])) in
+    sym (take-append_seam xs (x ∷ [])) ∙ ap (take (length xs)) same ∙ ap (λ n. take n (ys ++ y ∷ [])) count ∙ take-append_seam ys (y ∷ [])
+
+same_last : {X : Type 0} (xs ys : List X) (x y : X) → xs ++ x ∷ [] ≡ ys ++ y ∷ [] → x ≡ y
+same_last xs ys x y same =
+    same_Some x y
+    (sym (element_behind xs x (length xs) refl) ∙ ap (λ l. slice_get l (length xs)) same ∙ element_behind ys y (length xs) (ap length (sym (same_before xs ys x y same))))
+
+same_event : (one other : LinkEvent) → entry.Took one ≡ entry.Took other → one ≡ other
+same_event one other same = cc
+
+-- the last event is one event
+last_event : (bounds : Bounds) (entries : List Entry) (cause because : Unheeded) (one : IsLastRefused bounds entries cause) (other : IsLastRefused bounds entries because) → one.event ≡ other.event
+last_event bounds entries cause because one other =
+    same_event one.event other.event (same_last one.before other.before (entry.Took one.event) (entry.Took other.event) (sym one.last ∙ other.last))
+
+-- it is refused for one cause
+one_cause : (bounds : Bounds) (entries : List Entry) (cause because : Unheeded) → IsLastRefused bounds entries cause → IsLastRefused bounds entries because → cause ≡ because
+one_cause bounds entries cause because one other =
+    let before = same_before one.before other.before (entry.Took one.event) (entry.Took other.event) (sym one.last ∙ other.last) in
+    same_Some cause because
+    (sym one.refused ∙ ap (λ es. refusal bounds (events_in es) one.event) before ∙ ap (refusal bounds (events_in other.before)) (last_event bounds entries cause because one other) ∙ other.refused)
+
+one_piece : (event : LinkEvent) (conn of : ℕ) → IsPieceOf event conn → IsPieceOf event of → conn ≡ of
+one_piece (event.Piece to bytes) conn of one other = sym one ∙ other
+one_piece (event.Opens to) conn of one other = absurd one
+one_piece (event.Closes to) conn of one other = absurd one
+one_piece event.Settles conn of one other = absurd one
+one_piece event.Ends conn of one other = absurd one
+
+one_long : (bounds : Bounds) (entries : List Entry) (conn of : ℕ) → IsLastTooLong bounds entries conn → IsLastTooLong bounds entries of → conn ≡ of
+one_long bounds entries conn of one other =
+    let same = last_event bounds entries unheeded.TooLong unheeded.TooLong one.refused other.refused in
+    one_piece other.refused.event conn of (subst (λ e. IsPieceOf e conn) same one.piece) other.piece
+
+-- a survivor that waits hasn't ended itself, and doesn't fail
+no_exit : (rules : Rules) (entries : List Entry) (survivor : Survivor) (code : ℕ) → IsWaiting rules entries survivor → survivor.now.state.ended ≡ Some code → ⊥
+no_exit rules entries survivor code waits ended = none-some code (sym waits.lives ∙ ended)
+
+no_failure : (rules : Rules) (entries : List Entry) (survivor : Survivor) (cause : Cause) → IsWaiting rules entries survivor → FailsBy rules.limits survivor.plan survivor.now cause → ⊥
+no_failure rules entries survivor cause waits fails = let h : Wants ≡ Fails cause = sym waits.asks ∙ fails.fails in cc
+
+same_failure : (cause because : Cause) → Fails cause ≡ Fails because → cause ≡ because
+same_failure cause because same = cc
+
+same_refusal : (kind of offset place : ℕ) → Refuses kind offset ≡ Refuses of place → answer.InputRefused kind offset ≡ answer.InputRefused of place
+same_refusal kind of offset place same = cc
+
+no_coming : (next : Coming) (kind offset : ℕ) → next ≡ Comes event.Ends → next ≡ Refuses kind offset → ⊥
+no_coming next kind offset one other = let h : Comes event.Ends ≡ Refuses kind offset = sym one ∙ other in cc
+
+no_items : unheeded.TooLong ≡ unheeded.LimitItems → ⊥
+no_items h = cc
+
+no_events : unheeded.TooLong ≡ unheeded.LimitEvents → ⊥
+no_events h = cc
+
+no_both : unheeded.LimitItems ≡ unheeded.LimitEvents → ⊥
+no_both h = cc
+
+-- an end, and any other
+module _ (rules : Rules) (entries : List Entry) (next : Coming) (survivor : Survivor) (alone : IsRefusedAlone rules.bounds entries next) where
+  finished : (other : Answer) → StandsAt rules entries (Some next) survivor answer.Finished → StandsAt rules entries (Some next) survivor other → answer.Finished ≡ other
+  finished answer.Finished one stands = refl
+  finished (answer.Exited code) one stands = absurd (no_exit rules entries survivor code one.0 stands)
+  finished (answer.GaveUp point cause) one stands = absurd (no_failure rules entries survivor cause one.0 stands.0)
+  finished (answer.InputRefused kind offset) one stands = absurd (no_coming next kind offset one.2 stands.1)
+  finished (answer.MessageTooLong conn) one stands = absurd ((alone unheeded.TooLong stands.1.refused).no_end one.1)
+  finished answer.LimitItems one stands = absurd ((alone unheeded.LimitItems stands.1).no_end one.1)
+  finished answer.LimitEvents one stands = absurd ((alone unheeded.LimitEvents stands.1).no_end one.1)
+  finished _ one stands = absurd stands
+
+  exited : (code : ℕ) (other : Answer) → StandsAt rules entries (Some next) survivor (answer.Exited code) → StandsAt rules entries (Some next) survivor other → answer.Exited code ≡ other
+  exited code answer.Finished one stands = absurd (no_exit rules entries survivor code stands.0 one)
+  exited code (answer.Exited other) one stands = ap answer.Exited (same_Some code other (sym one ∙ stands))
+  exited code (answer.GaveUp point cause) one stands = absurd (none-some code (sym stands.0.lives ∙ one))
+  exited code (answer.InputRefused kind offset) one stands = absurd (no_exit rules entries survivor code stands.0 one)
+  exited code (answer.MessageTooLong conn) one stands = absurd (no_exit rules entries survivor code stands.0 one)
+  exited code answer.LimitItems one stands = absurd (no_exit rules entries survivor code stands.0 one)
+  exited code answer.LimitEvents one stands = absurd (no_exit rules entries survivor code stands.0 one)
+  exited code _ one stands = absurd stands
+
+  gave_up : (point : ℕ) (cause : Cause) (other : Answer) → StandsAt rules entries (Some next) survivor (answer.GaveUp point cause) → StandsAt rules entries (Some next) survivor other → answer.GaveUp point cause ≡ other
+  gave_up point cause answer.Finished one stands = absurd (no_failure rules entries survivor cause stands.0 one.0)
+  gave_up point cause (answer.Exited code) one stands = absurd (none-some code (sym one.0.lives ∙ stands))
+  gave_up point cause (answer.GaveUp place because) one stands =
+      ap (λ n. answer.GaveUp n cause) (sym one.1 ∙ stands.1) ∙ ap (answer.GaveUp place) (same_failure cause because (sym one.0.fails ∙ stands.0.fails))
+  gave_up point cause (answer.InputRefused kind offset) one stands = absurd (no_failure rules entries survivor cause stands.0 one.0)
+  gave_up point cause (answer.MessageTooLong conn) one stands = absurd (no_failure rules entries survivor cause stands.0 one.0)
+  gave_up point cause answer.LimitItems one stands = absurd (no_failure rules entries survivor cause stands.0 one.0)
+  gave_up point cause answer.LimitEvents one stands = absurd (no_failure rules entries survivor cause stands.0 one.0)
+  gave_up point cause _ one stands = absurd stands
+
+  refused : (kind offset : ℕ) (other : Answer) → StandsAt rules entries (Some next) survivor (answer.InputRefused kind offset) → StandsAt rules entries (Some next) survivor other → answer.InputRefused kind offset ≡ other
+  refused kind offset answer.Finished one stands = absurd (no_coming next kind offset stands.2 one.1)
+  refused kind offset (answer.Exited code) one stands = absurd (no_exit rules entries survivor code one.0 stands)
+  refused kind offset (answer.GaveUp point cause) one stands = absurd (no_failure rules entries survivor cause one.0 stands.0)
+  refused kind offset (answer.InputRefused of place) one stands = same_refusal kind of offset place (sym one.1 ∙ stands.1)
+  refused kind offset (answer.MessageTooLong conn) one stands = absurd ((alone unheeded.TooLong stands.1.refused).no_refusal kind offset one.1)
+  refused kind offset answer.LimitItems one stands = absurd ((alone unheeded.LimitItems stands.1).no_refusal kind offset one.1)
+  refused kind offset answer.LimitEvents one stands = absurd ((alone unheeded.LimitEvents stands.1).no_refusal kind offset one.1)
+  refused kind offset _ one stands = absurd stands
+
+  too_long : (conn : ℕ) (other : Answer) → StandsAt rules entries (Some next) survivor (answer.MessageTooLong conn) → StandsAt rules entries (Some next) survivor other → answer.MessageTooLong conn ≡ other
+  too_long conn answer.Finished one stands = absurd ((alone unheeded.TooLong one.1.refused).no_end stands.1)
+  too_long conn (answer.Exited code) one stands = absurd (no_exit rules entries survivor code one.0 stands)
+  too_long conn (answer.GaveUp point cause) one stands = absurd (no_failure rules entries survivor cause one.0 stands.0)
+  too_long conn (answer.InputRefused kind offset) one stands = absurd ((alone unheeded.TooLong one.1.refused).no_refusal kind offset stands.1)
+  too_long conn (answer.MessageTooLong of) one stands = ap answer.MessageTooLong (one_long rules.bounds entries conn of one.1 stands.1)
+  too_long conn answer.LimitItems one stands = absurd (no_items (one_cause rules.bounds entries unheeded.TooLong unheeded.LimitItems one.1.refused stands.1))
+  too_long conn answer.LimitEvents one stands = absurd (no_events (one_cause rules.bounds entries unheeded.TooLong unheeded.LimitEvents one.1.refused stands.1))
+  too_long conn _ one stands = absurd stands
+
+  most_items : (other : Answer) → StandsAt rules entries (Some next) survivor answer.LimitItems → StandsAt rules entries (Some next) survivor other → answer.LimitItems ≡ other
+  most_items answer.Finished one stands = absurd ((alone unheeded.LimitItems one.1).no_end stands.1)
+  most_items (answer.Exited code) one stands = absurd (no_exit rules entries survivor code one.0 stands)
+  most_items (answer.GaveUp point cause) one stands = absurd (no_failure rules entries survivor cause one.0 stands.0)
+  most_items (answer.InputRefused kind offset) one stands = absurd ((alone unheeded.LimitItems one.1).no_refusal kind offset stands.1)
+  most_items (answer.MessageTooLong of) one stands = absurd (no_items (one_cause rules.bounds entries unheeded.TooLong unheeded.LimitItems stands.1.refused one.1))
+  most_items answer.LimitItems one stands = refl
+  most_items answer.LimitEvents one stands = absurd (no_both (one_cause rules.bounds entries unheeded.LimitItems unheeded.LimitEvents one.1 stands.1))
+  most_items _ one stands = absurd stands
+
+  most_events : (other : Answer) → StandsAt rules entries (Some next) survivor answer.LimitEvents → StandsAt rules entries (Some next) survivor other → answer.LimitEvents ≡ other
+  most_events answer.Finished one stands = absurd ((alone unheeded.LimitEvents one.1).no_end stands.1)
+  most_events (answer.Exited code) one stands = absurd (no_exit rules entries survivor code one.0 stands)
+  most_events (answer.GaveUp point cause) one stands = absurd (no_failure rules entries survivor cause one.0 stands.0)
+  most_events (answer.InputRefused kind offset) one stands = absurd ((alone unheeded.LimitEvents one.1).no_refusal kind offset stands.1)
+  most_events (answer.MessageTooLong of) one stands = absurd (no_events (one_cause rules.bounds entries unheeded.TooLong unheeded.LimitEvents stands.1.refused one.1))
+  most_events answer.LimitItems one stands = absurd (no_both (one_cause rules.bounds entries unheeded.LimitItems unheeded.LimitEvents stands.1 one.1))
+  most_events answer.LimitEvents one stands = refl
+  most_events _ one stands = absurd stands
+
+pub one_end : OneEnd
+one_end rules entries next survivor answer.Finished other alone one stands = finished rules entries next survivor alone other one stands
+one_end rules entries next survivor (answer.Exited code) other alone one stands = exited rules entries next survivor alone code other one stands
+one_end rules entries next survivor (answer.GaveUp point cause) other alone one stands = gave_up rules entries next survivor alone point cause other one stands
+one_end rules entries next survivor (answer.InputRefused kind offset) other alone one stands = refused rules entries next survivor alone kind offset other one stands
+one_end rules entries next survivor (answer.MessageTooLong conn) other alone one stands = too_long rules entries next survivor alone conn other one stands
+one_end rules entries next survivor answer.LimitItems other alone one stands = most_items rules entries next survivor alone other one stands
+one_end rules entries next survivor answer.LimitEvents other alone one stands = most_events rules entries next survivor alone other one stands
+one_end rules entries next survivor _ other alone one stands = absurd one
