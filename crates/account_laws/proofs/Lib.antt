@@ -4,3 +4,6 @@ pub mod Asked
 pub mod Heeded
 pub mod Opening
 pub mod Fronts
+pub mod Closing
+pub mod Pieces
+pub mod Sent
