@@ -22,7 +22,7 @@ use Rattle.session_history.specs.Ends.{IsWaiting, IsLastRefused, IsLastTooLong, 
 use Rattle.account_laws.specs.Laws.{IsToldAlone, IsRefusedAlone, OneEnd}
 
 -- of two lists with one more element each that are one, the lists before are one, and so are the elements
-same_before : {X : Type 0} (xs ys : List X) (x y : X) → xs ++ x ∷ [] ≡ ys ++ y ∷ [] → xs ≡ ys
+pub same_before : {X : Type 0} (xs ys : List X) (x y : X) → xs ++ x ∷ [] ≡ ys ++ y ∷ [] → xs ≡ ys
 same_before xs ys x y same =
     let count : length xs ≡ length ys = omega (arith, ap length same, length-append xs (x ∷ []), length-append ys (y ∷ [])) in
     sym (take-append_seam xs (x ∷ [])) ∙ ap (take (length xs)) same ∙ ap (λ n. take n (ys ++ y ∷ [])) count ∙ take-append_seam ys (y ∷ [])

@@ -7,3 +7,5 @@ pub mod Fronts
 pub mod Closing
 pub mod Pieces
 pub mod Sent
+pub mod Turns
+pub mod Answered

@@ -1,10 +1,12 @@
 -- The walk over a session's entries, up to its end: what is sent is passed.
-use Rattle.std.proofs.Common.{◌≡◌, ℕ, ◌+◌, ◌≤◌, Bool, true, false, List, [], ◌∷◌, ◌++◌, length, map, refl, sym, ◌∙◌, ap, subst, inl, inr, arith, append-nil, append_assoc}
+use Rattle.std.proofs.Common.{◌≡◌, ℕ, ◌+◌, ◌≤◌, Bool, true, false, List, [], ◌∷◌, ◌++◌, length, map, Option, refl, sym, ◌∙◌, ap, subst, inl, inr, arith, append-nil, append_assoc}
 use Rattle.std.proofs.lemmas.Bool.{both_ways}
 use Rattle.rx_io.specs.declared.bytes.Item.{Item}
 use Rattle.rx_io.specs.declared.journal.Entry.{Entry}
 use Rattle.rx_io.specs.declared.journal.Entry.TheVariants as entry
-use Rattle.rx_io.specs.Links.{events_in, pieces_in}
+use Rattle.rx_io.specs.Links.{Coming, events_in, pieces_in}
+use Rattle.run_history.specs.declared.answer.Answer.{Answer}
+use Rattle.run_history.specs.declared.answer.Answer.TheVariants as answer
 use Rattle.rx_io.specs.Sends.{Send}
 use Rattle.elf_image.specs.declared.image.Image.{Image}
 use Rattle.run_history.specs.Machine.{start, start_machine}
@@ -17,9 +19,10 @@ use Rattle.session_history.specs.Passing.{AreBetween}
 use Rattle.session_history.specs.Lawful.{Rules, Survivor, IsWholePiece, IsDue, AreDue, entries_of}
 use Rattle.session_history.specs.Account.{Session, journal_of, IsAccount}
 use Rattle.session_history.specs.Giving.{AreGiven}
+use Rattle.session_history.specs.Ends.{IsEnd, EndsBy, OwesNothingAtEnd}
 use Rattle.session_history.proofs.Endings.{events_in-given}
 use Rattle.session_history.proofs.Passing.{timed_on}
-use Rattle.account_laws.specs.Laws.{piece_of, HasPassedOn, SentIsPassed}
+use Rattle.account_laws.specs.Laws.{piece_of, HasPassedOn, SentIsPassed, ServedIsPassed}
 use Rattle.account_laws.proofs.Asked.{served_grows}
 use Rattle.account_laws.proofs.Connected.{run_connected}
 use Rattle.account_laws.proofs.Fronts.{between_here, gone_here}
@@ -98,7 +101,7 @@ alone_passed rules image survivor since ending has =
     let same : events_in whole ≡ events_in since = ap (λ es. events_in (since ++ es)) (append-nil ending) ∙ events_in-given since ending has.given in
     let count : received rules.bounds whole ≡ received rules.bounds since = ap (λ es. length (items_of rules.bounds.framing (heeded rules.bounds es))) same in
     let walked : Walked rules.bounds (since ++ ending) survivor.now.state.sends =
-    walk rules image survivor whole since ending [] true knows refl (λ ended. omega (arith, count)) has.account.ending first in
+    walk rules image survivor whole since ending [] has.at_end knows refl (λ ended. omega (arith, count)) has.account.ending first in
     let none : survivor.now.state.sends ≡ walked.front =
     none_left rules image survivor (since ++ ending) (subst (Knows rules image survivor) (sym (append_assoc since ending [])) knows) walked has.owes_nothing walked.rest refl in
     ap (λ es. pieces_in (since ++ es)) (append-nil ending) ∙ walked.pieces ∙ ap (map piece_of) (sym none)
@@ -109,3 +112,29 @@ sent_is_passed rules image session has =
     let same : session ≡ plain = ap (λ earlier. record session { earlier = earlier }) has.first ∙ ap (λ broken. record session { earlier = []; broken = broken }) has.unbroken in
     ap (λ (s : Session). pieces_in (journal_of s)) same
     ∙ alone_passed rules image session.survivor session.since session.ending (subst (HasPassedOn rules image) same has)
+
+-- at an end all that is owed was passed, and no piece was broken off
+end_owes : (rules : Rules) (coming : Option Coming) (session : Session) (end : Answer) → IsEnd end → EndsBy rules coming session end → OwesNothingAtEnd rules session × (session.broken ≡ [])
+end_owes rules coming session answer.Finished is ends = (ends.1, ends.2)
+end_owes rules coming session (answer.Exited code) is ends = (ends.1, ends.2)
+end_owes rules coming session (answer.GaveUp point cause) is ends = (ends.1, ends.2)
+end_owes rules coming session (answer.InputRefused kind offset) is ends = (ends.1, ends.2)
+end_owes rules coming session (answer.MessageTooLong conn) is ends = (ends.1, ends.2)
+end_owes rules coming session answer.LimitItems is ends = (ends.1, ends.2)
+end_owes rules coming session answer.LimitEvents is ends = (ends.1, ends.2)
+end_owes rules coming session _ is ends = absurd is
+
+pub served_is_passed : ServedIsPassed
+served_is_passed rules image began now coming takes end choices taken steps served is holds_nothing none_gone opens_once =
+    let owes = end_owes rules coming served.session end is served.ends in
+    sent_is_passed rules image served.session (record {
+      at_end = served.at_end;
+      account = served.account;
+      first = served.alone.first;
+      given = served.pieces;
+      unbroken = owes.1;
+      owes_nothing = owes.0;
+      holds_nothing = holds_nothing;
+      none_gone = none_gone;
+      opens_once = opens_once;
+    })

@@ -1,18 +1,20 @@
 -- What follows from the account of a session, and from the causes of its ends.
-use Rattle.std.specs.Prelude.{◌≡◌, ◌≢◌, ℕ, List, [], ◌∷◌, ◌++◌, true, false, map, Some}
+use Rattle.std.specs.Prelude.{◌≡◌, ◌≢◌, ℕ, ◌<◌, Bool, List, [], ◌∷◌, ◌++◌, length, true, false, map, Option, Some}
 use Rattle.rx_io.specs.declared.journal.Entry.{Entry}
 use Rattle.rx_io.specs.declared.journal.LinkEvent.TheVariants as event
 use Rattle.rx_io.specs.declared.journal.LinkEvent.{LinkEvent}
-use Rattle.rx_io.specs.Links.{Coming, Refuses, last_taken, Piece, pieces_in, events_in}
+use Rattle.rx_io.specs.Links.{Phases, IsInOrder, phases_after, Told, Coming, Refuses, HasEnded, last_taken, Piece, pieces_in, events_in}
+use Rattle.block_book.specs.declared.choice.Choice.{Choice}
 use Rattle.rx_io.specs.Sends.{Send}
 use Rattle.elf_image.specs.declared.image.Image.{Image}
 use Rattle.run_history.specs.declared.answer.Answer.{Answer}
-use Rattle.session_history.specs.Heeding.{Bounds, Unheeded}
+use Rattle.run_history.specs.declared.answer.Answer.TheVariants as answer
+use Rattle.session_history.specs.Heeding.{Bounds, Unheeded, heeded, received}
 use Rattle.session_history.specs.Opened.{closes, is_gone}
 use Rattle.session_history.specs.Lawful.{Rules, Survivor}
 use Rattle.session_history.specs.Account.{Session, journal_of, IsAccount}
 use Rattle.session_history.specs.Giving.{AreGiven}
-use Rattle.session_history.specs.Ends.{IsLastRefused, StandsAt, OwesNothingAtEnd}
+use Rattle.session_history.specs.Ends.{IsEnd, IsLastRefused, StandsAt, OwesNothingAtEnd, before_end, HasServed}
 
 -- nothing but the refusal of the last event is told behind it: the last event isn't Ends, and the link refuses nothing more
 pub record IsToldAlone (entries : List Entry) (next : Coming) : Type 0 where
@@ -39,7 +41,8 @@ OpensOnce events = (before after : List LinkEvent) (conn : ℕ) → events ≡ b
 
 -- a session of one survivor came to its end with all passed that it owes; it held nothing back, and no connection was found gone
 pub record HasPassedOn (rules : Rules) (image : Image) (session : Session) : Type 0 where
-  pub account : IsAccount rules image session true
+  pub at_end : Bool
+  pub account : IsAccount rules image session at_end
   pub first : session.earlier ≡ []
   pub given : AreGiven session.ending
   pub unbroken : session.broken ≡ []
@@ -51,3 +54,41 @@ pub record HasPassedOn (rules : Rules) (image : Image) (session : Session) : Typ
 -- its pieces are the sends of its run, in order, each whole
 abbrev pub SentIsPassed : Type 0
 SentIsPassed = (rules : Rules) (image : Image) (session : Session) → HasPassedOn rules image session → pieces_in (journal_of session) ≡ map piece_of session.survivor.now.state.sends
+
+-- so are they at each end that a session has served up to
+abbrev pub ServedIsPassed : Type 0
+ServedIsPassed =
+    (rules : Rules) (image : Image) (began now : Told) (coming : Option Coming) (takes : Bool) (end : Answer) (choices : List Choice) (taken steps : ℕ) (served : HasServed rules image began now coming takes end choices taken steps) →
+    IsEnd end → rules.hold ≡ 0 → ((conn : ℕ) → is_gone conn (journal_of served.session) ≡ false) → OpensOnce (events_in (journal_of served.session)) →
+    pieces_in (journal_of served.session) ≡ map piece_of served.session.survivor.now.state.sends
+
+-- events that a link gave, each in order for its connection
+abbrev pub AreInTurn : Phases → List LinkEvent → Type 0
+AreInTurn phases [] = Unit {0}
+AreInTurn phases (event ∷ events) = IsInOrder phases event × AreInTurn (phases_after event phases) events
+
+-- of such none opens a connection that was closed before
+abbrev pub LinksOpenOnce : Type 0
+LinksOpenOnce = (phases : Phases) (events : List LinkEvent) → AreInTurn phases events → OpensOnce events
+
+-- every event is heeded, and the end of the link, where it was taken, came before the last event that may be
+pub record IsAllHeeded (bounds : Bounds) (entries : List Entry) : Type 0 where
+  pub all : heeded bounds (events_in entries) ≡ events_in entries
+  pub ends_early : HasEnded entries → length (events_in entries) < bounds.max_events
+
+-- an answer behind such events: the session took every item, or its program ended itself or failed, or there was a fault or want of
+-- memory
+abbrev pub IsComplete : Rules → Session → Answer → Type 0
+IsComplete rules session answer.Finished = session.survivor.now.state.machine.taken ≡ received rules.bounds (journal_of session)
+IsComplete rules session (answer.Exited code) = Unit {0}
+IsComplete rules session (answer.GaveUp point cause) = Unit {0}
+IsComplete rules session answer.ReadFault = Unit {0}
+IsComplete rules session answer.WriteFault = Unit {0}
+IsComplete rules session answer.Memory = Unit {0}
+IsComplete rules session _ = ⊥
+
+-- where every event is heeded and the link refuses nothing behind them, a session has no other answer
+abbrev pub NoOtherAnswer : Type 0
+NoOtherAnswer =
+    (rules : Rules) (image : Image) (began now : Told) (next : Coming) (takes : Bool) (end : Answer) (choices : List Choice) (taken steps : ℕ) (served : HasServed rules image began now (Some next) takes end choices taken steps) →
+    IsAllHeeded rules.bounds (before_end served.session) → ((kind offset : ℕ) → next ≢ Refuses kind offset) → IsComplete rules served.session end
