@@ -1,5 +1,5 @@
 -- Where every event is heeded, no end has a refused event for its cause.
-use Rattle.std.proofs.Common.{◌≡◌, ◌≢◌, ◌⊎◌, inl, inr, ℕ, ◌+◌, ◌<◌, ◌≤◌, Bool, true, false, cond, leb, ltb, List, [], ◌∷◌, ◌++◌, length, Option, Some, None, refl, sym, ◌∙◌, ap, subst, arith, append-nil, append_assoc, length-append}
+use Rattle.std.proofs.Common.{◌≡◌, inl, inr, ℕ, ◌<◌, ◌≤◌, Bool, true, false, cond, leb, ltb, List, [], ◌∷◌, ◌++◌, length, Option, Some, None, refl, sym, ◌∙◌, ap, subst, arith, append-nil, append_assoc, length-append}
 use Rattle.std.specs.Prelude.{is_none, unwrap_or}
 use Rattle.std.proofs.lemmas.Bool.{cases_Bool, ltb-true, ltb-false, leb-true}
 use Rattle.std.proofs.lemmas.Option.{none-some}
@@ -7,20 +7,16 @@ use Rattle.rx_io.specs.declared.journal.Entry.{Entry}
 use Rattle.rx_io.specs.declared.journal.Entry.TheVariants as entry
 use Rattle.rx_io.specs.declared.journal.LinkEvent.{LinkEvent}
 use Rattle.rx_io.specs.declared.journal.LinkEvent.TheVariants as event
-use Rattle.rx_io.specs.Links.{events_in, last_taken, HasEnded, Coming, Refuses}
-use Rattle.item_log.specs.Connections.{none_open}
-use Rattle.item_log.specs.Heard.{Heard, hear, heard, behind_items, items_by, items_from, items_of}
+use Rattle.rx_io.specs.Links.{events_in, last_taken}
+use Rattle.item_log.specs.Heard.{Heard, heard, items_from, items_of}
 use Rattle.item_log.proofs.Hearing.{one_more_event}
 use Rattle.run_history.specs.declared.answer.Answer.{Answer}
 use Rattle.run_history.specs.declared.answer.Answer.TheVariants as answer
-use Rattle.session_history.specs.Heeding.{Bounds, Unheeded, LimitEvents, TooLong, LimitItems, refusal, heeded, heeded_behind, items_in, received}
-use Rattle.session_history.specs.Account.{Session, journal_of}
-use Rattle.session_history.specs.Lawful.{Rules}
-use Rattle.session_history.specs.Giving.{AreGiven}
-use Rattle.session_history.specs.Ends.{IsLastRefused, StandsAt, EndsBy, before_end}
+use Rattle.session_history.specs.Heeding.{Bounds, Unheeded, LimitEvents, TooLong, LimitItems, refusal, heeded, heeded_behind}
+use Rattle.session_history.specs.Ends.{IsLastRefused, EndsBy, before_end}
 use Rattle.session_history.proofs.Heeding.{events_in-append, refused_unheeded}
 use Rattle.session_history.proofs.Endings.{received_at_end, given_broken}
-use Rattle.account_laws.specs.Laws.{IsAllHeeded, IsComplete, NoOtherAnswer}
+use Rattle.account_laws.specs.Laws.{IsAllHeeded, HeededRefuseNone, IsComplete, NoOtherAnswer}
 use Rattle.account_laws.proofs.Causes.{same_before}
 use Rattle.account_laws.proofs.Heeded.{heeded_front, heeded_then, heeded_heard}
 
@@ -129,6 +125,9 @@ none_refused bounds entries cause heeds last = of last.event last.last last.refu
         let events : events_in entries ≡ events_in last.before = ap events_in split ∙ events_in-append last.before (entry.Took event.Ends ∷ []) ∙ append-nil (events_in last.before) in
         let early = heeds.ends_early (ap last_taken split ∙ last_taken-append last.before event.Ends) in
         none-some cause (sym (end_unrefused bounds (events_in last.before) (subst (λ es. heeded bounds es ≡ es) events heeds.all) (omega (arith, early, ap length events))) ∙ refused)
+
+pub heeded_refuse_none : HeededRefuseNone
+heeded_refuse_none bounds entries next heeds cause last = absurd (none_refused bounds entries cause heeds last)
 
 pub no_other_answer : NoOtherAnswer
 no_other_answer rules image began now next takes end choices taken steps served heeds no_refusal = of end served.ends

@@ -9,7 +9,7 @@ use Rattle.block_book.specs.declared.choice.Choice.{Choice}
 use Rattle.block_book.specs.Answer.{is_allowed}
 use Rattle.alloc_env.specs.declared.env.Env.{Env}
 use Rattle.run_history.specs.declared.answer.Cause.TheVariants.{BadAccess, Hang}
-use Rattle.run_history.specs.Machine.{Machine, State, register, Effect, Goes, Wants, Chooses, Fails}
+use Rattle.run_history.specs.Machine.{Machine, State, register, Goes, Wants, Chooses, Fails}
 use Rattle.run_history.specs.Call.{takes, chooses, allocated}
 use Rattle.run_history.specs.Run.{does, after, next}
 use Rattle.run_history.specs.Touching.{touched}

@@ -1,5 +1,5 @@
 -- Each end has a cause of its own.
-use Rattle.std.proofs.Common.{◌≡◌, ◌≢◌, ℕ, ◌∷◌, ◌++◌, [], List, length, take, Option, Some, None, refl, sym, ◌∙◌, ap, subst, arith, length-append}
+use Rattle.std.proofs.Common.{◌≡◌, ℕ, ◌∷◌, ◌++◌, [], List, length, take, Some, refl, sym, ◌∙◌, ap, subst, arith, length-append}
 use Rattle.std.specs.Prelude.{slice_get}
 use Rattle.std.proofs.Math.Seq.{take-append_seam}
 use Rattle.std.proofs.lemmas.Option.{none-some, same_Some}
@@ -7,19 +7,19 @@ use Rattle.rx_io.specs.declared.journal.Entry.{Entry}
 use Rattle.rx_io.specs.declared.journal.Entry.TheVariants as entry
 use Rattle.rx_io.specs.declared.journal.LinkEvent.{LinkEvent}
 use Rattle.rx_io.specs.declared.journal.LinkEvent.TheVariants as event
-use Rattle.rx_io.specs.Links.{events_in, Coming, Comes, Refuses, HasEnded}
+use Rattle.rx_io.specs.Links.{events_in, Coming, Comes, Refuses}
 use Rattle.item_log.specs.Log.{IsPieceOf}
 use Rattle.run_history.specs.declared.answer.Answer.{Answer}
 use Rattle.run_history.specs.declared.answer.Answer.TheVariants as answer
 use Rattle.run_history.specs.declared.answer.Cause.{Cause}
-use Rattle.run_history.specs.Machine.{Effect, Wants, Fails}
+use Rattle.run_history.specs.Machine.{Wants, Fails}
 use Rattle.run_history.specs.Served.{FailsBy}
 use Rattle.run_history.proofs.Runs.{element_behind}
 use Rattle.session_history.specs.Heeding.{Bounds, Unheeded, refusal}
 use Rattle.session_history.specs.Heeding as unheeded
 use Rattle.session_history.specs.Lawful.{Rules, Survivor}
 use Rattle.session_history.specs.Ends.{IsWaiting, IsLastRefused, IsLastTooLong, StandsAt}
-use Rattle.account_laws.specs.Laws.{IsToldAlone, IsRefusedAlone, OneEnd}
+use Rattle.account_laws.specs.Laws.{IsRefusedAlone, OneEnd}
 
 -- of two lists with one more element each that are one, the lists before are one, and so are the elements
 pub same_before : {X : Type 0} (xs ys : List X) (x y : X) → xs ++ x ∷ [] ≡ ys ++ y ∷ [] → xs ≡ ys

@@ -1,5 +1,5 @@
 -- The items of a journal's front, and what a close in it makes of what comes behind.
-use Rattle.std.proofs.Common.{◌≡◌, ◌≢◌, ◌⊎◌, inl, inr, ℕ, ◌+◌, ◌≤◌, Bool, true, false, eqb, List, [], ◌∷◌, ◌++◌, length, take, refl, sym, ◌∙◌, ap, subst, arith, append_assoc, append-nil, length-append}
+use Rattle.std.proofs.Common.{◌≡◌, ◌≢◌, inl, inr, ℕ, ◌+◌, ◌≤◌, Bool, true, false, eqb, List, [], ◌∷◌, ◌++◌, length, take, refl, sym, ◌∙◌, ap, subst, arith, append_assoc, append-nil, length-append}
 use Rattle.std.specs.Prelude.{is_none, ◌||◌}
 use Rattle.std.proofs.lemmas.List.{take-append-le}
 use Rattle.std.proofs.lemmas.Bool.{or_left, or_right, or_from, eq-eqb, eqb-true, cases_Bool}
@@ -23,7 +23,7 @@ use Rattle.session_history.proofs.Heeding.{events_in-append}
 use Rattle.account_laws.specs.Laws.{OpensOnce}
 use Rattle.account_laws.proofs.Connected.{after_items, IsSent, AreSent}
 use Rattle.account_laws.proofs.Heeded.{heeded_front, heeded_grows, heeded_then, heeded_heard}
-use Rattle.account_laws.proofs.Opening.{all_open_any, none_open_again, Behind, items_behind, close_item, closed_behind, opened_before}
+use Rattle.account_laws.proofs.Opening.{all_open_any, none_open_again, items_behind, close_item, closed_behind, opened_before}
 
 -- the events that are heeded of a journal's front are the first ones
 pub heeded_longer : (bounds : Bounds) (entries more : List Entry) → Prefix (heeded bounds (events_in entries)) (heeded bounds (events_in (entries ++ more)))

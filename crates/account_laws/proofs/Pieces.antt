@@ -1,15 +1,14 @@
 -- The pieces of a session that holds nothing back are the sends of its run.
-use Rattle.std.proofs.Common.{◌≡◌, ◌≢◌, ◌⊎◌, inl, inr, ℕ, ◌+◌, ◌<◌, ◌≤◌, Bool, true, false, List, [], ◌∷◌, ◌++◌, length, drop, map, Option, Some, None, refl, sym, ◌∙◌, ap, subst, arith, append-nil, append_assoc, length-append}
+use Rattle.std.proofs.Common.{◌≡◌, inl, inr, ℕ, ◌+◌, ◌≤◌, Bool, true, false, List, [], ◌∷◌, ◌++◌, length, map, Option, Some, None, refl, sym, ◌∙◌, ap, subst, arith, append-nil, append_assoc, length-append}
 use Rattle.std.specs.Prelude.{option_map, unwrap_or}
 use Rattle.std.proofs.lemmas.List.{append_cancel_left, map-append}
 use Rattle.std.proofs.lemmas.Option.{none-some, same_Some}
-use Rattle.std.proofs.lemmas.Bool.{both_ways}
 use Rattle.rx_io.specs.declared.bytes.Item.{Item}
 use Rattle.rx_io.specs.declared.journal.Entry.{Entry}
 use Rattle.rx_io.specs.declared.journal.Entry.TheVariants as entry
 use Rattle.rx_io.specs.declared.journal.LinkEvent.{LinkEvent}
 use Rattle.rx_io.specs.declared.journal.LinkEvent.TheVariants as event
-use Rattle.rx_io.specs.Links.{Piece, events_in, pieces_in}
+use Rattle.rx_io.specs.Links.{events_in, pieces_in}
 use Rattle.rx_io.specs.Prefix.{Prefix}
 use Rattle.rx_io.specs.Sends.{Send, sent_to}
 use Rattle.elf_image.specs.declared.image.Image.{Image}
@@ -19,17 +18,16 @@ use Rattle.run_history.proofs.Outputs.{prefix_sent}
 use Rattle.session_history.specs.Heeding.{Bounds, heeded, items_in, received}
 use Rattle.session_history.specs.Opened.{closes, is_gone, is_open}
 use Rattle.session_history.specs.Passing.{passed_in, AreBetween, AreInOrder}
-use Rattle.session_history.specs.Owing.{Moment, journal, Latest, behind, latest, IsDueBy, IsMadeDue, IsOwed, Stands, IsPassed, OwesNothing}
-use Rattle.session_history.specs.Lawful.{Rules, Survivor, IsDueEvent, is_closed_by, is_closing, IsDuePiece, IsWholePiece, IsDue, AreDue}
-use Rattle.session_history.proofs.Growing.{Grows}
+use Rattle.session_history.specs.Owing.{Moment, Latest, behind, latest, IsDueBy, IsMadeDue, IsOwed, Stands, IsPassed}
+use Rattle.session_history.specs.Lawful.{Rules, Survivor, IsDueEvent, is_closed_by, is_closing, IsDuePiece, IsWholePiece, IsDue}
 use Rattle.session_history.proofs.Heeding.{events_in-gave}
 use Rattle.session_history.proofs.Passing.{timed_on}
 use Rattle.session_history.proofs.Paths.{served_on}
 use Rattle.account_laws.specs.Laws.{piece_of, OpensOnce}
 use Rattle.account_laws.proofs.Connected.{IsSent, AreSent, are_sent-behind}
-use Rattle.account_laws.proofs.Asked.{served_grows, SendsLater, sends_later}
-use Rattle.account_laws.proofs.Fronts.{two_splits, between_behind, between_here, later_taken, pieces_in-append, front_bytes, sent_to-own, never_passed, gone_front, gone_here, and_three, and_nothing}
-use Rattle.account_laws.proofs.Closing.{items_longer, received_longer, opened_in_time, AreUnclosed, unclosed_behind, unclosed_nothing, unclosed_then}
+use Rattle.account_laws.proofs.Asked.{served_grows, sends_later}
+use Rattle.account_laws.proofs.Fronts.{two_splits, between_behind, between_here, later_taken, pieces_in-append, front_bytes, sent_to-own, never_passed, gone_front, and_three, and_nothing}
+use Rattle.account_laws.proofs.Closing.{received_longer, opened_in_time, AreUnclosed, unclosed_behind, unclosed_then}
 
 -- the entries before the last event are the first ones
 behind_front : (first : Entry) (entries : List Entry) (found : Option Latest) (last : Latest) → ((l : Latest) → found ≡ Some l → Prefix l.before entries) → option_map (behind first) found ≡ Some last → Prefix last.before (first ∷ entries)
@@ -135,14 +133,14 @@ step_event rules image survivor entries event more at_end knows due walked =
     let all_sent = rest_sent rules image survivor entries whole knows walked in
     elim (two_splits walked.front walked.rest path.state.sends later.more (sym walked.split ∙ later.sends)) [
       | inl found ↦ record {
-          front = walked.front;
-          rest = walked.rest;
-          split = walked.split;
-          pieces = pieces_in-append entries (entry.Took event ∷ []) ∙ append-nil (pieces_in entries) ∙ walked.pieces;
-          unclosed =
-              unclosed_then rules.bounds entries event more survivor.now.state.machine.taken walked.rest knows.opens_once all_sent
-              (between_behind (received rules.bounds entries + 1) survivor.now.state.machine.taken found.0 walked.rest (subst (AreBetween (received rules.bounds entries + 1) survivor.now.state.machine.taken) found.2 later.between)) walked.unclosed;
-        }
+        front = walked.front;
+        rest = walked.rest;
+        split = walked.split;
+        pieces = pieces_in-append entries (entry.Took event ∷ []) ∙ append-nil (pieces_in entries) ∙ walked.pieces;
+        unclosed =
+            unclosed_then rules.bounds entries event more survivor.now.state.machine.taken walked.rest knows.opens_once all_sent
+            (between_behind (received rules.bounds entries + 1) survivor.now.state.machine.taken found.0 walked.rest (subst (AreBetween (received rules.bounds entries + 1) survivor.now.state.machine.taken) found.2 later.between)) walked.unclosed;
+      }
       | inr found ↦
           let low = between_here 0 path.state.machine.taken walked.front found.0 found.1 (subst (AreBetween 0 path.state.machine.taken) found.2 timed) in
           absurd

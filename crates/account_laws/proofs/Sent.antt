@@ -1,32 +1,30 @@
 -- The walk over a session's entries, up to its end: what is sent is passed.
-use Rattle.std.proofs.Common.{◌≡◌, ℕ, ◌+◌, ◌≤◌, Bool, true, false, List, [], ◌∷◌, ◌++◌, length, map, Option, refl, sym, ◌∙◌, ap, subst, inl, inr, arith, append-nil, append_assoc}
+use Rattle.std.proofs.Common.{◌≡◌, ◌≤◌, Bool, true, false, List, [], ◌∷◌, ◌++◌, length, map, Option, refl, sym, ◌∙◌, ap, subst, arith, append-nil, append_assoc}
 use Rattle.std.proofs.lemmas.Bool.{both_ways}
 use Rattle.rx_io.specs.declared.bytes.Item.{Item}
 use Rattle.rx_io.specs.declared.journal.Entry.{Entry}
 use Rattle.rx_io.specs.declared.journal.Entry.TheVariants as entry
-use Rattle.rx_io.specs.Links.{Coming, events_in, pieces_in}
+use Rattle.rx_io.specs.Links.{Coming, Grew, events_in, pieces_in}
 use Rattle.run_history.specs.declared.answer.Answer.{Answer}
 use Rattle.run_history.specs.declared.answer.Answer.TheVariants as answer
 use Rattle.rx_io.specs.Sends.{Send}
 use Rattle.elf_image.specs.declared.image.Image.{Image}
 use Rattle.run_history.specs.Machine.{start, start_machine}
-use Rattle.run_history.specs.Served.{Served, origin}
-use Rattle.run_history.proofs.Outputs.{sent_to-append}
+use Rattle.run_history.specs.Served.{origin}
 use Rattle.item_log.specs.Heard.{items_of}
 use Rattle.session_history.specs.Heeding.{heeded, heeded_behind, items_in, received}
 use Rattle.session_history.specs.Owing.{OwesNothing}
 use Rattle.session_history.specs.Passing.{AreBetween}
-use Rattle.session_history.specs.Lawful.{Rules, Survivor, IsWholePiece, IsDue, AreDue, entries_of}
-use Rattle.session_history.specs.Account.{Session, journal_of, IsAccount}
-use Rattle.session_history.specs.Giving.{AreGiven}
+use Rattle.session_history.specs.Lawful.{Rules, Survivor, IsWholePiece, IsDue, AreDue}
+use Rattle.session_history.specs.Account.{Session, journal_of}
 use Rattle.session_history.specs.Ends.{IsEnd, EndsBy, OwesNothingAtEnd}
 use Rattle.session_history.proofs.Endings.{events_in-given}
 use Rattle.session_history.proofs.Passing.{timed_on}
-use Rattle.account_laws.specs.Laws.{piece_of, HasPassedOn, SentIsPassed, ServedIsPassed}
+use Rattle.account_laws.specs.Laws.{piece_of, PassesAtOnce, SentIsPassed, ServedIsPassed}
 use Rattle.account_laws.proofs.Asked.{served_grows}
 use Rattle.account_laws.proofs.Connected.{run_connected}
 use Rattle.account_laws.proofs.Fronts.{between_here, gone_here}
-use Rattle.account_laws.proofs.Closing.{received_longer, AreUnclosed, unclosed_nothing}
+use Rattle.account_laws.proofs.Closing.{received_longer, unclosed_nothing}
 use Rattle.account_laws.proofs.Pieces.{moment_at, Knows, Walked, next_owed, step_event, step_whole}
 
 -- one more entry
@@ -61,7 +59,7 @@ unfolding heeded_behind
 walked_nothing rules survivor = record { front = []; rest = survivor.now.state.sends; split = refl; pieces = refl; unclosed = unclosed_nothing survivor.now.state.sends }
 
 -- what an account says to the walk
-knows_all : (rules : Rules) (image : Image) (session : Session) → HasPassedOn rules image session → Knows rules image session.survivor (journal_of session)
+knows_all : (rules : Rules) (image : Image) (session : Session) → PassesAtOnce rules image session → Knows rules image session.survivor (journal_of session)
 unfolding start start_machine
 knows_all rules image session has =
     let items : List Item = items_in rules.bounds (journal_of session) in
@@ -90,7 +88,7 @@ none_left rules image survivor entries knows walked owes (other ∷ rest) is =
     (λ stands at_front owed. owes other stands owed))
 
 -- a session of one survivor, of which no piece was broken off
-alone_passed : (rules : Rules) (image : Image) (survivor : Survivor) (since ending : List Entry) → HasPassedOn rules image (record { earlier = []; survivor = survivor; since = since; ending = ending; broken = [] })
+alone_passed : (rules : Rules) (image : Image) (survivor : Survivor) (since ending : List Entry) → PassesAtOnce rules image (record { earlier = []; survivor = survivor; since = since; ending = ending; broken = [] })
     → pieces_in (since ++ (ending ++ [])) ≡ map piece_of survivor.now.state.sends
 alone_passed rules image survivor since ending has =
     let session : Session = record { earlier = []; survivor = survivor; since = since; ending = ending; broken = [] } in
@@ -111,7 +109,7 @@ sent_is_passed rules image session has =
     let plain : Session = record { earlier = []; survivor = session.survivor; since = session.since; ending = session.ending; broken = [] } in
     let same : session ≡ plain = ap (λ earlier. record session { earlier = earlier }) has.first ∙ ap (λ broken. record session { earlier = []; broken = broken }) has.unbroken in
     ap (λ (s : Session). pieces_in (journal_of s)) same
-    ∙ alone_passed rules image session.survivor session.since session.ending (subst (HasPassedOn rules image) same has)
+    ∙ alone_passed rules image session.survivor session.since session.ending (subst (PassesAtOnce rules image) same has)
 
 -- at an end all that is owed was passed, and no piece was broken off
 end_owes : (rules : Rules) (coming : Option Coming) (session : Session) (end : Answer) → IsEnd end → EndsBy rules coming session end → OwesNothingAtEnd rules session × (session.broken ≡ [])
@@ -127,7 +125,7 @@ end_owes rules coming session _ is ends = absurd is
 pub served_is_passed : ServedIsPassed
 served_is_passed rules image began now coming takes end choices taken steps served is holds_nothing none_gone opens_once =
     let owes = end_owes rules coming served.session end is served.ends in
-    sent_is_passed rules image served.session (record {
+    let passed = sent_is_passed rules image served.session (record {
       at_end = served.at_end;
       account = served.account;
       first = served.alone.first;
@@ -137,4 +135,5 @@ served_is_passed rules image began now coming takes end choices taken steps serv
       holds_nothing = holds_nothing;
       none_gone = none_gone;
       opens_once = opens_once;
-    })
+    }) in
+    (passed, subst (Grew began.pieces now.pieces) passed served.tells.pieces)

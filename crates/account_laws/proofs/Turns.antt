@@ -1,9 +1,9 @@
 -- A link whose events are in order opens no connection again.
-use Rattle.std.proofs.Common.{◌≡◌, ℕ, Bool, true, false, cond, eqb, List, [], ◌∷◌, ◌++◌, refl, sym, ◌∙◌, ap, subst, inl, inr}
+use Rattle.std.proofs.Common.{◌≡◌, ℕ, Bool, false, cond, eqb, List, [], ◌∷◌, ◌++◌, refl, sym, ◌∙◌, ap, subst, inl, inr}
 use Rattle.std.proofs.lemmas.Bool.{cases_Bool, eq-eqb, eqb-true, or_from}
 use Rattle.rx_io.specs.declared.journal.LinkEvent.{LinkEvent}
 use Rattle.rx_io.specs.declared.journal.LinkEvent.TheVariants as event
-use Rattle.rx_io.specs.Links.{Phase, Unopened, Open, Closed, Phases, IsInOrder, with_phase, phases_after}
+use Rattle.rx_io.specs.Links.{Phase, Unopened, Open, Closed, Phases, IsInOrder, phases_after}
 use Rattle.session_history.specs.Opened.{closes}
 use Rattle.account_laws.specs.Laws.{AreInTurn, LinksOpenOnce}
 

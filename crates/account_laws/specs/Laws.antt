@@ -1,9 +1,9 @@
 -- What follows from the account of a session, and from the causes of its ends.
-use Rattle.std.specs.Prelude.{◌≡◌, ◌≢◌, ℕ, ◌<◌, Bool, List, [], ◌∷◌, ◌++◌, length, true, false, map, Option, Some}
+use Rattle.std.specs.Prelude.{◌≡◌, ◌≢◌, ℕ, ◌<◌, Bool, List, [], ◌∷◌, ◌++◌, length, false, map, Option, Some}
 use Rattle.rx_io.specs.declared.journal.Entry.{Entry}
 use Rattle.rx_io.specs.declared.journal.LinkEvent.TheVariants as event
 use Rattle.rx_io.specs.declared.journal.LinkEvent.{LinkEvent}
-use Rattle.rx_io.specs.Links.{Phases, IsInOrder, phases_after, Told, Coming, Refuses, HasEnded, last_taken, Piece, pieces_in, events_in}
+use Rattle.rx_io.specs.Links.{Phases, IsInOrder, phases_after, Told, Grew, Coming, Refuses, HasEnded, last_taken, Piece, pieces_in, events_in}
 use Rattle.block_book.specs.declared.choice.Choice.{Choice}
 use Rattle.rx_io.specs.Sends.{Send}
 use Rattle.elf_image.specs.declared.image.Image.{Image}
@@ -25,6 +25,15 @@ pub record IsToldAlone (entries : List Entry) (next : Coming) : Type 0 where
 abbrev pub IsRefusedAlone : Bounds → List Entry → Coming → Type 0
 IsRefusedAlone bounds entries next = (cause : Unheeded) → IsLastRefused bounds entries cause → IsToldAlone entries next
 
+-- every event is heeded, and the end of the link, where it was taken, came before the last event that may be
+pub record IsAllHeeded (bounds : Bounds) (entries : List Entry) : Type 0 where
+  pub all : heeded bounds (events_in entries) ≡ events_in entries
+  pub ends_early : HasEnded entries → length (events_in entries) < bounds.max_events
+
+-- it is so where every event is heeded
+abbrev pub HeededRefuseNone : Type 0
+HeededRefuseNone = (bounds : Bounds) (entries : List Entry) (next : Coming) → IsAllHeeded bounds entries → IsRefusedAlone bounds entries next
+
 -- no two answers have their cause in one journal, with what its link has behind it
 abbrev pub OneEnd : Type 0
 OneEnd =
@@ -40,7 +49,7 @@ abbrev pub OpensOnce : List LinkEvent → Type 0
 OpensOnce events = (before after : List LinkEvent) (conn : ℕ) → events ≡ before ++ event.Opens conn ∷ after → closes conn before ≡ false
 
 -- a session of one survivor came to its end with all passed that it owes; it held nothing back, and no connection was found gone
-pub record HasPassedOn (rules : Rules) (image : Image) (session : Session) : Type 0 where
+pub record PassesAtOnce (rules : Rules) (image : Image) (session : Session) : Type 0 where
   pub at_end : Bool
   pub account : IsAccount rules image session at_end
   pub first : session.earlier ≡ []
@@ -53,14 +62,14 @@ pub record HasPassedOn (rules : Rules) (image : Image) (session : Session) : Typ
 
 -- its pieces are the sends of its run, in order, each whole
 abbrev pub SentIsPassed : Type 0
-SentIsPassed = (rules : Rules) (image : Image) (session : Session) → HasPassedOn rules image session → pieces_in (journal_of session) ≡ map piece_of session.survivor.now.state.sends
+SentIsPassed = (rules : Rules) (image : Image) (session : Session) → PassesAtOnce rules image session → pieces_in (journal_of session) ≡ map piece_of session.survivor.now.state.sends
 
--- so are they at each end that a session has served up to
+-- So are they at each end of a session that served, and its link tells no other pieces.
 abbrev pub ServedIsPassed : Type 0
 ServedIsPassed =
     (rules : Rules) (image : Image) (began now : Told) (coming : Option Coming) (takes : Bool) (end : Answer) (choices : List Choice) (taken steps : ℕ) (served : HasServed rules image began now coming takes end choices taken steps) →
     IsEnd end → rules.hold ≡ 0 → ((conn : ℕ) → is_gone conn (journal_of served.session) ≡ false) → OpensOnce (events_in (journal_of served.session)) →
-    pieces_in (journal_of served.session) ≡ map piece_of served.session.survivor.now.state.sends
+    (pieces_in (journal_of served.session) ≡ map piece_of served.session.survivor.now.state.sends) × Grew began.pieces now.pieces (map piece_of served.session.survivor.now.state.sends)
 
 -- events that a link gave, each in order for its connection
 abbrev pub AreInTurn : Phases → List LinkEvent → Type 0
@@ -71,13 +80,7 @@ AreInTurn phases (event ∷ events) = IsInOrder phases event × AreInTurn (phase
 abbrev pub LinksOpenOnce : Type 0
 LinksOpenOnce = (phases : Phases) (events : List LinkEvent) → AreInTurn phases events → OpensOnce events
 
--- every event is heeded, and the end of the link, where it was taken, came before the last event that may be
-pub record IsAllHeeded (bounds : Bounds) (entries : List Entry) : Type 0 where
-  pub all : heeded bounds (events_in entries) ≡ events_in entries
-  pub ends_early : HasEnded entries → length (events_in entries) < bounds.max_events
-
--- an answer behind such events: the session took every item, or its program ended itself or failed, or there was a fault or want of
--- memory
+-- an answer behind such events: every item was taken, or the program ended itself or failed, or there was a fault or want of memory
 abbrev pub IsComplete : Rules → Session → Answer → Type 0
 IsComplete rules session answer.Finished = session.survivor.now.state.machine.taken ≡ received rules.bounds (journal_of session)
 IsComplete rules session (answer.Exited code) = Unit {0}
