@@ -123,12 +123,12 @@ end_owes rules coming session answer.LimitEvents is ends = (ends.1, ends.2)
 end_owes rules coming session _ is ends = absurd is
 
 pub served_is_passed : ServedIsPassed
-served_is_passed rules image began now coming takes end choices taken steps served is holds_nothing none_gone opens_once =
+served_is_passed rules image began now coming takes end choices taken steps served is first holds_nothing none_gone opens_once =
     let owes = end_owes rules coming served.session end is served.ends in
     let passed = sent_is_passed rules image served.session (record {
       at_end = served.at_end;
       account = served.account;
-      first = served.alone.first;
+      first = first;
       given = served.pieces;
       unbroken = owes.1;
       owes_nothing = owes.0;

@@ -68,7 +68,7 @@ SentIsPassed = (rules : Rules) (image : Image) (session : Session) → PassesAtO
 abbrev pub ServedIsPassed : Type 0
 ServedIsPassed =
     (rules : Rules) (image : Image) (began now : Told) (coming : Option Coming) (takes : Bool) (end : Answer) (choices : List Choice) (taken steps : ℕ) (served : HasServed rules image began now coming takes end choices taken steps) →
-    IsEnd end → rules.hold ≡ 0 → ((conn : ℕ) → is_gone conn (journal_of served.session) ≡ false) → OpensOnce (events_in (journal_of served.session)) →
+    IsEnd end → served.session.earlier ≡ [] → rules.hold ≡ 0 → ((conn : ℕ) → is_gone conn (journal_of served.session) ≡ false) → OpensOnce (events_in (journal_of served.session)) →
     (pieces_in (journal_of served.session) ≡ map piece_of served.session.survivor.now.state.sends) × Grew began.pieces now.pieces (map piece_of served.session.survivor.now.state.sends)
 
 -- events that a link gave, each in order for its connection
