@@ -6,7 +6,7 @@ use Rattle.std.specs.List.{starts_with}
 abbrev pub guest_names : List (List ℕ)
 guest_names =
     codes "three" ∷ codes "echo" ∷ codes "counter" ∷ codes "divide" ∷ codes "null" ∷ codes "overflow" ∷ codes "unset"
-    ∷ codes "twice" ∷ codes "stale" ∷ codes "tell_free" ∷ codes "tell_over" ∷ codes "pair" ∷ codes "dirty" ∷ codes "keys" ∷ []
+    ∷ codes "twice" ∷ codes "stale" ∷ codes "tell_free" ∷ codes "tell_over" ∷ codes "pair" ∷ codes "late" ∷ codes "dirty" ∷ codes "keys" ∷ []
 
 -- a line of a text, which a line feed ends
 abbrev pub line : List ℕ → List ℕ

@@ -3,8 +3,8 @@ ghost use Rattle.std.specs.Prelude.{◌≡◌, ◌≢◌, ◌↔◌, IsTrue, IsS
 ghost use Rattle.example_guests.specs.Guests.{guest_names, is_headed, three_text};
 
 use crate::{
-    counter, dirty, divide, echo, keys, null, overflow, pair, stale, tell_free, tell_over, three,
-    twice, unset,
+    counter, dirty, divide, echo, keys, late, null, overflow, pair, stale, tell_free, tell_over,
+    three, twice, unset,
 };
 
 /// The text of an example guest, by its name; None exactly where no guest has the name.
@@ -26,6 +26,7 @@ pub fn source_of(name: &str) -> Option<&'static str>
         "tell_free" => Some(tell_free::SOURCE),
         "tell_over" => Some(tell_over::SOURCE),
         "pair" => Some(pair::SOURCE),
+        "late" => Some(late::SOURCE),
         "dirty" => Some(dirty::SOURCE),
         "keys" => Some(keys::SOURCE),
         _ => None,

@@ -7,6 +7,7 @@ mod dirty;
 mod divide;
 mod echo;
 mod keys;
+mod late;
 mod null;
 mod overflow;
 mod pair;

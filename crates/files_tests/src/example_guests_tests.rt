@@ -5,7 +5,7 @@ use std::test::Fail;
 // The window of 1 MiB, which the assembler's command takes.
 const WINDOW: u32 = 1 << 20;
 
-const NAMES: [&str; 14] = [
+const NAMES: [&str; 15] = [
     "three",
     "echo",
     "counter",
@@ -18,6 +18,7 @@ const NAMES: [&str; 14] = [
     "tell_free",
     "tell_over",
     "pair",
+    "late",
     "dirty",
     "keys",
 ];

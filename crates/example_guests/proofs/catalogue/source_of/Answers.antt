@@ -38,8 +38,11 @@ returns-in-tell_over-clause-known c = ((λ _. (10, lit< tt, sym c.in-tell_over.i
 pub returns-in-pair-clause-known : goal.returns-in-pair-clause-known
 returns-in-pair-clause-known c = ((λ _. (11, lit< tt, sym c.in-pair.is)), (λ _. refl))
 
+pub returns-in-late-clause-known : goal.returns-in-late-clause-known
+returns-in-late-clause-known c = ((λ _. (12, lit< tt, sym c.in-late.is)), (λ _. refl))
+
 pub returns-in-dirty-clause-known : goal.returns-in-dirty-clause-known
-returns-in-dirty-clause-known c = ((λ _. (12, lit< tt, sym c.in-dirty.is)), (λ _. refl))
+returns-in-dirty-clause-known c = ((λ _. (13, lit< tt, sym c.in-dirty.is)), (λ _. refl))
 
 pub returns-in-keys-clause-known : goal.returns-in-keys-clause-known
-returns-in-keys-clause-known c = ((λ _. (13, lit< tt, sym c.in-keys.is)), (λ _. refl))
+returns-in-keys-clause-known c = ((λ _. (14, lit< tt, sym c.in-keys.is)), (λ _. refl))
