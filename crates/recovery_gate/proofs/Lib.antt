@@ -2,3 +2,5 @@ pub mod Mirrors
 pub mod Chains
 pub mod RingLemmas
 pub mod Forces
+pub mod Walked
+pub mod Recoveries

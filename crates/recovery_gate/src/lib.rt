@@ -1,6 +1,8 @@
-//! The checkpoints of a session: a ring of them, beside its guest, its log and its ledger.
+//! The checkpoints of a session, and what it makes of them after a failure.
 #![tactic(auto)]
 
 mod checkpoints;
+mod recovering;
 
 pub use checkpoints::{begin_ring, checkpoint};
+pub use recovering::{Adopted, Recovered, recover};

@@ -1,0 +1,165 @@
+// A recovery: what is tried after a failure, and the trial that is adopted.
+ghost use Rattle.std.specs.Prelude.{◌≡◌, ◌++◌, ◌+◌, ◌-◌, ◌/◌, ◌<◌, ◌≤◌, length, take, IfOk};
+ghost use Rattle.ckpt_ring.specs.Slots.{newest_slot, without_newer_slots};
+ghost use Rattle.ckpt_ring.specs.Rings.{checkpoints_of};
+ghost use Rattle.run_history.specs.Served.{Path};
+ghost use Rattle.trial_plan.specs.Sessions.{Failure, IsUnder, taken_in};
+ghost use Rattle.trial_plan.specs.Trying.{StandsOn};
+ghost use Rattle.trial_plan.specs.Walking.{HasSameBytes};
+ghost use Rattle.recovery_gate.specs.Recovering.{adopted_in, HasToRecover, CanRecover, RecoversBy, KeepsAtFault, AdoptsBy};
+
+use alloc_env::Env;
+use block_book::Choice;
+use ckpt_ring::Ring;
+use episodes::{Episode, Tried, Try};
+use guest_cpu::Cpu;
+use guest_space::AccessRule;
+use item_log::ItemLog;
+use reply_ledger::Replies;
+use run_history::Cause;
+use rx_io::Steps;
+use std::alloc::{AllocError, Global};
+use std::sync::ledger::Ledger;
+use trial_plan::walk;
+
+/// What a session adopts of a trial that survived.
+#[derive(Clone, Copy, Debug)]
+pub struct Adopted {
+    /// The environment of the trial.
+    pub env: Env,
+    /// The code with which the trial ended itself, if it did.
+    pub code: Option<u32>,
+}
+
+/// A failure and what was tried after it, and what was adopted, if a trial survived.
+#[derive(Debug, Drop)]
+pub struct Recovered {
+    pub episode: Episode,
+    pub adopted: Option<Adopted>,
+}
+
+// What is adopted of some trials: the last one, if it survived.
+fn adopted_of(tries: &[Try]) -> Option<Adopted>
+    ensures { result ≡ adopted_in tries.now }
+{
+    let Some(last) = tries.last() else {
+        return None;
+    };
+    match last.tried {
+        Tried::Asks => Some(Adopted {
+            env: last.env,
+            code: None,
+        }),
+        Tried::Exits(code) => Some(Adopted {
+            env: last.env,
+            code: Some(code),
+        }),
+        _ => None,
+    }
+}
+
+// Some first answers of malloc, and others behind them.
+fn joined(alloc: Global, first: &[Choice], others: &[Choice]) -> Result<Vec<Choice>, AllocError>
+    ensures { IfOk result (λ all. all.items ≡ first.now ++ others.now) }
+{
+    let mut all = Vec::new(alloc);
+    all.extend_from_slice(first)?;
+    all.extend_from_slice(others)?;
+    Ok(all)
+}
+
+// Makes the trial that survived the session's run: of the answers of malloc as many as it has before its own stay, and its own come
+// behind them. Checkpoints that are newer than its own, the one at this index, are dropped.
+fn adopt<R: AccessRule>(
+    alloc: Global,
+    cpu: &mut Cpu<R>,
+    ring: &mut Ring,
+    index: u32,
+    choices: &mut Vec<Choice>,
+    own: &[Choice],
+) -> Result<(), AllocError>
+    requires within { index < length ring.old.standing }
+    requires same { ring.old.standing ≡ checkpoints_of taken_in cpu.old.slots.saved }
+    requires base { StandsOn cpu.old index }
+    requires own { length own.now ≤ cpu.old.slots.live.guest.machine.allocations }
+    requires first { cpu.old.slots.live.guest.machine.allocations ≤ length choices.old.items + length own.now }
+    ensures adopts { AdoptsBy index own.now cpu.old cpu.new ring.old ring.new choices.old.items choices.new.items result }
+    ensures rule { cpu.new.rule ≡ cpu.old.rule }
+{
+    let first = cpu.marks().choices as usize - own.len();
+    match joined(alloc, &choices[..first], own) {
+        Ok(all) => {
+            ring.drop_newer(cpu, index);
+            *choices = all;
+            Ok(())
+        }
+        Err(e) => Err(e),
+    }
+}
+
+// The checkpoint of the last of so many trials, of which each checkpoint has five.
+fn index_of(ring: &Ring, number: usize) -> u32
+    requires { (number - 1) / 5 < length ring.now.standing }
+    ensures { result ≡ (number - 1) / 5 }
+{
+    let index = number.saturating_sub(1) / 5;
+    index.min(ring.len() as usize) as u32
+}
+
+/// Tries to come past a failure, by `walk`, and adopts the trial that survives, if one does. `point` says how many items the program
+/// had taken, `cause` and `pc` why and where it failed; the episode tells of that and of all trials.
+///
+/// Where a trial is adopted, the guest stands where it has come, at its request for the item behind the failure, or at its end;
+/// `choices` are its answers of malloc from the start on, its sends are the survivor's in `replies`, and of the checkpoints those stand
+/// that aren't newer than its own. Where none survives the guest may stand anywhere, and all else is as it was. What was passed stays.
+/// `steps` counts the instructions of all trials.
+///
+/// # Errors
+///
+/// `AllocError` where memory runs out. The guest may then stand anywhere; `choices` and the checkpoints are as they were.
+pub fn recover<R: AccessRule, L: Ledger>(
+    alloc: Global,
+    cpu: &mut Cpu<R>,
+    ring: &mut Ring,
+    point: u64,
+    cause: Cause,
+    pc: u32,
+    budget: u32,
+    items: &ItemLog,
+    replies: &mut Replies,
+    choices: &mut Vec<Choice>,
+    steps: &mut Steps<L>,
+) -> Result<Recovered, AllocError>
+    requires can { CanRecover budget (R.rule cpu.old.rule) point cause pc cpu.old ring.old choices.old.items items.now replies.old }
+    ensures recovers { (failure : Failure) (begun : Path) → IsUnder failure budget (R.rule cpu.old.rule) → HasToRecover point cause pc failure cpu.old ring.old choices.old.items items.now replies.old
+        → RecoversBy failure begun cause cpu.new ring.old ring.new choices.old.items choices.new.items items.now replies.old replies.new steps.old steps.new result }
+    ensures fault { KeepsAtFault ring.old ring.new choices.old.items choices.new.items result }
+    ensures rule { cpu.new.rule ≡ cpu.old.rule }
+    ensures ledger { IfOk result (λ _. HasSameBytes replies.old replies.new) }
+{
+    let mut own = Vec::new(alloc);
+    match walk(
+        alloc, cpu, ring, point, cause, pc, budget, items, replies, &mut own, steps,
+    ) {
+        Ok(episode) => {
+            let number = episode.tries.as_slice().len();
+            match adopted_of(episode.tries.as_slice()) {
+                None => Ok(Recovered {
+                    episode,
+                    adopted: None,
+                }),
+                Some(adopted) => {
+                    let index = index_of(ring, number);
+                    match adopt(alloc, cpu, ring, index, choices, own.as_slice()) {
+                        Ok(()) => Ok(Recovered {
+                            episode,
+                            adopted: Some(adopted),
+                        }),
+                        Err(e) => Err(e),
+                    }
+                }
+            }
+        }
+        Err(e) => Err(e),
+    }
+}
