@@ -136,6 +136,7 @@ pub fn recover<R: AccessRule, L: Ledger>(
     ensures fault { KeepsAtFault ring.old ring.new choices.old.items choices.new.items result }
     ensures rule { cpu.new.rule ≡ cpu.old.rule }
     ensures ledger { IfOk result (λ _. HasSameBytes replies.old replies.new) }
+    ensures least { steps.old ≤ steps.new }
 {
     let mut own = Vec::new(alloc);
     match walk(

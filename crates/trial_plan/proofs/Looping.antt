@@ -19,9 +19,10 @@ module _ {R : Type 0} where
     pub base : KeepsBase began now
     pub ledger : KeepsLedger old new
     pub counted : after + began.slots.live.steps ≡ before + now.slots.live.steps
+    pub least : before ≤ after
 
   pub gone_none : (permits : R → Heap → ℕ → ℕ → Bool) (budget point : ℕ) (env : Env) (log : Log) (cpu : CpuState R) (choices : List Choice) (ledger : Ledger) (steps : ℕ) → HasGone permits budget point env log cpu cpu choices choices ledger ledger steps steps
-  gone_none permits budget point env log cpu choices ledger steps = record { tries = λ failure checkpoint under t. t; base = same_base cpu; ledger = refl; counted = refl }
+  gone_none permits budget point env log cpu choices ledger steps = record { tries = λ failure checkpoint under t. t; base = same_base cpu; ledger = refl; counted = refl; least = omega arith }
 
   -- by the rule of a guest that is as it was
   pub under_now : (permits : R → Heap → ℕ → ℕ → Bool) (budget : ℕ) (began now : CpuState R) (failure : Failure) → KeepsBase began now → IsUnder failure budget (permits began.rule) → IsUnder failure budget (permits now.rule)

@@ -43,6 +43,15 @@ later_sent (Ok (Some result)) before now less = tt
 later_sent (Err fault) before now less = tt
 
 module _ {R : Type 0} where
+  -- the count of instructions never falls, whatever the guest ran to
+  pub ran_least : (failure : Failure) (point : ℕ) (checkpoint : Path) (env : Env) (old new : CpuState R) (choices : List Choice) (log : Log) (ledger : Ledger) (budget : ℕ) (permits : Heap → ℕ → ℕ → Bool) → IsUnder failure budget permits
+      → (result : Result Event AllocError) → IsTrying failure point checkpoint env old choices log ledger → Ran budget permits env old new result → old.slots.live.steps ≤ new.slots.live.steps
+  ran_least failure point checkpoint env old new choices log ledger budget permits under result t ran =
+      let runs = ran_on failure point checkpoint env old new choices log ledger budget permits result under t ran in
+      let from : old.slots.live.steps ≡ t.path.steps = ap (λ (s : Standing). s.steps) t.stands in
+      let to : runs.now.steps ≡ new.slots.live.steps = ap (λ (s : Standing). s.steps) runs.stands in
+      omega (arith, from, to, runs.goes.later)
+
   module _ (failure : Failure) (point : ℕ) (checkpoint : Path) (env : Env) (old new : CpuState R) (choices : List Choice) (log : Log) (ledger : Ledger) (budget : ℕ) (permits : Heap → ℕ → ℕ → Bool) (under : IsUnder failure budget permits) (found : Event) where
     -- the guest ran to this event
     abbrev Ranto : Event → Type 0

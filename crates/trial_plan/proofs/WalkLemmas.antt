@@ -259,11 +259,13 @@ module _ {R : Type 0} where
     pub ledger : KeepsLedger old new
     pub tried : (failure : Failure) (checkpoint : Path) → IsUnder failure budget (permits began.rule) → FailedAt point failure began log old → slice_get failure.ring index ≡ Some checkpoint
         → FailedSome failure point (chances_at checkpoint (take place environments)) noted tries before after
+    pub least : before ≤ after
 
   pub record WalkedUpTo (permits : R → Heap → ℕ → ℕ → Bool) (budget point : ℕ) (log : Log) (began now : CpuState R) (old new : Ledger) (before after : ℕ) (tries : List Try) (index : ℕ) : Type 0 where
     pub saved : KeepsSaved began now
     pub ledger : KeepsLedger old new
     pub tried : (failure : Failure) → IsUnder failure budget (permits began.rule) → FailedAt point failure began log old → FailedSome failure point (table (take index failure.ring)) [] tries before after
+    pub least : before ≤ after
 
   -- trials can be made from there still
   pub can_still_try : (permits : R → Heap → ℕ → ℕ → Bool) (budget point : ℕ) (log : Log) (began now : CpuState R) (old new : Ledger) → KeepsSaved began now → KeepsLedger old new → CanTry budget (permits began.rule) point began log old

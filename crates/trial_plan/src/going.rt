@@ -1,5 +1,5 @@
 // A trial on its way, from one event of its guest to the next.
-ghost use Rattle.std.specs.Prelude.{◌≡◌, ◌+◌, ◌<◌, true, Option, List, length, IsSome, MatchOption};
+ghost use Rattle.std.specs.Prelude.{◌≡◌, ◌+◌, ◌<◌, ◌≤◌, true, Option, List, length, IsSome, MatchOption};
 ghost use Rattle.alloc_env.specs.declared.env.Env.{Env};
 ghost use Rattle.block_book.specs.declared.choice.Choice.{Choice};
 ghost use Rattle.reply_ledger.specs.Ledger.{IsOpened, NotBefore, times_of};
@@ -65,6 +65,7 @@ fn ask<R: AccessRule, L: Ledger>(
         → ComesIf failure point checkpoint env cpu.new choices items.now replies.now result }
     ensures kept { KeepsBase cpu.old cpu.new }
     ensures counted { steps.new + cpu.old.slots.live.steps ≡ steps.old + cpu.new.slots.live.steps }
+    ensures least { steps.old ≤ steps.new }
     ensures later { IsLaterIf result cpu.old.slots.live.steps cpu.new.slots.live.steps }
 {
     let taken = cpu.marks().taken;
@@ -96,6 +97,7 @@ fn turn<R: AccessRule, L: Ledger>(
     ensures kept { KeepsBase cpu.old cpu.new }
     ensures ledger { KeepsLedger replies.old replies.new }
     ensures counted { steps.new + cpu.old.slots.live.steps ≡ steps.old + cpu.new.slots.live.steps }
+    ensures least { steps.old ≤ steps.new }
     ensures later { IsLater result cpu.old.slots.live.steps cpu.new.slots.live.steps }
 {
     match cpu.run_to_event(alloc, env, budget, steps) {
@@ -132,6 +134,7 @@ pub(crate) fn go_on<R: AccessRule, L: Ledger>(
     ensures kept { KeepsBase cpu.old cpu.new }
     ensures ledger { KeepsLedger replies.old replies.new }
     ensures counted { steps.new + cpu.old.slots.live.steps ≡ steps.old + cpu.new.slots.live.steps }
+    ensures least { steps.old ≤ steps.new }
 {
     'turns: loop {
         match turn(

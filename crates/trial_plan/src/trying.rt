@@ -1,5 +1,5 @@
 // A trial: to go on from a checkpoint in an environment.
-ghost use Rattle.std.specs.Prelude.{◌≡◌, ℕ, ◌+◌, ◌<◌, length, Some, slice_get, IfOk, IsSomeAnd, MatchBool};
+ghost use Rattle.std.specs.Prelude.{◌≡◌, ℕ, ◌+◌, ◌<◌, ◌≤◌, length, Some, slice_get, IfOk, IsSomeAnd, MatchBool};
 ghost use Rattle.item_log.specs.Log.{Log};
 ghost use Rattle.ckpt_ring.specs.Rings.{checkpoints_of, from_newest};
 ghost use Rattle.reply_ledger.specs.Trials.{discarded};
@@ -88,6 +88,7 @@ pub fn attempt<R: AccessRule, L: Ledger>(
     ensures ledger { KeepsLedger replies.old replies.new }
     ensures stands { IfOk result (λ _. StandsOn cpu.new index) }
     ensures counted { IsSomeAnd (from_newest cpu.old.slots.saved index) (λ one. steps.new + one.state.steps ≡ steps.old + cpu.new.slots.live.steps) }
+    ensures least { steps.old ≤ steps.new }
 {
     begin(cpu, ring, index, replies, choices);
     match go_on(

@@ -1,5 +1,5 @@
 // A walk over the table of trials: from each checkpoint, the newest first, in each environment.
-ghost use Rattle.std.specs.Prelude.{◌≡◌, ◌+◌, ◌<◌, length, Some, slice_get, IfOk, OnOk, [], ◌∷◌, ◌++◌};
+ghost use Rattle.std.specs.Prelude.{◌≡◌, ◌+◌, ◌<◌, ◌≤◌, length, Some, slice_get, IfOk, OnOk, [], ◌∷◌, ◌++◌};
 ghost use Rattle.ckpt_ring.specs.Rings.{checkpoints_of};
 ghost use Rattle.run_history.specs.Served.{Path};
 ghost use Rattle.trial_history.specs.Tables.{environments};
@@ -68,6 +68,7 @@ fn try_one<R: AccessRule, L: Ledger>(
         → OneBy failure point (record { checkpoint = checkpoint; env = env }) cpu.new choices.new.items replies.new tries.old.items tries.new.items steps.old steps.new result }
     ensures saved { KeepsSaved cpu.old cpu.new }
     ensures ledger { LedgerBy replies.old replies.new result }
+    ensures least { steps.old ≤ steps.new }
     ensures stands { StandsBy cpu.new index result }
 {
     match attempt(
@@ -109,6 +110,7 @@ fn try_all<R: AccessRule, L: Ledger>(
         → AllBy failure point checkpoint cpu.new choices.new.items replies.new tries.old.items tries.new.items steps.old steps.new result }
     ensures saved { KeepsSaved cpu.old cpu.new }
     ensures ledger { LedgerBy replies.old replies.new result }
+    ensures least { steps.old ≤ steps.new }
     ensures stands { StandsBy cpu.new index result }
 {
     'environments: for place in 0..ENVIRONMENTS.len() {
@@ -144,6 +146,7 @@ fn try_ring<R: AccessRule, L: Ledger>(
         → IfOk result (λ _. HasWalked failure point cpu.new choices.new.items replies.old replies.new steps.old steps.new tries.new.items) }
     ensures saved { KeepsSaved cpu.old cpu.new }
     ensures ledger { StaysBy replies.old replies.new result }
+    ensures least { steps.old ≤ steps.new }
 {
     let count = ring.len();
     'checkpoints: for index in 0..count {
@@ -190,6 +193,7 @@ pub fn walk<R: AccessRule, L: Ledger>(
     ensures episode { IfOk result (IsEpisode point cause pc) }
     ensures saved { KeepsSaved cpu.old cpu.new }
     ensures ledger { StaysBy replies.old replies.new result }
+    ensures least { steps.old ≤ steps.new }
 {
     let mut tries = Vec::new(alloc);
     match try_ring(

@@ -24,6 +24,7 @@ turns-preserved g c =
       base = base_on c.args.cpu.now c.turns.cpu c.turn.new.cpu c.turns.invariant.base c.in-Ok-None.ensures.kept;
       ledger = c.in-Ok-None.ensures.ledger ∙ c.turns.invariant.ledger;
       counted = omega (arith, before, counted);
+      least = let low = c.turns.invariant.least in let more = c.in-Ok-None.ensures.least in omega (arith, low, more);
     }
 
 pub turns-smaller : goal.turns-smaller

@@ -5,7 +5,7 @@ use Rattle.run_history.specs.Served.{Limits}
 use Rattle.block_book.specs.declared.choice.Choice.{Choice}
 use Rattle.trial_plan.specs.Going.{IsTrying}
 use Rattle.trial_plan.proofs.Running.{trying_room, live_base, base_on}
-use Rattle.trial_plan.proofs.Turning.{keeps_sent, later_if, later_sent, ran_later, asks_now, chooses_now, chooses_later, exits_now, fails_now, emits_asks, emits_now, emits_later}
+use Rattle.trial_plan.proofs.Turning.{keeps_sent, later_if, later_sent, ran_later, ran_least, asks_now, chooses_now, chooses_later, exits_now, fails_now, emits_asks, emits_now, emits_later}
 use Rattle.trial_plan.proofs.going.turn.Goals as goal
 
 pub run_to_event-requires : goal.run_to_event-requires
@@ -85,3 +85,52 @@ returns-in-Ok-Exits-clause-comes g c failure checkpoint under t =
 pub returns-in-Ok-Failed-clause-comes : goal.returns-in-Ok-Failed-clause-comes
 returns-in-Ok-Failed-clause-comes g c failure checkpoint under t =
     fails_now failure c.args.point checkpoint c.args.env c.args.cpu.now c.run_to_event.new.self c.args.choices.now.items c.args.items.now c.args.replies.now c.args.budget (g.R.AccessRule.rule c.args.cpu.now.rule) under c.in-Ok-Failed.field-0 c.in-Ok-Failed.cause c.in-Ok-Failed.field-0-is t c.in-Ok-Failed.ensures.event (live_base c.args.cpu.now c.run_to_event.new.self c.run_to_event.ensures.kept).saved
+
+pub returns-in-Ok-Asks-clause-least : goal.returns-in-Ok-Asks-clause-least
+returns-in-Ok-Asks-clause-least g c =
+    let w = c.requires.tries in
+    let low = ran_least w.failure c.args.point w.checkpoint c.args.env c.args.cpu.now c.run_to_event.new.self c.args.choices.now.items c.args.items.now c.args.replies.now c.args.budget (g.R.AccessRule.rule c.args.cpu.now.rule) w.under c.run_to_event.result w.trying c.run_to_event.ensures.event in
+    let counted = c.run_to_event.ensures.counted in
+    omega (arith, low, counted, c.ask.ensures.least)
+
+pub returns-in-Ok-Emits-clause-least : goal.returns-in-Ok-Emits-clause-least
+returns-in-Ok-Emits-clause-least g c =
+    let w = c.requires.tries in
+    let low = ran_least w.failure c.args.point w.checkpoint c.args.env c.args.cpu.now c.run_to_event.new.self c.args.choices.now.items c.args.items.now c.args.replies.now c.args.budget (g.R.AccessRule.rule c.args.cpu.now.rule) w.under c.run_to_event.result w.trying c.run_to_event.ensures.event in
+    let counted = c.run_to_event.ensures.counted in
+    omega (arith, low, counted)
+
+pub returns-in-Ok-clause-least : goal.returns-in-Ok-clause-least
+returns-in-Ok-clause-least g c =
+    let w = c.requires.tries in
+    let low = ran_least w.failure c.args.point w.checkpoint c.args.env c.args.cpu.now c.run_to_event.new.self c.args.choices.now.items c.args.items.now c.args.replies.now c.args.budget (g.R.AccessRule.rule c.args.cpu.now.rule) w.under c.run_to_event.result w.trying c.run_to_event.ensures.event in
+    let counted = c.run_to_event.ensures.counted in
+    omega (arith, low, counted)
+
+pub returns-in-Err-push-clause-least : goal.returns-in-Err-push-clause-least
+returns-in-Err-push-clause-least g c =
+    let w = c.requires.tries in
+    let low = ran_least w.failure c.args.point w.checkpoint c.args.env c.args.cpu.now c.run_to_event.new.self c.args.choices.now.items c.args.items.now c.args.replies.now c.args.budget (g.R.AccessRule.rule c.args.cpu.now.rule) w.under c.run_to_event.result w.trying c.run_to_event.ensures.event in
+    let counted = c.run_to_event.ensures.counted in
+    omega (arith, low, counted)
+
+pub returns-in-Ok-Exits-clause-least : goal.returns-in-Ok-Exits-clause-least
+returns-in-Ok-Exits-clause-least g c =
+    let w = c.requires.tries in
+    let low = ran_least w.failure c.args.point w.checkpoint c.args.env c.args.cpu.now c.run_to_event.new.self c.args.choices.now.items c.args.items.now c.args.replies.now c.args.budget (g.R.AccessRule.rule c.args.cpu.now.rule) w.under c.run_to_event.result w.trying c.run_to_event.ensures.event in
+    let counted = c.run_to_event.ensures.counted in
+    omega (arith, low, counted)
+
+pub returns-in-Ok-Failed-clause-least : goal.returns-in-Ok-Failed-clause-least
+returns-in-Ok-Failed-clause-least g c =
+    let w = c.requires.tries in
+    let low = ran_least w.failure c.args.point w.checkpoint c.args.env c.args.cpu.now c.run_to_event.new.self c.args.choices.now.items c.args.items.now c.args.replies.now c.args.budget (g.R.AccessRule.rule c.args.cpu.now.rule) w.under c.run_to_event.result w.trying c.run_to_event.ensures.event in
+    let counted = c.run_to_event.ensures.counted in
+    omega (arith, low, counted)
+
+pub returns-in-Err-clause-least : goal.returns-in-Err-clause-least
+returns-in-Err-clause-least g c =
+    let w = c.requires.tries in
+    let low = ran_least w.failure c.args.point w.checkpoint c.args.env c.args.cpu.now c.run_to_event.new.self c.args.choices.now.items c.args.items.now c.args.replies.now c.args.budget (g.R.AccessRule.rule c.args.cpu.now.rule) w.under c.run_to_event.result w.trying c.run_to_event.ensures.event in
+    let counted = c.run_to_event.ensures.counted in
+    omega (arith, low, counted)

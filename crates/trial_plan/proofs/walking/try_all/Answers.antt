@@ -13,6 +13,7 @@ environments-init g c = record {
   saved = same_saved c.args.cpu.now;
   ledger = refl;
   tried = λ failure checkpoint under failed found. failed_none failure c.args.point c.args.tries.now.items _;
+  least = omega arith;
 }
 
 pub try_one-requires-clause-failed : goal.try_one-requires-clause-failed
@@ -31,6 +32,7 @@ environments-preserved g c =
           (subst (λ (b : Bool). OneBy failure c.args.point (record { checkpoint = checkpoint; env = c.environment-env.result }) c.try_one.new.cpu c.try_one.new.choices.items c.try_one.new.replies c.environments.tries.items c.try_one.new.tries.items c.environments.steps c.try_one.new.steps (Ok b)) c.in-Ok-false.field-0-test
           (c.in-Ok-false.ensures.tries failure checkpoint (under_saved g.R.AccessRule.rule c.args.budget c.args.cpu.now c.environments.cpu failure inv.saved under)
           (failed_still c.args.point failure c.args.cpu.now c.environments.cpu c.args.items.now c.args.replies.now c.environments.replies inv.saved inv.ledger failed) found));
+      least = let low = inv.least in let more = c.in-Ok-false.ensures.least in omega (arith, low, more);
     }
 
 pub returns-in-Ok-true-clause-tries : goal.returns-in-Ok-true-clause-tries

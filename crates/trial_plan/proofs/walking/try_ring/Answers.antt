@@ -13,6 +13,7 @@ checkpoints-init g c = record {
   saved = same_saved c.args.cpu.now;
   ledger = refl;
   tried = λ failure under failed. subst (λ (all : List Try). FailedSome failure c.args.point [] [] all c.args.steps.now c.args.steps.now) (sym c.requires.none) (failed_none failure c.args.point [] c.args.steps.now);
+  least = omega arith;
 }
 
 pub try_all-requires-clause-failed : goal.try_all-requires-clause-failed
@@ -35,6 +36,7 @@ checkpoints-preserved g c =
           (subst (λ (b : Bool). AllBy failure c.args.point f.0 c.try_all.new.cpu c.try_all.new.choices.items c.try_all.new.replies c.checkpoints.tries.items c.try_all.new.tries.items c.checkpoints.steps c.try_all.new.steps (Ok b)) c.in-Ok-false.field-0-test
           (c.in-Ok-false.ensures.tries failure f.0 (under_saved g.R.AccessRule.rule c.args.budget c.args.cpu.now c.checkpoints.cpu failure inv.saved under)
           (failed_still c.args.point failure c.args.cpu.now c.checkpoints.cpu c.args.items.now c.args.replies.now c.checkpoints.replies inv.saved inv.ledger failed) f.1));
+      least = let low = inv.least in let more = c.in-Ok-false.ensures.least in omega (arith, low, more);
     }
 
 pub returns-in-Ok-true-clause-walks : goal.returns-in-Ok-true-clause-walks
