@@ -1,6 +1,5 @@
 -- What a recovery makes of a failure, from what its walk left.
-use Rattle.std.proofs.Common.{◌≡◌, inl, inr, ℕ, ◌+◌, ◌-◌, ◌/◌, ◌<◌, ◌≤◌, List, [], ◌∷◌, ◌++◌, length, map, take, drop, Option, Some, None, refl, sym, ◌∙◌, ap, subst, arith}
-use Rattle.std.specs.Prelude.{slice_get}
+use Rattle.std.proofs.Common.{◌≡◌, inl, inr, ℕ, ◌+◌, ◌-◌, ◌/◌, ◌<◌, ◌≤◌, List, [], ◌++◌, length, map, take, drop, Some, None, refl, sym, ◌∙◌, ap, subst, arith}
 use Rattle.std.proofs.lemmas.List.{length-map}
 use Rattle.std.proofs.lemmas.Option.{none-some, slice_get_within}
 use Rattle.block_book.specs.declared.choice.Choice.{Choice}
@@ -18,15 +17,15 @@ use Rattle.episodes.specs.declared.episode.Episode.{Episode}
 use Rattle.episodes.specs.declared.episode.Try.{Try}
 use Rattle.trial_history.specs.Trials.{plan_of_trial}
 use Rattle.trial_history.specs.Tables.{Trial, try_of, table, WalksOver, survivor_in}
-use Rattle.trial_history.specs.Episodes.{Recovery, episode_of, IsRecovery, adopted_by}
+use Rattle.trial_history.specs.Episodes.{episode_of, IsRecovery}
 use Rattle.trial_history.proofs.Chained.{chained_at}
 use Rattle.trial_history.proofs.Going.{steps_later}
 use Rattle.trial_plan.specs.Sessions.{Failure, items_of, pieces_of}
 use Rattle.trial_plan.specs.Trying.{KeepsSaved, steps_of, HasWalked}
 use Rattle.trial_plan.specs.Walking.{IsEpisode, HasSameBytes}
 use Rattle.recovery_gate.specs.declared.recovering.Adopted.{Adopted}
-use Rattle.recovery_gate.specs.Rings.{KeepsRing, IsInForce}
-use Rattle.recovery_gate.specs.Recovering.{adopted_of, adopted_in, recovery_of, HasToRecover, HasAdoptedRun, Adopts}
+use Rattle.recovery_gate.specs.Rings.{IsInForce}
+use Rattle.recovery_gate.specs.Recovering.{adopted_in, recovery_of, HasToRecover, HasAdoptedRun, Adopts}
 use Rattle.recovery_gate.proofs.RingLemmas.{as_many_stand, ring_beside, ring_adopts}
 use Rattle.recovery_gate.proofs.Forces.{in_force_from}
 use Rattle.recovery_gate.proofs.Walked.{LastAdopted, WalkLeaves, walk_leaves, some_adopted, adopted_is, OwnAnswers, own_answers}

@@ -16,7 +16,7 @@ use Rattle.session_history.specs.Owing.{Moment, Latest, latest, received_before,
 use Rattle.session_history.specs.Lawful.{Rules}
 use Rattle.session_history.specs.Keeping.{KeepsItems, KeepsReplies, KeepsPhases}
 use Rattle.rx_engine.specs.Sessions.{SessionState}
-use Rattle.rx_engine.specs.Standing.{Story, entries, moment, sends, then_story, IsTold, GoesWith, KeepsCheckpoints, IsLatestDone, IsLatestBefore, HasPassed, HasPassedDue, IsGoing, IsBetween, IsHearing, IsWaitingFor}
+use Rattle.rx_engine.specs.Standing.{Since, Story, entries, moment, sends, then_story, IsTold, GoesWith, KeepsCheckpoints, IsLatestDone, IsLatestBefore, HasPassed, HasPassedDue, IsGoing, IsBetween, IsHearing, IsWaitingFor}
 use Rattle.session_history.specs.Giving.{AreGiven}
 use Rattle.rx_engine.proofs.EventLemmas.{IsNoEnd, latest-took}
 use Rattle.rx_engine.proofs.HearLemmas.{HasSameRun, HasHeard, answers_still, goes_then, saved_then}
@@ -64,7 +64,7 @@ before_given rules story more number given before last found = before last (sym 
 
 module _ {R : Type 0} where
   -- items came, or none: what is due has to be passed
-  pub hearing_items : (rules : Rules) (image : Image) (began now : Told) (phases : Phases) (story : Story) (e : LinkEvent) (session : SessionState R) → IsQuiet e → HasHeard rules image began now phases (then_story story (entry.Took e ∷ [])) session
+  pub hearing_items : (rules : Rules) (image : Image) (began : Since) (now : Told) (phases : Phases) (story : Story) (e : LinkEvent) (session : SessionState R) → IsQuiet e → HasHeard rules image began now phases (then_story story (entry.Took e ∷ [])) session
       → received rules.bounds (entries story) ≤ story.survivor.now.state.machine.taken → KeepsReplies rules.bounds (entries (then_story story (entry.Took e ∷ []))) None (sends story) session.replies → session.replies.trial ≡ None
       → KeepsCheckpoints rules image (then_story story (entry.Took e ∷ [])) session → IsHearing rules image began now phases session
   hearing_items rules image began now phases story e session is heard all replies no_trial saved = record {
@@ -102,7 +102,7 @@ module _ {R : Type 0} where
       }) saved
 
   -- what is due was passed: the guest waits on
-  pub waits_on : (rules : Rules) (image : Image) (began before now : Told) (phases later : Phases) (old : SessionState R) (replies : Ledger) (h : IsHearing rules image began before phases old) (more : List Entry) → AreGiven more
+  pub waits_on : (rules : Rules) (image : Image) (began : Since) (before now : Told) (phases later : Phases) (old : SessionState R) (replies : Ledger) (h : IsHearing rules image began before phases old) (more : List Entry) → AreGiven more
       → ((conn : ℕ) → later conn ≡ phases conn) → IsTold rules image began now (then_story h.story more) → HasPassed rules (then_story h.story more) replies → HasPassedDue rules (then_story h.story more) → replies.first ≡ old.replies.first
       → IsWaitingFor rules image began now later (record old { replies = replies })
   waits_on rules image began before now phases later old replies h more given stay told passed due kept = record {
@@ -120,7 +120,7 @@ module _ {R : Type 0} where
   }
 
   -- and the session stands between two events of its guest
-  pub between_on : (rules : Rules) (image : Image) (began before now : Told) (phases later : Phases) (old : SessionState R) (replies : Ledger) (g : IsGoing rules image began before phases old) (more : List Entry) → AreGiven more
+  pub between_on : (rules : Rules) (image : Image) (began : Since) (before now : Told) (phases later : Phases) (old : SessionState R) (replies : Ledger) (g : IsGoing rules image began before phases old) (more : List Entry) → AreGiven more
       → ((conn : ℕ) → later conn ≡ phases conn) → IsTold rules image began now (then_story g.story more) → HasPassed rules (then_story g.story more) replies → HasPassedDue rules (then_story g.story more) → replies.first ≡ old.replies.first
       → IsBetween rules image began now later (record old { replies = replies })
   between_on rules image began before now phases later old replies g more given stay told passed due kept = record {

@@ -1,10 +1,12 @@
 -- The checkpoints of a session beside its story, as its survivor goes on.
-use Rattle.std.proofs.Common.{◌≡◌, ℕ, ◌≤◌, List, sym, ap, subst}
+use Rattle.std.proofs.Common.{◌≡◌, ◌⊎◌, inl, inr, ℕ, ◌+◌, ◌<◌, ◌≤◌, List, [], sym, ◌∙◌, ap, subst, arith}
+use Rattle.rx_io.specs.declared.bytes.Item.{Item}
+use Rattle.trial_history.proofs.Planned.{past_request}
 use Rattle.alloc_env.specs.declared.env.Env.{Env}
 use Rattle.elf_image.specs.declared.image.Image.{Image}
 use Rattle.item_log.specs.Log.{Log}
 use Rattle.ckpt_ring.specs.Rings.{Checkpoints}
-use Rattle.run_history.specs.Served.{Override, Path, Served}
+use Rattle.run_history.specs.Served.{Limits, Override, Path, Served, AsksFor}
 use Rattle.guest_cpu.specs.Cpus.{live_of, with_live}
 use Rattle.session_history.specs.Heeding.{items_in}
 use Rattle.session_history.specs.Lawful.{Rules}
@@ -18,6 +20,16 @@ use Rattle.rx_engine.proofs.StoryLemmas.{on_story}
 -- an environment and a number that are the same
 pub in_force_by : (plan : List Override) (taken : ℕ) (env other : Env) (until till : ℕ) → other ≡ env → till ≡ until → IsInForce plan taken env until → IsInForce plan taken other till
 in_force_by plan taken env other until till same still is = subst (λ (e : Env). IsInForce plan taken e till) (sym same) (subst (λ n. IsInForce plan taken env n) (sym still) is)
+
+-- a run past a failure goes on past it; one that stands at it, at its request, takes the item
+pub past_on : (limits : Limits) (items : List Item) (plan : List Override) (now to : Path) (until till : ℕ) → Served limits items plan now to → now.state.machine.taken ≤ to.state.machine.taken → till ≡ until
+    → (until < now.state.machine.taken + 4) ⊎ ((until ≡ now.state.machine.taken + 4) × AsksFor limits [] now now.state.machine.taken) → (till < to.state.machine.taken + 4) ⊎ ((till ≡ to.state.machine.taken + 4) × AsksFor limits [] to to.state.machine.taken)
+past_on limits items plan now to until till served more same (inl past) = inl (omega (arith, past, more, same))
+past_on limits items plan now to until till served more same (inr there) =
+    elim (past_request limits items plan now to there.1 served) [
+      | inl stays ↦ subst (λ (p : Path). (till < p.state.machine.taken + 4) ⊎ ((till ≡ p.state.machine.taken + 4) × AsksFor limits [] p p.state.machine.taken)) stays (inr (same ∙ there.0, there.1))
+      | inr later ↦ inl (let is : until ≡ now.state.machine.taken + 4 = there.0 in omega (arith, is, later, same))
+    ]
 
 module _ {R : Type 0} where
   -- all but the live state of the guest, the replies, the counts and the answers of malloc is the same
@@ -43,4 +55,5 @@ module _ {R : Type 0} where
             (ring_on rules image (entries story) plan now to k.paths old.cpu new.cpu (live_of new.cpu) old.ring old.log old.replies served side.cpu k.ring));
         in_force =
             in_force_by plan to.state.machine.taken old.env new.env old.until new.until side.env side.until (in_force_later plan now.state.machine.taken to.state.machine.taken old.env old.until more k.in_force);
+        past = past_on rules.limits (items_in rules.bounds (entries story)) plan now to old.until new.until served more side.until k.past;
       }

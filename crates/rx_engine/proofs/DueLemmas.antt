@@ -7,7 +7,7 @@ use Rattle.session_history.specs.Lawful.{Rules}
 use Rattle.rx_engine.specs.declared.stop.Stop.{Stop}
 use Rattle.rx_engine.specs.declared.stop.Stop.TheVariants as stop
 use Rattle.rx_engine.specs.Sessions.{SessionState}
-use Rattle.rx_engine.specs.Standing.{IsGoing, IsBetween}
+use Rattle.rx_engine.specs.Standing.{Since, IsGoing, IsBetween}
 use Rattle.rx_engine.specs.Serving.{PassesDue, ComesBetween, UnlessBroken}
 use Rattle.rx_engine.specs.Standing.{Story}
 use Rattle.rx_engine.proofs.StoryLemmas.{still_takes}
@@ -15,7 +15,7 @@ use Rattle.rx_engine.proofs.ArmLemmas.{between_on}
 
 module _ {R : Type 0} where
   -- the session stands between two events of its guest
-  pub comes_between : (rules : Rules) (image : Image) (began before now : Told) (phases later : Phases) (coming : Option Coming) (takes : Bool) (old new : SessionState R) (g : IsGoing rules image began before phases old) (result : Result (Unit {0}) Stop)
+  pub comes_between : (rules : Rules) (image : Image) (began : Since) (before now : Told) (phases later : Phases) (coming : Option Coming) (takes : Bool) (old new : SessionState R) (g : IsGoing rules image began before phases old) (result : Result (Unit {0}) Stop)
       → new ≡ record old { replies = new.replies } → new.replies.first ≡ old.replies.first → ((conn : ℕ) → later conn ≡ phases conn) → takes ≡ true → PassesDue rules image began now coming g.story new result → ComesBetween rules image began now later coming takes new result
   comes_between rules image began before now phases later coming takes old new g (Ok done) same kept stay still p =
       subst (λ (s : SessionState R). IsBetween rules image began now later s) (sym same) (between_on rules image began before now phases later old new.replies g p.0 p.1 stay p.2 p.3 p.4 kept)
@@ -23,7 +23,7 @@ module _ {R : Type 0} where
   comes_between rules image began before now phases later coming takes old new g (Err (stop.Breaks end)) same kept stay still p = (p, λ none. still_takes takes _ still none)
 
   -- it never ends there
-  pub unless_due : (rules : Rules) (image : Image) (began now : Told) (coming : Option Coming) (story : Story) (session : SessionState R) (result : Result (Unit {0}) Stop) (P : Type 0)
+  pub unless_due : (rules : Rules) (image : Image) (began : Since) (now : Told) (coming : Option Coming) (story : Story) (session : SessionState R) (result : Result (Unit {0}) Stop) (P : Type 0)
       → PassesDue rules image began now coming story session result → IfOk result (λ _. P) → UnlessBroken result P
   unless_due rules image began now coming story session (Ok done) P p is = is
   unless_due rules image began now coming story session (Err (stop.Ends end)) P p is = absurd p

@@ -1,5 +1,5 @@
 -- The end of a session: what is left is passed, and there is an account of it all.
-use Rattle.std.proofs.Common.{◌≡◌, ℕ, Bool, true, false, List, [], ◌∷◌, ◌++◌, Option, refl, sym, ◌∙◌, ap, subst, append-nil, append_assoc}
+use Rattle.std.proofs.Common.{◌≡◌, inl, ◌+◌, ◌-◌, ◌≤◌, ℕ, Bool, true, false, List, [], ◌∷◌, ◌++◌, Option, refl, sym, ◌∙◌, ap, subst, arith, append-nil, append_assoc}
 use Rattle.rx_io.specs.declared.bytes.Item.{Item}
 use Rattle.rx_io.specs.declared.journal.Entry.{Entry}
 use Rattle.rx_io.specs.declared.journal.Entry.TheVariants as entry
@@ -19,9 +19,14 @@ use Rattle.session_history.proofs.Heeding.{items_in-gave}
 use Rattle.session_history.proofs.Paths.{served_same}
 use Rattle.session_history.proofs.Endings.{ending_none, ending_piece, ending_account, broken_account}
 use Rattle.rx_engine.specs.Sessions.{SessionState}
-use Rattle.rx_engine.specs.Standing.{Story, entries, moment, sends, IsTold, AnswersFor, IsAsking, IsEnding, IsBrokenOff}
+use Rattle.rx_engine.specs.Standing.{Since, Story, entries, moment, sends, IsTold, AnswersFor, IsAsking, IsEnding, IsBrokenOff}
 use Rattle.session_history.proofs.Sessions.{serving_account}
-use Rattle.rx_engine.specs.Recovered.{HasRecovered}
+use Rattle.std.specs.Prelude.{◌≢◌}
+use Rattle.trial_history.specs.Tables.{Trial}
+use Rattle.trial_history.proofs.Going.{steps_later}
+use Rattle.trial_plan.specs.Trying.{steps_of}
+use Rattle.rx_engine.specs.Recovered.{HasRecovered, GivesUpBy, spent}
+use Rattle.rx_engine.proofs.GuestLemmas.{none_lost}
 use Rattle.rx_engine.proofs.TellLemmas.{tells_on}
 use Rattle.rx_engine.proofs.PieceLemmas.{are_given, pieces}
 use Rattle.rx_engine.proofs.PieceLemmas as piece
@@ -112,8 +117,17 @@ off_is rules image story more (entry.Gave conn bytes false ∷ next ∷ rest) st
 off_is rules image story more (entry.Gave conn bytes true ∷ next ∷ rest) stood part = absurd part
 off_is rules image story more (entry.Took event ∷ rest) stood part = absurd part
 
+-- all that was counted: the survivors before, this one, and the trials behind it
+count_all : (first last since lost before steps now begun tried : ℕ) → last ≡ first + (since + steps) → since ≡ lost + tried → before ≡ lost + begun → steps ≡ now → begun ≤ now → last ≡ first + (before + (now - begun) + tried)
+count_all first last since lost before steps now begun tried all is earlier same later = omega (arith, all, is, earlier, same, later)
+
+-- nobody gives up but at an end
+gives_no_end : (rules : Rules) (image : Image) (entries : List Entry) (survivor : Survivor) (trials : List Trial) (end : Answer) → (IsEnd end → ⊥) → GivesUpBy rules image entries survivor trials end
+gives_no_end rules image entries survivor trials (answer.GaveUp point cause) never = absurd (never tt)
+gives_no_end rules image entries survivor trials _ never = tt
+
 module _ {R : Type 0} where
-  stood_end : (rules : Rules) (image : Image) (began now : Told) (coming : Option Coming) (session : SessionState R) (end : Answer) (e : IsEnding rules image began now coming session end) → Stood rules image e.story []
+  stood_end : (rules : Rules) (image : Image) (began : Since) (now : Told) (coming : Option Coming) (session : SessionState R) (end : Answer) (e : IsEnding rules image began now coming session end) → Stood rules image e.story []
   stood_end rules image began now coming session end e =
       let story : Story = e.story in
       record {
@@ -122,7 +136,7 @@ module _ {R : Type 0} where
       }
 
   -- with these pieces
-  stood_pieces : (rules : Rules) (image : Image) (began now : Told) (coming : Option Coming) (session : SessionState R) (end : Answer) (e : IsEnding rules image began now coming session end) (more : List Entry)
+  stood_pieces : (rules : Rules) (image : Image) (began : Since) (now : Told) (coming : Option Coming) (session : SessionState R) (end : Answer) (e : IsEnding rules image began now coming session end) (more : List Entry)
       → AreDuePieces rules (sends e.story) (end_of e.story) more → Stood rules image e.story more
   stood_pieces rules image began now coming session end e more due =
       let story : Story = e.story in
@@ -130,17 +144,17 @@ module _ {R : Type 0} where
       (subst (λ (since : List Entry). AreDuePieces rules (sends story) (ending_at story.earlier since true) more) (sym (append-nil story.since)) due)
 
   -- what was told in all
-  told_end : (rules : Rules) (image : Image) (began before now : Told) (coming : Option Coming) (session : SessionState R) (end : Answer) (e : IsEnding rules image began before coming session end) (more broken : List Entry)
-      → Tells before now (more ++ broken) → Tells began now (journal_of (ended_account e.story more broken))
+  told_end : (rules : Rules) (image : Image) (began : Since) (before now : Told) (coming : Option Coming) (session : SessionState R) (end : Answer) (e : IsEnding rules image began before coming session end) (more broken : List Entry)
+      → Tells before now (more ++ broken) → Tells began.told now (journal_of (ended_account e.story more broken))
   told_end rules image began before now coming session end e more broken tells =
       let story : Story = e.story in
-      subst (Tells began now) (append_assoc (entries_of story.earlier) story.since (more ++ broken)) (tells_on began before now (entries story) (more ++ broken) e.told.tells tells)
+      subst (Tells began.told now) (append_assoc (entries_of story.earlier) story.since (more ++ broken)) (tells_on began.told before now (entries story) (more ++ broken) e.told.tells tells)
 
   -- all was passed
-  pub served_end : (rules : Rules) (image : Image) (began before now : Told) (coming later : Option Coming) (takes : Bool) (session : SessionState R) (end : Answer) (e : IsEnding rules image began before coming session end) (more : List Entry)
+  pub served_end : (rules : Rules) (image : Image) (began : Since) (before now : Told) (coming later : Option Coming) (takes : Bool) (session : SessionState R) (end : Answer) (e : IsEnding rules image began before coming session end) (more : List Entry)
       → later ≡ coming → AreDuePieces rules (sends e.story) (end_of e.story) more → Tells before now more → OwesNothing rules.bounds rules.hold (then_entries (end_of e.story) more) (sends e.story)
-      → (takes ≡ false → IsAsking rules e.story) → HasRecovered rules image began now later takes end session.choices session.taken session.steps
-  served_end rules image began before now coming later takes session end e more same due tells owes asked =
+      → (takes ≡ false → IsAsking rules e.story) → (first last : ℕ) → last ≡ first + (began.lost + session.steps) → HasRecovered rules image began.told now later takes end session.choices session.taken session.steps first last
+  served_end rules image began before now coming later takes session end e more same due tells owes asked first last all =
       let story : Story = e.story in
       let stands : StandsAt rules (entries story) later story.survivor end = subst (λ (c : Option Coming). StandsAt rules (entries story) c story.survivor end) (sym same) e.stands in
       record {
@@ -159,13 +173,19 @@ module _ {R : Type 0} where
         };
         recoveries = e.story.recoveries;
         recovered = e.told.recovered;
+        trials = e.trials;
+        tried = e.tried;
+        gave_up = e.gave_up;
+        counted = λ others.
+            count_all first last began.lost e.lost (spent story.recoveries) session.steps story.survivor.now.steps story.survivor.begun.steps (steps_of e.trials) all e.lost_is e.told.counted e.answers.steps
+            (steps_later rules.limits (items_in rules.bounds (entries story)) story.survivor.plan story.survivor.begun story.survivor.now e.told.way);
       }
 
   -- a fault came while it was passed
-  pub served_broken : (rules : Rules) (image : Image) (began before now : Told) (coming later : Option Coming) (takes : Bool) (session : SessionState R) (end fault : Answer) (e : IsEnding rules image began before coming session end) (more broken : List Entry)
+  pub served_broken : (rules : Rules) (image : Image) (began : Since) (before now : Told) (coming later : Option Coming) (takes : Bool) (session : SessionState R) (end fault : Answer) (e : IsEnding rules image began before coming session end) (more broken : List Entry)
       → later ≡ coming → AreDuePieces rules (sends e.story) (end_of e.story) more → IsBroken rules (sends e.story) (then_entries (end_of e.story) more) broken → Tells before now (more ++ broken)
-      → EndsBy rules later (ended_account e.story more broken) fault → (takes ≡ false → IsAsking rules e.story) → HasRecovered rules image began now later takes fault session.choices session.taken session.steps
-  served_broken rules image began before now coming later takes session end fault e more broken same due part tells ends asked =
+      → EndsBy rules later (ended_account e.story more broken) fault → (IsEnd fault → ⊥) → (takes ≡ false → IsAsking rules e.story) → (first last : ℕ) → last ≡ first + (began.lost + session.steps) → HasRecovered rules image began.told now later takes fault session.choices session.taken session.steps first last
+  served_broken rules image began before now coming later takes session end fault e more broken same due part tells ends no_end asked first last all =
       let story : Story = e.story in
       let stands : StandsAt rules (entries story) later story.survivor end = subst (λ (c : Option Coming). StandsAt rules (entries story) c story.survivor end) (sym same) e.stands in
       record {
@@ -184,11 +204,18 @@ module _ {R : Type 0} where
         };
         recoveries = e.story.recoveries;
         recovered = e.told.recovered;
+        trials = e.trials;
+        tried = e.tried;
+        gave_up = gives_no_end rules image (entries story) story.survivor e.trials fault no_end;
+        counted = λ others.
+            count_all first last began.lost e.lost (spent story.recoveries) session.steps story.survivor.now.steps story.survivor.begun.steps (steps_of e.trials) all e.lost_is e.told.counted e.answers.steps
+            (steps_later rules.limits (items_in rules.bounds (entries story)) story.survivor.plan story.survivor.begun story.survivor.now e.told.way);
       }
 
   -- a session that was broken off has served
-  pub served_off : (rules : Rules) (image : Image) (began now : Told) (coming : Option Coming) (takes : Bool) (session : SessionState R) (end : Answer) → (off : IsBrokenOff rules image began now coming session end) → (takes ≡ false → WasAsked rules off.account) → HasRecovered rules image began now coming takes end session.choices session.taken session.steps
-  served_off rules image began now coming takes session end off asked = record {
+  pub served_off : (rules : Rules) (image : Image) (began : Since) (now : Told) (coming : Option Coming) (takes : Bool) (session : SessionState R) (end : Answer) → (off : IsBrokenOff rules image began now coming session end) → (takes ≡ false → WasAsked rules off.account) → (first last : ℕ)
+      → (end ≢ answer.Memory → last ≡ first + (began.lost + session.steps)) → HasRecovered rules image began.told now coming takes end session.choices session.taken session.steps first last
+  served_off rules image began now coming takes session end off asked first last all = record {
     served = record {
       session = off.account;
       at_end = false;
@@ -204,10 +231,15 @@ module _ {R : Type 0} where
     };
     recoveries = off.recoveries;
     recovered = off.recovered;
+    trials = [];
+    tried = inl refl;
+    gave_up = gives_no_end rules image (before_end off.account) off.account.survivor [] end off.no_end;
+    counted = λ others.
+        count_all first last began.lost began.lost (spent off.recoveries) session.steps off.account.survivor.now.steps off.account.survivor.begun.steps (steps_of []) (all others) (none_lost began.lost) (off.counted others) off.steps off.later;
   }
 
   -- a fault came while what is due was passed
-  pub off_pieces : (rules : Rules) (image : Image) (began before now : Told) (coming : Option Coming) (story : Story) (session : SessionState R) (fault : Answer) (more broken : List Entry) → IsTold rules image began before story → AnswersFor story session
+  pub off_pieces : (rules : Rules) (image : Image) (began : Since) (before now : Told) (coming : Option Coming) (story : Story) (session : SessionState R) (fault : Answer) (more broken : List Entry) → IsTold rules image began before story → AnswersFor story session
       → AreDuePieces rules (sends story) (moment story) more → IsBroken rules (sends story) (then_entries (moment story) more) broken → Tells before now (more ++ broken)
       → EndsBy rules coming (off_account story more broken) fault → (IsEnd fault → ⊥) → IsBrokenOff rules image began now coming session fault
   off_pieces rules image began before now coming story session fault more broken told answers due part tells ends no_end =
@@ -215,14 +247,16 @@ module _ {R : Type 0} where
       record {
         account = off_account story more broken;
         tells =
-            subst (Tells began now) (append_assoc (entries_of story.earlier) story.since (more ++ broken) ∙ ap (λ es. entries_of story.earlier ++ es) (sym (append_assoc story.since more broken)))
-            (tells_on began before now (entries story) (more ++ broken) told.tells tells);
+            subst (Tells began.told now) (append_assoc (entries_of story.earlier) story.since (more ++ broken) ∙ ap (λ es. entries_of story.earlier ++ es) (sym (append_assoc story.since more broken)))
+            (tells_on began.told before now (entries story) (more ++ broken) told.tells tells);
         is_account = off_is rules image story more broken stood part;
         ends = ends;
         pieces = tt;
         no_end = no_end;
         recoveries = story.recoveries;
         recovered = told.recovered;
+        counted = λ others. told.counted;
+        later = steps_later rules.limits (items_in rules.bounds (entries story)) story.survivor.plan story.survivor.begun story.survivor.now told.way;
         choices = answers.choices;
         taken = answers.taken;
         steps = answers.steps;

@@ -15,7 +15,7 @@ use Rattle.session_history.specs.Owing.{Latest, behind, latest, IsOwed, IsPassed
 use Rattle.session_history.specs.Lawful.{Rules, Survivor, entries_of, IsDue}
 use Rattle.session_history.proofs.Paths.{served_same, served_with}
 use Rattle.session_history.proofs.Sessions.{serving_event}
-use Rattle.rx_engine.specs.Standing.{Story, entries, moment, sends, then_story, IsTold, IsLatestDone, HasPassedDue}
+use Rattle.rx_engine.specs.Standing.{Since, Story, entries, moment, sends, then_story, IsTold, IsLatestDone, HasPassedDue}
 use Rattle.rx_engine.proofs.TellLemmas.{tells_on}
 
 -- where all items received were taken, what was due was passed, and so was what the latest event makes owed, nothing is owed
@@ -29,7 +29,7 @@ owes_nothing rules story all due done send stands owed = of owed
     of (inr made) = done send stands made
 
 -- an event that is due is taken
-pub told_event : (rules : Rules) (image : Image) (began old now : Told) (story : Story) (event : LinkEvent) (more : List Item) → IsTold rules image began old story
+pub told_event : (rules : Rules) (image : Image) (began : Since) (old now : Told) (story : Story) (event : LinkEvent) (more : List Item) → IsTold rules image began old story
     → AsksFor rules.limits story.survivor.plan story.survivor.now (received rules.bounds (entries story)) → OwesNothing rules.bounds rules.hold (moment story) (sends story) → Tells old now (entry.Took event ∷ [])
     → items_in rules.bounds (entries story ++ entry.Took event ∷ []) ≡ items_in rules.bounds (entries story) ++ more → IsTold rules image began now (then_story story (entry.Took event ∷ []))
 told_event rules image began old now story event more told asks owes tells brings =
@@ -43,8 +43,9 @@ told_event rules image began old now story event more told asks owes tells bring
       way =
           subst (λ its. Served rules.limits its survivor.plan survivor.begun survivor.now) (sym brings ∙ ap (items_in rules.bounds) same)
           (served_with rules.limits items more survivor.plan survivor.begun survivor.now told.way);
-      tells = subst (Tells began now) same (tells_on began old now (entries story) (entry.Took event ∷ []) told.tells tells);
+      tells = subst (Tells began.told now) same (tells_on began.told old now (entries story) (entry.Took event ∷ []) told.tells tells);
       recovered = told.recovered;
+      counted = told.counted;
     }
 
 -- the latest event of some entries and one that was taken last, which isn't Ends

@@ -1,5 +1,5 @@
 -- What an event of the guest makes of a session.
-use Rattle.std.proofs.Common.{◌≡◌, ℕ, ◌+◌, ◌≤◌, true, false, List, [], ◌∷◌, ◌++◌, length, Option, None, Ok, sym, ◌∙◌, ap, subst, arith}
+use Rattle.std.proofs.Common.{◌≡◌, inl, ℕ, ◌+◌, ◌≤◌, true, false, List, [], ◌∷◌, ◌++◌, length, Option, None, Ok, refl, sym, ◌∙◌, ap, subst, arith}
 use Rattle.std.specs.Prelude.{slice_get, unwrap_or}
 use Rattle.block_book.specs.declared.choice.Choice.{Choice}
 use Rattle.item_log.specs.Log.{Log}
@@ -33,10 +33,17 @@ use Rattle.session_history.specs.Lawful.{Rules}
 use Rattle.session_history.specs.Account.{Session}
 use Rattle.session_history.specs.Keeping.{KeepsReplies, KeepsItems}
 use Rattle.rx_engine.specs.Sessions.{SessionState}
-use Rattle.rx_engine.specs.Standing.{Story, entries, moment, IsTold, AnswersFor, GoesWith, IsLatestDone, IsLatestBefore, HasPassedDue, HasPassed, IsGoing, IsBetween, IsWaitingFor, IsEnding, IsBrokenOff}
+use Rattle.rx_engine.specs.Standing.{Since, Story, entries, moment, IsTold, AnswersFor, GoesWith, IsLatestDone, IsLatestBefore, HasPassedDue, HasPassed, IsGoing, IsBetween, IsWaitingFor, IsFailing, IsEnding, IsBrokenOff}
 use Rattle.rx_engine.specs.Serving.{IsCounted}
 use Rattle.rx_engine.proofs.StoryLemmas.{on_story, told_on, account_of, journal_of_story}
+use Rattle.trial_history.proofs.Going.{steps_later}
+use Rattle.trial_plan.specs.Trying.{steps_of}
+use Rattle.rx_engine.specs.Recovered.{GivesUpBy}
 use Rattle.rx_engine.proofs.CheckpointLemmas.{HasSameSide, saved_on}
+
+-- without trials nothing was counted for them
+pub none_lost : (lost : ℕ) → lost ≡ lost + steps_of []
+none_lost lost = let none : steps_of [] ≡ 0 = refl in omega (arith, none)
 
 -- a log received as many items as its journal has
 pub received_is : (bounds : Bounds) (entries : List Entry) (log : Log) → KeepsItems bounds entries log → logs.received log ≡ received bounds entries
@@ -47,7 +54,7 @@ may_send_by : (m n : Machine) (conn : ℕ) → n.connections ≡ m.connections �
 may_send_by m n conn same may = ap (λ connections. unwrap_or (slice_get connections conn) false) (sym same) ∙ may
 
 -- the survivor takes no item: it is still in the received ones
-pub still_received : (rules : Rules) (image : Image) (began now : Told) (story : Story) (to : Path) → IsTold rules image began now story → to.state.machine.taken ≡ story.survivor.now.state.machine.taken
+pub still_received : (rules : Rules) (image : Image) (began : Since) (now : Told) (story : Story) (to : Path) → IsTold rules image began now story → to.state.machine.taken ≡ story.survivor.now.state.machine.taken
     → to.state.machine.taken ≤ received rules.bounds (entries story)
 still_received rules image began now story to told same = subst (λ taken. taken ≤ received rules.bounds (entries story)) (sym same) told.serving.carries.taken
 
@@ -96,7 +103,7 @@ module _ {R : Type 0} where
   }
 
   -- where the survivor goes on, used these answers of malloc and sent nothing, the session goes on
-  pub going_on : (rules : Rules) (image : Image) (began now : Told) (phases : Phases) (old new : SessionState R) (g : IsGoing rules image began now phases old) (to : Path) → HasSameParts old new → new.choices ≡ to.choices → IsCounted new
+  pub going_on : (rules : Rules) (image : Image) (began : Since) (now : Told) (phases : Phases) (old new : SessionState R) (g : IsGoing rules image began now phases old) (to : Path) → HasSameParts old new → new.choices ≡ to.choices → IsCounted new
       → GoesOn rules.limits (items_in rules.bounds (entries g.story)) g.story.survivor.plan g.story.survivor.now to → to.state.ended ≡ None → new.cpu.slots.live ≡ standing_of to → to.state.sends ≡ g.story.survivor.now.state.sends
       → IsGoing rules image began now phases new
   going_on rules image began now phases old new g to same chosen counted goes lives stands none =
@@ -111,7 +118,7 @@ module _ {R : Type 0} where
       }
 
   -- malloc was answered
-  pub chooses_between : (rules : Rules) (image : Image) (began now : Told) (phases : Phases) (choice : Choice) (old new : SessionState R) (b : IsBetween rules image began now phases old) → HasSameParts old new → new.choices ≡ old.choices ++ choice ∷ []
+  pub chooses_between : (rules : Rules) (image : Image) (began : Since) (now : Told) (phases : Phases) (choice : Choice) (old new : SessionState R) (b : IsBetween rules image began now phases old) → HasSameParts old new → new.choices ≡ old.choices ++ choice ∷ []
       → IsCounted new → RunsOn rules.limits (items_in rules.bounds (entries b.going.story)) b.going.story.survivor.plan b.going.story.survivor.now (Ok (event.Chooses choice)) new.cpu.slots.live → IsBetween rules image began now phases new
   unfolding going_on
   chooses_between rules image began now phases choice old new b same chosen counted runs =
@@ -123,7 +130,7 @@ module _ {R : Type 0} where
       }
 
   -- it waits for an item
-  pub asks_waits : (rules : Rules) (image : Image) (began now : Told) (phases : Phases) (old new : SessionState R) (b : IsBetween rules image began now phases old) → HasSameParts old new → new.choices ≡ old.choices → IsCounted new
+  pub asks_waits : (rules : Rules) (image : Image) (began : Since) (now : Told) (phases : Phases) (old new : SessionState R) (b : IsBetween rules image began now phases old) → HasSameParts old new → new.choices ≡ old.choices → IsCounted new
       → RunsOn rules.limits (items_in rules.bounds (entries b.going.story)) b.going.story.survivor.plan b.going.story.survivor.now (Ok event.Asks) new.cpu.slots.live → IsWaitingFor rules image began now phases new
   unfolding going_on
   asks_waits rules image began now phases old new b same chosen counted runs =
@@ -147,13 +154,16 @@ module _ {R : Type 0} where
       }
 
   -- a session whose survivor has come to an end, and sent nothing on the way
-  comes_ending : (rules : Rules) (image : Image) (began now : Told) (phases : Phases) (coming : Option Coming) (old new : SessionState R) (g : IsGoing rules image began now phases old) (to : Path) (end : Answer) → HasSameParts old new
+  comes_ending : (rules : Rules) (image : Image) (began : Since) (now : Told) (phases : Phases) (coming : Option Coming) (old new : SessionState R) (g : IsGoing rules image began now phases old) (to : Path) (end : Answer) → HasSameParts old new
       → new.choices ≡ old.choices → IsCounted new → GoesOn rules.limits (items_in rules.bounds (entries g.story)) g.story.survivor.plan g.story.survivor.now to → IsSilent g.story.survivor.now to → new.cpu.slots.live ≡ standing_of to → IsEnd end
-      → StandsAt rules (entries g.story) coming (gone_on g.story.survivor to) end → IsEnding rules image began now coming new end
-  comes_ending rules image began now phases coming old new g to end same chosen counted goes silent stands is_end cause =
+      → StandsAt rules (entries g.story) coming (gone_on g.story.survivor to) end → GivesUpBy rules image (entries g.story) (gone_on g.story.survivor to) [] end → IsEnding rules image began now coming new end
+  comes_ending rules image began now phases coming old new g to end same chosen counted goes silent stands is_end cause gave_up =
       let passed = has_passed rules g.story old.replies new.replies to g.passed same.replies silent.sends in
       record {
         story = on_story g.story to;
+        trials = [];
+        lost = began.lost;
+        lost_is = none_lost began.lost;
         told = told_on rules image began now g.story to g.told goes.served (still_received rules image began now g.story to g.told goes.taken);
         answers = answers_for g.story new to (chosen ∙ (g.answers.choices ∙ sym silent.choices)) counted stands;
         received_are = ap (λ (log : Log). logs.received log) same.side.log ∙ received_is rules.bounds (entries g.story) old.log g.goes.items;
@@ -162,37 +172,43 @@ module _ {R : Type 0} where
         closed = λ send stands closing owed. passed.done send stands owed;
         is_end = is_end;
         stands = cause;
+        tried = inl refl;
+        gave_up = gave_up;
       }
 
   -- it ended itself
-  pub exits_ending : (rules : Rules) (image : Image) (began now : Told) (phases : Phases) (coming : Option Coming) (code : ℕ) (old new : SessionState R) (b : IsBetween rules image began now phases old) → HasSameParts old new → new.choices ≡ old.choices
+  pub exits_ending : (rules : Rules) (image : Image) (began : Since) (now : Told) (phases : Phases) (coming : Option Coming) (code : ℕ) (old new : SessionState R) (b : IsBetween rules image began now phases old) → HasSameParts old new → new.choices ≡ old.choices
       → IsCounted new → RunsOn rules.limits (items_in rules.bounds (entries b.going.story)) b.going.story.survivor.plan b.going.story.survivor.now (Ok (event.Exits code)) new.cpu.slots.live
       → IsEnding rules image began now coming new (answer.Exited code)
   exits_ending rules image began now phases coming code old new b same chosen counted runs =
-      comes_ending rules image began now phases coming old new b.going runs.now (answer.Exited code) same chosen counted runs.goes runs.comes.0 (sym runs.stands) tt runs.comes.1
+      comes_ending rules image began now phases coming old new b.going runs.now (answer.Exited code) same chosen counted runs.goes runs.comes.0 (sym runs.stands) tt runs.comes.1 tt
 
-  -- it failed
-  pub fails_ending : (rules : Rules) (image : Image) (began now : Told) (phases : Phases) (coming : Option Coming) (cause : Cause) (point : ℕ) (old new : SessionState R) (b : IsBetween rules image began now phases old) → HasSameParts old new
-      → new.choices ≡ old.choices → IsCounted new → point ≡ new.taken
-      → RunsOn rules.limits (items_in rules.bounds (entries b.going.story)) b.going.story.survivor.plan b.going.story.survivor.now (Ok (event.Failed cause)) new.cpu.slots.live
-      → IsEnding rules image began now coming new (answer.GaveUp point cause)
-  fails_ending rules image began now phases coming cause point old new b same chosen counted at runs =
-      comes_ending rules image began now phases coming old new b.going runs.now (answer.GaveUp point cause) same chosen counted runs.goes runs.comes.0 (sym runs.stands) tt
-      (runs.comes.1, ap (λ (s : Standing). s.guest.machine.taken) runs.stands ∙ (sym counted.taken ∙ sym at))
+  -- it fails at its next instruction
+  pub fails_failing : (rules : Rules) (image : Image) (began : Since) (now : Told) (phases : Phases) (cause : Cause) (old new : SessionState R) (b : IsBetween rules image began now phases old) → HasSameParts old new → new.choices ≡ old.choices → IsCounted new
+      → RunsOn rules.limits (items_in rules.bounds (entries b.going.story)) b.going.story.survivor.plan b.going.story.survivor.now (Ok (event.Failed cause)) new.cpu.slots.live → IsFailing rules image began now phases cause new
+  unfolding going_on
+  fails_failing rules image began now phases cause old new b same chosen counted runs =
+      let silent : IsSilent b.going.story.survivor.now runs.now = runs.comes.0 in
+      record {
+        going = going_on rules image began now phases old new b.going runs.now same (chosen ∙ (b.going.answers.choices ∙ sym silent.choices)) counted runs.goes runs.comes.1.lives (sym runs.stands) silent.sends;
+        fails = runs.comes.1;
+      }
 
   -- a session that is broken off where it stood has an account, of which holds what holds of its story's
-  pub broken_with : (P : Session → Type 0) (rules : Rules) (image : Image) (began now : Told) (coming : Option Coming) (session : SessionState R) (story : Story) (end : Answer) → IsTold rules image began now story → AnswersFor story session
+  pub broken_with : (P : Session → Type 0) (rules : Rules) (image : Image) (began : Since) (now : Told) (coming : Option Coming) (session : SessionState R) (story : Story) (end : Answer) → IsTold rules image began now story → AnswersFor story session
       → EndsBy rules coming (account_of story) end → (IsEnd end → ⊥) → P (account_of story) → (off : IsBrokenOff rules image began now coming session end) × P off.account
   broken_with P rules image began now coming session story end told answers ends no_end holds = (
     record {
       account = account_of story;
-      tells = subst (Tells began now) (sym (journal_of_story story)) told.tells;
+      tells = subst (Tells began.told now) (sym (journal_of_story story)) told.tells;
       is_account = serving_account rules image story.earlier story.survivor story.since false told.serving;
       ends = ends;
       pieces = tt;
       no_end = no_end;
       recoveries = story.recoveries;
       recovered = told.recovered;
+      counted = λ others. told.counted;
+      later = steps_later rules.limits (items_in rules.bounds (entries story)) story.survivor.plan story.survivor.begun story.survivor.now told.way;
       choices = answers.choices;
       taken = answers.taken;
       steps = answers.steps;
@@ -200,6 +216,6 @@ module _ {R : Type 0} where
     holds,
   )
 
-  pub broken_off : (rules : Rules) (image : Image) (began now : Told) (coming : Option Coming) (session : SessionState R) (story : Story) (end : Answer) → IsTold rules image began now story → AnswersFor story session
+  pub broken_off : (rules : Rules) (image : Image) (began : Since) (now : Told) (coming : Option Coming) (session : SessionState R) (story : Story) (end : Answer) → IsTold rules image began now story → AnswersFor story session
       → EndsBy rules coming (account_of story) end → (IsEnd end → ⊥) → IsBrokenOff rules image began now coming session end
   broken_off rules image began now coming session story end told answers ends no_end = (broken_with (λ account. Unit {0}) rules image began now coming session story end told answers ends no_end tt).0

@@ -1,5 +1,5 @@
 -- What a session makes of an event that it heard.
-use Rattle.std.proofs.Common.{◌≡◌, ℕ, ◌≤◌, true, List, [], ◌∷◌, ◌++◌, length, sym, ◌∙◌, ap, subst, arith, append_assoc}
+use Rattle.std.proofs.Common.{◌≡◌, ◌⊎◌, ◌+◌, ◌<◌, ℕ, ◌≤◌, true, List, [], ◌∷◌, ◌++◌, length, sym, ◌∙◌, ap, subst, arith, append_assoc}
 use Rattle.rx_io.specs.declared.journal.Entry.{Entry}
 use Rattle.rx_io.specs.declared.journal.Entry.TheVariants as entry
 use Rattle.rx_io.specs.declared.journal.LinkEvent.{LinkEvent}
@@ -18,7 +18,7 @@ use Rattle.session_history.specs.Keeping.{KeepsItems, KeepsPhases}
 use Rattle.session_history.specs.Hearing.{IsHeard}
 use Rattle.session_history.proofs.Heeding.{events_in-append}
 use Rattle.rx_engine.specs.Sessions.{SessionState}
-use Rattle.rx_engine.specs.Standing.{Story, entries, sends, then_story, IsTold, AnswersFor, GoesWith, KeepsCheckpoints, IsWaitingFor}
+use Rattle.rx_engine.specs.Standing.{Since, Story, entries, sends, then_story, IsTold, AnswersFor, GoesWith, KeepsCheckpoints, IsWaitingFor}
 use Rattle.rx_engine.proofs.CheckpointLemmas.{in_force_by}
 use Rattle.rx_engine.proofs.EventLemmas.{owes_nothing, told_event, opens_more}
 
@@ -76,16 +76,17 @@ module _ {R : Type 0} where
             (subst (λ (cpu : CpuState R). KeepsRing rules image (entries (then_story story more)) plan now k.paths cpu old.ring new.log new.replies) (sym same.cpu)
             (ring_more rules image (entries story) (entries (then_story story more)) items plan now k.paths old.cpu old.ring old.log new.log old.replies new.replies brings same.first kept k.ring));
         in_force = in_force_by plan now.state.machine.taken old.env new.env old.until new.until same.env same.until k.in_force;
+        past = subst (λ n. (n < now.state.machine.taken + 4) ⊎ ((n ≡ now.state.machine.taken + 4) × AsksFor rules.limits [] now now.state.machine.taken)) (sym same.until) k.past;
       }
 
   -- what is known behind an event that was heard, but for the replies
-  pub record HasHeard (rules : Rules) (image : Image) (began now : Told) (phases : Phases) (story : Story) (session : SessionState R) : Type 0 where
+  pub record HasHeard (rules : Rules) (image : Image) (began : Since) (now : Told) (phases : Phases) (story : Story) (session : SessionState R) : Type 0 where
     pub told : IsTold rules image began now story
     pub answers : AnswersFor story session
     pub goes : GoesWith rules story session phases
     pub asks : AsksFor rules.limits story.survivor.plan story.survivor.now story.survivor.now.state.machine.taken
 
-  pub has_heard : (rules : Rules) (image : Image) (began before now : Told) (phases later : Phases) (event : LinkEvent) (old new : SessionState R) (w : IsWaitingFor rules image began before phases old)
+  pub has_heard : (rules : Rules) (image : Image) (began : Since) (before now : Told) (phases later : Phases) (event : LinkEvent) (old new : SessionState R) (w : IsWaitingFor rules image began before phases old)
       → received rules.bounds (entries w.hearing.story) ≤ w.hearing.story.survivor.now.state.machine.taken → HasSameRun old new → Tells before now (entry.Took event ∷ [])
       → IsHeard rules.bounds (entries w.hearing.story) (sends w.hearing.story) event new.log new.replies → KeepsPhases (entries w.hearing.story ++ entry.Took event ∷ []) later
       → new.events ≡ length (events_in (entries w.hearing.story ++ entry.Took event ∷ [])) → HasHeard rules image began now later (then_story w.hearing.story (entry.Took event ∷ [])) new
@@ -106,7 +107,7 @@ module _ {R : Type 0} where
       }
 
   -- its checkpoints behind the event
-  pub saved_heard : (rules : Rules) (image : Image) (began before : Told) (phases : Phases) (event : LinkEvent) (old new : SessionState R) (w : IsWaitingFor rules image began before phases old) → HasSameRun old new → new.replies.first ≡ old.replies.first
+  pub saved_heard : (rules : Rules) (image : Image) (began : Since) (before : Told) (phases : Phases) (event : LinkEvent) (old new : SessionState R) (w : IsWaitingFor rules image began before phases old) → HasSameRun old new → new.replies.first ≡ old.replies.first
       → IsHeard rules.bounds (entries w.hearing.story) (sends w.hearing.story) event new.log new.replies → KeepsCheckpoints rules image (then_story w.hearing.story (entry.Took event ∷ [])) new
   saved_heard rules image began before phases event old new w same kept heard =
       let story : Story = w.hearing.story in

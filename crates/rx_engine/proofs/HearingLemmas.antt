@@ -44,11 +44,12 @@ use Rattle.rx_engine.specs.declared.stop.Stop.{Stop}
 use Rattle.rx_engine.specs.declared.stop.Stop.TheVariants as stop
 use Rattle.rx_engine.specs.Options.{rules_of}
 use Rattle.rx_engine.specs.Sessions.{SessionState}
-use Rattle.rx_engine.specs.Standing.{Story, entries, moment, sends, then_story, IsTold, KeepsCheckpoints, IsLatestBefore, HasPassed, HasPassedDue, IsHearing, IsWaitingFor, IsEnding}
+use Rattle.rx_engine.specs.Standing.{Since, Story, entries, moment, sends, then_story, IsTold, KeepsCheckpoints, IsLatestBefore, HasPassed, HasPassedDue, IsHearing, IsWaitingFor, IsEnding}
 use Rattle.rx_engine.specs.Serving.{IsStopAt, UnlessBroken, StaysKnown, CanGive, HasStopCause, HasSameGuest, CanPass, StopsBy, PassesStory, PassesDue, WaitsBy}
 use Rattle.rx_engine.proofs.StoryLemmas.{still_takes}
 use Rattle.rx_engine.proofs.EventLemmas.{IsNoEnd}
-use Rattle.rx_engine.proofs.GuestLemmas.{received_is}
+use Rattle.rx_engine.proofs.GuestLemmas.{received_is, none_lost}
+use Rattle.rx_engine.specs.Recovered.{GivesUpBy}
 use Rattle.rx_engine.proofs.GivenLemmas.{latest-given}
 use Rattle.rx_engine.proofs.HearLemmas.{HasSameRun, HasHeard, has_heard, saved_heard, answers_still, more_entries}
 use Rattle.rx_engine.proofs.ArmLemmas.{IsQuiet, latest_story, before_story, before_given, hearing_items, same_run, goes_given, saved_given, waits_on}
@@ -225,12 +226,12 @@ abbrev pub with_heard : {R : Type 0} → SessionState R → Log → Ledger → �
 with_heard session log ledger events = record session { log = log; replies = ledger; events = events }
 
 -- a session seen in another way still waits, and has none left
-pub moved : {R : Type 0} {rules : Rules} {image : Image} {began before : Told} {phases : Phases} {s t : SessionState R} → s ≡ t → IsWaitingFor rules image began before phases s → IsWaitingFor rules image began before phases t
+pub moved : {R : Type 0} {rules : Rules} {image : Image} {began : Since} {before : Told} {phases : Phases} {s t : SessionState R} → s ≡ t → IsWaitingFor rules image began before phases s → IsWaitingFor rules image began before phases t
 moved {rules = rules} {image = image} {began = began} {before = before} {phases = phases} same = subst (λ (s : SessionState _). IsWaitingFor rules image began before phases s) same
 
 module _ {R : Type 0} where
   -- a session that waits, and has taken all that its log received
-  pub all_taken : (rules : Rules) (image : Image) (began before : Told) (phases : Phases) (old : SessionState R) (w : IsWaitingFor rules image began before phases old) → logs.received old.log ≤ old.taken
+  pub all_taken : (rules : Rules) (image : Image) (began : Since) (before : Told) (phases : Phases) (old : SessionState R) (w : IsWaitingFor rules image began before phases old) → logs.received old.log ≤ old.taken
       → received rules.bounds (entries w.hearing.story) ≤ w.hearing.story.survivor.now.state.machine.taken
   all_taken rules image began before phases old w none_left =
       let same = received_is rules.bounds (entries w.hearing.story) old.log w.hearing.goes.items in
@@ -241,14 +242,14 @@ module _ {R : Type 0} where
   run_of old log ledger events first = record { cpu = refl; choices = refl; taken = refl; steps = refl; first = first; ring = refl; env = refl; until = refl }
 
   -- what is known behind an event
-  pub story_heard : (rules : Rules) (image : Image) (began before now : Told) (phases later : Phases) (old : SessionState R) (log : Log) (ledger : Ledger) (events : ℕ) (e : LinkEvent) (w : IsWaitingFor rules image began before phases old)
+  pub story_heard : (rules : Rules) (image : Image) (began : Since) (before now : Told) (phases later : Phases) (old : SessionState R) (log : Log) (ledger : Ledger) (events : ℕ) (e : LinkEvent) (w : IsWaitingFor rules image began before phases old)
       → logs.received old.log ≤ old.taken → log.first ≡ old.log.first → HeardEvent rules.bounds (entries w.hearing.story) (sends w.hearing.story) before now later log ledger events e
       → HasHeard rules image began now later (then_story w.hearing.story (entry.Took e ∷ [])) (with_heard old log ledger events)
   story_heard rules image began before now phases later old log ledger events e w none_left first h =
       has_heard rules image began before now phases later e old (with_heard old log ledger events) w (all_taken rules image began before phases old w none_left) (run_of old log ledger events first) h.tells h.heard h.phases h.counted
 
   -- it knows what a ledger asks of a session before it passes something
-  pub can_pass : (rules : Rules) (image : Image) (began now : Told) (phases : Phases) (story : Story) (session : SessionState R) (closing : Option ℕ) → HasHeard rules image began now phases story session
+  pub can_pass : (rules : Rules) (image : Image) (began : Since) (now : Told) (phases : Phases) (story : Story) (session : SessionState R) (closing : Option ℕ) → HasHeard rules image began now phases story session
       → KeepsReplies rules.bounds (entries story) closing (sends story) session.replies → session.replies.trial ≡ None → CanPass session
   can_pass rules image began now phases story session closing known replies no_trial = record {
     bounds = rules.bounds;
@@ -262,7 +263,7 @@ module _ {R : Type 0} where
   }
 
   -- the same behind an event
-  pub heard_can : (rules : Rules) (image : Image) (began before now : Told) (phases later : Phases) (old : SessionState R) (log : Log) (ledger : Ledger) (events : ℕ) (e : LinkEvent) (w : IsWaitingFor rules image began before phases old)
+  pub heard_can : (rules : Rules) (image : Image) (began : Since) (before now : Told) (phases later : Phases) (old : SessionState R) (log : Log) (ledger : Ledger) (events : ℕ) (e : LinkEvent) (w : IsWaitingFor rules image began before phases old)
       → logs.received old.log ≤ old.taken → log.first ≡ old.log.first → ledger.trial ≡ old.replies.trial → HeardEvent rules.bounds (entries w.hearing.story) (sends w.hearing.story) before now later log ledger events e
       → CanPass (with_heard old log ledger events)
   heard_can rules image began before now phases later old log ledger events e w none_left first trial h =
@@ -270,13 +271,13 @@ module _ {R : Type 0} where
       (subst (λ (es : List Entry). KeepsReplies rules.bounds es (closing_of e) (sends w.hearing.story) ledger) (more_entries w.hearing.story (entry.Took e ∷ [])) h.heard.replies) (trial ∙ w.hearing.passed.no_trial)
 
   -- a connection whose close was heard was opened
-  pub heard_opened : (rules : Rules) (image : Image) (began before now : Told) (phases later : Phases) (old : SessionState R) (log : Log) (ledger : Ledger) (events conn : ℕ) (w : IsWaitingFor rules image began before phases old)
+  pub heard_opened : (rules : Rules) (image : Image) (began : Since) (before now : Told) (phases later : Phases) (old : SessionState R) (log : Log) (ledger : Ledger) (events conn : ℕ) (w : IsWaitingFor rules image began before phases old)
       → HeardEvent rules.bounds (entries w.hearing.story) (sends w.hearing.story) before now later log ledger events (event.Closes conn) → is_some (connection_of ledger.connections conn) ≡ true
   heard_opened rules image began before now phases later old log ledger events conn w h =
       h.heard.replies.opened conn ∙ opens_closed rules.bounds (entries w.hearing.story) conn old.log log w.hearing.goes.items h.heard.items
 
   -- what was sent to it may be passed: a close that was heard is heeded, and owes all that was sent to its connection
-  pub heard_closing : (rules : Rules) (image : Image) (began before now : Told) (phases later : Phases) (old : SessionState R) (log : Log) (ledger : Ledger) (events conn : ℕ) (w : IsWaitingFor rules image began before phases old)
+  pub heard_closing : (rules : Rules) (image : Image) (began : Since) (before now : Told) (phases later : Phases) (old : SessionState R) (log : Log) (ledger : Ledger) (events conn : ℕ) (w : IsWaitingFor rules image began before phases old)
       → logs.received old.log ≤ old.taken → log.first ≡ old.log.first → HeardEvent rules.bounds (entries w.hearing.story) (sends w.hearing.story) before now later log ledger events (event.Closes conn)
       → IsClosing rules (sends w.hearing.story) (moment (then_story w.hearing.story (entry.Took (event.Closes conn) ∷ []))) conn ledger
   heard_closing rules image began before now phases later old log ledger events conn w none_left first h =
@@ -287,7 +288,7 @@ module _ {R : Type 0} where
       (subst (λ (all : List Entry). KeepsReplies rules.bounds all (Some conn) (sends story) ledger) es h.heard.replies)
 
   -- a settle owes all that was sent to open connections
-  pub heard_settled : (rules : Rules) (image : Image) (began before now : Told) (phases later : Phases) (old : SessionState R) (log : Log) (ledger : Ledger) (events until : ℕ) (w : IsWaitingFor rules image began before phases old)
+  pub heard_settled : (rules : Rules) (image : Image) (began : Since) (before now : Told) (phases later : Phases) (old : SessionState R) (log : Log) (ledger : Ledger) (events until : ℕ) (w : IsWaitingFor rules image began before phases old)
       → logs.received old.log ≤ old.taken → log.first ≡ old.log.first → HeardEvent rules.bounds (entries w.hearing.story) (sends w.hearing.story) before now later log ledger events event.Settles
       → IsReady rules (sends w.hearing.story) (moment (then_story w.hearing.story (entry.Took event.Settles ∷ []))) until ledger
   heard_settled rules image began before now phases later old log ledger events until w none_left first h =
@@ -296,20 +297,20 @@ module _ {R : Type 0} where
       (subst (λ (all : List Entry). KeepsReplies rules.bounds all None (sends story) ledger) (more_entries story (entry.Took event.Settles ∷ [])) h.heard.replies)
 
   -- before the event that was heard no more items were received than were taken
-  pub heard_last : (rules : Rules) (image : Image) (began before : Told) (phases : Phases) (old : SessionState R) (e : LinkEvent) (w : IsWaitingFor rules image began before phases old) → logs.received old.log ≤ old.taken → IsNoEnd e
+  pub heard_last : (rules : Rules) (image : Image) (began : Since) (before : Told) (phases : Phases) (old : SessionState R) (e : LinkEvent) (w : IsWaitingFor rules image began before phases old) → logs.received old.log ≤ old.taken → IsNoEnd e
       → IsLatestBefore rules (moment (then_story w.hearing.story (entry.Took e ∷ []))) (w.hearing.story.survivor.now.state.machine.taken + 1)
   heard_last rules image began before phases old e w none_left no_end =
       before_story rules w.hearing.story e (w.hearing.story.survivor.now.state.machine.taken + 1) no_end (omega (arith, all_taken rules image began before phases old w none_left))
 
   -- its checkpoints behind an event
-  pub heard_saved : (rules : Rules) (image : Image) (began before now : Told) (phases later : Phases) (old : SessionState R) (log : Log) (ledger : Ledger) (events : ℕ) (e : LinkEvent) (w : IsWaitingFor rules image began before phases old)
+  pub heard_saved : (rules : Rules) (image : Image) (began : Since) (before now : Told) (phases later : Phases) (old : SessionState R) (log : Log) (ledger : Ledger) (events : ℕ) (e : LinkEvent) (w : IsWaitingFor rules image began before phases old)
       → log.first ≡ old.log.first → ledger.first ≡ old.replies.first → HeardEvent rules.bounds (entries w.hearing.story) (sends w.hearing.story) before now later log ledger events e
       → KeepsCheckpoints rules image (then_story w.hearing.story (entry.Took e ∷ [])) (with_heard old log ledger events)
   heard_saved rules image began before now phases later old log ledger events e w first kept h =
       saved_heard rules image began before phases e old (with_heard old log ledger events) w (run_of old log ledger events first) kept h.heard
 
   -- items came, or none
-  pub items_hearing : (rules : Rules) (image : Image) (began before now : Told) (phases later : Phases) (old : SessionState R) (log : Log) (ledger : Ledger) (events : ℕ) (e : LinkEvent) (w : IsWaitingFor rules image began before phases old)
+  pub items_hearing : (rules : Rules) (image : Image) (began : Since) (before now : Told) (phases later : Phases) (old : SessionState R) (log : Log) (ledger : Ledger) (events : ℕ) (e : LinkEvent) (w : IsWaitingFor rules image began before phases old)
       → logs.received old.log ≤ old.taken → log.first ≡ old.log.first → ledger.first ≡ old.replies.first → ledger.trial ≡ old.replies.trial → IsQuiet e → HeardEvent rules.bounds (entries w.hearing.story) (sends w.hearing.story) before now later log ledger events e
       → IsHearing rules image began now later (with_heard old log ledger events)
   items_hearing rules image began before now phases later old log ledger events e w none_left first kept trial is h =
@@ -321,7 +322,7 @@ module _ {R : Type 0} where
       (trial ∙ w.hearing.passed.no_trial) (saved_heard rules image began before phases e old (with_heard old log ledger events) w (run_of old log ledger events first) kept h.heard)
 
   -- behind what was passed the guest waits, unless the session was broken off
-  pub waits_due : (rules : Rules) (image : Image) (began before now : Told) (phases later : Phases) (coming : Option Coming) (takes : Bool) (old new : SessionState R) (h : IsHearing rules image began before phases old) (result : Result (Unit {0}) Stop)
+  pub waits_due : (rules : Rules) (image : Image) (began : Since) (before now : Told) (phases later : Phases) (coming : Option Coming) (takes : Bool) (old new : SessionState R) (h : IsHearing rules image began before phases old) (result : Result (Unit {0}) Stop)
       → new ≡ record old { replies = new.replies } → new.replies.first ≡ old.replies.first → ((conn : ℕ) → later conn ≡ phases conn) → takes ≡ true → PassesDue rules image began now coming h.story new result → WaitsBy rules image began now later coming takes new result
   waits_due rules image began before now phases later coming takes old new h (Ok done) same kept stay still passes =
       subst (λ (s : SessionState R). IsWaitingFor rules image began now later s) (sym same) (waits_on rules image began before now phases later old new.replies h passes.0 passes.1 stay passes.2 passes.3 passes.4 kept)
@@ -329,7 +330,7 @@ module _ {R : Type 0} where
   waits_due rules image began before now phases later coming takes old new h (Err (stop.Breaks end)) same kept stay still passes = (passes, λ none. still_takes takes _ still none)
 
   -- where what was due behind an event was passed, the guest waits on
-  waits_heard : (rules : Rules) (image : Image) (began before now : Told) (phases later : Phases) (story : Story) (old : SessionState R) (replies : Ledger) (known : HasHeard rules image began before phases story old)
+  waits_heard : (rules : Rules) (image : Image) (began : Since) (before now : Told) (phases later : Phases) (story : Story) (old : SessionState R) (replies : Ledger) (known : HasHeard rules image began before phases story old)
       → KeepsCheckpoints rules image story old → replies.first ≡ old.replies.first → IsLatestBefore rules (moment story) (story.survivor.now.state.machine.taken + 1) → (more : List Entry) → AreGiven more → ((conn : ℕ) → later conn ≡ phases conn) → IsTold rules image began now (then_story story more)
       → HasPassed rules (then_story story more) replies → HasPassedDue rules (then_story story more) → IsWaitingFor rules image began now later (record old { replies = replies })
   waits_heard rules image began before now phases later story old replies known saved kept last more given stay told passed due = record {
@@ -346,7 +347,7 @@ module _ {R : Type 0} where
     due = due;
   }
 
-  pub waits_closed : (rules : Rules) (image : Image) (began before now : Told) (phases later : Phases) (coming : Option Coming) (takes : Bool) (story : Story) (old new : SessionState R) (known : HasHeard rules image began before phases story old) (result : Result (Unit {0}) Stop)
+  pub waits_closed : (rules : Rules) (image : Image) (began : Since) (before now : Told) (phases later : Phases) (coming : Option Coming) (takes : Bool) (story : Story) (old new : SessionState R) (known : HasHeard rules image began before phases story old) (result : Result (Unit {0}) Stop)
       → KeepsCheckpoints rules image story old → IsLatestBefore rules (moment story) (story.survivor.now.state.machine.taken + 1) → new ≡ record old { replies = new.replies } → new.replies.first ≡ old.replies.first → ((conn : ℕ) → later conn ≡ phases conn)
       → takes ≡ true → PassesDue rules image began now coming story new result → WaitsBy rules image began now later coming takes new result
   waits_closed rules image began before now phases later coming takes story old new known (Ok done) saved last same kept stay still passes =
@@ -355,7 +356,7 @@ module _ {R : Type 0} where
   waits_closed rules image began before now phases later coming takes story old new known (Err (stop.Breaks end)) saved last same kept stay still passes = (passes, λ none. still_takes takes _ still none)
 
   -- all that was sent to open connections was passed behind a settle
-  pub waits_settled : (rules : Rules) (image : Image) (began before now : Told) (phases later : Phases) (coming : Option Coming) (takes : Bool) (story : Story) (until : ℕ) (old new : SessionState R)
+  pub waits_settled : (rules : Rules) (image : Image) (began : Since) (before now : Told) (phases later : Phases) (coming : Option Coming) (takes : Bool) (story : Story) (until : ℕ) (old new : SessionState R)
       (known : HasHeard rules image began before phases (then_story story (entry.Took event.Settles ∷ [])) old) (result : Result (Unit {0}) Stop) → story.survivor.now.state.machine.taken ≤ until
       → received rules.bounds (entries story) ≤ story.survivor.now.state.machine.taken → KeepsCheckpoints rules image (then_story story (entry.Took event.Settles ∷ [])) old → new ≡ record old { replies = new.replies } → new.replies.first ≡ old.replies.first → new.replies.trial ≡ None → ((conn : ℕ) → later conn ≡ phases conn)
       → takes ≡ true → PassesStory rules image began now coming (then_story story (entry.Took event.Settles ∷ [])) until new result → WaitsBy rules image began now later coming takes new result
@@ -372,31 +373,34 @@ module _ {R : Type 0} where
   waits_settled rules image began before now phases later coming takes story until old new known (Err (stop.Breaks end)) few all saved same kept no_trial stay still passes = (passes, λ none. still_takes takes _ still none)
 
   -- what holds behind what was passed, unless the session was broken off
-  pub due_unless : (rules : Rules) (image : Image) (began now : Told) (coming : Option Coming) (story : Story) (session : SessionState R) (result : Result (Unit {0}) Stop) (P : Type 0) → PassesDue rules image began now coming story session result → IfOk result (λ _. P) → UnlessBroken result P
+  pub due_unless : (rules : Rules) (image : Image) (began : Since) (now : Told) (coming : Option Coming) (story : Story) (session : SessionState R) (result : Result (Unit {0}) Stop) (P : Type 0) → PassesDue rules image began now coming story session result → IfOk result (λ _. P) → UnlessBroken result P
   due_unless rules image began now coming story session (Ok done) P passes h = h
   due_unless rules image began now coming story session (Err (stop.Ends end)) P passes h = absurd passes
   due_unless rules image began now coming story session (Err (stop.Breaks end)) P passes h = tt
 
-  pub story_unless : (rules : Rules) (image : Image) (began now : Told) (coming : Option Coming) (story : Story) (until : ℕ) (session : SessionState R) (result : Result (Unit {0}) Stop) (P : Type 0) → PassesStory rules image began now coming story until session result
+  pub story_unless : (rules : Rules) (image : Image) (began : Since) (now : Told) (coming : Option Coming) (story : Story) (until : ℕ) (session : SessionState R) (result : Result (Unit {0}) Stop) (P : Type 0) → PassesStory rules image began now coming story until session result
       → IfOk result (λ _. P) → UnlessBroken result P
   story_unless rules image began now coming story until session (Ok done) P passes h = h
   story_unless rules image began now coming story until session (Err (stop.Ends end)) P passes h = absurd passes
   story_unless rules image began now coming story until session (Err (stop.Breaks end)) P passes h = tt
 
   -- an event that is refused where it is the end of the link
-  ending_refused_end : (rules : Rules) (image : Image) (began before now : Told) (phases : Phases) (coming : Option Coming) (old new : SessionState R) (w : IsWaitingFor rules image began before phases old) (cause : Unheeded) (end : Answer)
+  ending_refused_end : (rules : Rules) (image : Image) (began : Since) (before now : Told) (phases : Phases) (coming : Option Coming) (old new : SessionState R) (w : IsWaitingFor rules image began before phases old) (cause : Unheeded) (end : Answer)
       → received rules.bounds (entries w.hearing.story) ≤ w.hearing.story.survivor.now.state.machine.taken → Tells before now (entry.Took event.Ends ∷ []) → (u : IsUnheeded rules.bounds (entries w.hearing.story) (sends w.hearing.story) event.Ends cause new.replies)
       → HasSameRun old new → new.log ≡ old.log → new.replies.trial ≡ None → IsEnd end
       → (IsWaiting rules (entries (then_story w.hearing.story (entry.Took event.Ends ∷ []))) w.hearing.story.survivor → IsLastRefused rules.bounds (entries (then_story w.hearing.story (entry.Took event.Ends ∷ []))) cause
       → StandsAt rules (entries (then_story w.hearing.story (entry.Took event.Ends ∷ []))) coming w.hearing.story.survivor end)
-      → IsEnding rules image began now coming new end
-  ending_refused_end rules image began before now phases coming old new w cause end all tells u same log no_trial is_end stands =
+      → GivesUpBy rules image (entries (then_story w.hearing.story (entry.Took event.Ends ∷ []))) w.hearing.story.survivor [] end → IsEnding rules image began now coming new end
+  ending_refused_end rules image began before now phases coming old new w cause end all tells u same log no_trial is_end stands gave_up =
       let story : Story = w.hearing.story in
       let es = more_entries story (entry.Took event.Ends ∷ []) in
       let none : items_in rules.bounds (entries (then_story story (entry.Took event.Ends ∷ []))) ≡ items_in rules.bounds (entries story) = ap (items_in rules.bounds) (sym es) ∙ u.brings_none in
       let waits = waits_still rules image began before phases old w (entry.Took event.Ends ∷ []) all u.brings_none in
       record {
         story = then_story story (entry.Took event.Ends ∷ []);
+        trials = [];
+        lost = began.lost;
+        lost_is = none_lost began.lost;
         told = waits_took rules image began before now phases old w event.Ends all tells [] (u.brings_none ∙ sym (append-nil (items_in rules.bounds (entries story))));
         answers = answers_still story old new (entry.Took event.Ends ∷ []) same w.hearing.answers;
         received_are = ap (λ (l : Log). logs.received l) log ∙ (received_is rules.bounds (entries story) old.log w.hearing.goes.items ∙ ap length (sym none));
@@ -405,15 +409,17 @@ module _ {R : Type 0} where
         closed = λ send stands closing owed. done_ended rules story w.hearing.passed.done send stands owed;
         is_end = is_end;
         stands = stands waits (record { before = entries story; event = event.Ends; last = sym es; refused = u.refused });
+        tried = inl refl;
+        gave_up = gave_up;
       }
 
   -- an event that is refused, whatever it is
-  refused_any : (rules : Rules) (image : Image) (began before now : Told) (phases : Phases) (coming : Option Coming) (old new : SessionState R) (w : IsWaitingFor rules image began before phases old) (e : LinkEvent) (cause : Unheeded) (end : Answer)
+  refused_any : (rules : Rules) (image : Image) (began : Since) (before now : Told) (phases : Phases) (coming : Option Coming) (old new : SessionState R) (w : IsWaitingFor rules image began before phases old) (e : LinkEvent) (cause : Unheeded) (end : Answer)
       → received rules.bounds (entries w.hearing.story) ≤ w.hearing.story.survivor.now.state.machine.taken → Tells before now (entry.Took e ∷ []) → (u : IsUnheeded rules.bounds (entries w.hearing.story) (sends w.hearing.story) e cause new.replies)
       → HasSameRun old new → new.log ≡ old.log → new.replies.trial ≡ None → IsEnd end
       → (IsWaiting rules (entries (then_story w.hearing.story (entry.Took e ∷ []))) w.hearing.story.survivor → IsLastRefused rules.bounds (entries (then_story w.hearing.story (entry.Took e ∷ []))) cause
       → StandsAt rules (entries (then_story w.hearing.story (entry.Took e ∷ []))) coming w.hearing.story.survivor end)
-      → IsEnding rules image began now coming new end
+      → GivesUpBy rules image (entries (then_story w.hearing.story (entry.Took e ∷ []))) w.hearing.story.survivor [] end → IsEnding rules image began now coming new end
   refused_any rules image began before now phases coming old new w event.Ends cause end = ending_refused_end rules image began before now phases coming old new w cause end
   refused_any rules image began before now phases coming old new w (event.Opens conn) cause end = ending_refused rules image began before now phases coming old new w (event.Opens conn) cause end tt
   refused_any rules image began before now phases coming old new w (event.Piece conn bytes) cause end = ending_refused rules image began before now phases coming old new w (event.Piece conn bytes) cause end tt
@@ -421,7 +427,7 @@ module _ {R : Type 0} where
   refused_any rules image began before now phases coming old new w event.Settles cause end = ending_refused rules image began before now phases coming old new w event.Settles cause end tt
 
   -- what stands behind a stop, by the fault
-  pub stops_by : (rules : Rules) (image : Image) (began before now : Told) (phases later : Phases) (coming was : Option Coming) (takes : Bool) (old : SessionState R) (log : Log) (ledger : Ledger) (events : ℕ) (why : HearFault) (stopped : Stop) (w : IsWaitingFor rules image began before phases old)
+  pub stops_by : (rules : Rules) (image : Image) (began : Since) (before now : Told) (phases later : Phases) (coming was : Option Coming) (takes : Bool) (old : SessionState R) (log : Log) (ledger : Ledger) (events : ℕ) (why : HearFault) (stopped : Stop) (w : IsWaitingFor rules image began before phases old)
       → logs.received old.log ≤ old.taken → log.first ≡ old.log.first → ledger.trial ≡ old.replies.trial → Stays old.log log old.replies ledger old.events events (Err why) → ComesLast coming (Err why)
       → HearsBy rules.bounds (entries w.hearing.story) (sends w.hearing.story) log ledger later events was before now (Err why) → TakesBehind before now takes (Err why) → IsStopAt why stopped → StopsBy rules image began now coming takes (with_heard old log ledger events) stopped
   stops_by rules image began before now phases later coming was takes old log ledger events (fault.Refused kind offset) stopped w none_left first trial stays last h behind is =
@@ -430,20 +436,20 @@ module _ {R : Type 0} where
   stops_by rules image began before now phases later coming was takes old log ledger events fault.LimitEvents stopped w none_left first trial stays last h behind is =
       subst (StopsBy rules image began now coming takes (with_heard old log ledger events)) (sym is) (
         (refused_any rules image began before now phases coming old (with_heard old log ledger events) w h.0 unheeded.LimitEvents answer.LimitEvents (all_taken rules image began before phases old w none_left) h.1 h.2 (run_of old log ledger events first) stays.0
-            (trial ∙ w.hearing.passed.no_trial) tt (λ waits refused. (waits, refused))),
+            (trial ∙ w.hearing.passed.no_trial) tt (λ waits refused. (waits, refused)) tt),
         λ none. still_takes takes _ behind none,
       )
   stops_by rules image began before now phases later coming was takes old log ledger events (fault.TooLong conn) stopped w none_left first trial stays last h behind is =
       subst (StopsBy rules image began now coming takes (with_heard old log ledger events)) (sym is) (
         (refused_any rules image began before now phases coming old (with_heard old log ledger events) w h.0 unheeded.TooLong (answer.MessageTooLong conn) (all_taken rules image began before phases old w none_left) h.1 h.2 (run_of old log ledger events first) stays.0
             (trial ∙ w.hearing.passed.no_trial) tt
-            (λ waits refused. (waits, record { refused = record { before = entries w.hearing.story; event = h.0; last = sym (more_entries w.hearing.story (entry.Took h.0 ∷ [])); refused = h.2.refused }; piece = h.3 }))),
+            (λ waits refused. (waits, record { refused = record { before = entries w.hearing.story; event = h.0; last = sym (more_entries w.hearing.story (entry.Took h.0 ∷ [])); refused = h.2.refused }; piece = h.3 })) tt),
         λ none. still_takes takes _ behind none,
       )
   stops_by rules image began before now phases later coming was takes old log ledger events fault.LimitItems stopped w none_left first trial stays last h behind is =
       subst (StopsBy rules image began now coming takes (with_heard old log ledger events)) (sym is) (
         (refused_any rules image began before now phases coming old (with_heard old log ledger events) w h.0 unheeded.LimitItems answer.LimitItems (all_taken rules image began before phases old w none_left) h.1 h.2 (run_of old log ledger events first) stays.0
-            (trial ∙ w.hearing.passed.no_trial) tt (λ waits refused. (waits, refused))),
+            (trial ∙ w.hearing.passed.no_trial) tt (λ waits refused. (waits, refused)) tt),
         λ none. still_takes takes _ behind none,
       )
   stops_by rules image began before now phases later coming was takes old log ledger events fault.ReadFault stopped w none_left first trial stays last h behind is =
@@ -454,7 +460,7 @@ module _ {R : Type 0} where
       (off_memory rules image began before now phases coming takes old (with_heard old log ledger events) w (all_taken rules image began before phases old w none_left) (run_of old log ledger events first) behind h)
 
   -- the link has ended
-  pub ends_by : (rules : Rules) (image : Image) (began before now : Told) (phases later : Phases) (coming : Option Coming) (old : SessionState R) (log : Log) (ledger : Ledger) (events : ℕ) (w : IsWaitingFor rules image began before phases old)
+  pub ends_by : (rules : Rules) (image : Image) (began : Since) (before now : Told) (phases later : Phases) (coming : Option Coming) (old : SessionState R) (log : Log) (ledger : Ledger) (events : ℕ) (w : IsWaitingFor rules image began before phases old)
       → logs.received old.log ≤ old.taken → log.first ≡ old.log.first → ledger.trial ≡ old.replies.trial → HeardEvent rules.bounds (entries w.hearing.story) (sends w.hearing.story) before now later log ledger events event.Ends
       → ComesLast coming (Ok heard.Ends) → IsEnding rules image began now coming (with_heard old log ledger events) answer.Finished
   ends_by rules image began before now phases later coming old log ledger events w none_left first trial h last =
@@ -462,7 +468,7 @@ module _ {R : Type 0} where
 
   -- how far a session has come that heard its link, and still waits
   pub record HasAwaited (Went : Type 0) (rules : Rules) (before now : Told) (phases later : Phases) (coming upcoming : Option Coming) (from to : Counts) (takes gives : Bool) (gives_to : ℕ → Bool) (old new : SessionState R) : Type 0 where
-    pub hears : (image : Image) (began : Told) → IsWaitingFor rules image began before phases old → IsWaitingFor rules image began now later new
+    pub hears : (image : Image) (began : Since) → IsWaitingFor rules image began before phases old → IsWaitingFor rules image began now later new
     pub same : HasSameGuest old new
     pub known : StaysKnown coming upcoming
     pub takes_still : takes ≡ true
@@ -479,16 +485,17 @@ module _ {R : Type 0} where
     choices = second.choices ∙ first.choices;
     taken = second.taken ∙ first.taken;
     steps = second.steps ∙ first.steps;
+    until = second.until ∙ first.until;
   }
 
   -- the same guest has the same rules
   pub same_rules : (rule : R → Heap → ℕ → ℕ → Bool) (old new : SessionState R) → HasSameGuest old new → rules_of new.options (rule new.cpu.rule) ≡ rules_of old.options (rule old.cpu.rule)
   same_rules rule old new same = λ i. rules_of (same.options i) (rule ((same.cpu i).rule))
 
-  pub waits_under : {image : Image} {began now : Told} {phases : Phases} {session : SessionState R} (first second : Rules) → first ≡ second → IsWaitingFor first image began now phases session → IsWaitingFor second image began now phases session
+  pub waits_under : {image : Image} {began : Since} {now : Told} {phases : Phases} {session : SessionState R} (first second : Rules) → first ≡ second → IsWaitingFor first image began now phases session → IsWaitingFor second image began now phases session
   waits_under {image = image} {began = began} {now = now} {phases = phases} {session = session} first second same = subst (λ (rules : Rules). IsWaitingFor rules image began now phases session) same
 
-  pub stops_under : (image : Image) (began now : Told) (coming : Option Coming) (takes : Bool) (session : SessionState R) (why : Stop) (first second : Rules) → first ≡ second → StopsBy first image began now coming takes session why → StopsBy second image began now coming takes session why
+  pub stops_under : (image : Image) (began : Since) (now : Told) (coming : Option Coming) (takes : Bool) (session : SessionState R) (why : Stop) (first second : Rules) → first ≡ second → StopsBy first image began now coming takes session why → StopsBy second image began now coming takes session why
   stops_under image began now coming takes session why first second same = subst (λ (rules : Rules). StopsBy rules image began now coming takes session why) same
 
 -- where no count fell before a call, its cause is one of both

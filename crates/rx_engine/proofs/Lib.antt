@@ -18,6 +18,8 @@ pub mod NeedLemmas
 pub mod DueLemmas
 pub mod TakeLemmas
 pub mod SaveLemmas
+pub mod AdoptLemmas
+pub mod RecoverLemmas
 pub mod FrameLemmas
 pub mod HearingLemmas
 pub mod TurnLemmas

@@ -11,7 +11,7 @@ use Rattle.session_history.specs.Lawful.{Rules}
 use Rattle.guest_cpu.specs.Standing.{Standing}
 use Rattle.run_history.specs.Served.{Path}
 use Rattle.rx_engine.specs.Sessions.{SessionState}
-use Rattle.rx_engine.specs.Standing.{entries, sends, IsGoing, IsBetween}
+use Rattle.rx_engine.specs.Standing.{Since, entries, sends, IsGoing, IsBetween}
 use Rattle.rx_engine.specs.Serving.{CanPass, HasRun}
 use Rattle.rx_engine.proofs.GuestLemmas.{received_is}
 use Rattle.rx_engine.proofs.ServeLemmas.{run_emits}
@@ -39,7 +39,7 @@ room steps at taken since budget most same bounded last few budgeted items =
 
 module _ {R : Type 0} where
   -- what a ledger asks before it passes something
-  pub going_can : (rules : Rules) (image : Image) (began now : Told) (phases : Phases) (session : SessionState R) → IsGoing rules image began now phases session → CanPass session
+  pub going_can : (rules : Rules) (image : Image) (began : Since) (now : Told) (phases : Phases) (session : SessionState R) → IsGoing rules image began now phases session → CanPass session
   going_can rules image began now phases session g = record {
     bounds = rules.bounds;
     entries = entries g.story;
@@ -52,18 +52,18 @@ module _ {R : Type 0} where
   }
 
   -- what the ledger asks of a send
-  pub emits_opened : (rules : Rules) (image : Image) (began now : Told) (phases : Phases) (conn : ℕ) (bytes : List ℕ) (session : SessionState R) → HasRun rules image began now phases (step.Emits conn bytes) session → IsOpened session.replies conn
+  pub emits_opened : (rules : Rules) (image : Image) (began : Since) (now : Told) (phases : Phases) (conn : ℕ) (bytes : List ℕ) (session : SessionState R) → HasRun rules image began now phases (step.Emits conn bytes) session → IsOpened session.replies conn
   emits_opened rules image began now phases conn bytes session h =
       subst (λ (ledger : Ledger). IsOpened ledger conn) (sym (ap (λ (s : SessionState R). s.replies) h.same))
       (may_opened rules h.between.going.story h.before phases conn h.between.going.goes h.between.going.passed h.runs.comes.2)
 
-  pub emits_some : (rules : Rules) (image : Image) (began now : Told) (phases : Phases) (conn : ℕ) (bytes : List ℕ) (session : SessionState R) → HasRun rules image began now phases (step.Emits conn bytes) session → 0 < length bytes
+  pub emits_some : (rules : Rules) (image : Image) (began : Since) (now : Told) (phases : Phases) (conn : ℕ) (bytes : List ℕ) (session : SessionState R) → HasRun rules image began now phases (step.Emits conn bytes) session → 0 < length bytes
   emits_some rules image began now phases conn bytes session h = h.runs.comes.3
 
-  pub emits_survivor : (rules : Rules) (image : Image) (began now : Told) (phases : Phases) (conn : ℕ) (bytes : List ℕ) (session : SessionState R) → HasRun rules image began now phases (step.Emits conn bytes) session → session.replies.trial ≡ None
+  pub emits_survivor : (rules : Rules) (image : Image) (began : Since) (now : Told) (phases : Phases) (conn : ℕ) (bytes : List ℕ) (session : SessionState R) → HasRun rules image began now phases (step.Emits conn bytes) session → session.replies.trial ≡ None
   emits_survivor rules image began now phases conn bytes session h = ap (λ (s : SessionState R). s.replies.trial) h.same ∙ h.between.going.passed.no_trial
 
-  pub emits_later : (rules : Rules) (image : Image) (began now : Told) (phases : Phases) (conn : ℕ) (bytes : List ℕ) (session : SessionState R) → HasRun rules image began now phases (step.Emits conn bytes) session → NotBefore session.taken (times_of session.replies.kept)
+  pub emits_later : (rules : Rules) (image : Image) (began : Since) (now : Told) (phases : Phases) (conn : ℕ) (bytes : List ℕ) (session : SessionState R) → HasRun rules image began now phases (step.Emits conn bytes) session → NotBefore session.taken (times_of session.replies.kept)
   emits_later rules image began now phases conn bytes session h =
       let g = h.between.going in
       let taken : session.taken ≡ g.story.survivor.now.state.machine.taken = ap (λ (s : SessionState R). s.taken) h.same ∙ g.answers.taken in
@@ -73,7 +73,7 @@ module _ {R : Type 0} where
       (times_low 0 g.story.survivor.now.state.machine.taken (drop h.before.replies.first (sends g.story)) (between_behind h.before.replies.first 0 g.story.survivor.now.state.machine.taken (sends g.story) g.told.serving.carries.timed)))
 
   -- a send was noted, and the counts are those of the guest
-  pub sent_going : (rules : Rules) (image : Image) (began now : Told) (phases : Phases) (conn : ℕ) (bytes : List ℕ) (old inside after : SessionState R) (ledger : Ledger) → HasRun rules image began now phases (step.Emits conn bytes) old → inside ≡ old
+  pub sent_going : (rules : Rules) (image : Image) (began : Since) (now : Told) (phases : Phases) (conn : ℕ) (bytes : List ℕ) (old inside after : SessionState R) (ledger : Ledger) → HasRun rules image began now phases (step.Emits conn bytes) old → inside ≡ old
       → ledger ≡ with_send inside.replies (record { conn = conn; bytes = bytes; taken = inside.taken })
       → after ≡ record inside { replies = ledger; taken = inside.cpu.slots.live.guest.machine.taken; steps = inside.cpu.slots.live.steps } → IsGoing rules image began now phases after
   sent_going rules image began now phases conn bytes old inside after ledger h same noted is =
@@ -83,7 +83,7 @@ module _ {R : Type 0} where
       (ap (λ (s : SessionState R). s.choices) same) (record { taken = refl; steps = refl }))
 
   -- a guest that is bounded has room for a budget more
-  pub between_room : (rules : Rules) (image : Image) (began now : Told) (phases : Phases) (session : SessionState R) → IsBetween rules image began now phases session → rules.limits.budget ≤ 2 ^ 24 → rules.bounds.max_items ≤ 2 ^ 20
+  pub between_room : (rules : Rules) (image : Image) (began : Since) (now : Told) (phases : Phases) (session : SessionState R) → IsBetween rules image began now phases session → rules.limits.budget ≤ 2 ^ 24 → rules.bounds.max_items ≤ 2 ^ 20
       → session.cpu.slots.live.steps + rules.limits.budget < 2 ^ 64 - 1
   between_room rules image began now phases session b budget items =
       let now : Path = b.going.story.survivor.now in

@@ -22,7 +22,7 @@ use Rattle.session_history.specs.Account.{IsBroken}
 use Rattle.session_history.specs.Ends.{IsEnd, EndsBy}
 use Rattle.rx_engine.specs.declared.stop.Stop.TheVariants as stop
 use Rattle.rx_engine.specs.Sessions.{SessionState}
-use Rattle.rx_engine.specs.Standing.{Story, entries, moment, sends, then_story, IsTold, AnswersFor}
+use Rattle.rx_engine.specs.Standing.{Since, Story, entries, moment, sends, then_story, IsTold, AnswersFor}
 use Rattle.rx_engine.specs.Serving.{IsAnswerTo, BreaksBy}
 use Rattle.rx_engine.proofs.PieceLemmas.{are_given, told_pieces}
 use Rattle.rx_engine.proofs.EndLemmas.{off_pieces, off_account}
@@ -81,7 +81,7 @@ abbrev pub WasBroken : Rules → List Send → Moment → Told → Told → Type
 WasBroken rules all at old now = (more : List Entry) × (broken : List Entry) × AreDuePieces rules all at more × IsBroken rules all (then_entries at more) broken × Tells old now (more ++ broken)
 
 -- all was passed that was sent with so many items taken
-pub passes_ok : (rules : Rules) (image : Image) (began old now : Told) (story : Story) (until : ℕ) (ledger : Ledger) (done : Unit {0}) → IsTold rules image began old story → Passes {E = PassFault} rules (sends story) (moment story) until ledger old now (Ok done)
+pub passes_ok : (rules : Rules) (image : Image) (began : Since) (old now : Told) (story : Story) (until : ℕ) (ledger : Ledger) (done : Unit {0}) → IsTold rules image began old story → Passes {E = PassFault} rules (sends story) (moment story) until ledger old now (Ok done)
     → (more : List Entry) × AreGiven more × IsTold rules image began now (then_story story more) × KeepsReplies rules.bounds (entries (then_story story more)) None (sends story) ledger × (next_part ledger until ≡ None)
 passes_ok rules image began old now story until ledger done told passes =
     let more : List Entry = passes.0 in (
@@ -93,7 +93,7 @@ passes_ok rules image began old now story until ledger done told passes =
     )
 
 -- and all that was sent to a closing connection
-pub rest_ok : (rules : Rules) (image : Image) (began old now : Told) (story : Story) (conn : ℕ) (ledger : Ledger) (done : Unit {0}) → IsTold rules image began old story → PassesRest {E = PassFault} rules (sends story) (moment story) conn ledger old now (Ok done)
+pub rest_ok : (rules : Rules) (image : Image) (began : Since) (old now : Told) (story : Story) (conn : ℕ) (ledger : Ledger) (done : Unit {0}) → IsTold rules image began old story → PassesRest {E = PassFault} rules (sends story) (moment story) conn ledger old now (Ok done)
     → (more : List Entry) × AreGiven more × IsTold rules image began now (then_story story more) × KeepsReplies rules.bounds (entries (then_story story more)) (Some conn) (sends story) ledger
     × (is_gone conn (entries (then_story story more)) ≡ false → rest_part ledger conn ≡ None)
 rest_ok rules image began old now story conn ledger done told passes =
@@ -108,7 +108,7 @@ rest_ok rules image began old now story conn ledger done told passes =
 
 module _ {R : Type 0} where
   -- a fault came while it was passed
-  pub breaks_by : (rules : Rules) (image : Image) (began old now : Told) (coming : Option Coming) (story : Story) (after : SessionState R) (why : PassFault) (end : Answer) → IsTold rules image began old story → AnswersFor story after → IsAnswerTo why end
+  pub breaks_by : (rules : Rules) (image : Image) (began : Since) (old now : Told) (coming : Option Coming) (story : Story) (after : SessionState R) (why : PassFault) (end : Answer) → IsTold rules image began old story → AnswersFor story after → IsAnswerTo why end
       → WasBroken rules (sends story) (moment story) old now → BreaksBy rules image began now coming after (stop.Breaks end)
   breaks_by rules image began old now coming story after fault.WriteFault end told answers is passes =
       off_pieces rules image began old now coming story after end passes.0 passes.1 told answers passes.2 passes.3 passes.4 (subst (EndsBy rules coming (off_account story passes.0 passes.1)) (sym is) tt) (subst (λ (a : Answer). IsEnd a → ⊥) (sym is) (λ is. is))

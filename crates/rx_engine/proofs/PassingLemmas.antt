@@ -30,7 +30,7 @@ use Rattle.reply_ledger.proofs.ConnectionLemmas.{is_open-marked, closed-falls}
 use Rattle.reply_gate.specs.declared.pass_fault.PassFault.{PassFault}
 use Rattle.reply_gate.specs.declared.pass_fault.PassFault.TheVariants as pass_fault
 use Rattle.run_history.specs.declared.answer.Answer.{Answer}
-use Rattle.session_history.specs.Ends.{EndsBy}
+use Rattle.session_history.specs.Ends.{IsEnd, EndsBy}
 use Rattle.rx_engine.specs.Recovered.{HasRecovered}
 use Rattle.session_history.specs.Heeding.{Bounds, heeded, received}
 use Rattle.session_history.specs.Opened.{opens, closes, is_gone, is_open}
@@ -43,7 +43,7 @@ use Rattle.reply_gate.proofs.MomentLemmas.{open_not_closed, due_by, due_not_gone
 use Rattle.reply_gate.proofs.ReplyLemmas.{nothing_waits, closed_keeps, fronts_stay}
 use Rattle.rx_engine.specs.declared.stop.Stop.{Stop}
 use Rattle.rx_engine.specs.Sessions.{SessionState}
-use Rattle.rx_engine.specs.Standing.{Story, entries, moment, sends, then_story, IsTold, HasPassed, HasPassedDue, IsCloseDone, IsAsking, IsWaitingFor, IsEnding}
+use Rattle.rx_engine.specs.Standing.{Since, Story, entries, moment, sends, then_story, IsTold, HasPassed, HasPassedDue, IsCloseDone, IsAsking, IsWaitingFor, IsEnding}
 use Rattle.rx_engine.specs.Serving.{IsAnswerTo, CanGive, CanPass, PassesStory, PassesDue, StandsClosing}
 use Rattle.rx_engine.proofs.GivenLemmas.{done_given, closed_given, latest-given, events_in-story}
 use Rattle.rx_engine.proofs.PassLemmas.{rest_ok}
@@ -76,7 +76,7 @@ due_of_end bounds hold earlier since send closing owed =
     due_by bounds at (moment_of earlier since) send.conn send.taken (latest since) refl refl refl (due_not_gone bounds at send.conn send.taken (latest since) due) due
 
 -- what is due with the items taken so far may be passed
-pub due_ready : (rules : Rules) (image : Image) (began now : Told) (story : Story) (until : ℕ) (ledger : Ledger) → IsTold rules image began now story → until + rules.hold ≡ story.survivor.now.state.machine.taken → HasPassed rules story ledger
+pub due_ready : (rules : Rules) (image : Image) (began : Since) (now : Told) (story : Story) (until : ℕ) (ledger : Ledger) → IsTold rules image began now story → until + rules.hold ≡ story.survivor.now.state.machine.taken → HasPassed rules story ledger
     → IsReady rules (sends story) (moment story) until ledger
 due_ready rules image began now story until ledger told is passed =
     let low = told.serving.carries.taken in
@@ -88,7 +88,7 @@ due_ready rules image began now story until ledger told is passed =
     }
 
 -- nothing is due with fewer items taken than are held back
-pub none_due : (rules : Rules) (image : Image) (began now : Told) (story : Story) (ledger : Ledger) → IsTold rules image began now story → story.survivor.now.state.machine.taken < rules.hold → HasPassed rules story ledger
+pub none_due : (rules : Rules) (image : Image) (began : Since) (now : Told) (story : Story) (ledger : Ledger) → IsTold rules image began now story → story.survivor.now.state.machine.taken < rules.hold → HasPassed rules story ledger
     → (more : List Entry) × AreGiven more × IsTold rules image began now (then_story story more) × HasPassed rules (then_story story more) ledger × HasPassedDue rules (then_story story more)
 none_due rules image began now story ledger told few passed =
     let same : story.since ≡ story.since ++ [] = sym (append-nil story.since) in (
@@ -100,7 +100,7 @@ none_due rules image began now story ledger told few passed =
     )
 
 -- at an end all that was sent to open connections may be passed
-pub end_ready : (rules : Rules) (image : Image) (began now : Told) (story : Story) (until : ℕ) (ledger : Ledger) → IsTold rules image began now story → KeepsReplies rules.bounds (entries story) None (sends story) ledger → IsCloseDone rules (moment story) (sends story)
+pub end_ready : (rules : Rules) (image : Image) (began : Since) (now : Told) (story : Story) (until : ℕ) (ledger : Ledger) → IsTold rules image began now story → KeepsReplies rules.bounds (entries story) None (sends story) ledger → IsCloseDone rules (moment story) (sends story)
     → IsReady rules (sends story) (end_of story) until ledger
 end_ready rules image began now story until ledger told replies done = record {
   keeps = replies;
@@ -110,7 +110,7 @@ end_ready rules image began now story until ledger told replies done = record {
 }
 
 -- where that was passed, nothing is owed
-pub end_owes : (rules : Rules) (image : Image) (began now : Told) (story : Story) (more : List Entry) (until : ℕ) (ledger : Ledger) → IsTold rules image began now story → story.survivor.now.state.machine.taken ≤ until → AreDuePieces rules (sends story) (end_of story) more
+pub end_owes : (rules : Rules) (image : Image) (began : Since) (now : Told) (story : Story) (more : List Entry) (until : ℕ) (ledger : Ledger) → IsTold rules image began now story → story.survivor.now.state.machine.taken ≤ until → AreDuePieces rules (sends story) (end_of story) more
     → KeepsReplies rules.bounds (journal (end_of story) ++ more) None (sends story) ledger → next_part ledger until ≡ None → IsCloseDone rules (moment story) (sends story) → OwesNothing rules.bounds rules.hold (then_entries (end_of story) more) (sends story)
 end_owes rules image began now story more until ledger told low due replies none done send stands owed = of (is_closing rules.bounds (then_entries (end_of story) more) send.conn) refl
   where
@@ -221,7 +221,7 @@ rest_keeps rules story more conn before ledger closing given replies =
     (subst (λ (es : List LinkEvent). closes conn (heeded rules.bounds es) ≡ true) (sym (events_in-story story more given)) closing.closed)
 
 -- and what the close makes owed was passed
-pub rest_passed : (rules : Rules) (image : Image) (began now : Told) (story : Story) (more : List Entry) (conn : ℕ) (before ledger : Ledger) → IsClosing rules (sends story) (moment story) conn before → ledger.trial ≡ None → AreGiven more
+pub rest_passed : (rules : Rules) (image : Image) (began : Since) (now : Told) (story : Story) (more : List Entry) (conn : ℕ) (before ledger : Ledger) → IsClosing rules (sends story) (moment story) conn before → ledger.trial ≡ None → AreGiven more
     → IsTold rules image began now (then_story story more) → KeepsReplies rules.bounds (entries (then_story story more)) (Some conn) (sends story) ledger → (is_gone conn (entries (then_story story more)) ≡ false → rest_part ledger conn ≡ None)
     → HasPassed rules (then_story story more) (with_change ledger conn closed_connection)
 rest_passed rules image began now story more conn before ledger closing no_trial given told replies none = record {
@@ -273,7 +273,7 @@ module _ {R : Type 0} where
       }
 
   -- what is due was passed, behind pieces that were passed before
-  pub due_behind : (rules : Rules) (image : Image) (began now : Told) (coming : Option Coming) (story : Story) (more : List Entry) (session : SessionState R) (result : Result (Unit {0}) Stop) → AreGiven more
+  pub due_behind : (rules : Rules) (image : Image) (began : Since) (now : Told) (coming : Option Coming) (story : Story) (more : List Entry) (session : SessionState R) (result : Result (Unit {0}) Stop) → AreGiven more
       → PassesDue rules image began now coming (then_story story more) session result → PassesDue rules image began now coming story session result
   due_behind rules image began now coming story more session (Ok done) given passes =
       let last : List Entry = passes.0 in
@@ -287,7 +287,7 @@ module _ {R : Type 0} where
   due_behind rules image began now coming story more session (Err why) given passes = passes
 
   -- where all was passed that was sent with so many items taken, what is due was passed
-  pub due_passed : (rules : Rules) (image : Image) (began now : Told) (coming : Option Coming) (story : Story) (until : ℕ) (ledger : Ledger) (session : SessionState R) (result : Result (Unit {0}) Stop) → until + rules.hold ≡ story.survivor.now.state.machine.taken
+  pub due_passed : (rules : Rules) (image : Image) (began : Since) (now : Told) (coming : Option Coming) (story : Story) (until : ℕ) (ledger : Ledger) (session : SessionState R) (result : Result (Unit {0}) Stop) → until + rules.hold ≡ story.survivor.now.state.machine.taken
       → HasPassed rules story ledger → session.replies.trial ≡ None → PassesStory rules image began now coming story until session result → PassesDue rules image began now coming story session result
   due_passed rules image began now coming story until ledger session (Ok done) is passed no_trial passes =
       let more : List Entry = passes.0 in
@@ -304,23 +304,25 @@ module _ {R : Type 0} where
   due_passed rules image began now coming story until ledger session (Err why) is passed no_trial passes = passes
 
   -- at an end all is passed
-  pub finish_ok : (rules : Rules) (image : Image) (began before now : Told) (coming later : Option Coming) (takes : Bool) (session : SessionState R) (end : Answer) (until : ℕ) (ledger : Ledger) (done : Unit {0}) (e : IsEnding rules image began before coming session end) → later ≡ coming → session.taken ≤ until
-      → Passes {E = PassFault} rules (sends e.story) (end_of e.story) until ledger before now (Ok done) → (takes ≡ false → IsAsking rules e.story) → HasRecovered rules image began now later takes end session.choices session.taken session.steps
-  finish_ok rules image began before now coming later takes session end until ledger done e same low passes asked =
+  pub finish_ok : (rules : Rules) (image : Image) (began : Since) (before now : Told) (coming later : Option Coming) (takes : Bool) (session : SessionState R) (end : Answer) (until : ℕ) (ledger : Ledger) (done : Unit {0}) (e : IsEnding rules image began before coming session end) → later ≡ coming → session.taken ≤ until
+      → Passes {E = PassFault} rules (sends e.story) (end_of e.story) until ledger before now (Ok done) → (takes ≡ false → IsAsking rules e.story) → (first last : ℕ)
+      → last ≡ first + (began.lost + session.steps) → HasRecovered rules image began.told now later takes end session.choices session.taken session.steps first last
+  finish_ok rules image began before now coming later takes session end until ledger done e same low passes asked first last all =
       let few = e.answers.taken in
       served_end rules image began before now coming later takes session end e passes.0 same passes.1 passes.2
-      (end_owes rules image began before e.story passes.0 until ledger e.told (omega (arith, low, few)) passes.1 passes.3.0 passes.3.1 e.closed) asked
+      (end_owes rules image (record began { lost = e.lost }) before e.story passes.0 until ledger e.told (omega (arith, low, few)) passes.1 passes.3.0 passes.3.1 e.closed) asked first last all
 
   -- or a fault comes first
-  pub finish_fault : (rules : Rules) (image : Image) (began before now : Told) (coming later : Option Coming) (takes : Bool) (session : SessionState R) (end : Answer) (until : ℕ) (ledger : Ledger) (why : PassFault) (fault : Answer) (e : IsEnding rules image began before coming session end) → later ≡ coming
-      → IsAnswerTo why fault → Passes rules (sends e.story) (end_of e.story) until ledger before now (Err why) → (takes ≡ false → IsAsking rules e.story) → HasRecovered rules image began now later takes fault session.choices session.taken session.steps
-  finish_fault rules image began before now coming later takes session end until ledger pass_fault.WriteFault fault e same is passes asked =
-      served_broken rules image began before now coming later takes session end fault e passes.0 passes.1 same passes.2 passes.3 passes.4 (subst (EndsBy rules later (ended_account e.story passes.0 passes.1)) (sym is) tt) asked
-  finish_fault rules image began before now coming later takes session end until ledger pass_fault.Memory fault e same is passes asked =
-      served_broken rules image began before now coming later takes session end fault e passes.0 passes.1 same passes.2 passes.3 passes.4 (subst (EndsBy rules later (ended_account e.story passes.0 passes.1)) (sym is) tt) asked
+  pub finish_fault : (rules : Rules) (image : Image) (began : Since) (before now : Told) (coming later : Option Coming) (takes : Bool) (session : SessionState R) (end : Answer) (until : ℕ) (ledger : Ledger) (why : PassFault) (fault : Answer) (e : IsEnding rules image began before coming session end) → later ≡ coming
+      → IsAnswerTo why fault → Passes rules (sends e.story) (end_of e.story) until ledger before now (Err why) → (takes ≡ false → IsAsking rules e.story) → (first last : ℕ)
+      → last ≡ first + (began.lost + session.steps) → HasRecovered rules image began.told now later takes fault session.choices session.taken session.steps first last
+  finish_fault rules image began before now coming later takes session end until ledger pass_fault.WriteFault fault e same is passes asked first last all =
+      served_broken rules image began before now coming later takes session end fault e passes.0 passes.1 same passes.2 passes.3 passes.4 (subst (EndsBy rules later (ended_account e.story passes.0 passes.1)) (sym is) tt) (subst (λ (a : Answer). IsEnd a → ⊥) (sym is) (λ never. never)) asked first last all
+  finish_fault rules image began before now coming later takes session end until ledger pass_fault.Memory fault e same is passes asked first last all =
+      served_broken rules image began before now coming later takes session end fault e passes.0 passes.1 same passes.2 passes.3 passes.4 (subst (EndsBy rules later (ended_account e.story passes.0 passes.1)) (sym is) tt) (subst (λ (a : Answer). IsEnd a → ⊥) (sym is) (λ never. never)) asked first last all
 
   -- a session at an end passes by what it was told
-  pub ending_can : (rules : Rules) (image : Image) (began now : Told) (coming : Option Coming) (session : SessionState R) (end : Answer) → IsEnding rules image began now coming session end → CanPass session
+  pub ending_can : (rules : Rules) (image : Image) (began : Since) (now : Told) (coming : Option Coming) (session : SessionState R) (end : Answer) → IsEnding rules image began now coming session end → CanPass session
   ending_can rules image began now coming session end e = record {
     bounds = rules.bounds;
     entries = entries e.story;
@@ -332,11 +334,11 @@ module _ {R : Type 0} where
     received_are = e.received_are;
   }
 
-  pub ending_ready : (rules : Rules) (image : Image) (began now : Told) (coming : Option Coming) (session : SessionState R) (end : Answer) (until : ℕ) (e : IsEnding rules image began now coming session end) → IsReady rules (sends e.story) (end_of e.story) until session.replies
-  ending_ready rules image began now coming session end until e = end_ready rules image began now e.story until session.replies e.told e.replies e.closed
+  pub ending_ready : (rules : Rules) (image : Image) (began : Since) (now : Told) (coming : Option Coming) (session : SessionState R) (end : Answer) (until : ℕ) (e : IsEnding rules image began now coming session end) → IsReady rules (sends e.story) (end_of e.story) until session.replies
+  ending_ready rules image began now coming session end until e = end_ready rules image (record began { lost = e.lost }) now e.story until session.replies e.told e.replies e.closed
 
   -- behind the close of a connection that was heard: what passing its rest asks for
-  pub closing_stands : (rules : Rules) (image : Image) (began before now : Told) (phases later : Phases) (conn : ℕ) (old new : SessionState R) (w : IsWaitingFor rules image began before phases old) → HasHeard rules image began now later (then_story w.hearing.story (entry.Took (event.Closes conn) ∷ [])) new
+  pub closing_stands : (rules : Rules) (image : Image) (began : Since) (before now : Told) (phases later : Phases) (conn : ℕ) (old new : SessionState R) (w : IsWaitingFor rules image began before phases old) → HasHeard rules image began now later (then_story w.hearing.story (entry.Took (event.Closes conn) ∷ [])) new
       → KeepsReplies rules.bounds (entries w.hearing.story ++ entry.Took (event.Closes conn) ∷ []) (Some conn) (sends w.hearing.story) new.replies → new.replies.trial ≡ None → StandsClosing now conn new × IsOpened new.replies conn
   closing_stands rules image began before now phases later conn old new w h replies no_trial =
       let story : Story = w.hearing.story in

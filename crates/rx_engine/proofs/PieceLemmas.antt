@@ -14,7 +14,7 @@ use Rattle.session_history.specs.Serving.{moment_of, Serving}
 use Rattle.session_history.proofs.Heeding.{items_in-gave}
 use Rattle.session_history.proofs.Paths.{served_same}
 use Rattle.session_history.proofs.Sessions.{serving_piece}
-use Rattle.rx_engine.specs.Standing.{Story, entries, moment, sends, then_story, IsTold}
+use Rattle.rx_engine.specs.Standing.{Since, Story, entries, moment, sends, then_story, IsTold}
 use Rattle.rx_engine.proofs.TellLemmas.{tells_on}
 
 -- pieces that are due are pieces
@@ -56,13 +56,14 @@ pieces rules image earlier survivor since (entry.Gave conn bytes true ∷ more) 
 pieces rules image earlier survivor since (entry.Took event ∷ more) stood due = absurd due
 
 -- the story goes on with them
-pub told_pieces : (rules : Rules) (image : Image) (began old now : Told) (story : Story) (more : List Entry) → IsTold rules image began old story → AreDuePieces rules (sends story) (moment story) more → Tells old now more
+pub told_pieces : (rules : Rules) (image : Image) (began : Since) (old now : Told) (story : Story) (more : List Entry) → IsTold rules image began old story → AreDuePieces rules (sends story) (moment story) more → Tells old now more
     → IsTold rules image began now (then_story story more)
 told_pieces rules image began old now story more told due tells =
     let stood = pieces rules image story.earlier story.survivor story.since more (record { serving = told.serving; way = told.way }) due in
     record {
       serving = stood.serving;
       way = stood.way;
-      tells = subst (Tells began now) (append_assoc (entries_of story.earlier) story.since more) (tells_on began old now (entries story) more told.tells tells);
+      tells = subst (Tells began.told now) (append_assoc (entries_of story.earlier) story.since more) (tells_on began.told old now (entries story) more told.tells tells);
       recovered = told.recovered;
+      counted = told.counted;
     }

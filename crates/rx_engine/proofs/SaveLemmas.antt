@@ -12,38 +12,38 @@ use Rattle.recovery_gate.specs.Rings.{IsRingOf, KeepsRing}
 use Rattle.recovery_gate.proofs.RingLemmas.{is_ring_of}
 use Rattle.recovery_gate.proofs.Chains.{survivor_goes}
 use Rattle.rx_engine.specs.Sessions.{SessionState}
-use Rattle.rx_engine.specs.Standing.{entries, IsWaitingFor}
+use Rattle.rx_engine.specs.Standing.{Since, entries, IsWaitingFor}
 use Rattle.rx_engine.specs.Serving.{IsCounted}
 
 module _ {R : Type 0} where
   -- its ring and its guest have the same checkpoints
-  pub waits_ring : (rules : Rules) (image : Image) (began now : Told) (phases : Phases) (session : SessionState R) → IsWaitingFor rules image began now phases session → IsRingOf session.cpu session.ring
+  pub waits_ring : (rules : Rules) (image : Image) (began : Since) (now : Told) (phases : Phases) (session : SessionState R) → IsWaitingFor rules image began now phases session → IsRingOf session.cpu session.ring
   waits_ring rules image began now phases session w =
       let h = w.hearing in
       is_ring_of rules image (entries h.story) h.story.survivor.plan h.story.survivor.now h.saved.paths session.cpu session.ring session.log session.replies h.saved.ring
 
   -- its survivor can go on
-  pub waits_goes : (rules : Rules) (image : Image) (began now : Told) (phases : Phases) (session : SessionState R) (w : IsWaitingFor rules image began now phases session) → CanGoOn rules (entries w.hearing.story) w.hearing.story.survivor.now
+  pub waits_goes : (rules : Rules) (image : Image) (began : Since) (now : Told) (phases : Phases) (session : SessionState R) (w : IsWaitingFor rules image began now phases session) → CanGoOn rules (entries w.hearing.story) w.hearing.story.survivor.now
   waits_goes rules image began now phases session w =
       let h = w.hearing in
       survivor_goes rules image (entries h.story) h.story.survivor.plan h.story.survivor.now session.replies h.told.serving.carries h.passed.replies (λ lives. h.goes.bounded) h.goes.within
 
   -- it stands at its request for the item that the session takes next
-  pub waits_asks : (rules : Rules) (image : Image) (began now : Told) (phases : Phases) (session : SessionState R) (w : IsWaitingFor rules image began now phases session)
+  pub waits_asks : (rules : Rules) (image : Image) (began : Since) (now : Told) (phases : Phases) (session : SessionState R) (w : IsWaitingFor rules image began now phases session)
       → AsksFor rules.limits w.hearing.story.survivor.plan w.hearing.story.survivor.now session.taken
   waits_asks rules image began now phases session w =
       let h = w.hearing in
       subst (AsksFor rules.limits h.story.survivor.plan h.story.survivor.now) (sym h.answers.taken) h.asks
 
   -- the log has all items, and the ledger all that was sent later
-  pub waits_whole : (rules : Rules) (image : Image) (began now : Told) (phases : Phases) (session : SessionState R) → IsWaitingFor rules image began now phases session → session.log.first ≤ session.taken
+  pub waits_whole : (rules : Rules) (image : Image) (began : Since) (now : Told) (phases : Phases) (session : SessionState R) → IsWaitingFor rules image began now phases session → session.log.first ≤ session.taken
   waits_whole rules image began now phases session w = let whole = w.hearing.goes.whole in omega (arith, whole)
 
-  pub waits_counted : (rules : Rules) (image : Image) (began now : Told) (phases : Phases) (session : SessionState R) (w : IsWaitingFor rules image began now phases session) → session.replies.first ≤ length w.hearing.story.survivor.now.state.sends
+  pub waits_counted : (rules : Rules) (image : Image) (began : Since) (now : Told) (phases : Phases) (session : SessionState R) (w : IsWaitingFor rules image began now phases session) → session.replies.first ≤ length w.hearing.story.survivor.now.state.sends
   waits_counted rules image began now phases session w = w.hearing.passed.replies.shows.counted
 
   -- with another ring of its checkpoints it waits on
-  pub waits_saved : (rules : Rules) (image : Image) (began now : Told) (phases : Phases) (old : SessionState R) (cpu : CpuState R) (ring : Checkpoints) (paths : List Path) (w : IsWaitingFor rules image began now phases old) → cpu.slots.live ≡ old.cpu.slots.live
+  pub waits_saved : (rules : Rules) (image : Image) (began : Since) (now : Told) (phases : Phases) (old : SessionState R) (cpu : CpuState R) (ring : Checkpoints) (paths : List Path) (w : IsWaitingFor rules image began now phases old) → cpu.slots.live ≡ old.cpu.slots.live
       → KeepsRing rules image (entries w.hearing.story) w.hearing.story.survivor.plan w.hearing.story.survivor.now paths cpu ring old.log old.replies → IsWaitingFor rules image began now phases (record old { cpu = cpu; ring = ring })
   waits_saved rules image began now phases old cpu ring paths w live keeps =
       let h = w.hearing in
@@ -63,7 +63,7 @@ module _ {R : Type 0} where
             events = h.goes.events;
             phases_are = h.goes.phases_are;
           };
-          saved = record { paths = paths; ring = keeps; in_force = h.saved.in_force };
+          saved = record { paths = paths; ring = keeps; in_force = h.saved.in_force; past = h.saved.past };
           passed = h.passed;
           asks = h.asks;
           latest = h.latest;

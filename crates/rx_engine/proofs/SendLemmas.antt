@@ -24,7 +24,7 @@ use Rattle.session_history.specs.Lawful.{Rules}
 use Rattle.session_history.specs.Keeping.{IsSendable, KeepsReplies, KeepsItems}
 use Rattle.reply_gate.proofs.ReplyLemmas.{sent_keeps}
 use Rattle.rx_engine.specs.Sessions.{SessionState}
-use Rattle.rx_engine.specs.Standing.{Story, entries, moment, sends, GoesWith, IsLatestDone, IsLatestBefore, HasPassed, IsGoing, IsBetween, IsWaitingFor}
+use Rattle.rx_engine.specs.Standing.{Since, Story, entries, moment, sends, GoesWith, IsLatestDone, IsLatestBefore, HasPassed, IsGoing, IsBetween, IsWaitingFor}
 use Rattle.rx_engine.specs.Serving.{IsCounted}
 use Rattle.rx_engine.proofs.StoryLemmas.{on_story, told_on}
 use Rattle.rx_engine.proofs.CheckpointLemmas.{HasSameSide, saved_on}
@@ -77,7 +77,7 @@ module _ {R : Type 0} where
   may_opened rules story session phases conn goes passed may = is_known (connection_of session.replies.connections conn) (passed.replies.opened conn ∙ goes.within conn may)
 
   -- it sent: its ledger has one more send, of which what is due has to be passed
-  pub emits_going : (rules : Rules) (image : Image) (began now : Told) (phases : Phases) (conn : ℕ) (bytes : List ℕ) (old new : SessionState R) (b : IsBetween rules image began now phases old) → HasSameSide old new → new.choices ≡ old.choices
+  pub emits_going : (rules : Rules) (image : Image) (began : Since) (now : Told) (phases : Phases) (conn : ℕ) (bytes : List ℕ) (old new : SessionState R) (b : IsBetween rules image began now phases old) → HasSameSide old new → new.choices ≡ old.choices
       → IsCounted new → new.replies ≡ with_send old.replies (record { conn = conn; bytes = bytes; taken = b.going.story.survivor.now.state.machine.taken })
       → RunsOn rules.limits (items_in rules.bounds (entries b.going.story)) b.going.story.survivor.plan b.going.story.survivor.now (Ok (step.Emits conn bytes)) new.cpu.slots.live → IsGoing rules image began now phases new
   emits_going rules image began now phases conn bytes old new b side chosen counted replies runs =
@@ -105,7 +105,7 @@ module _ {R : Type 0} where
       }
 
   -- it took an item that was received
-  pub takes_going : (rules : Rules) (image : Image) (began now : Told) (phases : Phases) (item : Item) (old new : SessionState R) (w : IsWaitingFor rules image began now phases old) → HasSameParts old new → new.choices ≡ old.choices → IsCounted new
+  pub takes_going : (rules : Rules) (image : Image) (began : Since) (now : Told) (phases : Phases) (item : Item) (old new : SessionState R) (w : IsWaitingFor rules image began now phases old) → HasSameParts old new → new.choices ≡ old.choices → IsCounted new
       → new.cpu.slots.live ≡ taken_standing item old.cpu.slots.live → slice_get (items_in rules.bounds (entries w.hearing.story)) w.hearing.story.survivor.now.state.machine.taken ≡ Some item
       → w.hearing.story.survivor.now.state.machine.taken < received rules.bounds (entries w.hearing.story) → received rules.bounds (entries w.hearing.story) ≤ rules.bounds.max_items
       → (item.kind ≡ 1 → opens item.conn (heeded rules.bounds (events_in (entries w.hearing.story))) ≡ true) → IsGoing rules image began now phases new

@@ -15,10 +15,10 @@ use Rattle.guest_cpu.specs.declared.event.Event.{Event}
 use Rattle.guest_cpu.specs.declared.event.Event.TheVariants as step
 use Rattle.session_history.specs.Lawful.{Rules}
 use Rattle.rx_engine.specs.Sessions.{SessionState}
-use Rattle.rx_engine.specs.Standing.{IsGoing, IsBetween, IsWaitingFor, IsEnding, IsBrokenOff}
+use Rattle.rx_engine.specs.Standing.{Since, IsGoing, IsBetween, IsWaitingFor, IsFailing, IsEnding, IsBrokenOff}
 use Rattle.rx_engine.specs.Serving.{IsCounted, HasRun}
 use Rattle.rx_engine.proofs.CheckpointLemmas.{HasSameSide}
-use Rattle.rx_engine.proofs.GuestLemmas.{HasSameParts, broken_off, chooses_between, asks_waits, exits_ending, fails_ending}
+use Rattle.rx_engine.proofs.GuestLemmas.{HasSameParts, broken_off, chooses_between, asks_waits, exits_ending, fails_failing}
 use Rattle.rx_engine.proofs.SendLemmas.{emits_going}
 
 -- a run by where its guest stands
@@ -27,7 +27,7 @@ runs_at limits items plan first happened one other same runs = subst (RunsOn lim
 
 module _ {R : Type 0} where
   -- memory ran out behind the event: the session answers for the run before it
-  pub run_breaks : (rules : Rules) (image : Image) (began now : Told) (phases : Phases) (coming : Option Coming) (happened : Event) (session after : SessionState R) → HasRun rules image began now phases happened session
+  pub run_breaks : (rules : Rules) (image : Image) (began : Since) (now : Told) (phases : Phases) (coming : Option Coming) (happened : Event) (session after : SessionState R) → HasRun rules image began now phases happened session
       → after.choices ≡ session.choices → after.taken ≡ session.taken → after.steps ≡ session.steps → IsBrokenOff rules image began now coming after answer.Memory
   run_breaks rules image began now phases coming happened session after h choices taken steps =
       let going = h.between.going in
@@ -43,7 +43,7 @@ module _ {R : Type 0} where
   IsSameBut session after = after ≡ record session { replies = after.replies; choices = after.choices; taken = after.taken; steps = after.steps }
 
   -- its parts but the guest are those from before
-  run_side : (rules : Rules) (image : Image) (began now : Told) (phases : Phases) (happened : Event) (session after : SessionState R) (h : HasRun rules image began now phases happened session) → IsSameBut session after → HasSameSide h.before after
+  run_side : (rules : Rules) (image : Image) (began : Since) (now : Told) (phases : Phases) (happened : Event) (session after : SessionState R) (h : HasRun rules image began now phases happened session) → IsSameBut session after → HasSameSide h.before after
   run_side rules image began now phases happened session after h same =
       let is : after.cpu ≡ session.cpu = ap (λ (s : SessionState R). s.cpu) same in
       record {
@@ -55,7 +55,7 @@ module _ {R : Type 0} where
         until = ap (λ (s : SessionState R). s.until) same ∙ ap (λ (s : SessionState R). s.until) h.same;
       }
 
-  run_parts : (rules : Rules) (image : Image) (began now : Told) (phases : Phases) (happened : Event) (session after : SessionState R) (h : HasRun rules image began now phases happened session) → IsSameBut session after → after.replies ≡ session.replies
+  run_parts : (rules : Rules) (image : Image) (began : Since) (now : Told) (phases : Phases) (happened : Event) (session after : SessionState R) (h : HasRun rules image began now phases happened session) → IsSameBut session after → after.replies ≡ session.replies
       → HasSameParts h.before after
   run_parts rules image began now phases happened session after h same replies = record {
     side = run_side rules image began now phases happened session after h same;
@@ -63,36 +63,35 @@ module _ {R : Type 0} where
   }
 
   -- malloc was answered, and noted
-  pub run_chooses : (rules : Rules) (image : Image) (began now : Told) (phases : Phases) (choice : Choice) (session after : SessionState R) (h : HasRun rules image began now phases (step.Chooses choice) session)
+  pub run_chooses : (rules : Rules) (image : Image) (began : Since) (now : Told) (phases : Phases) (choice : Choice) (session after : SessionState R) (h : HasRun rules image began now phases (step.Chooses choice) session)
       → IsSameBut session after → after.replies ≡ session.replies → after.choices ≡ session.choices ++ choice ∷ [] → IsCounted after → IsBetween rules image began now phases after
   run_chooses rules image began now phases choice session after h same replies choices counted =
       chooses_between rules image began now phases choice h.before after h.between (run_parts rules image began now phases (step.Chooses choice) session after h same replies)
       (choices ∙ ap (λ (s : SessionState R). s.choices ++ choice ∷ []) h.same) counted (runs_at _ _ _ _ _ _ _ (ap (λ (s : SessionState R). s.cpu.slots.live) same) h.runs)
 
   -- it asks for an item
-  pub run_asks : (rules : Rules) (image : Image) (began now : Told) (phases : Phases) (session after : SessionState R) (h : HasRun rules image began now phases step.Asks session)
+  pub run_asks : (rules : Rules) (image : Image) (began : Since) (now : Told) (phases : Phases) (session after : SessionState R) (h : HasRun rules image began now phases step.Asks session)
       → IsSameBut session after → after.replies ≡ session.replies → after.choices ≡ session.choices → IsCounted after → IsWaitingFor rules image began now phases after
   run_asks rules image began now phases session after h same replies choices counted =
       asks_waits rules image began now phases h.before after h.between (run_parts rules image began now phases step.Asks session after h same replies) (choices ∙ ap (λ (s : SessionState R). s.choices) h.same) counted
       (runs_at _ _ _ _ _ _ _ (ap (λ (s : SessionState R). s.cpu.slots.live) same) h.runs)
 
   -- it ended itself
-  pub run_exits : (rules : Rules) (image : Image) (began now : Told) (phases : Phases) (coming : Option Coming) (code : ℕ) (session after : SessionState R) (h : HasRun rules image began now phases (step.Exits code) session)
+  pub run_exits : (rules : Rules) (image : Image) (began : Since) (now : Told) (phases : Phases) (coming : Option Coming) (code : ℕ) (session after : SessionState R) (h : HasRun rules image began now phases (step.Exits code) session)
       → IsSameBut session after → after.replies ≡ session.replies → after.choices ≡ session.choices → IsCounted after → IsEnding rules image began now coming after (answer.Exited code)
   run_exits rules image began now phases coming code session after h same replies choices counted =
       exits_ending rules image began now phases coming code h.before after h.between (run_parts rules image began now phases (step.Exits code) session after h same replies) (choices ∙ ap (λ (s : SessionState R). s.choices) h.same)
       counted (runs_at _ _ _ _ _ _ _ (ap (λ (s : SessionState R). s.cpu.slots.live) same) h.runs)
 
-  -- it failed
-  pub run_fails : (rules : Rules) (image : Image) (began now : Told) (phases : Phases) (coming : Option Coming) (cause : Cause) (point : ℕ) (session after : SessionState R) (h : HasRun rules image began now phases (step.Failed cause) session)
-      → IsSameBut session after → after.replies ≡ session.replies → after.choices ≡ session.choices → IsCounted after → point ≡ after.taken
-      → IsEnding rules image began now coming after (answer.GaveUp point cause)
-  run_fails rules image began now phases coming cause point session after h same replies choices counted at =
-      fails_ending rules image began now phases coming cause point h.before after h.between (run_parts rules image began now phases (step.Failed cause) session after h same replies) (choices ∙ ap (λ (s : SessionState R). s.choices) h.same)
-      counted at (runs_at _ _ _ _ _ _ _ (ap (λ (s : SessionState R). s.cpu.slots.live) same) h.runs)
+  -- it fails
+  pub run_fails : (rules : Rules) (image : Image) (began : Since) (now : Told) (phases : Phases) (cause : Cause) (session after : SessionState R) (h : HasRun rules image began now phases (step.Failed cause) session)
+      → IsSameBut session after → after.replies ≡ session.replies → after.choices ≡ session.choices → IsCounted after → IsFailing rules image began now phases cause after
+  run_fails rules image began now phases cause session after h same replies choices counted =
+      fails_failing rules image began now phases cause h.before after h.between (run_parts rules image began now phases (step.Failed cause) session after h same replies) (choices ∙ ap (λ (s : SessionState R). s.choices) h.same)
+      counted (runs_at _ _ _ _ _ _ _ (ap (λ (s : SessionState R). s.cpu.slots.live) same) h.runs)
 
   -- it sent
-  pub run_emits : (rules : Rules) (image : Image) (began now : Told) (phases : Phases) (conn : ℕ) (bytes : List ℕ) (session after : SessionState R) (h : HasRun rules image began now phases (step.Emits conn bytes) session)
+  pub run_emits : (rules : Rules) (image : Image) (began : Since) (now : Told) (phases : Phases) (conn : ℕ) (bytes : List ℕ) (session after : SessionState R) (h : HasRun rules image began now phases (step.Emits conn bytes) session)
       → IsSameBut session after → after.replies ≡ with_send session.replies (record { conn = conn; bytes = bytes; taken = session.taken }) → after.choices ≡ session.choices → IsCounted after
       → IsGoing rules image began now phases after
   run_emits rules image began now phases conn bytes session after h same replies choices counted =

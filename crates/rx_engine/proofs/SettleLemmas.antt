@@ -16,7 +16,7 @@ use Rattle.session_history.specs.Lawful.{Rules, is_closed_by, is_closing}
 use Rattle.session_history.specs.Giving.{AreFronts, IsReady, IsClosing}
 use Rattle.session_history.specs.Keeping.{KeepsReplies}
 use Rattle.reply_gate.proofs.ReplyLemmas.{nothing_waits, no_rest}
-use Rattle.rx_engine.specs.Standing.{Story, entries, moment, sends, then_story, IsTold, IsLatestDone}
+use Rattle.rx_engine.specs.Standing.{Since, Story, entries, moment, sends, then_story, IsTold, IsLatestDone}
 use Rattle.rx_engine.proofs.ArmLemmas.{latest_story}
 
 -- a send that stands among sends was made with no more items than the last ones
@@ -24,12 +24,12 @@ between_at : (low high : ℕ) (front back : List Send) (send : Send) → AreBetw
 between_at low high [] back send all = all.1
 between_at low high (first ∷ front) back send all = between_at low high front back send all.2
 
-pub made_by : (rules : Rules) (image : Image) (began now : Told) (story : Story) → IsTold rules image began now story → (send : Send) → Stands (sends story) send → send.taken ≤ story.survivor.now.state.machine.taken
+pub made_by : (rules : Rules) (image : Image) (began : Since) (now : Told) (story : Story) → IsTold rules image began now story → (send : Send) → Stands (sends story) send → send.taken ≤ story.survivor.now.state.machine.taken
 made_by rules image began now story told send stands =
     between_at 0 story.survivor.now.state.machine.taken stands.earlier stands.later send (subst (AreBetween 0 story.survivor.now.state.machine.taken) stands.split told.serving.carries.timed)
 
 -- each connection was passed a front of what was sent to it
-pub fronts_of : (rules : Rules) (image : Image) (began now : Told) (story : Story) → IsTold rules image began now story → AreFronts (passed_in rules.bounds (entries story)) (sends story)
+pub fronts_of : (rules : Rules) (image : Image) (began : Since) (now : Told) (story : Story) → IsTold rules image began now story → AreFronts (passed_in rules.bounds (entries story)) (sends story)
 fronts_of rules image began now story told = told.serving.carries.covers
 
 -- where no connection closes, what a close makes owed was passed
@@ -40,7 +40,7 @@ none_closes bounds at o conn is never closing =
     cc
 
 -- A settle was heard: all that was sent to open connections is owed.
-pub settle_ready : (rules : Rules) (image : Image) (began now : Told) (story : Story) (until : ℕ) (ledger : Ledger) → IsTold rules image began now (then_story story (entry.Took event.Settles ∷ [])) → story.survivor.now.state.machine.taken ≤ received rules.bounds (entries story)
+pub settle_ready : (rules : Rules) (image : Image) (began : Since) (now : Told) (story : Story) (until : ℕ) (ledger : Ledger) → IsTold rules image began now (then_story story (entry.Took event.Settles ∷ [])) → story.survivor.now.state.machine.taken ≤ received rules.bounds (entries story)
     → KeepsReplies rules.bounds (entries (then_story story (entry.Took event.Settles ∷ []))) None (sends story) ledger → IsReady rules (sends story) (moment (then_story story (entry.Took event.Settles ∷ []))) until ledger
 settle_ready rules image began now story until ledger told low replies =
     let after : Story = then_story story (entry.Took event.Settles ∷ []) in
@@ -55,7 +55,7 @@ settle_ready rules image began now story until ledger told low replies =
     }
 
 -- where all that was sent to open connections was passed, so was what is due
-pub all_due : (rules : Rules) (image : Image) (began now : Told) (story : Story) (until : ℕ) (ledger : Ledger) → IsTold rules image began now story → story.survivor.now.state.machine.taken ≤ until
+pub all_due : (rules : Rules) (image : Image) (began : Since) (now : Told) (story : Story) (until : ℕ) (ledger : Ledger) → IsTold rules image began now story → story.survivor.now.state.machine.taken ≤ until
     → KeepsReplies rules.bounds (entries story) None (sends story) ledger → next_part ledger until ≡ None → (send : Send) (stands : Stands (sends story) send) → is_open rules.bounds (entries story) send.conn ≡ true
     → IsPassed rules.bounds (entries story) (sends story) send stands
 all_due rules image began now story until ledger told low replies none send stands still =
@@ -72,7 +72,7 @@ settle_done rules story last is settles all send stands due =
     all send stands open_still.0
 
 -- A close was heard: all that was sent to its connection is owed, unless it is gone.
-pub close_ready : (rules : Rules) (image : Image) (began now : Told) (story : Story) (conn : ℕ) (ledger : Ledger) → IsTold rules image began now (then_story story (entry.Took (event.Closes conn) ∷ [])) → story.survivor.now.state.machine.taken ≤ received rules.bounds (entries story)
+pub close_ready : (rules : Rules) (image : Image) (began : Since) (now : Told) (story : Story) (conn : ℕ) (ledger : Ledger) → IsTold rules image began now (then_story story (entry.Took (event.Closes conn) ∷ [])) → story.survivor.now.state.machine.taken ≤ received rules.bounds (entries story)
     → closes conn (heeded rules.bounds (events_in (entries (then_story story (entry.Took (event.Closes conn) ∷ []))))) ≡ true
     → KeepsReplies rules.bounds (entries (then_story story (entry.Took (event.Closes conn) ∷ []))) (Some conn) (sends story) ledger → IsClosing rules (sends story) (moment (then_story story (entry.Took (event.Closes conn) ∷ []))) conn ledger
 close_ready rules image began now story conn ledger told low closed replies =
@@ -92,7 +92,7 @@ close_ready rules image began now story conn ledger told low closed replies =
     }
 
 -- it was passed: the ledger marks the connection closed, and what the close makes owed is done
-pub close_done : (rules : Rules) (image : Image) (began now : Told) (story : Story) (last : Latest) (conn : ℕ) (ledger : Ledger) → IsTold rules image began now story → latest (moment story).since ≡ Some last → last.event ≡ event.Closes conn
+pub close_done : (rules : Rules) (image : Image) (began : Since) (now : Told) (story : Story) (last : Latest) (conn : ℕ) (ledger : Ledger) → IsTold rules image began now story → latest (moment story).since ≡ Some last → last.event ≡ event.Closes conn
     → KeepsReplies rules.bounds (entries story) (Some conn) (sends story) ledger → (is_gone conn (entries story) ≡ false → rest_part ledger conn ≡ None) → IsLatestDone rules (moment story) (sends story)
 close_done rules image began now story last conn ledger told is closed replies none send stands due =
     let made : IsMadeDue rules.bounds (moment story) send.conn send.taken last.event (received_before rules.bounds (moment story) last) = subst (IsDueBy rules.bounds (moment story) send.conn send.taken) is due in

@@ -1,5 +1,5 @@
 -- Where a session stands at its begin, and after each turn.
-use Rattle.std.proofs.Common.{◌≡◌, ℕ, zero, suc, ◌+◌, ◌≤◌, Bool, true, false, List, [], ◌∷◌, ◌++◌, Option, None, refl, sym, ◌∙◌, ap, subst, arith}
+use Rattle.std.proofs.Common.{inl, ◌-◌, ◌≡◌, ℕ, zero, suc, ◌+◌, ◌≤◌, Bool, true, false, List, [], ◌∷◌, ◌++◌, Option, None, refl, sym, ◌∙◌, ap, subst, arith}
 use Rattle.block_book.specs.Heap.{Heap}
 use Rattle.rx_io.specs.Links.{Phases, Told, Coming, IsFresh, Counts}
 use Rattle.elf_image.specs.declared.image.Image.{Image}
@@ -33,7 +33,7 @@ use Rattle.session_history.proofs.Paths.{served_same}
 use Rattle.session_history.proofs.Sessions.{serving_first}
 use Rattle.rx_engine.specs.Options.{rules_of}
 use Rattle.rx_engine.specs.Sessions.{SessionState, IsBegun}
-use Rattle.rx_engine.specs.Standing.{Story, IsBetween}
+use Rattle.rx_engine.specs.Standing.{Since, Story, IsBetween}
 use Rattle.rx_engine.proofs.CheckpointLemmas.{in_force_by}
 use Rattle.rx_engine.proofs.TellLemmas.{tells_same}
 use Rattle.rx_engine.specs.Serving.{CanGive, StaysKnown, IsCounted, HasSameFrame}
@@ -72,6 +72,16 @@ first_replies bounds = record {
   sendable = tt;
 }
 
+-- how many instructions were counted behind a turn that aren't of the survivor's run: so many as all of them are more
+abbrev pub lost_then : ℕ → ℕ → ℕ → ℕ → ℕ → ℕ
+lost_then lost live steps before after = (lost + live + after) - (steps + before)
+
+pub lost_counts : (lost live steps before after : ℕ) → steps + before ≤ after + live → lost_then lost live steps before after + steps + before ≡ lost + live + after
+lost_counts lost live steps before after least = omega (arith, least)
+
+pub lost_all : (first lost live steps before after : ℕ) → before ≡ first + (lost + live) → steps + before ≤ after + live → after ≡ first + (lost_then lost live steps before after + steps)
+lost_all first lost live steps before after counted least = omega (arith, counted, least)
+
 module _ {R : Type 0} where
   -- its guest stands at the start
   pub starts_at : (image : Image) (session : SessionState R) → IsBegun image session.options session.cpu.rule session → session.cpu.slots.live ≡ standing_of (origin image)
@@ -80,7 +90,7 @@ module _ {R : Type 0} where
   -- it begins with its start as its first checkpoint
   starts_saved : (permits : R → Heap → ℕ → ℕ → Bool) (image : Image) (now : Told) (phases : Phases) (session : SessionState R) (cpu : CpuState R) (ring : Checkpoints) → IsBegun image session.options session.cpu.rule session → IsFresh phases
       → KeepsRing (rules_of session.options (permits session.cpu.rule)) image [] [] (origin image) (origin image ∷ []) cpu ring session.log session.replies → cpu.slots.live ≡ session.cpu.slots.live
-      → IsBetween (rules_of session.options (permits session.cpu.rule)) image now now phases (record session { cpu = cpu; ring = ring })
+      → IsBetween (rules_of session.options (permits session.cpu.rule)) image (record { told = now; lost = 0 }) now phases (record session { cpu = cpu; ring = ring })
   unfolding M.start M.start_machine H.heeded_behind
   starts_saved permits image now phases session cpu ring begun fresh keeps live =
       let rules : Rules = rules_of session.options (permits session.cpu.rule) in
@@ -93,6 +103,7 @@ module _ {R : Type 0} where
             way = served_same rules.limits (items_in rules.bounds []) [] (origin image);
             tells = tells_same now;
             recovered = recovered_first rules image;
+            counted = refl;
           };
           answers = record { choices = begun.no_choices; taken = begun.no_items; steps = begun.no_steps };
           goes = record {
@@ -106,7 +117,7 @@ module _ {R : Type 0} where
             events = begun.no_events;
             phases_are = fresh;
           };
-          saved = record { paths = origin image ∷ []; ring = keeps; in_force = in_force_by [] 0 Plain session.env 0 session.until begun.plain begun.until_none (in_force_none 0) };
+          saved = record { paths = origin image ∷ []; ring = keeps; in_force = in_force_by [] 0 Plain session.env 0 session.until begun.plain begun.until_none (in_force_none 0); past = inl (let none : session.until ≡ 0 = begun.until_none in omega (arith, none)) };
           passed = record { replies = subst (λ (ledger : Ledger). KeepsReplies rules.bounds [] None [] ledger) (sym begun.replies) (first_replies rules.bounds); no_trial = ap (λ (ledger : Ledger). ledger.trial) begun.replies; done = λ send stands due. absurd due };
           latest = λ last found. absurd (let no : ⊥ = cc in no);
         };
@@ -115,20 +126,21 @@ module _ {R : Type 0} where
 
   pub starts_between : (permits : R → Heap → ℕ → ℕ → Bool) (image : Image) (now : Told) (phases : Phases) (session after : SessionState R) → IsBegun image session.options session.cpu.rule session → IsFresh phases
       → ((rules : Rules) → KeepsRing rules image [] [] (origin image) (origin image ∷ []) after.cpu after.ring session.log session.replies) → after ≡ record session { cpu = after.cpu; ring = after.ring } → after.cpu.slots.live ≡ session.cpu.slots.live
-      → IsBetween (rules_of session.options (permits session.cpu.rule)) image now now phases after
+      → IsBetween (rules_of session.options (permits session.cpu.rule)) image (record { told = now; lost = 0 }) now phases after
   starts_between permits image now phases session after begun fresh keeps same live =
-      subst (λ (s : SessionState R). IsBetween (rules_of session.options (permits session.cpu.rule)) image now now phases s) (sym same)
+      subst (λ (s : SessionState R). IsBetween (rules_of session.options (permits session.cpu.rule)) image (record { told = now; lost = 0 }) now phases s) (sym same)
       (starts_saved permits image now phases session after.cpu after.ring begun fresh (keeps (rules_of session.options (permits session.cpu.rule))) live)
 
   -- how far a session has come that serves
   pub record HasTurned (Went : Type 0) (permits : R → Heap → ℕ → ℕ → Bool) (before now : Told) (phases : Phases) (coming upcoming : Option Coming) (from to : Counts) (takes gives : Bool) (gives_to : ℕ → Bool) (first last : ℕ) (old new : SessionState R) : Type 0 where
-    pub stands : (image : Image) → IsBegun image old.options old.cpu.rule old → IsBetween (rules_of old.options (permits old.cpu.rule)) image before now phases new
+    pub lost : ℕ
+    pub stands : (image : Image) → IsBegun image old.options old.cpu.rule old → IsBetween (rules_of old.options (permits old.cpu.rule)) image (record { told = before; lost = lost }) now phases new
     pub frame : HasSameFrame old new
     pub known : StaysKnown coming upcoming
     pub takes_still : takes ≡ true
     pub can_give : CanGive gives gives_to new.replies
     pub marked : IsCounted new
-    pub counted : last ≡ first + new.cpu.slots.live.steps
+    pub counted : last ≡ first + (lost + new.cpu.slots.live.steps)
     pub no_takes_fell : from.takes ≤ to.takes
     pub no_gives_fell : from.gives ≤ to.gives
     pub went : Went
@@ -151,5 +163,5 @@ module _ {R : Type 0} where
   pub frame_then : (old mid new : SessionState R) → HasSameFrame old mid → HasSameFrame mid new → HasSameFrame old new
   frame_then old mid new first second = record { options = second.options ∙ first.options; rule = second.rule ∙ first.rule }
 
-  pub between_under : {image : Image} {began now : Told} {phases : Phases} {session : SessionState R} (first second : Rules) → first ≡ second → IsBetween first image began now phases session → IsBetween second image began now phases session
+  pub between_under : {image : Image} {began : Since} {now : Told} {phases : Phases} {session : SessionState R} (first second : Rules) → first ≡ second → IsBetween first image began now phases session → IsBetween second image began now phases session
   between_under {image = image} {began = began} {now = now} {phases = phases} {session = session} first second same = subst (λ (rules : Rules). IsBetween rules image began now phases session) same

@@ -31,10 +31,11 @@ use Rattle.session_history.specs.Keeping.{KeepsReplies}
 use Rattle.session_history.specs.Hearing.{closing_of, IsHeeded, IsHeard, IsUnheeded}
 use Rattle.session_history.specs.Ends.{IsEnd, StandsAt, IsWaiting, WasAsked, IsLastRefused}
 use Rattle.rx_engine.specs.Sessions.{SessionState}
-use Rattle.rx_engine.specs.Standing.{Story, entries, moment, sends, then_story, IsTold, AnswersFor, IsLatestDone, IsAsking, IsWaitingFor, IsEnding, IsBrokenOff}
+use Rattle.rx_engine.specs.Standing.{Since, Story, entries, moment, sends, then_story, IsTold, AnswersFor, IsLatestDone, IsAsking, IsWaitingFor, IsEnding, IsBrokenOff}
 use Rattle.rx_engine.proofs.StoryLemmas.{still_takes}
 use Rattle.rx_engine.proofs.TellLemmas.{tells_on}
-use Rattle.rx_engine.proofs.GuestLemmas.{received_is, broken_off, broken_with}
+use Rattle.rx_engine.proofs.GuestLemmas.{received_is, broken_off, broken_with, none_lost}
+use Rattle.rx_engine.specs.Recovered.{GivesUpBy}
 use Rattle.rx_engine.proofs.EventLemmas.{IsNoEnd, owes_nothing, told_event, latest-took, latest-ended}
 use Rattle.rx_engine.proofs.HearLemmas.{HasSameRun, answers_still, more_entries}
 
@@ -98,17 +99,18 @@ one_event event.Settles is = refl
 one_event event.Ends is = absurd is
 
 -- the link told nothing more
-told_nothing : (rules : Rules) (image : Image) (began before now : Told) (story : Story) → IsTold rules image began before story → Tells before now [] → IsTold rules image began now story
+told_nothing : (rules : Rules) (image : Image) (began : Since) (before now : Told) (story : Story) → IsTold rules image began before story → Tells before now [] → IsTold rules image began now story
 told_nothing rules image began before now story told tells = record {
   serving = told.serving;
   way = told.way;
-  tells = subst (Tells began now) (append-nil (entries story)) (tells_on began before now (entries story) [] told.tells tells);
+  tells = subst (Tells began.told now) (append-nil (entries story)) (tells_on began.told before now (entries story) [] told.tells tells);
   recovered = told.recovered;
+  counted = told.counted;
 }
 
 module _ {R : Type 0} where
   -- the story of a session that waits, and took one event more, which brings nothing
-  pub waits_took : (rules : Rules) (image : Image) (began before now : Told) (phases : Phases) (old : SessionState R) (w : IsWaitingFor rules image began before phases old) (e : LinkEvent) → received rules.bounds (entries w.hearing.story) ≤ w.hearing.story.survivor.now.state.machine.taken
+  pub waits_took : (rules : Rules) (image : Image) (began : Since) (before now : Told) (phases : Phases) (old : SessionState R) (w : IsWaitingFor rules image began before phases old) (e : LinkEvent) → received rules.bounds (entries w.hearing.story) ≤ w.hearing.story.survivor.now.state.machine.taken
       → Tells before now (entry.Took e ∷ []) → (more : List Item) → items_in rules.bounds (entries w.hearing.story ++ entry.Took e ∷ []) ≡ items_in rules.bounds (entries w.hearing.story) ++ more
       → IsTold rules image began now (then_story w.hearing.story (entry.Took e ∷ []))
   waits_took rules image began before now phases old w e all tells more brings =
@@ -118,7 +120,7 @@ module _ {R : Type 0} where
       told_event rules image began before now story e more w.hearing.told (subst (AsksFor rules.limits story.survivor.plan story.survivor.now) (sym exact) w.hearing.asks) (owes_nothing rules story all w.due w.hearing.passed.done) tells brings
 
   -- it waits behind entries that bring nothing
-  pub waits_still : (rules : Rules) (image : Image) (began before : Told) (phases : Phases) (old : SessionState R) (w : IsWaitingFor rules image began before phases old) (more : List Entry) → received rules.bounds (entries w.hearing.story) ≤ w.hearing.story.survivor.now.state.machine.taken
+  pub waits_still : (rules : Rules) (image : Image) (began : Since) (before : Told) (phases : Phases) (old : SessionState R) (w : IsWaitingFor rules image began before phases old) (more : List Entry) → received rules.bounds (entries w.hearing.story) ≤ w.hearing.story.survivor.now.state.machine.taken
       → items_in rules.bounds (entries w.hearing.story ++ more) ≡ items_in rules.bounds (entries w.hearing.story) → IsWaiting rules (entries (then_story w.hearing.story more)) w.hearing.story.survivor
   waits_still rules image began before phases old w more all none =
       let story : Story = w.hearing.story in
@@ -128,7 +130,7 @@ module _ {R : Type 0} where
       subst (AsksFor rules.limits story.survivor.plan story.survivor.now) exact w.hearing.asks
 
   -- it waits where it is
-  waits_here : (rules : Rules) (image : Image) (began before : Told) (phases : Phases) (old : SessionState R) (w : IsWaitingFor rules image began before phases old) → received rules.bounds (entries w.hearing.story) ≤ w.hearing.story.survivor.now.state.machine.taken
+  waits_here : (rules : Rules) (image : Image) (began : Since) (before : Told) (phases : Phases) (old : SessionState R) (w : IsWaitingFor rules image began before phases old) → received rules.bounds (entries w.hearing.story) ≤ w.hearing.story.survivor.now.state.machine.taken
       → IsWaiting rules (entries w.hearing.story) w.hearing.story.survivor
   waits_here rules image began before phases old w all =
       let story : Story = w.hearing.story in
@@ -140,13 +142,13 @@ module _ {R : Type 0} where
   answers_here story old new same answers = record { choices = same.choices ∙ answers.choices; taken = same.taken ∙ answers.taken; steps = same.steps ∙ answers.steps }
 
   -- an event that is refused ends the session
-  pub ending_refused : (rules : Rules) (image : Image) (began before now : Told) (phases : Phases) (coming : Option Coming) (old new : SessionState R) (w : IsWaitingFor rules image began before phases old) (e : LinkEvent) (cause : Unheeded) (end : Answer) → IsNoEnd e
+  pub ending_refused : (rules : Rules) (image : Image) (began : Since) (before now : Told) (phases : Phases) (coming : Option Coming) (old new : SessionState R) (w : IsWaitingFor rules image began before phases old) (e : LinkEvent) (cause : Unheeded) (end : Answer) → IsNoEnd e
       → received rules.bounds (entries w.hearing.story) ≤ w.hearing.story.survivor.now.state.machine.taken → Tells before now (entry.Took e ∷ []) → (u : IsUnheeded rules.bounds (entries w.hearing.story) (sends w.hearing.story) e cause new.replies)
       → HasSameRun old new → new.log ≡ old.log → new.replies.trial ≡ None → IsEnd end
       → (IsWaiting rules (entries (then_story w.hearing.story (entry.Took e ∷ []))) w.hearing.story.survivor → IsLastRefused rules.bounds (entries (then_story w.hearing.story (entry.Took e ∷ []))) cause
       → StandsAt rules (entries (then_story w.hearing.story (entry.Took e ∷ []))) coming w.hearing.story.survivor end)
-      → IsEnding rules image began now coming new end
-  ending_refused rules image began before now phases coming old new w e cause end no_end all tells u same log no_trial is_end stands =
+      → GivesUpBy rules image (entries (then_story w.hearing.story (entry.Took e ∷ []))) w.hearing.story.survivor [] end → IsEnding rules image began now coming new end
+  ending_refused rules image began before now phases coming old new w e cause end no_end all tells u same log no_trial is_end stands gave_up =
       let story : Story = w.hearing.story in
       let es = more_entries story (entry.Took e ∷ []) in
       let none : items_in rules.bounds (entries (then_story story (entry.Took e ∷ []))) ≡ items_in rules.bounds (entries story) = ap (items_in rules.bounds) (sym es) ∙ u.brings_none in
@@ -155,6 +157,9 @@ module _ {R : Type 0} where
       ap (λ (all : List Entry). heeded rules.bounds (events_in all)) (sym es) ∙ heeded_without rules.bounds (entries story) e cause (one_event e no_end) w.hearing.goes.items.all_heeded u.refused in
       record {
         story = then_story story (entry.Took e ∷ []);
+        trials = [];
+        lost = began.lost;
+        lost_is = none_lost began.lost;
         told = waits_took rules image began before now phases old w e all tells [] (u.brings_none ∙ sym (append-nil (items_in rules.bounds (entries story))));
         answers = answers_still story old new (entry.Took e ∷ []) same w.hearing.answers;
         received_are = ap (λ (l : Log). logs.received l) log ∙ (received_is rules.bounds (entries story) old.log w.hearing.goes.items ∙ ap length (sym none));
@@ -163,10 +168,12 @@ module _ {R : Type 0} where
         closed = λ send stands closing owed. absurd (refused_closes rules.bounds story e no_end heeds u.first_close send.conn closing);
         is_end = is_end;
         stands = stands waits (record { before = entries story; event = e; last = sym es; refused = u.refused });
+        tried = inl refl;
+        gave_up = gave_up;
       }
 
   -- the link has ended
-  pub ending_ended : (rules : Rules) (image : Image) (began before now : Told) (phases : Phases) (coming : Option Coming) (old new : SessionState R) (w : IsWaitingFor rules image began before phases old)
+  pub ending_ended : (rules : Rules) (image : Image) (began : Since) (before now : Told) (phases : Phases) (coming : Option Coming) (old new : SessionState R) (w : IsWaitingFor rules image began before phases old)
       → received rules.bounds (entries w.hearing.story) ≤ w.hearing.story.survivor.now.state.machine.taken → Tells before now (entry.Took event.Ends ∷ []) → IsHeard rules.bounds (entries w.hearing.story) (sends w.hearing.story) event.Ends new.log new.replies
       → HasSameRun old new → new.replies.trial ≡ None → IfSome coming (λ next. next ≡ Comes event.Ends) → IsEnding rules image began now coming new answer.Finished
   ending_ended rules image began before now phases coming old new w all tells heard same no_trial last =
@@ -175,6 +182,9 @@ module _ {R : Type 0} where
       let none : items_in rules.bounds (entries story ++ entry.Took event.Ends ∷ []) ≡ items_in rules.bounds (entries story) = ap (λ (evs : List LinkEvent). items_of rules.bounds.framing (heeded rules.bounds evs)) (events_ended (entries story)) in
       record {
         story = then_story story (entry.Took event.Ends ∷ []);
+        trials = [];
+        lost = began.lost;
+        lost_is = none_lost began.lost;
         told = waits_took rules image began before now phases old w event.Ends all tells heard.more heard.brings;
         answers = answers_still story old new (entry.Took event.Ends ∷ []) same w.hearing.answers;
         received_are = received_is rules.bounds (entries story ++ entry.Took event.Ends ∷ []) new.log heard.items ∙ ap (received rules.bounds) es;
@@ -183,10 +193,12 @@ module _ {R : Type 0} where
         closed = λ send stands closing owed. done_ended rules story w.hearing.passed.done send stands owed;
         is_end = tt;
         stands = (waits_still rules image began before phases old w (entry.Took event.Ends ∷ []) all none, subst HasEnded es (last_taken-took (entries story) event.Ends), last);
+        tried = inl refl;
+        gave_up = tt;
       }
 
   -- the link has no event there
-  pub ending_stopped : (rules : Rules) (image : Image) (began before now : Told) (phases : Phases) (coming : Option Coming) (kind offset : ℕ) (old new : SessionState R) (w : IsWaitingFor rules image began before phases old)
+  pub ending_stopped : (rules : Rules) (image : Image) (began : Since) (before now : Told) (phases : Phases) (coming : Option Coming) (kind offset : ℕ) (old new : SessionState R) (w : IsWaitingFor rules image began before phases old)
       → received rules.bounds (entries w.hearing.story) ≤ w.hearing.story.survivor.now.state.machine.taken → Tells before now [] → HasSameRun old new → new.log ≡ old.log → new.replies ≡ old.replies
       → IfSome coming (λ next. next ≡ Refuses kind offset) → (ending : IsEnding rules image began now coming new (answer.InputRefused kind offset)) × IsAsking rules ending.story
   ending_stopped rules image began before now phases coming kind offset old new w all tells same log replies stops =
@@ -195,6 +207,9 @@ module _ {R : Type 0} where
       let waits = waits_here rules image began before phases old w all in (
         record {
           story = story;
+          trials = [];
+          lost = began.lost;
+          lost_is = none_lost began.lost;
           told = told;
           answers = record { choices = same.choices ∙ w.hearing.answers.choices; taken = same.taken ∙ w.hearing.answers.taken; steps = same.steps ∙ w.hearing.answers.steps };
           received_are = ap (λ (l : Log). logs.received l) log ∙ received_is rules.bounds (entries story) old.log w.hearing.goes.items;
@@ -203,12 +218,14 @@ module _ {R : Type 0} where
           closed = λ send stands closing owed. w.hearing.passed.done send stands owed;
           is_end = tt;
           stands = (waits, stops);
+          tried = inl refl;
+          gave_up = tt;
         },
         (waits, owes_nothing rules story all w.due w.hearing.passed.done),
       )
 
   -- no event could be taken
-  pub off_read : (rules : Rules) (image : Image) (began before now : Told) (phases : Phases) (coming : Option Coming) (old new : SessionState R) (w : IsWaitingFor rules image began before phases old)
+  pub off_read : (rules : Rules) (image : Image) (began : Since) (before now : Told) (phases : Phases) (coming : Option Coming) (old new : SessionState R) (w : IsWaitingFor rules image began before phases old)
       → received rules.bounds (entries w.hearing.story) ≤ w.hearing.story.survivor.now.state.machine.taken → Tells before now [] → HasSameRun old new → IsBrokenOff rules image began now coming new answer.ReadFault
   off_read rules image began before now phases coming old new w all tells same =
       let story : Story = w.hearing.story in
@@ -216,7 +233,7 @@ module _ {R : Type 0} where
       (waits_here rules image began before phases old w all, owes_nothing rules story all w.due w.hearing.passed.done, (refl, refl)) (λ is. is)
 
   -- memory ran out, before an event was taken or behind one that is heeded
-  pub off_memory : (rules : Rules) (image : Image) (began before now : Told) (phases : Phases) (coming : Option Coming) (takes : Bool) (old new : SessionState R) (w : IsWaitingFor rules image began before phases old)
+  pub off_memory : (rules : Rules) (image : Image) (began : Since) (before now : Told) (phases : Phases) (coming : Option Coming) (takes : Bool) (old new : SessionState R) (w : IsWaitingFor rules image began before phases old)
       → received rules.bounds (entries w.hearing.story) ≤ w.hearing.story.survivor.now.state.machine.taken → HasSameRun old new → (Tells before now [] ⊎ (takes ≡ true))
       → (Tells before now [] ⊎ ((e : LinkEvent) × Tells before now (entry.Took e ∷ []) × IsHeeded rules.bounds (entries w.hearing.story) e))
       → (off : IsBrokenOff rules image began now coming new answer.Memory) × (takes ≡ false → WasAsked rules off.account)

@@ -11,7 +11,7 @@ use Rattle.session_history.specs.Serving.{gone_on, first_survivor}
 use Rattle.session_history.proofs.Paths.{served_on}
 use Rattle.session_history.proofs.Sessions.{serving_on}
 use Rattle.trial_history.proofs.Survivors.{recovered_on}
-use Rattle.rx_engine.specs.Standing.{Story, entries, IsTold}
+use Rattle.rx_engine.specs.Standing.{Since, Story, entries, IsTold}
 
 -- the story with its survivor at another path
 abbrev pub on_story : Story → Path → Story
@@ -29,7 +29,7 @@ pub journal_of_story : (story : Story) → journal_of (account_of story) ≡ ent
 journal_of_story story = ap (λ es. entries_of story.earlier ++ es) (append-nil story.since)
 
 -- its survivor goes on
-pub told_on : (rules : Rules) (image : Image) (began now : Told) (story : Story) (to : Path) → IsTold rules image began now story
+pub told_on : (rules : Rules) (image : Image) (began : Since) (now : Told) (story : Story) (to : Path) → IsTold rules image began now story
     → Served rules.limits (items_in rules.bounds (entries story)) story.survivor.plan story.survivor.now to → to.state.machine.taken ≤ received rules.bounds (entries story)
     → IsTold rules image began now (on_story story to)
 told_on rules image began now story to told on taken = record {
@@ -37,4 +37,5 @@ told_on rules image began now story to told on taken = record {
   way = served_on rules.limits (items_in rules.bounds (entries story)) story.survivor.plan story.survivor.begun story.survivor.now to told.way on;
   tells = told.tells;
   recovered = recovered_on rules image [] (first_survivor image) story.earlier story.recoveries story.survivor to told.recovered;
+  counted = told.counted;
 }

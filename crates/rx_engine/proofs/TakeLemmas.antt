@@ -20,7 +20,7 @@ use Rattle.session_history.specs.Heeding.{Bounds, Unheeded, LimitEvents, TooLong
 use Rattle.session_history.specs.Lawful.{Rules}
 use Rattle.event_gate.proofs.ItemLemmas.{item_is, item_fits, opened_items}
 use Rattle.rx_engine.specs.Sessions.{SessionState}
-use Rattle.rx_engine.specs.Standing.{entries, IsGoing, IsWaitingFor}
+use Rattle.rx_engine.specs.Standing.{Since, entries, IsGoing, IsWaitingFor}
 use Rattle.rx_engine.proofs.GuestLemmas.{received_is}
 use Rattle.rx_engine.proofs.SendLemmas.{takes_going}
 
@@ -60,20 +60,20 @@ few_items bounds events all = behind_items bounds [] events all (omega (arith, n
 
 module _ {R : Type 0} where
   -- its instruction is a recv whose buffer may be written
-  pub waits_wants : (rules : Rules) (image : Image) (began now : Told) (phases : Phases) (session : SessionState R) → IsWaitingFor rules image began now phases session → does None None session.cpu.slots.live.guest.machine ≡ Wants
+  pub waits_wants : (rules : Rules) (image : Image) (began : Since) (now : Told) (phases : Phases) (session : SessionState R) → IsWaitingFor rules image began now phases session → does None None session.cpu.slots.live.guest.machine ≡ Wants
   waits_wants rules image began now phases session w =
       let h = w.hearing in
       subst (λ (s : Standing). does None None s.guest.machine ≡ Wants) (sym h.goes.guest)
       (asks_wants rules.limits h.story.survivor.plan h.story.survivor.now h.story.survivor.now.state.machine.taken h.asks)
 
   -- the item of its number is short
-  pub waits_short : (rules : Rules) (image : Image) (began now : Told) (phases : Phases) (session : SessionState R) (item : Item) → IsWaitingFor rules image began now phases session → IsItemOf session.log session.taken item → length item.bytes < 2 ^ 32
+  pub waits_short : (rules : Rules) (image : Image) (began : Since) (now : Told) (phases : Phases) (session : SessionState R) (item : Item) → IsWaitingFor rules image began now phases session → IsItemOf session.log session.taken item → length item.bytes < 2 ^ 32
   waits_short rules image began now phases session item w is =
       let h = w.hearing in
       item_fits rules.bounds.framing (heeded rules.bounds (events_in (entries h.story))) session.taken item (item_is rules.bounds (entries h.story) session.log session.taken item h.goes.items is)
 
   -- it takes the item, and its counts are those of the guest
-  pub taken_going : (rules : Rules) (image : Image) (began now : Told) (phases : Phases) (item : Item) (old inside after : SessionState R) (cpu : CpuState R) → IsWaitingFor rules image began now phases old → inside ≡ old → IsItemOf inside.log inside.taken item
+  pub taken_going : (rules : Rules) (image : Image) (began : Since) (now : Told) (phases : Phases) (item : Item) (old inside after : SessionState R) (cpu : CpuState R) → IsWaitingFor rules image began now phases old → inside ≡ old → IsItemOf inside.log inside.taken item
       → old.taken < logs.received old.log → cpu ≡ with_live (live_of cpu) inside.cpu → cpu.slots.live ≡ taken_standing item inside.cpu.slots.live
       → after ≡ record inside { cpu = cpu; taken = cpu.slots.live.guest.machine.taken; steps = cpu.slots.live.steps } → IsGoing rules image began now phases after
   taken_going rules image began now phases item old inside after cpu w same is there kept live becomes =

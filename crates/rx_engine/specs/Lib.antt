@@ -1,5 +1,5 @@
 pub mod Options
 pub mod Sessions
+pub mod Recovered
 pub mod Standing
 pub mod Serving
-pub mod Recovered

@@ -1,17 +1,47 @@
 -- What a session leaves that recovered its program.
-use Rattle.std.specs.Prelude.{ℕ, List, [], Bool, Option}
+use Rattle.std.specs.Prelude.{◌≡◌, ◌≢◌, ◌⊎◌, ℕ, ◌+◌, ◌-◌, List, [], map, sum, Bool, Option, None}
 use Rattle.block_book.specs.declared.choice.Choice.{Choice}
 use Rattle.rx_io.specs.Links.{Told, Coming}
 use Rattle.elf_image.specs.declared.image.Image.{Image}
+use Rattle.rx_io.specs.declared.journal.Entry.{Entry}
 use Rattle.run_history.specs.declared.answer.Answer.{Answer}
-use Rattle.session_history.specs.Lawful.{Rules}
+use Rattle.run_history.specs.declared.answer.Answer.TheVariants as answer
+use Rattle.run_history.specs.declared.answer.Cause.{Cause}
+use Rattle.run_history.specs.Served.{Path}
+use Rattle.session_history.specs.Lawful.{Rules, Survivor}
 use Rattle.session_history.specs.Serving.{first_survivor}
-use Rattle.session_history.specs.Ends.{HasServed}
-use Rattle.trial_history.specs.Episodes.{Recovery, AreRecovered}
+use Rattle.session_history.specs.Ends.{HasServed, before_end}
+use Rattle.trial_history.specs.Tables.{Trial, survivor_in}
+use Rattle.trial_history.specs.Episodes.{Recovery, IsRecovery, AreRecovered}
+use Rattle.trial_plan.specs.Trying.{steps_of}
 
--- A session has served, and this account of it is told by survivors of which the first stood at the start and each later one is the trial
--- that was adopted behind a failure.
-pub record HasRecovered (rules : Rules) (image : Image) (began now : Told) (coming : Option Coming) (takes : Bool) (end : Answer) (choices : List Choice) (taken steps : ℕ) : Type 0 where
+-- How many instructions were done before a survivor began: those of each survivor before it, from where it began to where it failed, and
+-- those of all trials, each from its checkpoint.
+abbrev pub spent : List Recovery → ℕ
+spent recoveries = sum (map (λ (recovery : Recovery). (recovery.survivor.now.steps - recovery.survivor.begun.steps) + steps_of recovery.trials) recoveries)
+
+-- the last survivor failed by this cause, and none of these trials, a walk over all of its checkpoints, survived
+pub record HasGivenUp (rules : Rules) (image : Image) (entries : List Entry) (survivor : Survivor) (trials : List Trial) (cause : Cause) : Type 0 where
+  pub ring : List Path
+  pub recovers : IsRecovery rules image entries (record { survivor = survivor; cause = cause; ring = ring; trials = trials })
+  pub none : survivor_in trials ≡ None
+
+abbrev pub GivesUpBy : Rules → Image → List Entry → Survivor → List Trial → Answer → Type 0
+GivesUpBy rules image entries survivor trials (answer.GaveUp point cause) = HasGivenUp rules image entries survivor trials cause
+GivesUpBy rules image entries survivor trials _ = Unit {0}
+
+-- trials are made behind the last survivor only where it failed
+abbrev pub AreLastTrials : Rules → Image → List Entry → Survivor → List Trial → Type 0
+AreLastTrials rules image entries survivor trials = (trials ≡ []) ⊎ ((cause : Cause) × HasGivenUp rules image entries survivor trials cause)
+
+-- A session has served, and its account is told by survivors of which the first stood at the start and each later one is the trial that was
+-- adopted behind a failure. It gives up only where no trial from its checkpoints survives. Each instruction was counted: those of the
+-- survivors, and those of all trials.
+pub record HasRecovered (rules : Rules) (image : Image) (began now : Told) (coming : Option Coming) (takes : Bool) (end : Answer) (choices : List Choice) (taken steps before after : ℕ) : Type 0 where
   pub served : HasServed rules image began now coming takes end choices taken steps
   pub recoveries : List Recovery
   pub recovered : AreRecovered rules image [] (first_survivor image) served.session.earlier recoveries served.session.survivor
+  pub trials : List Trial
+  pub tried : AreLastTrials rules image (before_end served.session) served.session.survivor trials
+  pub gave_up : GivesUpBy rules image (before_end served.session) served.session.survivor trials end
+  pub counted : end ≢ answer.Memory → after ≡ before + (spent recoveries + (served.session.survivor.now.steps - served.session.survivor.begun.steps) + steps_of trials)

@@ -1,5 +1,5 @@
 -- What the parts of a session's code make of it.
-use Rattle.std.specs.Prelude.{◌≡◌, ◌≢◌, ◌⊎◌, ℕ, ◌≤◌, List, Bool, true, false, Option, None, Some, IsSome, Result, Ok, Err, IsErrOf}
+use Rattle.std.specs.Prelude.{◌≡◌, ◌≢◌, ◌⊎◌, ℕ, ◌+◌, ◌<◌, ◌≤◌, List, Bool, true, false, Option, None, Some, IsSome, Result, Ok, Err, IsErrOf}
 use Rattle.rx_io.specs.declared.journal.Entry.{Entry}
 use Rattle.rx_io.specs.Faults.{Rose}
 use Rattle.rx_io.specs.Links.{Phases, Told, Coming, Counts}
@@ -9,6 +9,7 @@ use Rattle.item_log.specs.Log as logs
 use Rattle.reply_ledger.specs.Ledger.{Ledger, is_open}
 use Rattle.reply_ledger.specs.Parts.{next_part}
 use Rattle.run_history.specs.declared.answer.Answer.{Answer}
+use Rattle.run_history.specs.declared.answer.Cause.{Cause}
 use Rattle.run_history.specs.declared.answer.Answer.TheVariants as answer
 use Rattle.guest_cpu.specs.declared.event.Event.{Event}
 use Rattle.guest_cpu.specs.declared.event.Event.TheVariants as step
@@ -27,7 +28,7 @@ use Rattle.event_gate.specs.declared.heard.HearFault.TheVariants as hear
 use Rattle.rx_engine.specs.declared.stop.Stop.{Stop}
 use Rattle.rx_engine.specs.declared.stop.Stop.TheVariants as stop
 use Rattle.rx_engine.specs.Sessions.{SessionState, IsBegun}
-use Rattle.rx_engine.specs.Standing.{Story, entries, moment, sends, then_story, IsTold, HasPassed, HasPassedDue, IsBetween, IsAsking, IsWaitingFor, IsEnding, IsBrokenOff}
+use Rattle.rx_engine.specs.Standing.{Since, Story, entries, moment, sends, then_story, IsTold, HasPassed, HasPassedDue, IsGoing, IsBetween, IsAsking, IsWaitingFor, IsFailing, IsEnding, IsBrokenOff}
 
 -- a fault of passing is this answer
 abbrev pub IsAnswerTo : PassFault → Answer → Type 0
@@ -136,35 +137,35 @@ module _ {R : Type 0} where
     pub received_are : logs.received session.log ≡ received bounds entries
 
   -- A session came to one of its ends, or was broken off. Where events may not be taken any more, one was asked for.
-  abbrev pub StopsBy : Rules → Image → Told → Told → Option Coming → Bool → SessionState R → Stop → Type 0
+  abbrev pub StopsBy : Rules → Image → Since → Told → Option Coming → Bool → SessionState R → Stop → Type 0
   StopsBy rules image began now coming takes session (stop.Ends end) = (ending : IsEnding rules image began now coming session end) × (takes ≡ false → IsAsking rules ending.story)
   StopsBy rules image began now coming takes session (stop.Breaks end) = (off : IsBrokenOff rules image began now coming session end) × (takes ≡ false → WasAsked rules off.account)
 
   -- it was broken off
-  abbrev pub BreaksBy : Rules → Image → Told → Told → Option Coming → SessionState R → Stop → Type 0
+  abbrev pub BreaksBy : Rules → Image → Since → Told → Option Coming → SessionState R → Stop → Type 0
   BreaksBy rules image began now coming session (stop.Ends end) = ⊥
   BreaksBy rules image began now coming session (stop.Breaks end) = IsBrokenOff rules image began now coming session end
 
   -- pieces were passed, up to where nothing is left of what was sent with so many items taken; or the session was broken off
-  abbrev pub PassesStory : Rules → Image → Told → Told → Option Coming → Story → ℕ → SessionState R → Result (Unit {0}) Stop → Type 0
+  abbrev pub PassesStory : Rules → Image → Since → Told → Option Coming → Story → ℕ → SessionState R → Result (Unit {0}) Stop → Type 0
   PassesStory rules image began now coming story until session (Ok done) =
       (more : List Entry) × AreGiven more × IsTold rules image began now (then_story story more)
       × KeepsReplies rules.bounds (entries (then_story story more)) None (sends story) session.replies × (next_part session.replies until ≡ None)
   PassesStory rules image began now coming story until session (Err why) = BreaksBy rules image began now coming session why
 
   -- all that is due was passed, or the session was broken off
-  abbrev pub PassesDue : Rules → Image → Told → Told → Option Coming → Story → SessionState R → Result (Unit {0}) Stop → Type 0
+  abbrev pub PassesDue : Rules → Image → Since → Told → Option Coming → Story → SessionState R → Result (Unit {0}) Stop → Type 0
   PassesDue rules image began now coming story session (Ok done) =
       (more : List Entry) × AreGiven more × IsTold rules image began now (then_story story more) × HasPassed rules (then_story story more) session.replies × HasPassedDue rules (then_story story more)
   PassesDue rules image began now coming story session (Err why) = BreaksBy rules image began now coming session why
 
   -- the guest still waits for an item
-  abbrev pub WaitsBy : Rules → Image → Told → Told → Phases → Option Coming → Bool → SessionState R → Result (Unit {0}) Stop → Type 0
+  abbrev pub WaitsBy : Rules → Image → Since → Told → Phases → Option Coming → Bool → SessionState R → Result (Unit {0}) Stop → Type 0
   WaitsBy rules image began now phases coming takes session (Ok done) = IsWaitingFor rules image began now phases session
   WaitsBy rules image began now phases coming takes session (Err why) = StopsBy rules image began now coming takes session why
 
   -- the session stands between two events of its guest
-  abbrev pub ComesBetween : Rules → Image → Told → Told → Phases → Option Coming → Bool → SessionState R → Result (Unit {0}) Stop → Type 0
+  abbrev pub ComesBetween : Rules → Image → Since → Told → Phases → Option Coming → Bool → SessionState R → Result (Unit {0}) Stop → Type 0
   ComesBetween rules image began now phases coming takes session (Ok done) = IsBetween rules image began now phases session
   ComesBetween rules image began now phases coming takes session (Err why) = StopsBy rules image began now coming takes session why
 
@@ -175,9 +176,10 @@ module _ {R : Type 0} where
     pub choices : new.choices ≡ old.choices
     pub taken : new.taken ≡ old.taken
     pub steps : new.steps ≡ old.steps
+    pub until : new.until ≡ old.until
 
   -- its guest ran from where the session stood between two events to this event
-  pub record HasRun (rules : Rules) (image : Image) (began now : Told) (phases : Phases) (happened : Event) (session : SessionState R) : Type 0 where
+  pub record HasRun (rules : Rules) (image : Image) (began : Since) (now : Told) (phases : Phases) (happened : Event) (session : SessionState R) : Type 0 where
     pub before : SessionState R
     pub between : IsBetween rules image began now phases before
     pub same : session ≡ record before { cpu = session.cpu }
@@ -187,29 +189,34 @@ module _ {R : Type 0} where
   -- it stands so for some image, since some time
   pub record StandsBetween (rules : Rules) (now : Told) (phases : Phases) (session : SessionState R) : Type 0 where
     pub image : Image
-    pub began : Told
+    pub began : Since
     pub is : IsBetween rules image began now phases session
 
   pub record StandsWaiting (rules : Rules) (now : Told) (phases : Phases) (session : SessionState R) : Type 0 where
     pub image : Image
-    pub began : Told
+    pub began : Since
     pub is : IsWaitingFor rules image began now phases session
 
   pub record StandsEmitting (rules : Rules) (now : Told) (phases : Phases) (conn : ℕ) (bytes : List ℕ) (session : SessionState R) : Type 0 where
     pub image : Image
-    pub began : Told
+    pub began : Since
     pub is : HasRun rules image began now phases (step.Emits conn bytes) session
 
   pub record StandsEnding (rules : Rules) (now : Told) (coming : Option Coming) (end : Answer) (session : SessionState R) : Type 0 where
     pub image : Image
-    pub began : Told
+    pub began : Since
     pub is : IsEnding rules image began now coming session end
+
+  pub record StandsFailing (rules : Rules) (now : Told) (phases : Phases) (cause : Cause) (session : SessionState R) : Type 0 where
+    pub image : Image
+    pub began : Since
+    pub is : IsFailing rules image began now phases cause session
 
   -- it has heard the close of this connection, for some rules and some image, since some time
   pub record StandsClosing (now : Told) (conn : ℕ) (session : SessionState R) : Type 0 where
     pub rules : Rules
     pub image : Image
-    pub began : Told
+    pub began : Since
     pub story : Story
     pub told : IsTold rules image began now story
     pub received_are : logs.received session.log ≡ received rules.bounds (entries story)
@@ -230,3 +237,31 @@ module _ {R : Type 0} where
   pub record IsReadyToServe (session : SessionState R) : Type 0 where
     pub image : Image
     pub begun : IsBegun image session.options session.cpu.rule session
+
+  -- a trial was adopted behind a failure with more items taken than at the last one
+  pub record IsAdoptedLater (old new : SessionState R) : Type 0 where
+    pub past : old.until < new.until
+    pub most : new.until ≤ old.options.max_items + 4
+
+  -- more instructions were done, or a trial was adopted
+  abbrev pub GoesFurther : SessionState R → SessionState R → Type 0
+  GoesFurther old new = ((new.until ≡ old.until) × (old.cpu.slots.live.steps < new.cpu.slots.live.steps)) ⊎ IsAdoptedLater old new
+
+  -- the session goes on as a trial, of which what is due has to be passed; or it came to its end, or memory ran out
+  abbrev pub AdoptsTo : Rules → Image → Since → Told → Phases → Option Coming → SessionState R → Result (Unit {0}) Stop → Type 0
+  AdoptsTo rules image began now phases coming session (Ok done) = IsGoing rules image began now phases session
+  AdoptsTo rules image began now phases coming session (Err (stop.Ends end)) = IsEnding rules image began now coming session end
+  AdoptsTo rules image began now phases coming session (Err (stop.Breaks end)) = IsBrokenOff rules image began now coming session end
+
+-- a recovery ends a session by the exit of a trial, or where it gives up; and breaks it off for want of memory
+abbrev pub IsAdoptAnswer : Result (Unit {0}) Stop → Type 0
+IsAdoptAnswer (Ok done) = Unit {0}
+IsAdoptAnswer (Err (stop.Ends (answer.Exited code))) = Unit {0}
+IsAdoptAnswer (Err (stop.Ends (answer.GaveUp point cause))) = Unit {0}
+IsAdoptAnswer (Err (stop.Ends end)) = ⊥
+IsAdoptAnswer (Err (stop.Breaks answer.Memory)) = Unit {0}
+IsAdoptAnswer (Err (stop.Breaks end)) = ⊥
+
+-- the same connections are open
+abbrev pub HasSameOpen : Ledger → Ledger → Type 0
+HasSameOpen old new = (conn : ℕ) → is_open new.connections conn ≡ is_open old.connections conn

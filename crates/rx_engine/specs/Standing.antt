@@ -1,13 +1,15 @@
 -- Where a session stands between two events of its guest.
-use Rattle.std.specs.Prelude.{◌≡◌, ℕ, ◌+◌, ◌<◌, ◌≤◌, List, [], ◌++◌, length, true, false, Option, None, Some}
+use Rattle.std.specs.Prelude.{◌≡◌, ◌≢◌, ◌⊎◌, ℕ, ◌+◌, ◌<◌, ◌≤◌, List, [], ◌++◌, length, true, false, Option, None, Some}
 use Rattle.rx_io.specs.declared.journal.Entry.{Entry}
 use Rattle.rx_io.specs.Links.{Phases, Told, Tells, Coming, events_in}
 use Rattle.rx_io.specs.Sends.{Send}
 use Rattle.elf_image.specs.declared.image.Image.{Image}
 use Rattle.reply_ledger.specs.Ledger.{Ledger}
 use Rattle.run_history.specs.declared.answer.Answer.{Answer}
+use Rattle.run_history.specs.declared.answer.Answer.TheVariants as answer
+use Rattle.run_history.specs.declared.answer.Cause.{Cause}
 use Rattle.run_history.specs.Call.{may_send}
-use Rattle.run_history.specs.Served.{Path, Served, AsksFor}
+use Rattle.run_history.specs.Served.{Path, Served, FailsBy, AsksFor}
 use Rattle.guest_cpu.specs.Serving.{standing_of}
 use Rattle.guest_runs.specs.Runs.{IsBounded}
 use Rattle.session_history.specs.Heeding.{heeded, items_in, received}
@@ -20,6 +22,9 @@ use Rattle.session_history.specs.Serving.{moment_of, Serving, first_survivor}
 use Rattle.session_history.specs.Keeping.{KeepsReplies, KeepsItems, KeepsPhases}
 use Rattle.session_history.specs.Giving.{AreGiven}
 use Rattle.session_history.specs.Ends.{IsEnd, IsWaiting, StandsAt, EndsBy}
+use Rattle.trial_history.specs.Tables.{Trial}
+use Rattle.trial_plan.specs.Trying.{steps_of}
+use Rattle.rx_engine.specs.Recovered.{spent, GivesUpBy, AreLastTrials}
 use Rattle.trial_history.specs.Episodes.{Recovery, AreRecovered}
 use Rattle.recovery_gate.specs.Rings.{KeepsRing, IsInForce}
 use Rattle.rx_engine.specs.Sessions.{SessionState}
@@ -44,11 +49,18 @@ sends story = story.survivor.now.state.sends
 abbrev pub then_story : Story → List Entry → Story
 then_story story more = record story { since = story.since ++ more }
 
+-- Since when a session is told: what its link had told when it began, and how many instructions were counted that aren't of the survivor's
+-- run, which is counted from its start.
+pub record Since : Type 0 where
+  pub told : Told
+  pub lost : ℕ
+
 -- it is told by one account, and by what the link told since the session began
-pub record IsTold (rules : Rules) (image : Image) (began now : Told) (story : Story) : Type 0 where
+pub record IsTold (rules : Rules) (image : Image) (began : Since) (now : Told) (story : Story) : Type 0 where
   pub serving : Serving rules image story.earlier story.survivor story.since
   pub way : Served rules.limits (items_in rules.bounds (entries story)) story.survivor.plan story.survivor.begun story.survivor.now
-  pub tells : Tells began now (entries story)
+  pub tells : Tells began.told now (entries story)
+  pub counted : spent story.recoveries ≡ began.lost + story.survivor.begun.steps
   pub recovered : AreRecovered rules image [] (first_survivor image) story.earlier story.recoveries story.survivor
 
 module _ {R : Type 0} where
@@ -70,11 +82,12 @@ module _ {R : Type 0} where
     pub events : session.events ≡ length (events_in (entries story))
     pub phases_are : KeepsPhases (entries story) phases
 
-  -- it has the survivor's checkpoints, and the environment in which the survivor runs
+  -- it has the survivor's checkpoints, and the environment in which the survivor runs: past the failure behind which it was adopted, or there
   pub record KeepsCheckpoints (rules : Rules) (image : Image) (story : Story) (session : SessionState R) : Type 0 where
     pub paths : List Path
     pub ring : KeepsRing rules image (entries story) story.survivor.plan story.survivor.now paths session.cpu session.ring session.log session.replies
     pub in_force : IsInForce story.survivor.plan story.survivor.now.state.machine.taken session.env session.until
+    pub past : (session.until < story.survivor.now.state.machine.taken + 4) ⊎ ((session.until ≡ story.survivor.now.state.machine.taken + 4) × AsksFor rules.limits [] story.survivor.now story.survivor.now.state.machine.taken)
 
 -- what the latest event makes owed was passed
 abbrev pub IsLatestDone : Rules → Moment → List Send → Type 0
@@ -107,7 +120,7 @@ IsAsking rules story = IsWaiting rules (entries story) story.survivor × OwesNot
 
 module _ {R : Type 0} where
   -- a session that goes on, of which what is due may still have to be passed
-  pub record IsGoing (rules : Rules) (image : Image) (began now : Told) (phases : Phases) (session : SessionState R) : Type 0 where
+  pub record IsGoing (rules : Rules) (image : Image) (began : Since) (now : Told) (phases : Phases) (session : SessionState R) : Type 0 where
     pub story : Story
     pub told : IsTold rules image began now story
     pub answers : AnswersFor story session
@@ -117,12 +130,12 @@ module _ {R : Type 0} where
     pub latest : IsLatestBefore rules (moment story) story.survivor.now.state.machine.taken
 
   -- between two events of the guest: what is due was passed
-  pub record IsBetween (rules : Rules) (image : Image) (began now : Told) (phases : Phases) (session : SessionState R) : Type 0 where
+  pub record IsBetween (rules : Rules) (image : Image) (began : Since) (now : Told) (phases : Phases) (session : SessionState R) : Type 0 where
     pub going : IsGoing rules image began now phases session
     pub due : HasPassedDue rules going.story
 
   -- where the guest waits for an item, of which what is due may still have to be passed
-  pub record IsHearing (rules : Rules) (image : Image) (began now : Told) (phases : Phases) (session : SessionState R) : Type 0 where
+  pub record IsHearing (rules : Rules) (image : Image) (began : Since) (now : Told) (phases : Phases) (session : SessionState R) : Type 0 where
     pub story : Story
     pub told : IsTold rules image began now story
     pub answers : AnswersFor story session
@@ -133,14 +146,22 @@ module _ {R : Type 0} where
     pub latest : IsLatestBefore rules (moment story) (story.survivor.now.state.machine.taken + 1)
 
   -- where it waits for an item, and what is due was passed
-  pub record IsWaitingFor (rules : Rules) (image : Image) (began now : Told) (phases : Phases) (session : SessionState R) : Type 0 where
+  pub record IsWaitingFor (rules : Rules) (image : Image) (began : Since) (now : Told) (phases : Phases) (session : SessionState R) : Type 0 where
     pub hearing : IsHearing rules image began now phases session
     pub due : HasPassedDue rules hearing.story
 
+  -- where its guest fails at its next instruction
+  pub record IsFailing (rules : Rules) (image : Image) (began : Since) (now : Told) (phases : Phases) (cause : Cause) (session : SessionState R) : Type 0 where
+    pub going : IsGoing rules image began now phases session
+    pub fails : FailsBy rules.limits going.story.survivor.plan going.story.survivor.now cause
+
   -- at one of its ends, before what is left is passed
-  pub record IsEnding (rules : Rules) (image : Image) (began now : Told) (coming : Option Coming) (session : SessionState R) (end : Answer) : Type 0 where
+  pub record IsEnding (rules : Rules) (image : Image) (began : Since) (now : Told) (coming : Option Coming) (session : SessionState R) (end : Answer) : Type 0 where
     pub story : Story
-    pub told : IsTold rules image began now story
+    pub trials : List Trial
+    pub lost : ℕ
+    pub lost_is : began.lost ≡ lost + steps_of trials
+    pub told : IsTold rules image (record began { lost = lost }) now story
     pub answers : AnswersFor story session
     pub received_are : logs.received session.log ≡ received rules.bounds (entries story)
     pub replies : KeepsReplies rules.bounds (entries story) None (sends story) session.replies
@@ -148,11 +169,13 @@ module _ {R : Type 0} where
     pub closed : IsCloseDone rules (moment story) (sends story)
     pub is_end : IsEnd end
     pub stands : StandsAt rules (entries story) coming story.survivor end
+    pub tried : AreLastTrials rules image (entries story) story.survivor trials
+    pub gave_up : GivesUpBy rules image (entries story) story.survivor trials end
 
   -- a session that was broken off, by no end of its own
-  pub record IsBrokenOff (rules : Rules) (image : Image) (began now : Told) (coming : Option Coming) (session : SessionState R) (end : Answer) : Type 0 where
+  pub record IsBrokenOff (rules : Rules) (image : Image) (began : Since) (now : Told) (coming : Option Coming) (session : SessionState R) (end : Answer) : Type 0 where
     pub account : Session
-    pub tells : Tells began now (journal_of account)
+    pub tells : Tells began.told now (journal_of account)
     pub is_account : IsAccount rules image account false
     pub ends : EndsBy rules coming account end
     pub pieces : AreGiven account.ending
@@ -162,3 +185,5 @@ module _ {R : Type 0} where
     pub choices : session.choices ≡ account.survivor.now.choices
     pub taken : session.taken ≡ account.survivor.now.state.machine.taken
     pub steps : session.steps ≡ account.survivor.now.steps
+    pub counted : end ≢ answer.Memory → spent recoveries ≡ began.lost + account.survivor.begun.steps
+    pub later : account.survivor.begun.steps ≤ account.survivor.now.steps

@@ -4,7 +4,7 @@ ghost use Rattle.rx_io.specs.Links.{Told};
 ghost use Rattle.elf_image.specs.declared.image.Image.{Image};
 ghost use Rattle.item_log.specs.Log.{received};
 ghost use Rattle.rx_engine.specs.Options.{rules_of};
-ghost use Rattle.rx_engine.specs.Standing.{IsWaitingFor};
+ghost use Rattle.rx_engine.specs.Standing.{Since, IsWaitingFor};
 ghost use Rattle.rx_engine.specs.Serving.{IsStopAt, CanGive, HasStopCause, UnlessBroken, TakesBy, StaysKnown, BreaksOnce, HasSameGuest, StandsWaiting, WaitsBy};
 
 use crate::Session;
@@ -35,7 +35,7 @@ impl<R: AccessRule> Session<R> {
         requires none_left { received self.old.log ≤ self.old.taken }
         requires takes { K.takes link.old ≡ true }
         requires gives { CanGive (K.gives link.old) (K.gives_to link.old) self.old.replies }
-        ensures hears { (image : Image) (began : Told) → IsWaitingFor (rules_of self.old.options (R.rule self.old.cpu.rule)) image began (K.told link.old) (K.phases link.old) self.old
+        ensures hears { (image : Image) (began : Since) → IsWaitingFor (rules_of self.old.options (R.rule self.old.cpu.rule)) image began (K.told link.old) (K.phases link.old) self.old
             → WaitsBy (rules_of self.old.options (R.rule self.old.cpu.rule)) image began (K.told link.new) (K.phases link.new) (K.coming link.new) (K.takes link.new) self.new result }
         ensures same { HasSameGuest self.old self.new }
         ensures takes { TakesBy (K.takes link.new) result }
@@ -67,7 +67,7 @@ impl<R: AccessRule> Session<R> {
         requires waits { StandsWaiting (rules_of self.old.options (R.rule self.old.cpu.rule)) (K.told link.old) (K.phases link.old) self.old }
         requires takes { K.takes link.old ≡ true }
         requires gives { CanGive (K.gives link.old) (K.gives_to link.old) self.old.replies }
-        ensures hears { (image : Image) (began : Told) → IsWaitingFor (rules_of self.old.options (R.rule self.old.cpu.rule)) image began (K.told link.old) (K.phases link.old) self.old
+        ensures hears { (image : Image) (began : Since) → IsWaitingFor (rules_of self.old.options (R.rule self.old.cpu.rule)) image began (K.told link.old) (K.phases link.old) self.old
             → WaitsBy (rules_of self.old.options (R.rule self.old.cpu.rule)) image began (K.told link.new) (K.phases link.new) (K.coming link.new) (K.takes link.new) self.new result }
         ensures there { IfOk result (λ _. self.new.taken < received self.new.log) }
         ensures same { HasSameGuest self.old self.new }

@@ -5,6 +5,7 @@ mod giving;
 mod hearing;
 mod left;
 mod options;
+mod recovering;
 mod saving;
 mod serving;
 mod session;

@@ -7,7 +7,7 @@ ghost use Rattle.session_history.specs.Lawful.{Rules};
 ghost use Rattle.recovery_gate.specs.Rings.{KeepsRing, SavesIf, is_due};
 ghost use Rattle.rx_engine.specs.Options.{rules_of};
 ghost use Rattle.rx_engine.specs.Sessions.{IsBegun};
-ghost use Rattle.rx_engine.specs.Standing.{IsWaitingFor};
+ghost use Rattle.rx_engine.specs.Standing.{Since, IsWaitingFor};
 ghost use Rattle.rx_engine.specs.Serving.{IsReadyToServe, StandsWaiting};
 
 use crate::Session;
@@ -30,7 +30,7 @@ impl<R: AccessRule> Session<R> {
     /// Saves the guest at its request for an item as the newest checkpoint, where enough items were taken since the last one.
     pub(crate) fn save(&mut self)
         requires waits { (told : Told) × (phases : Phases) × StandsWaiting (rules_of self.old.options (R.rule self.old.cpu.rule)) told phases self.old }
-        ensures waits { (image : Image) (began now : Told) (phases : Phases) → IsWaitingFor (rules_of self.old.options (R.rule self.old.cpu.rule)) image began now phases self.old
+        ensures waits { (image : Image) (began : Since) (now : Told) (phases : Phases) → IsWaitingFor (rules_of self.old.options (R.rule self.old.cpu.rule)) image began now phases self.old
             → IsWaitingFor (rules_of self.old.options (R.rule self.old.cpu.rule)) image began now phases self.new }
         ensures saved { SavesIf (is_due self.old.options.every self.old.taken self.old.ring.standing) self.old.ring.capacity self.old.cpu self.new.cpu }
         ensures same { self.new ≡ record self.old { cpu = self.new.cpu; ring = self.new.ring } }

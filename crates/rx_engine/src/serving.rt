@@ -8,9 +8,9 @@ ghost use Rattle.guest_cpu.specs.declared.event.Event.TheVariants as event;
 ghost use Rattle.session_history.specs.Ends.{IsEnd};
 ghost use Rattle.rx_engine.specs.Options.{rules_of};
 ghost use Rattle.rx_engine.specs.Sessions.{IsBegun};
-ghost use Rattle.rx_engine.specs.Standing.{IsGoing, IsBetween, IsAsking, IsWaitingFor, IsEnding};
+ghost use Rattle.rx_engine.specs.Standing.{Since, IsGoing, IsBetween, IsAsking, IsWaitingFor, IsEnding};
 ghost use Rattle.rx_engine.specs.Recovered.{HasRecovered};
-ghost use Rattle.rx_engine.specs.Serving.{CanGive, HasStopCause, HasAnswerCause, UnlessBroken, UnlessMemory, TakesAtEnd, TakesBy, BreaksPassing, BreaksAt, BreaksOnce, StaysKnown, IsCounted, IsOkOrMemory, HasSameFrame, HasRun, StandsBetween, StandsWaiting, StandsEmitting, StandsEnding, ComesBetween, IsReadyToServe};
+ghost use Rattle.rx_engine.specs.Serving.{CanGive, HasStopCause, HasAnswerCause, UnlessBroken, UnlessMemory, TakesAtEnd, TakesBy, BreaksPassing, BreaksAt, BreaksOnce, StaysKnown, IsCounted, IsOkOrMemory, HasSameFrame, HasRun, GoesFurther, StandsBetween, StandsWaiting, StandsEmitting, StandsEnding, ComesBetween, IsReadyToServe};
 
 use crate::Session;
 use crate::giving::answer_to;
@@ -32,13 +32,12 @@ impl<R: AccessRule> Session<R> {
         requires takes { K.takes link.old ≡ true }
         requires gives { K.gives link.old ≡ true }
         ensures served { (image : Image) → IsBegun image self.old.options self.old.cpu.rule self.old
-            → HasRecovered (rules_of self.old.options (R.rule self.old.cpu.rule)) image (K.told link.old) (K.told link.new) (K.coming link.new) (K.takes link.new) result self.new.choices self.new.taken self.new.steps }
+            → HasRecovered (rules_of self.old.options (R.rule self.old.cpu.rule)) image (K.told link.old) (K.told link.new) (K.coming link.new) (K.takes link.new) result self.new.choices self.new.taken self.new.steps steps.old steps.new }
         ensures cause { HasAnswerCause (K.counts link.old) (K.counts link.new) result }
         ensures takes { TakesAtEnd (K.takes link.new) result }
         ensures gives { IsEnd result → K.gives link.new ≡ true }
         ensures coming { IsEnd result → StaysKnown (K.coming link.old) (K.coming link.new) }
         ensures once { BreaksAt (K.coming link.old) (K.coming link.new) (K.gives link.new) result }
-        ensures counted { result ≢ answer.Memory → steps.new ≡ steps.old + self.new.steps }
         ensures counted_at_least { steps.old + self.new.steps ≤ steps.new }
         ensures went { K.Went link.old link.new }
     {
@@ -56,8 +55,9 @@ impl<R: AccessRule> Session<R> {
     fn finish<K: Link>(&mut self, link: &mut K, answer: Answer) -> Answer
         requires ends { StandsEnding (rules_of self.old.options (R.rule self.old.cpu.rule)) (K.told link.old) (K.coming link.old) answer self.old }
         requires gives { CanGive (K.gives link.old) (K.gives_to link.old) self.old.replies }
-        ensures served { (image : Image) (began : Told) (ending : IsEnding (rules_of self.old.options (R.rule self.old.cpu.rule)) image began (K.told link.old) (K.coming link.old) self.old answer)
-            → (K.takes link.old ≡ false → IsAsking (rules_of self.old.options (R.rule self.old.cpu.rule)) ending.story) → HasRecovered (rules_of self.old.options (R.rule self.old.cpu.rule)) image began (K.told link.new) (K.coming link.new) (K.takes link.new) result self.new.choices self.new.taken self.new.steps }
+        ensures served { (image : Image) (began : Since) (ending : IsEnding (rules_of self.old.options (R.rule self.old.cpu.rule)) image began (K.told link.old) (K.coming link.old) self.old answer)
+            → (K.takes link.old ≡ false → IsAsking (rules_of self.old.options (R.rule self.old.cpu.rule)) ending.story) → (before after : ℕ) → after ≡ before + (began.lost + self.old.steps)
+            → HasRecovered (rules_of self.old.options (R.rule self.old.cpu.rule)) image began.told (K.told link.new) (K.coming link.new) (K.takes link.new) result self.new.choices self.new.taken self.new.steps before after }
         ensures cause { HasAnswerCause (K.counts link.old) (K.counts link.new) result }
         ensures same { self.new ≡ record self.old { replies = self.new.replies } }
         ensures takes { TakesAtEnd (K.takes link.old) answer → TakesAtEnd (K.takes link.new) result }
@@ -78,17 +78,17 @@ impl<R: AccessRule> Session<R> {
         requires stands { StandsBetween (rules_of self.old.options (R.rule self.old.cpu.rule)) (K.told link.old) (K.phases link.old) self.old }
         requires takes { K.takes link.old ≡ true }
         requires gives { CanGive (K.gives link.old) (K.gives_to link.old) self.old.replies }
-        ensures turns { (image : Image) (began : Told) → IsBetween (rules_of self.old.options (R.rule self.old.cpu.rule)) image began (K.told link.old) (K.phases link.old) self.old
-            → ComesBetween (rules_of self.old.options (R.rule self.old.cpu.rule)) image began (K.told link.new) (K.phases link.new) (K.coming link.new) (K.takes link.new) self.new result }
+        ensures turns { (image : Image) (began : Since) (lost : ℕ) → IsBetween (rules_of self.old.options (R.rule self.old.cpu.rule)) image began (K.told link.old) (K.phases link.old) self.old
+            → UnlessMemory result (lost + self.new.steps + steps.old ≡ began.lost + self.old.cpu.slots.live.steps + steps.new)
+            → ComesBetween (rules_of self.old.options (R.rule self.old.cpu.rule)) image (record began { lost = lost }) (K.told link.new) (K.phases link.new) (K.coming link.new) (K.takes link.new) self.new result }
         ensures frame { HasSameFrame self.old self.new }
         ensures takes { TakesBy (K.takes link.new) result }
         ensures gives { UnlessBroken result (CanGive (K.gives link.new) (K.gives_to link.new) self.new.replies) }
         ensures coming { UnlessBroken result (StaysKnown (K.coming link.old) (K.coming link.new)) }
         ensures once { BreaksOnce (K.coming link.old) (K.coming link.new) (K.gives link.new) result }
-        ensures marked { UnlessMemory result (IsCounted self.new) }
-        ensures low { self.new.steps ≤ self.new.cpu.slots.live.steps }
-        ensures later { IfOk result (λ _. self.old.cpu.slots.live.steps < self.new.cpu.slots.live.steps) }
-        ensures counted { steps.new + self.old.cpu.slots.live.steps ≡ steps.old + self.new.cpu.slots.live.steps }
+        ensures marked { IfOk result (λ _. IsCounted self.new) }
+        ensures least { self.new.steps + steps.old ≤ steps.new + self.old.cpu.slots.live.steps }
+        ensures later { IfOk result (λ _. GoesFurther self.old self.new) }
         ensures cause { HasStopCause (K.counts link.old) (K.counts link.new) result }
         ensures went { K.Went link.old link.new }
     {
@@ -109,8 +109,7 @@ impl<R: AccessRule> Session<R> {
             }
             Ok(Event::Failed(cause)) => {
                 self.count_run();
-                let point = self.taken;
-                Err(Stop::Ends(Answer::GaveUp { point, cause }))
+                self.recover(link, cause, steps)
             }
             Err(_) => Err(Stop::Breaks(Answer::Memory)),
         }
@@ -122,8 +121,9 @@ impl<R: AccessRule> Session<R> {
         requires takes { K.takes link.old ≡ true }
         requires gives { CanGive (K.gives link.old) (K.gives_to link.old) self.old.replies }
         requires marked { IsCounted self.old }
-        ensures turns { (image : Image) (began : Told) → IsWaitingFor (rules_of self.old.options (R.rule self.old.cpu.rule)) image began (K.told link.old) (K.phases link.old) self.old
+        ensures turns { (image : Image) (began : Since) → IsWaitingFor (rules_of self.old.options (R.rule self.old.cpu.rule)) image began (K.told link.old) (K.phases link.old) self.old
             → ComesBetween (rules_of self.old.options (R.rule self.old.cpu.rule)) image began (K.told link.new) (K.phases link.new) (K.coming link.new) (K.takes link.new) self.new result }
+        ensures until { self.new.until ≡ self.old.until }
         ensures frame { HasSameFrame self.old self.new }
         ensures takes { TakesBy (K.takes link.new) result }
         ensures gives { UnlessBroken result (CanGive (K.gives link.new) (K.gives_to link.new) self.new.replies) }
@@ -149,8 +149,9 @@ impl<R: AccessRule> Session<R> {
         requires takes { K.takes link.old ≡ true }
         requires gives { CanGive (K.gives link.old) (K.gives_to link.old) self.old.replies }
         requires marked { IsCounted self.old }
-        ensures turns { (image : Image) (began : Told) → IsWaitingFor (rules_of self.old.options (R.rule self.old.cpu.rule)) image began (K.told link.old) (K.phases link.old) self.old
+        ensures turns { (image : Image) (began : Since) → IsWaitingFor (rules_of self.old.options (R.rule self.old.cpu.rule)) image began (K.told link.old) (K.phases link.old) self.old
             → ComesBetween (rules_of self.old.options (R.rule self.old.cpu.rule)) image began (K.told link.new) (K.phases link.new) (K.coming link.new) (K.takes link.new) self.new result }
+        ensures until { self.new.until ≡ self.old.until }
         ensures frame { HasSameFrame self.old self.new }
         ensures takes { TakesBy (K.takes link.new) result }
         ensures gives { UnlessBroken result (CanGive (K.gives link.new) (K.gives_to link.new) self.new.replies) }
@@ -173,8 +174,9 @@ impl<R: AccessRule> Session<R> {
     fn take<L: Ledger>(&mut self, steps: &mut Steps<L>)
         requires waits { (told : Told) × (phases : Phases) × StandsWaiting (rules_of self.old.options (R.rule self.old.cpu.rule)) told phases self.old }
         requires there { self.old.taken < received self.old.log }
-        ensures going { (image : Image) (began now : Told) (phases : Phases) → IsWaitingFor (rules_of self.old.options (R.rule self.old.cpu.rule)) image began now phases self.old
+        ensures going { (image : Image) (began : Since) (now : Told) (phases : Phases) → IsWaitingFor (rules_of self.old.options (R.rule self.old.cpu.rule)) image began now phases self.old
             → IsGoing (rules_of self.old.options (R.rule self.old.cpu.rule)) image began now phases self.new }
+        ensures until { self.new.until ≡ self.old.until }
         ensures frame { HasSameFrame self.old self.new }
         ensures replies { self.new.replies ≡ self.old.replies }
         ensures marked { IsCounted self.new }
@@ -189,8 +191,9 @@ impl<R: AccessRule> Session<R> {
     fn send<K: Link>(&mut self, link: &mut K, conn: u16, bytes: Bytes) -> Result<(), Stop>
         requires emits { StandsEmitting (rules_of self.old.options (R.rule self.old.cpu.rule)) (K.told link.old) (K.phases link.old) conn bytes self.old }
         requires gives { CanGive (K.gives link.old) (K.gives_to link.old) self.old.replies }
-        ensures turns { (image : Image) (began : Told) → HasRun (rules_of self.old.options (R.rule self.old.cpu.rule)) image began (K.told link.old) (K.phases link.old) (event.Emits conn bytes) self.old
+        ensures turns { (image : Image) (began : Since) → HasRun (rules_of self.old.options (R.rule self.old.cpu.rule)) image began (K.told link.old) (K.phases link.old) (event.Emits conn bytes) self.old
             → ComesBetween (rules_of self.old.options (R.rule self.old.cpu.rule)) image began (K.told link.new) (K.phases link.new) (K.coming link.new) true self.new result }
+        ensures until { self.new.until ≡ self.old.until }
         ensures options { self.new.options ≡ self.old.options }
         ensures cpu { self.new.cpu ≡ self.old.cpu }
         ensures takes { K.takes link.new ≡ K.takes link.old }
@@ -211,8 +214,9 @@ impl<R: AccessRule> Session<R> {
 
     // Malloc was answered.
     fn choose(&mut self, choice: Choice) -> Result<(), Stop>
-        ensures turns { (image : Image) (began now : Told) (phases : Phases) (coming : Option Coming) → HasRun (rules_of self.old.options (R.rule self.old.cpu.rule)) image began now phases (event.Chooses choice) self.old
+        ensures turns { (image : Image) (began : Since) (now : Told) (phases : Phases) (coming : Option Coming) → HasRun (rules_of self.old.options (R.rule self.old.cpu.rule)) image began now phases (event.Chooses choice) self.old
             → ComesBetween (rules_of self.old.options (R.rule self.old.cpu.rule)) image began now phases coming true self.new result }
+        ensures until { self.new.until ≡ self.old.until }
         ensures options { self.new.options ≡ self.old.options }
         ensures cpu { self.new.cpu ≡ self.old.cpu }
         ensures replies { self.new.replies ≡ self.old.replies }

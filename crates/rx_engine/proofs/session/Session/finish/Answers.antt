@@ -1,4 +1,4 @@
-use Rattle.std.proofs.Common.{◌≡◌, false, ◌≤◌, sym, ◌∙◌, subst, arith}
+use Rattle.std.proofs.Common.{◌≡◌, ◌+◌, false, ◌≤◌, sym, ◌∙◌, subst, arith}
 use Rattle.rx_engine.specs.Options.{rules_of}
 use Rattle.rx_engine.specs.Sessions.{SessionState}
 use Rattle.rx_engine.specs.Standing.{sends, IsAsking, IsEnding}
@@ -21,23 +21,25 @@ pass_until-requires-clause-sendable g c =
     sendable_kept can.sends _ c.self.inside.replies can.replies.shows can.replies.sendable
 
 pub returns-in-Err-clause-served : goal.returns-in-Err-clause-served
-returns-in-Err-clause-served g c image began ends asked =
+returns-in-Err-clause-served g c image began ends asked first last all =
     let rules = rules_of c.args.self.now.options (g.R.AccessRule.rule c.args.self.now.cpu.rule) in
     let both = subst (λ (s : SessionState _). (ending : IsEnding rules image began (g.K.Link.told c.args.link.now) (g.K.Link.coming c.args.link.now) s c.args.answer) × (g.K.Link.takes c.pass_until.new.link ≡ false → IsAsking rules ending.story)) (sym c.self.view_is)
     (ends, λ none. asked (sym c.pass_until.ensures.takes ∙ none)) in
+    let counts = subst (λ (s : SessionState _). last ≡ first + (began.lost + s.steps)) (sym c.self.view_is) all in
     let e = both.0 in
     finish_fault rules image began _ (g.K.Link.told c.pass_until.new.link) _ (g.K.Link.coming c.pass_until.new.link) (g.K.Link.takes c.pass_until.new.link) _ c.args.answer 18446744073709551615 c.pass_until.new.replies c.in-Err.fault c.answer_to.result e c.in-Err.ensures.coming c.answer_to.ensures
-    (c.in-Err.ensures.passes rules (sends e.story) (end_of e.story) (sym e.received_are ∙ sym c.received-stamp.ensures.count) (ending_ready rules image began _ _ _ c.args.answer 18446744073709551615 e)) both.1
+    (c.in-Err.ensures.passes rules (sends e.story) (end_of e.story) (sym e.received_are ∙ sym c.received-stamp.ensures.count) (ending_ready rules image began _ _ _ c.args.answer 18446744073709551615 e)) both.1 first last counts
 
 pub returns-clause-served : goal.returns-clause-served
-returns-clause-served g c image began ends asked =
+returns-clause-served g c image began ends asked first last all =
     let rules = rules_of c.args.self.now.options (g.R.AccessRule.rule c.args.self.now.cpu.rule) in
     let both = subst (λ (s : SessionState _). (ending : IsEnding rules image began (g.K.Link.told c.args.link.now) (g.K.Link.coming c.args.link.now) s c.args.answer) × (g.K.Link.takes c.pass_until.new.link ≡ false → IsAsking rules ending.story)) (sym c.self.view_is)
     (ends, λ none. asked (sym c.pass_until.ensures.takes ∙ none)) in
+    let counts = subst (λ (s : SessionState _). last ≡ first + (began.lost + s.steps)) (sym c.self.view_is) all in
     let e = both.0 in
     let low : c.self.inside.taken ≤ 18446744073709551615 = omega (arith, c.self.ranges) in
     finish_ok rules image began _ (g.K.Link.told c.pass_until.new.link) _ (g.K.Link.coming c.pass_until.new.link) (g.K.Link.takes c.pass_until.new.link) _ c.args.answer 18446744073709551615 c.pass_until.new.replies c.in_default.field-0 e c.in_default.ensures.coming low
-    (c.in_default.ensures.passes rules (sends e.story) (end_of e.story) (sym e.received_are ∙ sym c.received-stamp.ensures.count) (ending_ready rules image began _ _ _ c.args.answer 18446744073709551615 e)) both.1
+    (c.in_default.ensures.passes rules (sends e.story) (end_of e.story) (sym e.received_are ∙ sym c.received-stamp.ensures.count) (ending_ready rules image began _ _ _ c.args.answer 18446744073709551615 e)) both.1 first last counts
 
 pub returns-in-Err-clause-gives : goal.returns-in-Err-clause-gives
 returns-in-Err-clause-gives g c is = absurd (fault_no_end c.in-Err.fault c.answer_to.result c.answer_to.ensures is)

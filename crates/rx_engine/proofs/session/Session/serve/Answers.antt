@@ -1,17 +1,17 @@
-use Rattle.std.proofs.Common.{◌≡◌, refl, sym, ◌∙◌, ap, subst, arith}
+use Rattle.std.proofs.Common.{◌≡◌, ◌+◌, refl, sym, ◌∙◌, ap, subst, arith}
 use Rattle.session_history.specs.Lawful.{Rules}
 use Rattle.rx_engine.specs.Recovered.{HasRecovered}
 use Rattle.rx_engine.specs.Options.{rules_of}
 use Rattle.rx_engine.specs.declared.stop.Stop.TheVariants.{Breaks, Ends}
 use Rattle.rx_engine.specs.Sessions.{SessionState}
-use Rattle.rx_engine.specs.Standing.{IsBrokenOff}
+use Rattle.rx_engine.specs.Standing.{Since, IsBrokenOff}
 use Rattle.reply_ledger.specs.Ledger.{Ledger}
 use Rattle.rx_engine.specs.Serving.{CanGive, StopsBy, IsCounted}
 use Rattle.rx_engine.proofs.EndLemmas.{served_off}
 use Rattle.rx_engine.proofs.FrameLemmas.{same_rules}
 use Rattle.rx_engine.proofs.HearingLemmas.{cause_then, stops_under}
-use Rattle.rx_engine.proofs.StartLemmas.{starts_between, starts_counted, starts_giving, frame_then, between_under}
-use Rattle.rx_engine.proofs.KnownLemmas.{known_same, known_then, known_ended, breaks_of, ends_of, takes_ended, takes_no_end, once_at, once_broke}
+use Rattle.rx_engine.proofs.StartLemmas.{starts_between, starts_counted, starts_giving, frame_then, between_under, lost_then, lost_counts, lost_all}
+use Rattle.rx_engine.proofs.KnownLemmas.{known_same, known_then, known_ended, takes_ended, takes_no_end, once_at, once_broke}
 use Rattle.rx_engine.proofs.session.Session.serve.Goals as goal
 
 pub turns-init : goal.turns-init
@@ -30,6 +30,7 @@ turns-init g c =
           subst (λ (ledger : Ledger). CanGive (g.K.Link.gives c.args.link.now) (g.K.Link.gives_to c.args.link.now) ledger) (sym (ap (λ (s : SessionState _). s.replies) c.save_start.ensures.same))
           (starts_giving c.requires.begun.image c.args.self.now _ _ begun c.requires.gives);
       marked = marked;
+      lost = 0;
       counted = omega (arith, none);
       no_takes_fell = omega arith;
       no_gives_fell = omega arith;
@@ -41,7 +42,7 @@ turn-requires-clause-stands g c =
     let rules : Rules = rules_of c.args.self.now.options (g.R.AccessRule.rule c.args.self.now.cpu.rule) in
     let here : Rules = rules_of c.turns.self.options (g.R.AccessRule.rule c.turns.self.cpu.rule) in
     let same = same_rules g.R.AccessRule.rule c.args.self.now c.turns.self c.turns.invariant.frame in
-    record { image = c.requires.begun.image; began = g.K.Link.told c.args.link.now; is = between_under rules here (sym same) (c.turns.invariant.stands c.requires.begun.image c.requires.begun.begun) }
+    record { image = c.requires.begun.image; began = record { told = g.K.Link.told c.args.link.now; lost = c.turns.invariant.lost }; is = between_under rules here (sym same) (c.turns.invariant.stands c.requires.begun.image c.requires.begun.begun) }
 
 pub turns-preserved : goal.turns-preserved
 turns-preserved g c =
@@ -49,16 +50,18 @@ turns-preserved g c =
     let here : Rules = rules_of c.turns.self.options (g.R.AccessRule.rule c.turns.self.cpu.rule) in
     let same = same_rules g.R.AccessRule.rule c.args.self.now c.turns.self c.turns.invariant.frame in
     let cause = cause_then (g.K.Link.counts c.args.link.now) (g.K.Link.counts c.turns.link) (g.K.Link.counts c.turn.new.link) _ c.turns.invariant.no_takes_fell c.turns.invariant.no_gives_fell c.in-Ok.ensures.cause in
-    let counted = c.in-Ok.ensures.counted in
-    let before = c.turns.invariant.counted in
+    let marked : IsCounted c.turn.new.self = c.in-Ok.ensures.marked in
+    let all : c.turn.new.steps ≡ c.args.steps.now + ((lost_then c.turns.invariant.lost c.turns.self.cpu.slots.live.steps c.turn.new.self.steps c.turns.steps c.turn.new.steps) + c.turn.new.self.steps) = (lost_all c.args.steps.now c.turns.invariant.lost c.turns.self.cpu.slots.live.steps c.turn.new.self.steps c.turns.steps c.turn.new.steps c.turns.invariant.counted c.in-Ok.ensures.least) in
+    let steps = marked.steps in
     record {
-      stands = λ image is. between_under here rules same (c.in-Ok.ensures.turns image (g.K.Link.told c.args.link.now) (between_under rules here (sym same) (c.turns.invariant.stands image is)));
+      stands = λ image is. between_under here rules same (c.in-Ok.ensures.turns image (record { told = g.K.Link.told c.args.link.now; lost = c.turns.invariant.lost }) (lost_then c.turns.invariant.lost c.turns.self.cpu.slots.live.steps c.turn.new.self.steps c.turns.steps c.turn.new.steps) (between_under rules here (sym same) (c.turns.invariant.stands image is)) (λ others. lost_counts c.turns.invariant.lost c.turns.self.cpu.slots.live.steps c.turn.new.self.steps c.turns.steps c.turn.new.steps c.in-Ok.ensures.least));
       frame = frame_then c.args.self.now c.turns.self c.turn.new.self c.turns.invariant.frame c.in-Ok.ensures.frame;
       known = known_then (g.K.Link.coming c.args.link.now) (g.K.Link.coming c.turns.link) (g.K.Link.coming c.turn.new.link) c.turns.invariant.known c.in-Ok.ensures.coming;
       takes_still = c.in-Ok.ensures.takes;
       can_give = c.in-Ok.ensures.gives;
-      marked = c.in-Ok.ensures.marked (λ is. cc);
-      counted = omega (arith, counted, before);
+      marked = marked;
+      lost = lost_then c.turns.invariant.lost c.turns.self.cpu.slots.live.steps c.turn.new.self.steps c.turns.steps c.turn.new.steps;
+      counted = omega (arith, all, steps);
       no_takes_fell = cause.takes;
       no_gives_fell = cause.gives;
       went = g.met.K.Link.went_on c.args.link.now c.turns.link c.turn.new.link c.turns.invariant.went c.in-Ok.ensures.went;
@@ -69,10 +72,10 @@ returns-in-Err-Breaks-clause-served g c image is =
     let rules : Rules = rules_of c.args.self.now.options (g.R.AccessRule.rule c.args.self.now.cpu.rule) in
     let here : Rules = rules_of c.turns.self.options (g.R.AccessRule.rule c.turns.self.cpu.rule) in
     let same = same_rules g.R.AccessRule.rule c.args.self.now c.turns.self c.turns.invariant.frame in
-    let off = stops_under image (g.K.Link.told c.args.link.now) (g.K.Link.told c.turn.new.link) (g.K.Link.coming c.turn.new.link) (g.K.Link.takes c.turn.new.link) c.turn.new.self (Breaks c.in-Err-Breaks.answer) here rules same
-    (subst (λ why. StopsBy here image (g.K.Link.told c.args.link.now) (g.K.Link.told c.turn.new.link) (g.K.Link.coming c.turn.new.link) (g.K.Link.takes c.turn.new.link) c.turn.new.self why) c.in-Err-Breaks.field-0-is
-    (c.in-Err-Breaks.ensures.turns image (g.K.Link.told c.args.link.now) (between_under rules here (sym same) (c.turns.invariant.stands image is)))) in
-    served_off rules image (g.K.Link.told c.args.link.now) (g.K.Link.told c.turn.new.link) (g.K.Link.coming c.turn.new.link) (g.K.Link.takes c.turn.new.link) c.turn.new.self c.in-Err-Breaks.answer off.0 off.1
+    let off = stops_under image (record { told = g.K.Link.told c.args.link.now; lost = (lost_then c.turns.invariant.lost c.turns.self.cpu.slots.live.steps c.turn.new.self.steps c.turns.steps c.turn.new.steps) }) (g.K.Link.told c.turn.new.link) (g.K.Link.coming c.turn.new.link) (g.K.Link.takes c.turn.new.link) c.turn.new.self (Breaks c.in-Err-Breaks.answer) here rules same
+    (subst (λ why. StopsBy here image (record { told = g.K.Link.told c.args.link.now; lost = (lost_then c.turns.invariant.lost c.turns.self.cpu.slots.live.steps c.turn.new.self.steps c.turns.steps c.turn.new.steps) }) (g.K.Link.told c.turn.new.link) (g.K.Link.coming c.turn.new.link) (g.K.Link.takes c.turn.new.link) c.turn.new.self why) c.in-Err-Breaks.field-0-is
+    (c.in-Err-Breaks.ensures.turns image (record { told = g.K.Link.told c.args.link.now; lost = c.turns.invariant.lost }) (lost_then c.turns.invariant.lost c.turns.self.cpu.slots.live.steps c.turn.new.self.steps c.turns.steps c.turn.new.steps) (between_under rules here (sym same) (c.turns.invariant.stands image is)) (λ others. lost_counts c.turns.invariant.lost c.turns.self.cpu.slots.live.steps c.turn.new.self.steps c.turns.steps c.turn.new.steps c.in-Err-Breaks.ensures.least))) in
+    served_off rules image (record { told = g.K.Link.told c.args.link.now; lost = (lost_then c.turns.invariant.lost c.turns.self.cpu.slots.live.steps c.turn.new.self.steps c.turns.steps c.turn.new.steps) }) (g.K.Link.told c.turn.new.link) (g.K.Link.coming c.turn.new.link) (g.K.Link.takes c.turn.new.link) c.turn.new.self c.in-Err-Breaks.answer off.0 off.1 c.args.steps.now c.turn.new.steps (λ others. (lost_all c.args.steps.now c.turns.invariant.lost c.turns.self.cpu.slots.live.steps c.turn.new.self.steps c.turns.steps c.turn.new.steps c.turns.invariant.counted c.in-Err-Breaks.ensures.least))
 
 pub finish-requires-clause-ends : goal.finish-requires-clause-ends
 finish-requires-clause-ends g c =
@@ -82,13 +85,13 @@ finish-requires-clause-ends g c =
     let same = same_rules g.R.AccessRule.rule c.args.self.now c.turns.self c.turns.invariant.frame in
     let then = same_rules g.R.AccessRule.rule c.turns.self c.turn.new.self c.in-Err-Ends.ensures.frame in
     let image = c.requires.begun.image in
-    let began = g.K.Link.told c.args.link.now in
+    let began : Since = record { told = g.K.Link.told c.args.link.now; lost = (lost_then c.turns.invariant.lost c.turns.self.cpu.slots.live.steps c.turn.new.self.steps c.turns.steps c.turn.new.steps) } in
     record {
       image = image;
       began = began;
       is = (stops_under image began (g.K.Link.told c.turn.new.link) (g.K.Link.coming c.turn.new.link) (g.K.Link.takes c.turn.new.link) c.turn.new.self (Ends c.in-Err-Ends.answer) here later (sym then)
           (subst (λ why. StopsBy here image began (g.K.Link.told c.turn.new.link) (g.K.Link.coming c.turn.new.link) (g.K.Link.takes c.turn.new.link) c.turn.new.self why) c.in-Err-Ends.field-0-is
-          (c.in-Err-Ends.ensures.turns image began (between_under rules here (sym same) (c.turns.invariant.stands image c.requires.begun.begun))))).0;
+          (c.in-Err-Ends.ensures.turns image (record { told = g.K.Link.told c.args.link.now; lost = c.turns.invariant.lost }) (lost_then c.turns.invariant.lost c.turns.self.cpu.slots.live.steps c.turn.new.self.steps c.turns.steps c.turn.new.steps) (between_under rules here (sym same) (c.turns.invariant.stands image c.requires.begun.begun)) (λ others. lost_counts c.turns.invariant.lost c.turns.self.cpu.slots.live.steps c.turn.new.self.steps c.turns.steps c.turn.new.steps c.in-Err-Ends.ensures.least)))).0;
     }
 
 pub returns-in-Err-Ends-clause-served : goal.returns-in-Err-Ends-clause-served
@@ -98,13 +101,13 @@ returns-in-Err-Ends-clause-served g c image is =
     let later : Rules = rules_of c.turn.new.self.options (g.R.AccessRule.rule c.turn.new.self.cpu.rule) in
     let same = same_rules g.R.AccessRule.rule c.args.self.now c.turns.self c.turns.invariant.frame in
     let then = same_rules g.R.AccessRule.rule c.turns.self c.turn.new.self c.in-Err-Ends.ensures.frame in
-    let began = g.K.Link.told c.args.link.now in
+    let began : Since = record { told = g.K.Link.told c.args.link.now; lost = (lost_then c.turns.invariant.lost c.turns.self.cpu.slots.live.steps c.turn.new.self.steps c.turns.steps c.turn.new.steps) } in
     let stops = stops_under image began (g.K.Link.told c.turn.new.link) (g.K.Link.coming c.turn.new.link) (g.K.Link.takes c.turn.new.link) c.turn.new.self (Ends c.in-Err-Ends.answer) here later (sym then)
     (subst (λ why. StopsBy here image began (g.K.Link.told c.turn.new.link) (g.K.Link.coming c.turn.new.link) (g.K.Link.takes c.turn.new.link) c.turn.new.self why) c.in-Err-Ends.field-0-is
-    (c.in-Err-Ends.ensures.turns image began (between_under rules here (sym same) (c.turns.invariant.stands image is)))) in
+    (c.in-Err-Ends.ensures.turns image (record { told = g.K.Link.told c.args.link.now; lost = c.turns.invariant.lost }) (lost_then c.turns.invariant.lost c.turns.self.cpu.slots.live.steps c.turn.new.self.steps c.turns.steps c.turn.new.steps) (between_under rules here (sym same) (c.turns.invariant.stands image is)) (λ others. lost_counts c.turns.invariant.lost c.turns.self.cpu.slots.live.steps c.turn.new.self.steps c.turns.steps c.turn.new.steps c.in-Err-Ends.ensures.least))) in
     subst
-    (λ (r : Rules). HasRecovered r image began (g.K.Link.told c.finish.new.link) (g.K.Link.coming c.finish.new.link) (g.K.Link.takes c.finish.new.link) c.finish.result c.finish.new.self.choices c.finish.new.self.taken c.finish.new.self.steps)
-    (then ∙ same) (c.finish.ensures.served image began stops.0 stops.1)
+    (λ (r : Rules). HasRecovered r image began.told (g.K.Link.told c.finish.new.link) (g.K.Link.coming c.finish.new.link) (g.K.Link.takes c.finish.new.link) c.finish.result c.finish.new.self.choices c.finish.new.self.taken c.finish.new.self.steps c.args.steps.now c.turn.new.steps)
+    (then ∙ same) (c.finish.ensures.served image began stops.0 stops.1 c.args.steps.now c.turn.new.steps (lost_all c.args.steps.now c.turns.invariant.lost c.turns.self.cpu.slots.live.steps c.turn.new.self.steps c.turns.steps c.turn.new.steps c.turns.invariant.counted c.in-Err-Ends.ensures.least))
 
 pub returns-in-Err-Ends-clause-went : goal.returns-in-Err-Ends-clause-went
 returns-in-Err-Ends-clause-went g c =
@@ -115,9 +118,9 @@ returns-in-Err-Breaks-clause-gives g c is =
     let rules : Rules = rules_of c.args.self.now.options (g.R.AccessRule.rule c.args.self.now.cpu.rule) in
     let here : Rules = rules_of c.turns.self.options (g.R.AccessRule.rule c.turns.self.cpu.rule) in
     let same = same_rules g.R.AccessRule.rule c.args.self.now c.turns.self c.turns.invariant.frame in
-    let off : IsBrokenOff here c.requires.begun.image (g.K.Link.told c.args.link.now) (g.K.Link.told c.turn.new.link) (g.K.Link.coming c.turn.new.link) c.turn.new.self c.in-Err-Breaks.answer =
-    (subst (λ why. StopsBy here c.requires.begun.image (g.K.Link.told c.args.link.now) (g.K.Link.told c.turn.new.link) (g.K.Link.coming c.turn.new.link) (g.K.Link.takes c.turn.new.link) c.turn.new.self why) c.in-Err-Breaks.field-0-is
-    (c.in-Err-Breaks.ensures.turns c.requires.begun.image (g.K.Link.told c.args.link.now) (between_under rules here (sym same) (c.turns.invariant.stands c.requires.begun.image c.requires.begun.begun)))).0 in
+    let off : IsBrokenOff here c.requires.begun.image (record { told = g.K.Link.told c.args.link.now; lost = (lost_then c.turns.invariant.lost c.turns.self.cpu.slots.live.steps c.turn.new.self.steps c.turns.steps c.turn.new.steps) }) (g.K.Link.told c.turn.new.link) (g.K.Link.coming c.turn.new.link) c.turn.new.self c.in-Err-Breaks.answer =
+    (subst (λ why. StopsBy here c.requires.begun.image (record { told = g.K.Link.told c.args.link.now; lost = (lost_then c.turns.invariant.lost c.turns.self.cpu.slots.live.steps c.turn.new.self.steps c.turns.steps c.turn.new.steps) }) (g.K.Link.told c.turn.new.link) (g.K.Link.coming c.turn.new.link) (g.K.Link.takes c.turn.new.link) c.turn.new.self why) c.in-Err-Breaks.field-0-is
+    (c.in-Err-Breaks.ensures.turns c.requires.begun.image (record { told = g.K.Link.told c.args.link.now; lost = c.turns.invariant.lost }) (lost_then c.turns.invariant.lost c.turns.self.cpu.slots.live.steps c.turn.new.self.steps c.turns.steps c.turn.new.steps) (between_under rules here (sym same) (c.turns.invariant.stands c.requires.begun.image c.requires.begun.begun)) (λ others. lost_counts c.turns.invariant.lost c.turns.self.cpu.slots.live.steps c.turn.new.self.steps c.turns.steps c.turn.new.steps c.in-Err-Breaks.ensures.least))).0 in
     absurd (off.no_end is)
 
 pub returns-in-Err-Breaks-clause-coming : goal.returns-in-Err-Breaks-clause-coming
@@ -125,25 +128,16 @@ returns-in-Err-Breaks-clause-coming g c is =
     let rules : Rules = rules_of c.args.self.now.options (g.R.AccessRule.rule c.args.self.now.cpu.rule) in
     let here : Rules = rules_of c.turns.self.options (g.R.AccessRule.rule c.turns.self.cpu.rule) in
     let same = same_rules g.R.AccessRule.rule c.args.self.now c.turns.self c.turns.invariant.frame in
-    let off : IsBrokenOff here c.requires.begun.image (g.K.Link.told c.args.link.now) (g.K.Link.told c.turn.new.link) (g.K.Link.coming c.turn.new.link) c.turn.new.self c.in-Err-Breaks.answer =
-    (subst (λ why. StopsBy here c.requires.begun.image (g.K.Link.told c.args.link.now) (g.K.Link.told c.turn.new.link) (g.K.Link.coming c.turn.new.link) (g.K.Link.takes c.turn.new.link) c.turn.new.self why) c.in-Err-Breaks.field-0-is
-    (c.in-Err-Breaks.ensures.turns c.requires.begun.image (g.K.Link.told c.args.link.now) (between_under rules here (sym same) (c.turns.invariant.stands c.requires.begun.image c.requires.begun.begun)))).0 in
+    let off : IsBrokenOff here c.requires.begun.image (record { told = g.K.Link.told c.args.link.now; lost = (lost_then c.turns.invariant.lost c.turns.self.cpu.slots.live.steps c.turn.new.self.steps c.turns.steps c.turn.new.steps) }) (g.K.Link.told c.turn.new.link) (g.K.Link.coming c.turn.new.link) c.turn.new.self c.in-Err-Breaks.answer =
+    (subst (λ why. StopsBy here c.requires.begun.image (record { told = g.K.Link.told c.args.link.now; lost = (lost_then c.turns.invariant.lost c.turns.self.cpu.slots.live.steps c.turn.new.self.steps c.turns.steps c.turn.new.steps) }) (g.K.Link.told c.turn.new.link) (g.K.Link.coming c.turn.new.link) (g.K.Link.takes c.turn.new.link) c.turn.new.self why) c.in-Err-Breaks.field-0-is
+    (c.in-Err-Breaks.ensures.turns c.requires.begun.image (record { told = g.K.Link.told c.args.link.now; lost = c.turns.invariant.lost }) (lost_then c.turns.invariant.lost c.turns.self.cpu.slots.live.steps c.turn.new.self.steps c.turns.steps c.turn.new.steps) (between_under rules here (sym same) (c.turns.invariant.stands c.requires.begun.image c.requires.begun.begun)) (λ others. lost_counts c.turns.invariant.lost c.turns.self.cpu.slots.live.steps c.turn.new.self.steps c.turns.steps c.turn.new.steps c.in-Err-Breaks.ensures.least))).0 in
     absurd (off.no_end is)
-
-pub returns-in-Err-Breaks-clause-counted : goal.returns-in-Err-Breaks-clause-counted
-returns-in-Err-Breaks-clause-counted g c others =
-    let marked : IsCounted c.turn.new.self = c.in-Err-Breaks.ensures.marked (λ is. others (breaks_of _ _ _ c.in-Err-Breaks.field-0-is is)) in
-    let steps = marked.steps in
-    let before = c.turns.invariant.counted in
-    let counted = c.in-Err-Breaks.ensures.counted in
-    omega (arith, steps, before, counted)
 
 pub returns-in-Err-Breaks-clause-counted_at_least : goal.returns-in-Err-Breaks-clause-counted_at_least
 returns-in-Err-Breaks-clause-counted_at_least g c =
-    let low = c.in-Err-Breaks.ensures.low in
+    let least = c.in-Err-Breaks.ensures.least in
     let before = c.turns.invariant.counted in
-    let counted = c.in-Err-Breaks.ensures.counted in
-    omega (arith, low, before, counted)
+    omega (arith, least, before)
 
 pub returns-in-Err-Ends-clause-coming : goal.returns-in-Err-Ends-clause-coming
 returns-in-Err-Ends-clause-coming g c is =
@@ -153,31 +147,21 @@ returns-in-Err-Ends-clause-coming g c is =
     let new = g.K.Link.coming c.finish.new.link in
     known_then old turned new (known_then old before turned c.turns.invariant.known (known_ended before turned c.in-Err-Ends.field-0 c.in-Err-Ends.answer c.in-Err-Ends.field-0-is c.in-Err-Ends.ensures.coming)) (known_same turned new c.finish.ensures.coming)
 
-pub returns-in-Err-Ends-clause-counted : goal.returns-in-Err-Ends-clause-counted
-returns-in-Err-Ends-clause-counted g c others =
-    let marked : IsCounted c.turn.new.self = c.in-Err-Ends.ensures.marked (λ is. ends_of _ _ c.in-Err-Ends.field-0-is is) in
-    let steps = marked.steps in
-    let before = c.turns.invariant.counted in
-    let counted = c.in-Err-Ends.ensures.counted in
-    let same : c.finish.new.self.steps ≡ c.turn.new.self.steps = ap (λ (s : SessionState _). s.steps) c.finish.ensures.same in
-    omega (arith, steps, before, counted, same)
-
 pub returns-in-Err-Ends-clause-counted_at_least : goal.returns-in-Err-Ends-clause-counted_at_least
 returns-in-Err-Ends-clause-counted_at_least g c =
-    let low = c.in-Err-Ends.ensures.low in
+    let least = c.in-Err-Ends.ensures.least in
     let before = c.turns.invariant.counted in
-    let counted = c.in-Err-Ends.ensures.counted in
     let same : c.finish.new.self.steps ≡ c.turn.new.self.steps = ap (λ (s : SessionState _). s.steps) c.finish.ensures.same in
-    omega (arith, low, before, counted, same)
+    omega (arith, least, before, same)
 
 pub returns-in-Err-Breaks-clause-takes : goal.returns-in-Err-Breaks-clause-takes
 returns-in-Err-Breaks-clause-takes g c =
     let rules : Rules = rules_of c.args.self.now.options (g.R.AccessRule.rule c.args.self.now.cpu.rule) in
     let here : Rules = rules_of c.turns.self.options (g.R.AccessRule.rule c.turns.self.cpu.rule) in
     let same = same_rules g.R.AccessRule.rule c.args.self.now c.turns.self c.turns.invariant.frame in
-    let off : IsBrokenOff here c.requires.begun.image (g.K.Link.told c.args.link.now) (g.K.Link.told c.turn.new.link) (g.K.Link.coming c.turn.new.link) c.turn.new.self c.in-Err-Breaks.answer =
-    (subst (λ why. StopsBy here c.requires.begun.image (g.K.Link.told c.args.link.now) (g.K.Link.told c.turn.new.link) (g.K.Link.coming c.turn.new.link) (g.K.Link.takes c.turn.new.link) c.turn.new.self why) c.in-Err-Breaks.field-0-is
-    (c.in-Err-Breaks.ensures.turns c.requires.begun.image (g.K.Link.told c.args.link.now) (between_under rules here (sym same) (c.turns.invariant.stands c.requires.begun.image c.requires.begun.begun)))).0 in
+    let off : IsBrokenOff here c.requires.begun.image (record { told = g.K.Link.told c.args.link.now; lost = (lost_then c.turns.invariant.lost c.turns.self.cpu.slots.live.steps c.turn.new.self.steps c.turns.steps c.turn.new.steps) }) (g.K.Link.told c.turn.new.link) (g.K.Link.coming c.turn.new.link) c.turn.new.self c.in-Err-Breaks.answer =
+    (subst (λ why. StopsBy here c.requires.begun.image (record { told = g.K.Link.told c.args.link.now; lost = (lost_then c.turns.invariant.lost c.turns.self.cpu.slots.live.steps c.turn.new.self.steps c.turns.steps c.turn.new.steps) }) (g.K.Link.told c.turn.new.link) (g.K.Link.coming c.turn.new.link) (g.K.Link.takes c.turn.new.link) c.turn.new.self why) c.in-Err-Breaks.field-0-is
+    (c.in-Err-Breaks.ensures.turns c.requires.begun.image (record { told = g.K.Link.told c.args.link.now; lost = c.turns.invariant.lost }) (lost_then c.turns.invariant.lost c.turns.self.cpu.slots.live.steps c.turn.new.self.steps c.turns.steps c.turn.new.steps) (between_under rules here (sym same) (c.turns.invariant.stands c.requires.begun.image c.requires.begun.begun)) (λ others. lost_counts c.turns.invariant.lost c.turns.self.cpu.slots.live.steps c.turn.new.self.steps c.turns.steps c.turn.new.steps c.in-Err-Breaks.ensures.least))).0 in
     takes_no_end (g.K.Link.takes c.turn.new.link) c.in-Err-Breaks.answer off.no_end
 
 pub returns-in-Err-Ends-clause-takes : goal.returns-in-Err-Ends-clause-takes

@@ -1,4 +1,4 @@
-use Rattle.std.proofs.Common.{◌-◌, ◌^◌}
+use Rattle.std.proofs.Common.{◌+◌, ◌-◌, ◌*◌}
 use Rattle.rx_engine.proofs.StartLemmas.{HasTurned}
 use Rattle.rx_engine.proofs.session.Session.serve.Given as goal
 
@@ -7,6 +7,6 @@ invariant-turns g l =
     HasTurned (g.K.Link.Went l.fn.link l.link) g.R.AccessRule.rule (g.K.Link.told l.fn.link) (g.K.Link.told l.link) (g.K.Link.phases l.link) (g.K.Link.coming l.fn.link) (g.K.Link.coming l.link) (g.K.Link.counts l.fn.link) (g.K.Link.counts l.link) (g.K.Link.takes l.link) (g.K.Link.gives l.link)
     (g.K.Link.gives_to l.link) l.fn.steps l.steps l.fn.self l.self
 
--- how many instructions there may still be
+-- each failure has more items taken than the one before it; and between two of them there are so many instructions at most
 abbrev pub decreases-turns : goal.decreases-turns
-decreases-turns g l = 2 ^ 64 - l.self.cpu.slots.live.steps
+decreases-turns g l = (l.fn.self.options.max_items + 5 - l.self.until) * 18446744073709551617 + (18446744073709551616 - l.self.cpu.slots.live.steps)
