@@ -1,5 +1,5 @@
 -- What a session over a trunk leaves, by what it leaves over a link.
-use Rattle.std.proofs.Common.{◌≡◌, ℕ, Bool, true, false, List, [], ◌++◌, length, Option, None, Some, option_map, refl, ap, ◌∙◌, subst, inl, inr}
+use Rattle.std.proofs.Common.{◌≡◌, arith, ◌+◌, ℕ, Bool, true, false, List, [], ◌++◌, length, Option, None, Some, option_map, refl, ap, ◌∙◌, subst, inl, inr}
 use Rattle.std.proofs.Math.Path.{fun_ext}
 use Rattle.std.specs.Prelude.{IsSome}
 use Rattle.std.specs.Io.KnownBytes.{Appends}
@@ -143,12 +143,12 @@ breaks_trunk old new out later events pieces answer.Memory no_part whole (inr gi
 breaks_trunk old new out later events pieces _ no_part whole once = tt
 
 -- a session over a link that was made
-pub serves : (rules : Rules) (image : Image) (old new : Intake) (out later : Output) (began : Told) (end : Answer) (choices : List Choice) (taken steps : ℕ) → IsFresh old.phases → old.took ≡ 0 → out.wrote ≡ 0
+pub serves : (rules : Rules) (image : Image) (old new : Intake) (out later : Output) (began : Told) (end : Answer) (choices : List Choice) (taken steps first last counted : ℕ) → IsFresh old.phases → old.took ≡ 0 → out.wrote ≡ 0
     → old.takes ≡ true → out.gives ≡ true → Countable new.told → Short later.told → began ≡ told_nothing old.told out.told → TakesOn old.takes old new → GivesOn out.gives out later
     → TakesAtEnd new.takes end → (IsEnd end → later.gives ≡ true) → (IsEnd end → StaysKnown (upcoming old) (upcoming new)) → BreaksAt (upcoming old) (upcoming new) later.gives end
-    → HasRecovered rules image began (trunk_told (told_events new.told new.took new.phases new.takes) (told_pieces later.told later.wrote later.gives)) (upcoming new) new.takes end choices taken steps
-    → ServesTrunk rules image old.told new.told out.told later.told end choices taken steps
-serves rules image old new out later began end choices taken steps is_fresh none nothing takes gives few short start taken_on given_on still gives_still known once recovered =
+    → HasRecovered rules image began (trunk_told (told_events new.told new.took new.phases new.takes) (told_pieces later.told later.wrote later.gives)) (upcoming new) new.takes end choices taken steps first last → last ≡ first + counted
+    → ServesTrunk rules image old.told new.told out.told later.told end choices taken steps counted
+serves rules image old new out later began end choices taken steps first last counted is_fresh none nothing takes gives few short start taken_on given_on still gives_still known once recovered count =
     let served = recovered.served in
     let went : TookFrames old new = subst (λ b. TakesOn b old new) takes taken_on in
     let wrote : WroteFrames out later = subst (λ b. GivesOn b out later) gives given_on in
@@ -160,6 +160,10 @@ serves rules image old new out later began end choices taken steps is_fresh none
       account = served.account;
       recoveries = recovered.recoveries;
       recovered = recovered.recovered;
+      trials = recovered.trials;
+      tried = recovered.tried;
+      gave_up = recovered.gave_up;
+      all_counted = λ others. let all = recovered.counted others in omega (arith, all, count);
       comes = served.comes;
       ends = served.ends;
       pieces = served.pieces;

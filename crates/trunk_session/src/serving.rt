@@ -1,5 +1,5 @@
 // A session over a trunk of many connections.
-ghost use Rattle.std.specs.Prelude.{◌≡◌, ◌≢◌, ◌+◌, ◌≤◌};
+ghost use Rattle.std.specs.Prelude.{◌≡◌, ℕ, ◌+◌, ◌≤◌};
 ghost use Rattle.rx_io.specs.Faults.{Rose};
 ghost use Rattle.elf_image.specs.declared.image.Image.{Image};
 ghost use Rattle.run_history.specs.declared.answer.Answer.TheVariants as answer;
@@ -28,7 +28,7 @@ pub fn serve_trunk<R: AccessRule, S: Source, K: Sink, L: Ledger>(
 ) -> Answer
     requires begun { IsReadyToServe session.old }
     ensures served { (image : Image) → IsBegun image session.old.options session.old.cpu.rule session.old
-        → ServesTrunk (rules_of session.old.options (R.rule session.old.cpu.rule)) image (S.told input.old) (S.told input.new) (K.told output.old) (K.told output.new) result session.new.choices session.new.taken session.new.steps }
+        → (counted : ℕ) → steps.new ≡ steps.old + counted → ServesTrunk (rules_of session.old.options (R.rule session.old.cpu.rule)) image (S.told input.old) (S.told input.new) (K.told output.old) (K.told output.new) result session.new.choices session.new.taken session.new.steps counted }
     ensures only { IsOfSession result }
     ensures input { S.fixed input.new ≡ S.fixed input.old }
     ensures output { K.fixed output.new ≡ K.fixed output.old }
@@ -36,7 +36,6 @@ pub fn serve_trunk<R: AccessRule, S: Source, K: Sink, L: Ledger>(
     ensures output_later { K.faults output.old ≤ K.faults output.new }
     ensures read_fault { result ≡ answer.ReadFault → Rose (S.faults input.old) (S.faults input.new) }
     ensures write_fault { result ≡ answer.WriteFault → Rose (K.faults output.old) (K.faults output.new) }
-    ensures counted { result ≢ answer.Memory → steps.new ≡ steps.old + session.new.steps }
     ensures counted_at_least { steps.old + session.new.steps ≤ steps.new }
 {
     let mut link = TrunkLink::make(alloc, &mut *input, &mut *output);
