@@ -6,6 +6,8 @@ mod played;
 #[cfg(test)]
 mod programs;
 #[cfg(test)]
+mod recovery_tests;
+#[cfg(test)]
 mod rx_engine_tests;
 #[cfg(test)]
 mod short_link;

@@ -76,10 +76,9 @@ pub fn assembled(alloc: Global, text: &str) -> Result<Image, Fail> {
     Ok(assemble(alloc, text.as_bytes(), WINDOW)?)
 }
 
-// The image of an example guest.
-pub fn image_of(alloc: Global, name: &str) -> Result<Image, Fail> {
-    let text = source_of(name).ok_or(name)?;
-    assembled(alloc, text)
+// The image of an example guest, by its name, or of another text.
+pub fn image_of(alloc: Global, program: &str) -> Result<Image, Fail> {
+    assembled(alloc, source_of(program).unwrap_or(program))
 }
 
 // An event is its kind (`o` opens, `p` brings a piece, `c` closes, `s` settles), its connection's digit and its bytes.
@@ -279,10 +278,10 @@ pub fn expect_session(
     Ok(outcome)
 }
 
-// Compares the places that malloc answered. None of the blocks was zeroed.
-pub fn expect_choices(rt: &impl Abort, name: &str, outcome: &Outcome, blocks: &[u32]) {
+// Compares the places that malloc answered, each with whether its block was zeroed.
+pub fn expect_choices(rt: &impl Abort, name: &str, outcome: &Outcome, blocks: &[(u32, bool)]) {
     assert_eq!(rt; outcome.choices.len(), blocks.len(), "at {name}");
     for (choice, block) in outcome.choices.iter().zip(blocks) {
-        assert_eq!(rt; (choice.at, choice.zeroed), (*block, false), "at {name}");
+        assert_eq!(rt; (choice.at, choice.zeroed), *block, "at {name}");
     }
 }

@@ -67,3 +67,128 @@ pub const ASKS_FOR_BLOCKS: &str = r#"
     li   a7, 5                  # exit
     ecall
 "#;
+
+// Frees a block twice at the first message, sends the message back, and exits with its length.
+pub const FREES_TWICE_AND_EXITS: &str = r#"receive:
+    la   a0, buffer
+    li   a1, 4096
+    li   a7, 1                  # recv
+    ecall
+    li   t0, 2
+    bne  a2, t0, receive        # it isn't a message
+    mv   s0, a0
+    mv   s1, a1
+    li   a0, 16
+    li   a7, 3                  # malloc
+    ecall
+    li   a7, 4                  # free
+    ecall
+    ecall                       # the fault: a0 and a7 are as they were
+    mv   a0, s1
+    la   a1, buffer
+    mv   a2, s0
+    li   a7, 2                  # send
+    ecall
+    mv   a0, s0
+    li   a7, 5                  # exit
+    ecall
+
+.data
+buffer:
+    .space 4096
+"#;
+
+// At the start it makes a block of 1024 bytes and frees it. At each message it makes a block, writes all of the old one, looks at a word of the
+// new one (assertion 4), and sends the message back.
+pub const WRITES_TO_AN_OLD_BLOCK: &str = r#"
+    li   a0, 1024
+    li   a7, 3                  # malloc
+    ecall
+    mv   s2, a0
+    li   a7, 4                  # free
+    ecall
+receive:
+    la   a0, buffer
+    li   a1, 4096
+    li   a7, 1                  # recv
+    ecall
+    li   t0, 2
+    bne  a2, t0, receive        # it isn't a message
+    mv   s0, a0
+    mv   s1, a1
+    li   a0, 16
+    li   a7, 3                  # malloc
+    ecall
+    mv   s3, a0
+    li   t1, 0x600dcafe
+    sw   t1, 0(s3)
+    mv   t0, s2
+    addi t2, s2, 1024
+write_word:
+    sw   zero, 0(t0)            # the fault
+    addi t0, t0, 4
+    bne  t0, t2, write_word
+    lw   t0, 0(s3)
+    beq  t0, t1, word_holds
+    li   a0, 4
+    li   a7, 6                  # assertion failed
+    ecall
+word_holds:
+    mv   a0, s1
+    la   a1, buffer
+    mv   a2, s0
+    li   a7, 2                  # send
+    ecall
+    j    receive
+
+.data
+buffer:
+    .space 4096
+"#;
+
+// At each message it makes two blocks of 16 bytes, writes 40 into the first one, looks at a word of the second (assertion 1), frees the first
+// one twice, and sends the message back.
+pub const OVERRUNS_AND_FREES_TWICE: &str = r#"receive:
+    la   a0, buffer
+    li   a1, 4096
+    li   a7, 1                  # recv
+    ecall
+    li   t0, 2
+    bne  a2, t0, receive        # it isn't a message
+    mv   s0, a0
+    mv   s1, a1
+    li   a0, 16
+    li   a7, 3                  # malloc
+    ecall
+    mv   s2, a0
+    li   a0, 16
+    ecall
+    li   t1, 0x600dcafe
+    sw   t1, 0(a0)
+    mv   t0, s2
+    addi t2, s2, 40
+write_word:
+    sw   zero, 0(t0)            # the first fault
+    addi t0, t0, 4
+    bne  t0, t2, write_word
+    lw   t0, 0(a0)
+    beq  t0, t1, word_holds
+    li   a0, 1
+    li   a7, 6                  # assertion failed
+    ecall
+word_holds:
+    mv   a0, s2
+    li   a7, 4                  # free
+    ecall
+    ecall                       # the second fault: a0 and a7 are as they were
+    mv   a0, s1
+    la   a1, buffer
+    mv   a2, s0
+    li   a7, 2                  # send
+    ecall
+    j    receive
+
+.data
+buffer:
+    .space 4096
+"#;

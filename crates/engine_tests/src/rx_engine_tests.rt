@@ -360,76 +360,6 @@ fn a_link_is_short_of_memory(rt: HostRuntime) -> Result<(), Fail> {
     Ok(())
 }
 
-// A program that fails ends alike whether its replies are held back or not: its name, the events with a bar behind them, with how
-// many items taken it fails and why, how many instructions it has done, what is passed, and where its blocks were.
-fn for_each_hold(
-    rt: &impl Abort,
-    alloc: Global,
-    (name, events, point, cause, steps, passed, blocks): (
-        &str,
-        &str,
-        u64,
-        Cause,
-        u64,
-        &str,
-        &[u32],
-    ),
-) -> Result<(), Fail> {
-    let image = image_of(alloc, name)?;
-    let answer = Answer::GaveUp { point, cause };
-    let journal = format!(in alloc; "{events}{passed}")?;
-    let played = events.strip_suffix('|').ok_or("no bar")?;
-    for hold in [0, 1000] {
-        let setting = Setting::of(&image, Options { hold, ..USUAL }, played);
-        let outcome = expect_session(rt, alloc, &setting, answer, point, journal.as_str())?;
-        assert_eq!(rt; outcome.steps, steps, "at {name}");
-        expect_choices(rt, name, &outcome, blocks);
-    }
-    Ok(())
-}
-
-// Nothing is tried again: the first failure ends the session, and what is held back is passed. Up to its message each program has 20
-// instructions, but pair, which opens two connections, has 39; the one that fails isn't done. The first block stands at the first page
-// behind the data, which begins at 0x11000 with a buffer of 4096 bytes.
-#[test]
-fn a_program_fails(rt: HostRuntime) -> Result<(), Fail> {
-    let long = "o0|p0xxxxxxxxxxxxxxxxxxxxxxxxxxxxxxxxxxxxxxx\n|";
-    let hi = "o0|p0hi\n|";
-    let (two, five) = (Cause::AssertFailed(2), Cause::AssertFailed(5));
-    let (one, free) = (Cause::AssertFailed(1), Cause::BadFree);
-    // The program, the events, with how many items taken it fails and why, how many instructions it has done, what is passed, and where
-    // its blocks were.
-    let cases = [
-        ("null", hi, 2, Cause::BadAccess, 20, "", [].as_slice()),
-        ("overflow", long, 2, one, 288, "", &[0x12000, 0x12010]),
-        ("unset", hi, 2, two, 93, "", &[0x12000, 0x12000]),
-        ("twice", hi, 2, free, 30, "", &[0x12000]),
-        ("tell_free", hi, 2, free, 111, "g000013000\n|", &[0x13000]),
-        (
-            "tell_over",
-            hi,
-            2,
-            five,
-            247,
-            "g000013000\n|",
-            &[0x13000, 0x13010],
-        ),
-        (
-            "pair",
-            "o0|o1|p1go\n|",
-            3,
-            free,
-            59,
-            "g0a\n|",
-            &[0x13000, 0x13000],
-        ),
-    ];
-    for case in cases {
-        for_each_hold(&rt, rt.alloc(), case)?;
-    }
-    Ok(())
-}
-
 // The least and the most of each number that a session is asked for.
 #[test]
 fn each_number_has_two_ends(rt: HostRuntime) -> Result<(), Fail> {
@@ -529,7 +459,7 @@ fn a_program_ends(rt: HostRuntime) -> Result<(), Fail> {
             Answer::Finished,
             2,
             "o0|p0hi\n|e0|g0hi\n|",
-            &[0x12000, 0x12010],
+            &[(0x12000, false), (0x12010, false)],
         ),
         (
             &answers_once,
@@ -545,7 +475,13 @@ fn a_program_ends(rt: HostRuntime) -> Result<(), Fail> {
             Answer::Exited(0),
             0,
             "",
-            &[0x11000, 0x11020, 0, 0x11030, 0x11020],
+            &[
+                (0x11000, false),
+                (0x11020, false),
+                (0, false),
+                (0x11030, false),
+                (0x11020, false),
+            ],
         ),
     ];
     for (image, events, answer, taken, journal, blocks) in cases {
@@ -559,35 +495,25 @@ fn a_program_ends(rt: HostRuntime) -> Result<(), Fail> {
 // Each reply of these depends on the message and on what came before.
 #[test]
 fn programs_answer_by_what_they_hear(rt: HostRuntime) -> Result<(), Fail> {
-    let (done, cause) = (Answer::Finished, Cause::AssertFailed(3));
-    // The program, the events, the answer, how many items are taken, and the journal.
+    // The program, the events, how many items are taken, and the journal.
     let cases = [
         (
             "counter",
             "o0|o1|p0x\n|p1y\nz\n",
-            done,
             5,
             "o0|o1|p0x\n|g01\n|p1y\nz\n|g12\n|g13\n|e0|",
         ),
         (
             "divide",
             "o0|p07 0\n|p0-2147483648 -1\n-7 2\n",
-            done,
             4,
             "o0|p07 0\n|g0-1 7\n|p0-2147483648 -1\n-7 2\n|g0-2147483648 0\n|g0-3 -1\n|e0|",
         ),
-        (
-            "stale",
-            "o0|p0a\n|p0b\n",
-            Answer::GaveUp { point: 3, cause },
-            3,
-            "o0|p0a\n|g0a\n|p0b\n|",
-        ),
     ];
-    for (name, events, answer, taken, journal) in cases {
+    for (name, events, taken, journal) in cases {
         let image = image_of(rt.alloc(), name)?;
         let setting = Setting::of(&image, USUAL, events);
-        expect_session(&rt, rt.alloc(), &setting, answer, taken, journal)?;
+        expect_session(&rt, rt.alloc(), &setting, Answer::Finished, taken, journal)?;
     }
     Ok(())
 }

@@ -234,7 +234,21 @@ three; --budget 3;; GaveUp { point: 0, cause: Hang } 5 0 [] 3 0;;
 three;; 0100000000 0200000300 68690a; GaveUp { point: 1, cause: BadAccess } 5 0 [] 4 1;; 0200000300 68690a
 null;; 0100000000 0200000200 780a; GaveUp { point: 2, cause: BadAccess } 5 0 [] 20 2;;
 overflow;; 0100000000 0200000300 68690a; Finished 0 0 [Choice { at: 73728, zeroed: false }, Choice { at: 73744, zeroed: false }] 81 2; 0200000300 68690a;
-tell_free;; 0100000000 0200000200 610a; GaveUp { point: 2, cause: BadFree } 5 0 [Choice { at: 77824, zeroed: false }] 111 2; 0200000900 30303031333030300a;
+";
+
+// Guests that fail. All are recovered but the first tell_over, which told where its block stands; dirty never fails, and has one checkpoint
+// at a time. The values are those of `bench/second` too, which was written from the rules.
+const RECOVERED: &str = "\
+overflow;; 0100000000 0200002800 7878787878787878787878787878787878787878787878787878787878787878787878787878780a; Finished 0 0 [Choice { at: 73984, zeroed: false }, Choice { at: 74512, zeroed: false }] 303 2; 0200002800 7878787878787878787878787878787878787878787878787878787878787878787878787878780a;
+unset;; 0100000000 0200000300 68690a; Finished 0 0 [Choice { at: 73728, zeroed: true }, Choice { at: 73728, zeroed: true }] 106 2; 0200000300 68690a;
+twice;; 0100000000 0200000300 68690a; Finished 0 0 [Choice { at: 73728, zeroed: false }] 45 2; 0200000300 68690a;
+stale;; 0100000000 0200000200 610a 0200000200 620a; Finished 0 0 [Choice { at: 73728, zeroed: false }, Choice { at: 73792, zeroed: false }] 141 3; 0200000200 610a 0200000200 620a;
+tell_free;; 0100000000 0200000200 610a; Finished 0 0 [Choice { at: 77824, zeroed: false }] 119 2; 0200000900 30303031333030300a;
+pair;; 0100000000 0101000000 0201000300 676f0a; Finished 0 0 [Choice { at: 77824, zeroed: false }, Choice { at: 77824, zeroed: false }] 76 3; 0200000200 610a 0201000200 620a;
+tell_over;; 0100000000 0200000200 610a; GaveUp { point: 2, cause: AssertFailed(5) } 5 0 [Choice { at: 77824, zeroed: false }, Choice { at: 77840, zeroed: false }] 247 2; 0200000900 30303031333030300a;
+tell_over; --hold 2; 0100000000 0200000200 610a; Finished 0 0 [Choice { at: 78080, zeroed: false }, Choice { at: 78608, zeroed: false }] 256 2; 0200000900 30303031333130300a;
+dirty; --window 1 --frames 2; 0100000000 0200000200 610a 0200000200 620a 0200000200 630a; Finished 0 0 [Choice { at: 73728, zeroed: false }] 300 4; 0200000200 610a 0200000200 620a 0200000200 630a;
+late;; 0100000000 0200000200 780a; Finished 0 0 [Choice { at: 77824, zeroed: false }, Choice { at: 77824, zeroed: false }] 60 2; 0200000200 610a;
 ";
 
 // A call on source or sink moves so many bytes at most.
@@ -259,6 +273,14 @@ fn a_guest_ends_as_its_row_says(rt: HostRuntime) -> Result<(), Fail> {
     let exit = program_of(alloc, "li a0, 1\nli a7, 5\necall\n")?;
     let setting = Setting::of(alloc, &exit, &OPEN);
     expect(&rt, &setting, "Exited(1) 1 0 [] 5 0", &[], &OPEN)
+}
+
+#[test]
+fn a_guest_that_fails_ends_as_its_row_says(rt: HostRuntime) -> Result<(), Fail> {
+    for row in RECOVERED.lines() {
+        expect_row(&rt, rt.alloc(), row, 10_000)?;
+    }
+    Ok(())
 }
 
 // The input of one line: 4096 bytes with the line feed go through, and 4097 don't.
