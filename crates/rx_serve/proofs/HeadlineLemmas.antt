@@ -94,8 +94,8 @@ drained None later events stops = tt
 drained (Some stream) later events stops = stops.1
 
 pub headline : (rules : Rules) (image : Image) (source source_later : Option Stream) (sink sink_later : Option (List ℕ)) (end : End) → end.recorded ≡ 0
-    → (s : ServesTrunk rules image source source_later sink sink_later end.answer end.tail end.taken end.steps) → Headline rules image s.session source source_later sink sink_later end
-headline rules image source source_later sink sink_later end none s =
+    → (counted : ℕ) (s : ServesTrunk rules image source source_later sink sink_later end.answer end.tail end.taken end.steps counted) → Headline rules image s.session source source_later sink sink_later end
+headline rules image source source_later sink sink_later end none counted s =
     let session : Session = s.session in
     let items : List Item = received_items rules session in
     let state : State = session.survivor.now.state in

@@ -33,25 +33,25 @@ module _ {R : Type 0} where
 
   -- a session that served a trunk, as an end
   pub run_ends : (value : RunValue) (files : Option Contents) (image : Image) (options : Options) (rule : R) (session : SessionState R) (source source_later : Option Stream) (sink sink_later : Option (List ℕ))
-      (end : End) (answer : Answer) (choices : List Choice) (taken steps : ℕ) → options ≡ options_of value → HasImage files value.program options.window image → IsBegun image options rule session
-      → ((i : Image) → IsBegun i session.options session.cpu.rule session → ServesTrunk (rules_of session.options all_permitted) i source source_later sink sink_later answer choices taken steps)
-      → end.answer ≡ answer → end.recorded ≡ 0 → end.tail ≡ choices → end.taken ≡ taken → end.steps ≡ steps → RunEnds value files source source_later sink sink_later end
-  run_ends value files image options rule session source source_later sink sink_later end answer choices taken steps is program begun serves answered none tail taken_is steps_is =
+      (end : End) (answer : Answer) (choices : List Choice) (taken steps counted : ℕ) → options ≡ options_of value → HasImage files value.program options.window image → IsBegun image options rule session
+      → ((i : Image) → IsBegun i session.options session.cpu.rule session → ServesTrunk (rules_of session.options all_permitted) i source source_later sink sink_later answer choices taken steps counted)
+      → end.answer ≡ answer → end.recorded ≡ 0 → end.tail ≡ choices → end.taken ≡ taken → end.steps ≡ steps → RunEnds value files source source_later sink sink_later end counted
+  run_ends value files image options rule session source source_later sink sink_later end answer choices taken steps counted is program begun serves answered none tail taken_is steps_is =
       let settings : session.options ≡ options_of value = begun.options_are ∙ is in
-      let here : ServesTrunk (rules_of session.options all_permitted) image source source_later sink sink_later answer choices taken steps = serves image (begun_own image options rule session begun) in
-      let by_value : ServesTrunk (rules_of_run value) image source source_later sink sink_later answer choices taken steps =
-      subst (λ (o : Options). ServesTrunk (rules_of o all_permitted) image source source_later sink sink_later answer choices taken steps) settings here in
-      let by_answer : ServesTrunk (rules_of_run value) image source source_later sink sink_later end.answer choices taken steps =
-      subst (λ a. ServesTrunk (rules_of_run value) image source source_later sink sink_later a choices taken steps) (sym answered) by_value in
-      let by_tail : ServesTrunk (rules_of_run value) image source source_later sink sink_later end.answer end.tail taken steps =
-      subst (λ list. ServesTrunk (rules_of_run value) image source source_later sink sink_later end.answer list taken steps) (sym tail) by_answer in
-      let by_taken : ServesTrunk (rules_of_run value) image source source_later sink sink_later end.answer end.tail end.taken steps =
-      subst (λ n. ServesTrunk (rules_of_run value) image source source_later sink sink_later end.answer end.tail n steps) (sym taken_is) by_tail in
-      let by_steps : ServesTrunk (rules_of_run value) image source source_later sink sink_later end.answer end.tail end.taken end.steps =
-      subst (λ n. ServesTrunk (rules_of_run value) image source source_later sink sink_later end.answer end.tail end.taken n) (sym steps_is) by_taken in
+      let here : ServesTrunk (rules_of session.options all_permitted) image source source_later sink sink_later answer choices taken steps counted = serves image (begun_own image options rule session begun) in
+      let by_value : ServesTrunk (rules_of_run value) image source source_later sink sink_later answer choices taken steps counted =
+      subst (λ (o : Options). ServesTrunk (rules_of o all_permitted) image source source_later sink sink_later answer choices taken steps counted) settings here in
+      let by_answer : ServesTrunk (rules_of_run value) image source source_later sink sink_later end.answer choices taken steps counted =
+      subst (λ a. ServesTrunk (rules_of_run value) image source source_later sink sink_later a choices taken steps counted) (sym answered) by_value in
+      let by_tail : ServesTrunk (rules_of_run value) image source source_later sink sink_later end.answer end.tail taken steps counted =
+      subst (λ list. ServesTrunk (rules_of_run value) image source source_later sink sink_later end.answer list taken steps counted) (sym tail) by_answer in
+      let by_taken : ServesTrunk (rules_of_run value) image source source_later sink sink_later end.answer end.tail end.taken steps counted =
+      subst (λ n. ServesTrunk (rules_of_run value) image source source_later sink sink_later end.answer end.tail n steps counted) (sym taken_is) by_tail in
+      let by_steps : ServesTrunk (rules_of_run value) image source source_later sink sink_later end.answer end.tail end.taken end.steps counted =
+      subst (λ n. ServesTrunk (rules_of_run value) image source source_later sink sink_later end.answer end.tail end.taken n counted) (sym steps_is) by_taken in
       inr (record {
         image = image;
         program = subst (λ (o : Options). HasImage files value.program o.window image) is program;
         serves = by_steps;
-        headline = headline (rules_of_run value) image source source_later sink sink_later end none by_steps;
+        headline = headline (rules_of_run value) image source source_later sink sink_later end none counted by_steps;
       })

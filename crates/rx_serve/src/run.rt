@@ -1,5 +1,5 @@
 // The top call: the words in, the answer and its status out.
-ghost use Rattle.std.specs.Prelude.{◌≡◌, ◌≢◌, ◌+◌, ◌≤◌, ◌↔◌, Some, None};
+ghost use Rattle.std.specs.Prelude.{◌≡◌, ℕ, ◌+◌, ◌≤◌, ◌↔◌, Some, None};
 ghost use Rattle.command_line.specs.Parts.{texts_of};
 ghost use Rattle.command_line.specs.Commands.{RunValue, AsmValue, command_of, run, asm};
 ghost use Rattle.rx_io.specs.Faults.{Rose};
@@ -32,7 +32,7 @@ pub fn run_rx<F: Files, S: Source, K: Sink, N: Listener, L: Ledger>(
 ) -> End
     // The headline, with the account that it is true of; or no session began, by its cause, and nothing was touched.
     ensures headline { (value : RunValue) → command_of (texts_of words.now) ≡ Some (run value)
-        → RunEnds value (F.told files.old) (S.told input.old) (S.told input.new) (K.told output.old) (K.told output.new) result }
+        → (counted : ℕ) → steps.new ≡ steps.old + counted → RunEnds value (F.told files.old) (S.told input.old) (S.told input.new) (K.told output.old) (K.told output.new) result counted }
 
     // `asm` writes the executable of the text's image, and touches nothing else.
     ensures assembles { (value : AsmValue) → command_of (texts_of words.now) ≡ Some (asm value)
@@ -53,7 +53,7 @@ pub fn run_rx<F: Files, S: Source, K: Sink, N: Listener, L: Ledger>(
     ensures listener { listener.new ≡ listener.old }
 
     ensures status { result.status ≡ status_of result.answer }
-    ensures counted { result.answer ≢ Answer.Memory → steps.new ≡ steps.old + result.steps }
+    ensures uncounted { ((value : RunValue) → command_of (texts_of words.now) ≡ Some (run value) → ⊥) → steps.new ≡ steps.old }
     ensures counted_at_least { steps.old + result.steps ≤ steps.new }
 {
     // `run` has one trunk, its input and output: no command of today listens.

@@ -1,5 +1,5 @@
 // The command `run`: a program is loaded, and serves the trunk of input and output.
-ghost use Rattle.std.specs.Prelude.{◌≡◌, ◌≢◌, ◌+◌, ◌≤◌};
+ghost use Rattle.std.specs.Prelude.{◌≡◌, ℕ, ◌+◌, ◌≤◌};
 ghost use Rattle.command_line.specs.Commands.{run_shown};
 ghost use Rattle.command_line.specs.Ranges.{AreInRange};
 ghost use Rattle.rx_io.specs.Faults.{Rose};
@@ -28,13 +28,12 @@ pub fn run_program<F: Files, S: Source, K: Sink, L: Ledger>(
     steps: &mut Steps<L>,
 ) -> End
     requires in_range { AreInRange (run_shown run.now) }
-    ensures ends { RunEnds (run_shown run.now) (F.told files.old) (S.told input.old) (S.told input.new) (K.told output.old) (K.told output.new) result }
+    ensures ends { (counted : ℕ) → steps.new ≡ steps.old + counted → RunEnds (run_shown run.now) (F.told files.old) (S.told input.old) (S.told input.new) (K.told output.old) (K.told output.new) result counted }
     ensures same { F.told files.new ≡ F.told files.old }
     ensures file_fault { result.answer ≡ Answer.FileFault → Rose (F.faults files.old) (F.faults files.new) }
     ensures read_fault { result.answer ≡ Answer.ReadFault → Rose (S.faults input.old) (S.faults input.new) }
     ensures write_fault { result.answer ≡ Answer.WriteFault → Rose (K.faults output.old) (K.faults output.new) }
     ensures status { result.status ≡ status_of result.answer }
-    ensures counted { result.answer ≢ Answer.Memory → steps.new ≡ steps.old + result.steps }
     ensures counted_at_least { steps.old + result.steps ≤ steps.new }
 {
     let options = options_of(run);

@@ -17,7 +17,7 @@ pub serve_trunk-answer-requires : goal.serve_trunk-answer-requires
 serve_trunk-answer-requires g c = record { begun = ready c.in-Ok.image c.options_of-options.result _ c.in-Ok-begin.session c.in-Ok-begin.ensures }
 
 pub returns-clause-ends : goal.returns-clause-ends
-returns-clause-ends g c =
-    run_ends (run_shown c.args.run.now) _ c.in-Ok.image c.options_of-options.result _ c.in-Ok-begin.session _ _ _ _ c.of_session.result c.serve_trunk-answer.result _ _ _ c.options_of-options.ensures c.in-Ok.ensures.loads c.in-Ok-begin.ensures
-    c.serve_trunk-answer.ensures.served c.of_session.ensures.answer (c.of_session.ensures.recorded ∙ c.into_end.ensures.recorded)
+returns-clause-ends g c counted count =
+    run_ends (run_shown c.args.run.now) _ c.in-Ok.image c.options_of-options.result _ c.in-Ok-begin.session _ _ _ _ c.of_session.result c.serve_trunk-answer.result _ _ _ counted c.options_of-options.ensures c.in-Ok.ensures.loads c.in-Ok-begin.ensures
+    (λ i is. c.serve_trunk-answer.ensures.served i is counted count) c.of_session.ensures.answer (c.of_session.ensures.recorded ∙ c.into_end.ensures.recorded)
     (c.of_session.ensures.tail ∙ c.into_end.ensures.tail) (c.of_session.ensures.taken ∙ c.into_end.ensures.taken) (c.of_session.ensures.steps ∙ c.into_end.ensures.steps)
