@@ -7,12 +7,12 @@ rules, and shares nothing with rx. Its modules say what each is written from.
 With --sessions, sessions at random run in both: servers with planted faults of the heap, and programs of pseudo-random words; many
 connections, in each framing; with options at random, in any order; at times a trunk that breaks a rule of the grammar. Compared are
 standard output, the status, the answer as standard error tells it (failing point and cause, refusal and offset, connection, code), and
-the record and the report. Where rx doesn't recover yet, --no-recovery takes each first failure for the end, and leaves out record and
-report. With --wild all programs are of pseudo-random words.
+the record and the report. An rx that recovers and writes neither of them yet is compared with --no-files, in all else. Where rx doesn't
+recover either, --no-recovery takes each first failure for the end. With --wild all programs are of pseudo-random words.
 
 With --self no rx is run: whole sessions of the second engine are checked against what each of them promises, and counted.
 
-usage: compare_runs.py (--sessions [--no-recovery] [--wild] | --self) [--runs N] [--seed N] [RX]
+usage: compare_runs.py (--sessions [--no-files | --no-recovery] [--wild] | --self) [--runs N] [--seed N] [RX]
 RX is the built rx, crates/rx/out/rx unless it is given.
 """
 
@@ -30,7 +30,9 @@ def words_of(words):
     what = parser.add_mutually_exclusive_group(required=True)
     what.add_argument("--sessions", action="store_true")
     what.add_argument("--self", action="store_true", dest="alone")
-    parser.add_argument("--no-recovery", action="store_true")
+    lacks = parser.add_mutually_exclusive_group()
+    lacks.add_argument("--no-files", action="store_true")
+    lacks.add_argument("--no-recovery", action="store_true")
     parser.add_argument("--wild", action="store_true")
     parser.add_argument("--runs", type=int, default=1000)
     parser.add_argument("--seed", type=int, default=1)
@@ -42,7 +44,8 @@ def main(words):
     asked = words_of(words)
     if asked.alone:
         return self_check.check(asked.runs, asked.seed)
-    return beside_rx.compare(os.path.abspath(asked.rx), asked.runs, asked.seed, not asked.no_recovery, asked.wild)
+    rx = beside_rx.Rx(os.path.abspath(asked.rx), not asked.no_recovery, not asked.no_recovery and not asked.no_files)
+    return beside_rx.compare(rx, asked.runs, asked.seed, asked.wild)
 
 
 if __name__ == "__main__":

@@ -2,7 +2,7 @@
 
 Programs, inputs and options are those of `self_check`, over a trunk and with no failing call. The words of the command stand in any
 order, and some options are left out. Output, status and what standard error tells of the answer are compared, and of an rx that
-recovers the record and the report too, byte for byte. In some sessions the client waits behind each frame, and it is compared too
+writes them the record and the report too, byte for byte. In some sessions the client waits behind each frame, and it is compared too
 what has come by then.
 """
 
@@ -19,20 +19,33 @@ from second.command import run_session
 from second.machine import Image, MIB, executable
 from second.outside import MemoryFiles, MemorySink, MemorySource
 from second.said import answer_of, is_told
-from second.self_check import HeapWriter, KINDS, lacking
-from second.session import Options
+from second.self_check import Counts, HeapWriter, KINDS, lacking
+from second.session import Options, Session
 
 OPTIONS = ("frame", "budget", "window", "hold", "ring", "every", "frames")
 NEVER = 1 << 40  # more items than a session has
 FILES = {"r": "record", "t": "report"}
 
+Rx = collections.namedtuple("Rx", "path recovers writes_files")
+
+
+class NotedSession(Session):
+    """A session that notes whether frames were too few for a checkpoint."""
+
+    left_by_frames = False
+
+    def is_full(self):
+        full = super().is_full()
+        self.left_by_frames |= full
+        return full
+
 
 class Pair:
-    """A session at random, for both. `recovers` says whether rx recovers, `is_wild` that the program is made of random words."""
+    """A session at random, for both. `is_wild` says that the program is made of random words."""
 
-    def __init__(self, seed, recovers, is_wild):
+    def __init__(self, seed, rx, is_wild):
         rng = self.rng = random.Random(seed)
-        self.recovers, self.options = recovers, Options()
+        self.rx, self.options = rx, Options()
         drawn = inputs.some_options(rng)
         self.given = {name: getattr(drawn, name) for name in OPTIONS if rng.random() < 0.85}
         for name, value in self.given.items():
@@ -42,7 +55,7 @@ class Pair:
             self.segments = wild.some_program(rng, HeapWriter, self.options.window)
         else:
             # where the first failure is the end, half of the servers have none, and go on
-            self.segments = programs.some_server(rng, not recovers and rng.random() < 0.5)
+            self.segments = programs.some_server(rng, not rx.recovers and rng.random() < 0.5)
         events = inputs.some_events(rng, self.options.frame, large=True)
         self.stream = b"".join(trunk.frame_of(event) for event in events)
         if rng.random() < 0.25:
@@ -60,26 +73,26 @@ class Pair:
 
     def in_second_engine(self):
         """What came of it, and the files."""
-        options = self.options if self.recovers else dataclasses.replace(self.options, table=(), every=NEVER)
+        options = self.options if self.rx.recovers else dataclasses.replace(self.options, table=(), every=NEVER)
         files = MemoryFiles({"p": b""})
         link = patient.WatchedLink(MemorySource(self.stream), MemorySink())
-        return run_session(Image(*self.segments, options.window), options, link, files, self.form), files.files
+        return run_session(Image(*self.segments, options.window), options, link, files, self.form, NotedSession), files.files
 
-    def in_rx(self, rx, folder, given):
+    def in_rx(self, folder, given):
         """What it wrote, its status, standard error, and what came at a wrong time; the files stay in the folder."""
         with open(os.path.join(folder, "p"), "wb") as program:
             program.write(executable(*self.segments))
         if self.is_patient:
-            return patient.run([rx] + self.words, folder, self.stream, given)
-        done = subprocess.run([rx] + self.words, input=self.stream, capture_output=True, check=False, cwd=folder)
+            return patient.run([self.rx.path] + self.words, folder, self.stream, given)
+        done = subprocess.run([self.rx.path] + self.words, input=self.stream, capture_output=True, check=False, cwd=folder)
         return done.stdout, done.returncode, done.stderr.decode(errors="replace"), None
 
-    def differences(self, rx):
+    def differences(self):
         """What came of it in the second engine, and a line for each thing in which rx differs."""
         done, files = self.in_second_engine()
         output, found = done.session.link.sink.content, []
         with tempfile.TemporaryDirectory() as folder:
-            theirs, status, said, wrong = self.in_rx(rx, folder, done.session.link.given)
+            theirs, status, said, wrong = self.in_rx(folder, done.session.link.given)
             if wrong:
                 found.append("time: " + wrong)
             if theirs != output:
@@ -88,7 +101,7 @@ class Pair:
             told = answer_of(status, said, self.options.budget)
             if status != done.status or not is_told(done.answer, told):
                 found.append("answer: %s in place of %s" % (told, done.answer))
-            for name in FILES if self.recovers else ():
+            for name in FILES if self.rx.writes_files else ():
                 if content_of(os.path.join(folder, name)) != files[name]:
                     found.append(FILES[name])
         return done, found
@@ -107,8 +120,9 @@ def content_of(path):
 class Seen:
     """How often each answer and cause came, and what else a comparison should have had."""
 
-    def __init__(self):
+    def __init__(self, recovers):
         self.answers, self.causes, self.sums = collections.Counter(), collections.Counter(), collections.Counter()
+        self.recovers, self.recoveries = recovers, Counts()
 
     def session(self, pair, done):
         answer, machine, link = done.answer, done.session.survivor, done.session.link
@@ -120,24 +134,36 @@ class Seen:
         self.sums.update({"items": machine.taken, "bytes of output": len(link.sink.content), "choices": len(machine.choices),
                           "instructions": machine.steps, "sessions of several connections": len(link.spans.opened) > 1,
                           "sessions that send where a block stands": tells, "sessions with a hold": done.session.options.hold > 0,
-                          "sessions with waits": pair.is_patient, "episodes": len(done.session.notes.episodes)})
+                          "sessions with waits": pair.is_patient})
+        if self.recovers:
+            self.recovery(done.session)
+
+    def recovery(self, session):
+        episodes = session.notes.episodes
+        self.sums.update({"episodes": len(episodes), "sessions with an episode": bool(episodes), "sessions with several": len(episodes) > 1,
+                          "sessions whose frames dropped a checkpoint": session.left_by_frames})
+        for episode in episodes:
+            self.recoveries.episode(episode)
 
     def lines(self):
-        found = [", ".join("%s %d" % pair for pair in sorted(counter.items())) for counter in (self.answers, self.causes, self.sums)]
-        kinds = {name: KINDS[name] for name in ("answers", "causes")}
-        missing = lacking(kinds, {"answers": self.answers, "causes": self.causes})
+        counters = {"answers": self.answers, "causes": self.causes}
+        if self.recovers:
+            counters = {"answers": self.answers, **self.recoveries.of}  # the causes are those of all failures
+        found = ["%s: %s" % (name, ", ".join("%s %d" % pair for pair in sorted(counter.items())))
+                 for name, counter in (*counters.items(), ("sums", self.sums))]
+        missing = lacking({name: KINDS[name] for name in counters}, counters)
         # a session of a million items or of a fault outside isn't among these
         apart = ("LimitItems", "LimitEvents", "ReadFault", "WriteFault", "FileFault")
         missing = [what for what in missing if not what.startswith(apart)]
         return found + ["not seen: " + ", ".join(missing)] * bool(missing)
 
 
-def compare(rx, runs, seed, recovers=True, is_wild=False):
+def compare(rx, runs, seed, is_wild=False):
     """Compares so many sessions; how many differ."""
-    seen, wrong = Seen(), 0
+    seen, wrong = Seen(rx.recovers), 0
     for number in range(runs):
-        pair = Pair("%d %d" % (seed, number), recovers, is_wild)
-        done, found = pair.differences(rx)
+        pair = Pair("%d %d" % (seed, number), rx, is_wild)
+        done, found = pair.differences()
         seen.session(pair, done)
         if found:
             wrong += 1
