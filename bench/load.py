@@ -29,6 +29,7 @@ import tempfile
 import threading
 import time
 
+from running import Server
 from second.trunk import OPENS, frame, piece_frame
 
 HERE = os.path.dirname(os.path.abspath(__file__))
@@ -51,55 +52,6 @@ def message(number):
 def messages(first, count, connections):
     """The frames of so many messages, which are the frames of the replies too."""
     return b"".join(piece_frame(number * STEP % connections, message(number)) for number in range(first, first + count))
-
-
-class Server:
-    """An rx that runs, with pipes to it and from it."""
-
-    def __init__(self, rx, folder):
-        self.said = tempfile.TemporaryFile()
-        words = [rx, "run", ECHO, "--record", folder + "/record", "--report", folder + "/report", "--frame", "line"]
-        self.process = subprocess.Popen(words, stdin=subprocess.PIPE, stdout=subprocess.PIPE, stderr=self.said, bufsize=0)
-        self.clock = ~self.process.pid << 3 | 2  # the processor time of another process, of Linux
-        os.sched_setaffinity(self.process.pid, {max(os.sched_getaffinity(0))})  # that all sessions have the same neighbours
-
-    def seconds(self):
-        return time.clock_gettime(self.clock)
-
-    def memory(self, name):
-        """A line of /proc/PID/status in bytes."""
-        with open("/proc/%d/status" % self.process.pid, encoding="ascii") as lines:
-            return next(int(line.split()[1]) * 1024 for line in lines if line.startswith(name + ":"))
-
-    def give(self, content):
-        left = memoryview(content)
-        while left:
-            left = left[self.process.stdin.write(left):]
-
-    def replies(self, expected):
-        """Reads as many bytes as expected, and compares."""
-        came = b""
-        while len(came) < len(expected):
-            more = self.process.stdout.read(len(expected) - len(came))
-            if not more:
-                break
-            came += more
-        if came != expected:
-            at = len(os.path.commonprefix([came, expected]))
-            self.fail("reply differs: %r came in place of %r" % (came[at:at + 40], expected[at:at + 40]))
-
-    def fail(self, what):
-        self.process.kill()
-        status = self.process.wait()
-        self.said.seek(0)
-        sys.exit("%s; status %d; %s" % (what, status, self.said.read().decode(errors="replace")))
-
-    def end(self):
-        """Ends the input. The status, what is left of the output, and standard error."""
-        self.process.stdin.close()
-        rest, status = self.process.stdout.read(), self.process.wait()
-        self.said.seek(0)
-        return status, rest, self.said.read().decode(errors="replace")
 
 
 class Load:
@@ -169,7 +121,7 @@ def by_turns(load, fresh, count):
 def measure(rx, connections, count, part, is_over):
     """A session of so many messages; whether all is right."""
     with tempfile.TemporaryDirectory() as folder:
-        server = Server(rx, folder)
+        server = Server(rx, ECHO, folder, ["--frame", "line"])
         load = Load(server, connections)
         time.sleep(0.2)
         begun = (server.memory("VmHWM"), server.memory("VmRSS"))
@@ -179,7 +131,7 @@ def measure(rx, connections, count, part, is_over):
         for fifth in range(5):
             load.part("between, part %d" % (fifth + 1), between * (fifth + 1) // 5 - between * fifth // 5)
         load.part("near the end", part)
-        fresh = Load(Server(rx, folder), connections)
+        fresh = Load(Server(rx, ECHO, folder, ["--frame", "line"]), connections)
         fresh.part("opens", 1, opens(connections))
         ratio = by_turns(load, fresh, part)
         table(load, begun)

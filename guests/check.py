@@ -96,7 +96,7 @@ def run(engine, program, framing, frames):
 
 # ---- what an rx can do
 
-LINES, MALLOC, RECOVERY = "lines of several connections", "malloc and free", "recovery"
+LINES, MALLOC, RECOVERY, REPORTS = "lines of several connections", "malloc and free", "recovery", "reports"
 BAD_WORDS, INPUT_REFUSED, GAVE_UP = 2, 4, 5
 
 ALLOCATES = "li a0, 16\nli a7, 3\necall\n"
@@ -114,7 +114,7 @@ def run_text(engine, text):
 
 
 def abilities(rx):
-    """What an rx can do of the three. It can't where it refuses to; what it does wrong isn't looked at here."""
+    """What an rx can do of the four. It can't where it refuses to; what it does wrong isn't looked at here."""
     found = set()
     frames = frame(OPENS, 0) + frame(OPENS, 1)
     if run(rx, os.path.join(HERE, "echo"), "line", frames).status not in (BAD_WORDS, INPUT_REFUSED):
@@ -122,8 +122,10 @@ def abilities(rx):
     if run_text(rx, ALLOCATES + EXITS).status != GAVE_UP:
         found.add(MALLOC)
     freed_twice = run_text(rx, ALLOCATES + FREES_TWICE + EXITS)
-    if freed_twice.status != GAVE_UP or "\ntry " in freed_twice.report:
+    if freed_twice.status != GAVE_UP:
         found.add(RECOVERY)
+    if "\ntry " in freed_twice.report:
+        found.add(REPORTS)
     return found
 
 
@@ -295,7 +297,7 @@ class Check:
     def __init__(self, rx):
         self.rx, self.wrong = rx, 0
         self.can = abilities([rx]) if rx else set()
-        for missing in [need for need in (LINES, MALLOC, RECOVERY) if rx and need not in self.can]:
+        for missing in [need for need in (LINES, MALLOC, RECOVERY, REPORTS) if rx and need not in self.can]:
             print("this rx has no %s yet" % missing)
 
     def say(self, name, holds, right, wrong):
@@ -323,7 +325,7 @@ class Check:
             wrong = "ends with status %d in place of %d" % (came.status, guest.status) if came.status != guest.status else None
         self.say(guest.name, wrong is None, "replies as it should, in " + where, "%s, in %s" % (wrong, where))
         if guest.failures:
-            teller, where = self.engine(guest.needs + [RECOVERY])
+            teller, where = self.engine(guest.needs + [REPORTS])
             told = came if teller == engine else run(teller, program, guest.framing, guest.talk.frames)
             failures = failures_of(told.report)
             ends = "gives up" if guest.status else "is recovered"
