@@ -3,10 +3,12 @@
 
 1. A server fails at a message behind thousands of others: the time from this message to its reply, recovery included, beside that of
    a server that is begun anew and is given all messages. Guest keys is helped by the first try; guests/dangling by the 14th, from
-   before the second last message but one. The peer's session has the fewest checkpoints that the words of `rx run` allow.
+   before the third last message. The peer's session has the fewest checkpoints that the words of `rx run` allow.
 2. A checkpoint at each message, in a ring of 8, of a window of 64 MiB of which one page is written between, beside the fork of a process
    with 64 MiB (fork_peer.c, by gcc). A checkpoint is the difference of two sessions, with --every 1 and with --every 64.
-3. A session of thousands of messages with --every 1, beside the same with --every 64.
+3. Sessions of thousands of messages with --every 1, beside the same with --every 64: in guest keys, where a message takes about 1700
+   instructions, in guests/store, where it takes 340, and lines of 800 letters in guests/upper, where they take 17,700. The processor time
+   for a message, and the time to its reply where one is given after another.
 4. Instructions a second, on the programs of speed.py, beside an rx that has no recovery (--before). With --count the host's instructions
    for one of the guest too, by valgrind's callgrind.
 
@@ -37,6 +39,7 @@ HERE = os.path.dirname(os.path.abspath(__file__))
 
 RAREST = 64  # --every
 ALONE = 200  # messages that are given one by one
+FORKS = 500  # of a run of the peer
 OPEN = (frame(OPENS, 0), b"")
 
 # A server with a block of 60 MiB, each page of which was written. It receives into the first one, and sends from there.
@@ -82,16 +85,21 @@ def line(given, reply):
     return piece_frame(0, given), piece_frame(0, reply)
 
 
-def keys_talk(count):
+def sets_and_gets(count):
     """Sets and gets of 100 keys, by turns."""
     pairs, values = [OPEN], {}
-    for number in range(count - 1):
+    for number in range(count):
         key = b"key%02d" % (number * 37 // 2 % 100)
         if number % 2 == 0:
             values[key] = b"value%d" % number
             pairs.append(line(b"set %s %s\n" % (key, values[key]), b"ok\n"))
         else:
             pairs.append(line(b"get %s\n" % key, values.get(key, b"none") + b"\n"))
+    return pairs
+
+
+def keys_talk(count):
+    pairs = sets_and_gets(count - 1)
     return pairs, line(b"set %s value\n" % (b"k" * 17), b"ok\n"), line(b"set %s value\n" % (b"k" * 16), b"ok\n")
 
 
@@ -103,12 +111,34 @@ def rooms_talk(count):
     return pairs, left, looks[1]
 
 
-def talks(folder, count):
-    keys = os.path.join(folder, "keys")
-    with open(keys, "wb") as file:
+def long_lines(count):
+    """Lines of 800 letters, half of them in one word of each line, in upper case."""
+    text = b"a" * 400 + b" bcd" * 100
+    told = b"\nmessage %d: 101 words of 6.93 letters; in all %d words, the longest of 400, the most frequent letter A\n"
+    return [OPEN] + [line(text + b"\n", text.upper() + told % (number, 101 * number)) for number in range(1, count + 1)]
+
+
+def in_c(name):
+    return os.path.join(HERE, "..", "guests", name)
+
+
+def keys_in(folder):
+    path = os.path.join(folder, "keys")
+    with open(path, "wb") as file:
         file.write(executable(*program("keys")))
-    yield Talk("keys", keys, *keys_talk(count))
-    yield Talk("dangling", os.path.join(HERE, "..", "guests", "dangling"), *rooms_talk(count))
+    return path
+
+
+def failing_talks(folder, count):
+    yield Talk("keys", keys_in(folder), *keys_talk(count))
+    yield Talk("dangling", in_c("dangling"), *rooms_talk(count))
+
+
+def busy_talks(folder, count):
+    """Name, program, and frames and replies of sessions without failure."""
+    yield "keys", keys_in(folder), sets_and_gets(count)
+    yield "store", in_c("store"), sets_and_gets(count)
+    yield "upper", in_c("upper"), long_lines(count // 4)
 
 
 # ---- figures
@@ -158,26 +188,30 @@ def replies_after_a_failure(rx, folder, talk, runs):
                   "%.1f ms, begun anew" % (1e3 * theirs), "%.0f times faster" % times, "at least 50", times >= 50)
 
 
-def by_turns(servers, pairs):
-    """The processor time of each of several servers for the same messages, which they are given by turns."""
-    sums = [0.0] * len(servers)
-    for first in range(0, len(pairs), AT_ONCE):
-        for number, server in enumerate(servers):
-            began = server.seconds()
-            server.ask(pairs[first:first + AT_ONCE])
-            sums[number] += server.seconds() - began
-    return sums
+def by_turns(servers, pairs, at_once=AT_ONCE):
+    """Gives each of several servers the same messages, by turns; of each server the middle of its turns, for a message."""
+    turns = [[] for _ in servers]
+    for first in range(0, len(pairs), at_once):
+        block = pairs[first:first + at_once]
+        for server, of_server in zip(servers, turns):
+            processor, wall = server.seconds(), time.monotonic()
+            server.ask(block)
+            wall = time.monotonic() - wall
+            of_server.append(Spent((server.seconds() - processor) / len(block), wall / len(block)))
+    return [middle(of_server) for of_server in turns]
 
 
 def often_and_rarely(rx, folder, path, pairs, options=()):
-    """The processor time for the messages, behind the first ones, with --every 1 and with the rarest checkpoints."""
+    """Two sessions, with --every 1 and with the rarest checkpoints, behind the first messages: the processor time for a message where
+    many are given at once, and the time to its reply where one is given."""
     servers = [Server(rx, path, folder, ["--every", str(every), *options]) for every in (1, RAREST)]
     for server in servers:
         server.ask(pairs[:AT_ONCE])
-    sums = by_turns(servers, pairs[AT_ONCE:])
+    processor = [spent.processor for spent in by_turns(servers, pairs[AT_ONCE:-ALONE])]
+    wall = [spent.wall for spent in by_turns(servers, pairs[-ALONE:], 1)]
     for server in servers:
         server.finish()
-    return sums
+    return Spent(processor, wall)
 
 
 def checkpoint(rx, folder, messages, runs):
@@ -185,14 +219,14 @@ def checkpoint(rx, folder, messages, runs):
     with open(path, "wb") as file:
         file.write(executable(*assemble(LARGE)))
     subprocess.run(["gcc", "-O2", "-o", peer, os.path.join(HERE, "fork_peer.c")], check=True)
-    pairs, ours, theirs, whole = [OPEN] + [line(b"m%06d\n" % number, b"m%06d\n" % number) for number in range(messages)], [], [], []
+    pairs = [OPEN] + [line(b"m%06d\n" % number, b"m%06d\n" % number) for number in range(messages)]
+    ours, theirs, whole = [], [], []
     for _ in range(runs):
-        often, rarely = often_and_rarely(rx, folder, path, pairs, ["--window", "64", "--ring", "8"])
-        of_one = len(pairs) - AT_ONCE
-        ours.append((often - rarely) / of_one * RAREST / (RAREST - 1))
-        whole.append(often / of_one)
-        forked = subprocess.run([peer, "64", str(messages), str(last_processor())], capture_output=True, text=True, check=True)
-        theirs.append(float(forked.stdout) / messages)
+        often, rarely = often_and_rarely(rx, folder, path, pairs, ["--window", "64", "--ring", "8"]).processor
+        ours.append((often - rarely) * RAREST / (RAREST - 1))
+        whole.append(often)
+        forked = subprocess.run([peer, "64", str(FORKS), str(last_processor())], capture_output=True, text=True, check=True)
+        theirs.append(float(forked.stdout) / FORKS)
     ours, theirs, whole = (1e6 * statistics.median(times) for times in (ours, theirs, whole))
     times = theirs / ours
     return Row("a checkpoint of 64 MiB at each message, processor", "%.1f us (the whole message %.1f us)" % (ours, whole),
@@ -200,12 +234,14 @@ def checkpoint(rx, folder, messages, runs):
 
 
 def every_message(rx, folder, talk, runs):
-    sums = [often_and_rarely(rx, folder, talk.path, talk.before) for _ in range(runs)]
-    count = len(talk.before) - AT_ONCE
-    often, rarely = (1e6 * statistics.median(times) / count for times in zip(*sums))
-    times = statistics.median(often / rarely for often, rarely in sums)
-    return Row("a message of %s, --every 1, processor" % talk.name, "%.2f us" % often, "%.2f us, --every %d" % (rarely, RAREST),
-               "%.3f of the time" % times, "at most 1.1", times <= 1.1)
+    name, path, pairs = talk
+    of_runs = [often_and_rarely(rx, folder, path, pairs) for _ in range(runs)]
+    for kind in Spent._fields:
+        of_kind = [getattr(one, kind) for one in of_runs]
+        often, rarely = (1e6 * statistics.median(times) for times in zip(*of_kind))
+        times = statistics.median(often / rarely for often, rarely in of_kind)
+        yield Row("a message of %s, --every 1, %s" % (name, kind), "%.2f us" % often, "%.2f us, --every %d" % (rarely, RAREST),
+                  "%.3f of the time" % times, "at most 1.1", times <= 1.1)
 
 
 def instructions(rx, before, folder, runs, is_counted):
@@ -249,11 +285,11 @@ def table(rows):
 def measure(asked):
     rx, rows = os.path.abspath(asked.rx), []
     with tempfile.TemporaryDirectory() as folder:
-        of_talk = list(talks(folder, asked.messages))
-        for talk in of_talk:
+        for talk in failing_talks(folder, asked.messages):
             rows += replies_after_a_failure(rx, folder, talk, asked.runs)
         rows.append(checkpoint(rx, folder, asked.messages, asked.runs))
-        rows += [every_message(rx, folder, talk, asked.runs) for talk in of_talk]
+        for talk in busy_talks(folder, asked.messages):
+            rows += every_message(rx, folder, talk, asked.runs)
         if asked.before:
             rows += instructions(rx, os.path.abspath(asked.before), folder, asked.runs, asked.count)
     table(rows)

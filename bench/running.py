@@ -6,7 +6,8 @@ import sys
 import tempfile
 import time
 
-AT_ONCE = 500  # messages in one write, whose replies fit in a pipe
+AT_ONCE = 500  # messages in one write
+IN_A_PIPE = 1 << 15  # bytes of a write, and of its replies, that pipes surely hold
 
 
 def last_processor():
@@ -51,9 +52,11 @@ class Server:
             self.fail("reply differs: %r came in place of %r" % (came[at:at + 40], expected[at:at + 40]))
 
     def ask(self, pairs):
-        """Gives frames and reads the replies, pairs of bytes, a block of them at a time."""
-        for first in range(0, len(pairs), AT_ONCE):
-            block = pairs[first:first + AT_ONCE]
+        """Gives frames and reads the replies, pairs of bytes, as many at a time as pipes hold."""
+        most = max((max(len(given), len(reply)) for given, reply in pairs), default=1)
+        at_once = max(1, min(AT_ONCE, IN_A_PIPE // most))
+        for first in range(0, len(pairs), at_once):
+            block = pairs[first:first + at_once]
             self.give(b"".join(given for given, _ in block))
             self.replies(b"".join(reply for _, reply in block))
 
