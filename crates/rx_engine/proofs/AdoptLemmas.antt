@@ -150,7 +150,7 @@ module _ {R : Type 0} where
       let g = f.going in
       let story : Story = g.story in
       let same : replies ≡ old.replies = ledger ∙ discards_none old.replies g.passed.no_trial in
-      let given_up : HasGivenUp rules image (entries story) story.survivor trials cause = record { ring = g.saved.paths; recovers = was; none = none } in
+      let given_up : HasGivenUp rules image (entries story) story.survivor trials cause = record { ring = g.saved.paths; some = g.saved.ring.some; recovers = was; none = none } in
       record {
         story = story;
         trials = trials;

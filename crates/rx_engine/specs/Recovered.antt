@@ -1,5 +1,5 @@
 -- What a session leaves that recovered its program.
-use Rattle.std.specs.Prelude.{◌≡◌, ◌≢◌, ◌⊎◌, ℕ, ◌+◌, ◌-◌, List, [], map, sum, Bool, Option, None}
+use Rattle.std.specs.Prelude.{◌≡◌, ◌≢◌, ◌⊎◌, ℕ, ◌+◌, ◌-◌, ◌<◌, List, [], length, map, sum, Bool, Option, None}
 use Rattle.block_book.specs.declared.choice.Choice.{Choice}
 use Rattle.rx_io.specs.Links.{Told, Coming}
 use Rattle.elf_image.specs.declared.image.Image.{Image}
@@ -20,9 +20,10 @@ use Rattle.trial_plan.specs.Trying.{steps_of}
 abbrev pub spent : List Recovery → ℕ
 spent recoveries = sum (map (λ (recovery : Recovery). (recovery.survivor.now.steps - recovery.survivor.begun.steps) + steps_of recovery.trials) recoveries)
 
--- the last survivor failed by this cause, and none of these trials, a walk over all of its checkpoints, survived
+-- the last survivor failed by this cause, and none of these trials, a walk over all of its checkpoints, at least one, survived
 pub record HasGivenUp (rules : Rules) (image : Image) (entries : List Entry) (survivor : Survivor) (trials : List Trial) (cause : Cause) : Type 0 where
   pub ring : List Path
+  pub some : 0 < length ring
   pub recovers : IsRecovery rules image entries (record { survivor = survivor; cause = cause; ring = ring; trials = trials })
   pub none : survivor_in trials ≡ None
 
