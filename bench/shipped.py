@@ -117,6 +117,8 @@ WITH_FAULT = [
     Run("tell_over", "", lines_in(b"a\n"), out((0, told(HEAP))), gave_up(2, "AssertFailed 5")),
     # held back when it fails, and passed at the end
     Run("tell_over", "--hold 2", lines_in(b"a\n"), out((0, told(HEAP))), gave_up(2, "AssertFailed 5"), (out((0, told(HEAP + 256))), FINISHED)),
+    # `a` was sent before the failure, and isn't written a second time
+    Run("late", "", lines_in(b"x\n"), out((0, b"a\n")), gave_up(2, "BadFree"), (out((0, b"a\n")), FINISHED)),
     Run("pair", "", GO, out((0, b"a\n")), gave_up(3, "BadFree"), (out((0, b"a\n"), (1, b"b\n")), FINISHED)),
 ]
 
