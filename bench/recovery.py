@@ -40,6 +40,7 @@ HERE = os.path.dirname(os.path.abspath(__file__))
 RAREST = 64  # --every
 ALONE = 200  # messages that are given one by one
 FORKS = 500  # of a run of the peer
+ASKED = 56  # messages of the programs of speed.py
 OPEN = (frame(OPENS, 0), b"")
 
 # A server with a block of 60 MiB, each page of which was written. It receives into the first one, and sends from there.
@@ -244,18 +245,23 @@ def every_message(rx, folder, talk, runs):
                   "%.3f of the time" % times, "at most 1.1", times <= 1.1)
 
 
+def timed_pair(words, frames, output, first):
+    """The processor times of the two commands, one after the other; which of them goes first is told."""
+    times = [None, None]
+    for which in (first, 1 - first):
+        times[which] = speed.timed(words[which], frames, output)[0]
+    return times
+
+
 def instructions(rx, before, folder, runs, is_counted):
     """A row for each program of speed.py."""
     both = [speed.Engines(path, [], None, folder) for path in (rx, before)]
-    frames, output = speed.conversation(112)
+    frames, output = speed.conversation(ASKED)
     for name, of_speed in speed.PROGRAMS:
         words = [engines.words(of_speed)[0] for engines in both]
-        ours, theirs = [], []
-        for _ in range(runs):
-            ours.append(speed.timed(words[0], frames, output)[0])
-            theirs.append(speed.timed(words[1], frames, output)[0])
-        times = statistics.median(other / one for one, other in zip(ours, theirs))
-        millions = [of_speed.steps(112) / min(several) / 1e6 for several in (ours, theirs)]
+        pairs = [timed_pair(words, frames, output, number % 2) for number in range(4 * runs)]
+        times = statistics.median(theirs / ours for ours, theirs in pairs)
+        millions = [of_speed.steps(ASKED) / min(several) / 1e6 for several in zip(*pairs)]
         yield Row("instructions a second, %s" % name, "%.1f million" % millions[0], "%.1f million, without recovery" % millions[1],
                   "%.3f of the speed" % times, "at least 0.97", times >= 0.97)
         if is_counted:
@@ -284,6 +290,7 @@ def table(rows):
 
 def measure(asked):
     rx, rows = os.path.abspath(asked.rx), []
+    os.sched_setaffinity(0, {last_processor()})
     with tempfile.TemporaryDirectory() as folder:
         for talk in failing_talks(folder, asked.messages):
             rows += replies_after_a_failure(rx, folder, talk, asked.runs)
