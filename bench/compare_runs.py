@@ -8,11 +8,12 @@ With --sessions, sessions at random run in both: servers with planted faults of 
 connections, in each framing; with options at random, in any order; at times a trunk that breaks a rule of the grammar. Compared are
 standard output, the status, the answer as standard error tells it (failing point and cause, refusal and offset, connection, code), and
 the record and the report. An rx that recovers and writes neither of them yet is compared with --no-files, in all else. Where rx doesn't
-recover either, --no-recovery takes each first failure for the end. With --wild all programs are of pseudo-random words.
+recover either, --no-recovery takes each first failure for the end. With --wild all programs are of pseudo-random words, and
+with --long sessions have up to 250 messages or more, a ring and frames of any size, and a wider hold and --every.
 
 With --self no rx is run: whole sessions of the second engine are checked against what each of them promises, and counted.
 
-usage: compare_runs.py (--sessions [--no-files | --no-recovery] [--wild] | --self) [--runs N] [--seed N] [RX]
+usage: compare_runs.py (--sessions [--no-files | --no-recovery] [--wild] [--long] | --self) [--runs N] [--seed N] [RX]
 RX is the built rx, crates/rx/out/rx unless it is given.
 """
 
@@ -34,6 +35,7 @@ def words_of(words):
     lacks.add_argument("--no-files", action="store_true")
     lacks.add_argument("--no-recovery", action="store_true")
     parser.add_argument("--wild", action="store_true")
+    parser.add_argument("--long", action="store_true")
     parser.add_argument("--runs", type=int, default=1000)
     parser.add_argument("--seed", type=int, default=1)
     parser.add_argument("rx", nargs="?", default=os.path.join(HERE, "..", "crates", "rx", "out", "rx"))
@@ -45,7 +47,7 @@ def main(words):
     if asked.alone:
         return self_check.check(asked.runs, asked.seed)
     rx = beside_rx.Rx(os.path.abspath(asked.rx), not asked.no_recovery, not asked.no_recovery and not asked.no_files)
-    return beside_rx.compare(rx, asked.runs, asked.seed, asked.wild)
+    return beside_rx.compare(rx, asked.runs, asked.seed, asked.wild, asked.long)
 
 
 if __name__ == "__main__":

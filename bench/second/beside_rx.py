@@ -41,12 +41,12 @@ class NotedSession(Session):
 
 
 class Pair:
-    """A session at random, for both. `is_wild` says that the program is made of random words."""
+    """A session at random, for both. `is_wild` says that the program is made of random words, `is_long` that there are many messages."""
 
-    def __init__(self, seed, rx, is_wild):
+    def __init__(self, seed, rx, is_wild, is_long):
         rng = self.rng = random.Random(seed)
         self.rx, self.options = rx, Options()
-        drawn = inputs.some_options(rng)
+        drawn = inputs.wide_options(rng) if is_long else inputs.some_options(rng)
         self.given = {name: getattr(drawn, name) for name in OPTIONS if rng.random() < 0.85}
         for name, value in self.given.items():
             setattr(self.options, name, value)
@@ -56,7 +56,8 @@ class Pair:
         else:
             # where the first failure is the end, half of the servers have none, and go on
             self.segments = programs.some_server(rng, not rx.recovers and rng.random() < 0.5)
-        events = inputs.some_events(rng, self.options.frame, large=True)
+        frame = self.options.frame
+        events = inputs.many_events(rng, frame) if is_long else inputs.some_events(rng, frame, large=True)
         self.stream = b"".join(trunk.frame_of(event) for event in events)
         if rng.random() < 0.25:
             self.stream = inputs.break_stream(rng, events)
@@ -158,11 +159,11 @@ class Seen:
         return found + ["not seen: " + ", ".join(missing)] * bool(missing)
 
 
-def compare(rx, runs, seed, is_wild=False):
+def compare(rx, runs, seed, is_wild=False, is_long=False):
     """Compares so many sessions; how many differ."""
     seen, wrong = Seen(rx.recovers), 0
     for number in range(runs):
-        pair = Pair("%d %d" % (seed, number), rx, is_wild)
+        pair = Pair("%d %d" % (seed, number), rx, is_wild, is_long)
         done, found = pair.differences()
         seen.session(pair, done)
         if found:

@@ -1,5 +1,6 @@
 """What clients do, at random: connections that open, send in any cut, settle and close; streams that break the grammar; and options."""
 
+import dataclasses
 import struct
 
 from second import trunk
@@ -9,6 +10,7 @@ from second.session import Options
 
 NUMBERS = [0, 1, 2, 3, 4095]
 MOST_PIECE = 65535
+TOO_LONG = 0.01  # how likely a message is about too long
 
 
 def some_message(rng):
@@ -17,11 +19,11 @@ def some_message(rng):
     return bytes(rng.choice(b"abcdefgh") for _ in range(length))
 
 
-def framed(rng, frame, message):
+def framed(rng, frame, message, too_long=TOO_LONG):
     if frame == LINE:
         return message + b"\n"
     if frame == LENGTH:
-        length = len(message) if rng.random() < 0.99 else 4097
+        length = len(message) if rng.random() < 1 - too_long else 4097
         return struct.pack("<I", length) + message
     return message
 
@@ -36,17 +38,17 @@ def cuts(rng, content):
     return pieces
 
 
-def some_pieces(rng, frame, large):
+def some_pieces(rng, frame, large, too_long=TOO_LONG):
     """The pieces of a message or a few, or an empty piece; where `large` says so, now and then a piece as large as a frame holds."""
     kind = rng.random()
     if kind < 0.03:
         return [b""]
-    content = framed(rng, frame, some_message(rng))
+    content = framed(rng, frame, some_message(rng), too_long)
     if kind < 0.15:
-        content += framed(rng, frame, some_message(rng))
+        content += framed(rng, frame, some_message(rng), too_long)
     if kind < 0.25:
         return cuts(rng, content)
-    if kind < 0.26:
+    if kind < 0.25 + too_long:
         return [b"z" * rng.choice([4096, 4097])]
     if kind < 0.265 and large:
         return [(framed(rng, frame, b"y" * 4090) * 17)[:MOST_PIECE]]
@@ -55,6 +57,8 @@ def some_pieces(rng, frame, large):
 
 class Clients:
     """Writes the events of a session."""
+
+    ACTS, TOO_LONG = [4, 8, 12, 20, 30], TOO_LONG
 
     def __init__(self, rng, frame, large):
         self.rng, self.frame, self.large, self.events = rng, frame, large, []
@@ -74,19 +78,38 @@ class Clients:
         elif kind < 0.26:
             self.events.append(("settles",))
         else:
-            connection = rng.choice(self.open)
-            self.events += [("piece", connection, piece) for piece in some_pieces(rng, self.frame, self.large)]
+            self.say()
+
+    def say(self):
+        connection = self.rng.choice(self.open)
+        self.events += [("piece", connection, piece) for piece in some_pieces(self.rng, self.frame, self.large, self.TOO_LONG)]
 
     def session(self):
-        for _ in range(self.rng.choice([4, 8, 12, 20, 30])):
+        for _ in range(self.rng.choice(self.ACTS)):
             self.act()
         if self.rng.random() < 0.3:
             self.events += [("closes", connection) for connection in self.open]
         return self.events
 
 
+class SteadyClients(Clients):
+    """Clients of a long session, who seldom open, settle or close."""
+
+    ACTS, TOO_LONG = [60, 120, 250], 0.001
+
+    def act(self):
+        if self.open and self.rng.random() < 0.8:
+            self.say()
+        else:
+            super().act()
+
+
 def some_events(rng, frame, large=False):
     return Clients(rng, frame, large).session()
+
+
+def many_events(rng, frame):
+    return SteadyClients(rng, frame, False).session()
 
 
 def break_stream(rng, events):
@@ -129,3 +152,9 @@ def some_options(rng):
         every=rng.choice([1, 1, 1, 2, 3, 10]),
         frames=rng.choice([2, 3, 3, 4, 16]),
         budget=rng.choice([400, 2000, 5000, 5000, 5000, 20000]))
+
+
+def wide_options(rng):
+    """Options of which ring and frames have any value, and hold and every large ones too."""
+    return dataclasses.replace(some_options(rng), ring=rng.randrange(1, 17), frames=rng.randrange(2, 17),
+                               every=rng.choice([1, 1, 2, 5, 16, 64]), hold=rng.choice([0, 0, 1, 3, 20, 100]))
