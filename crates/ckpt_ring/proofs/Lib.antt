@@ -2,3 +2,4 @@ pub mod KeptLemmas
 pub mod RingLemmas
 pub mod SlotLemmas
 pub mod SoundLemmas
+pub mod ReplaceLemmas

@@ -1,7 +1,7 @@
 // The ring of checkpoints.
-ghost use Rattle.std.specs.Prelude.{◌≡◌, ◌==◌, ◌<◌, ◌≤◌, ℕ, [], length, drop, true, Some, Contains, IfOk, IsSomeAnd};
+ghost use Rattle.std.specs.Prelude.{◌≡◌, ◌==◌, ◌+◌, ◌<◌, ◌≤◌, ℕ, [], length, drop, true, nat_le, Some, Contains, IfOk, IsSomeAnd};
 ghost use Rattle.std.specs.List.{list_any};
-ghost use Rattle.ckpt_ring.specs.Slots.{AreSound, slot_numbers, newest_slot, restored, without_newest, without_oldest, without_newer_slots, StandsEarlier, all_numbers};
+ghost use Rattle.ckpt_ring.specs.Slots.{AreSound, slot_numbers, newest_slot, restored, without_newest, without_oldest, without_newer_slots, StandsEarlier, all_numbers, used_pages};
 ghost use Rattle.ckpt_ring.specs.Rings.{checkpoints, slots_of, checkpoints_of, has_room, from_newest, without_newer, saved_in_ring};
 
 use crate::{Checkpoint, Snapshot};
@@ -75,6 +75,10 @@ impl Ring {
         ensures fixed { T.fixed t.new ≡ T.fixed t.old }
         ensures sound { AreSound (T.slots t.new) }
     {
+        if self.may_replace(t) {
+            self.replace_oldest(t);
+            return;
+        }
         self.make_room(t);
         let slot = self.free_slot();
         let taken = t.taken();
@@ -111,6 +115,44 @@ impl Ring {
         }
     }
 
+    /// Whether as many checkpoints stand as may, and the frames suffice for one more beside them.
+    fn may_replace<T: Snapshot>(&self, t: &T) -> bool
+        ensures full { result ≡ true → length self.now.standing ≡ self.now.capacity }
+        ensures room { result ≡ true → used_pages (T.slots t.now) + (T.slots t.now).pages ≤ (T.slots t.now).frames }
+        ensures some { 1 ≤ self.now.capacity }
+        ensures sound { AreSound (T.slots t.now) }
+    {
+        let fits = has_frames(t);
+        self.buffer.is_full() && fits
+    }
+
+    /// Saves a state as the newest checkpoint in the slot of the oldest one, which is dropped.
+    fn replace_oldest<T: Snapshot>(&mut self, t: &mut T)
+        requires full { length self.old.standing ≡ self.old.capacity }
+        requires some { 1 ≤ self.old.capacity }
+        requires room { used_pages (T.slots t.old) + (T.slots t.old).pages ≤ (T.slots t.old).frames }
+        requires same { self.old.standing ≡ checkpoints_of T.taken_in (T.slots t.old).saved }
+        requires base { (T.slots t.old).base ≡ newest_slot (T.slots t.old).saved }
+        requires sound { AreSound (T.slots t.old) }
+        ensures capacity { self.new.capacity ≡ self.old.capacity }
+        ensures same { self.new.standing ≡ checkpoints_of T.taken_in (T.slots t.new).saved }
+        ensures saved { (slot : ℕ) × (T.slots t.new ≡ saved_in_ring self.old.capacity slot (T.slots t.old)) }
+        ensures base { (T.slots t.new).base ≡ newest_slot (T.slots t.new).saved }
+        ensures newest { IsSomeAnd (from_newest self.new.standing 0) (λ one. one.taken ≡ T.taken_in (T.slots t.old).live) }
+        ensures fixed { T.fixed t.new ≡ T.fixed t.old }
+        ensures sound { AreSound (T.slots t.new) }
+    {
+        let Some(oldest) = self.buffer.pop_front() else {
+            unreachable!();
+        };
+        let newest = Checkpoint {
+            slot: oldest.slot,
+            taken: t.taken(),
+        };
+        t.save_over(oldest.slot);
+        self.buffer.push_back(newest);
+    }
+
     /// Drops the oldest checkpoints until one more has room.
     fn make_room<T: Snapshot>(&mut self, t: &mut T)
         requires same { self.old.standing ≡ checkpoints_of T.taken_in (T.slots t.old).saved }
@@ -136,8 +178,7 @@ impl Ring {
         ensures some { 1 ≤ self.now.capacity }
         ensures sound { AreSound (T.slots t.now) }
     {
-        let wanted = u64::from(t.used()) + u64::from(t.pages());
-        let fits = wanted <= u64::from(t.frames());
+        let fits = has_frames(t);
         self.buffer.len() < self.buffer.capacity() && fits
     }
 
@@ -189,4 +230,13 @@ impl Ring {
         }
         stand
     }
+}
+
+/// Whether the frames suffice for one state more beside all that are saved.
+fn has_frames<T: Snapshot>(t: &T) -> bool
+    ensures room { result ≡ nat_le (used_pages (T.slots t.now) + (T.slots t.now).pages) (T.slots t.now).frames }
+    ensures sound { AreSound (T.slots t.now) }
+{
+    let wanted = u64::from(t.used()) + u64::from(t.pages());
+    wanted <= u64::from(t.frames())
 }

@@ -45,6 +45,14 @@ pub trait Snapshot {
         ensures fixed { fixed self.new ≡ fixed self.old }
         ensures sound { AreSound (slots self.new) };
 
+    /// Gives the oldest slot up, and saves the live state in it, which is the last one then. The live state stands on it.
+    fn save_over(&mut self, slot: u32)
+        requires oldest { IsOldest slot (slots self.old) }
+        requires room { used_pages (slots self.old) + (slots self.old).pages ≤ (slots self.old).frames }
+        ensures saved { slots self.new ≡ saved_to slot (without_oldest (slots self.old)) }
+        ensures fixed { fixed self.new ≡ fixed self.old }
+        ensures sound { AreSound (slots self.new) };
+
     /// How many items the live state has taken.
     fn taken(&self) -> u64
         ensures taken { result ≡ taken_in (slots self.now).live }

@@ -1,5 +1,6 @@
 pub mod Counting
 pub mod Walks
+pub mod Renewals
 pub mod Frames
 pub mod Stores
 pub mod Copying
@@ -8,3 +9,4 @@ pub mod Runs
 pub mod SlotSteps
 pub mod RunSteps
 pub mod Making
+pub mod SavingOver

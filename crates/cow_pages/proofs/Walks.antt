@@ -70,7 +70,7 @@ counting_fits initial counts table i added x so below few less is =
     let a : places x (take (i + 1) table) ≡ places x (take i table) + 1 = places-take-here i table x less is in
     omega (arith, so.each x near, places-take-drop x (i + 1) table, few x)
 
-below_front : (top x : ℕ) (xs : List ℕ) → x < top → AreBelow top xs → AreBelow top (x ∷ xs)
+pub below_front : (top x : ℕ) (xs : List ℕ) → x < top → AreBelow top xs → AreBelow top (x ∷ xs)
 below_front top x xs near below zero less = near
 below_front top x xs near below (suc k) less = below k (omega arith)
 
@@ -100,7 +100,7 @@ chosen : (b : Bool) (n : ℕ) → cond b n (n + 1) ≡ n + cond b 0 1
 chosen true n = omega arith
 chosen false n = refl
 
-different-front : (x : ℕ) (xs : List ℕ) → different (x ∷ xs) ≡ different xs + cond (nat_lt 0 (places x xs)) 0 1
+pub different-front : (x : ℕ) (xs : List ℕ) → different (x ∷ xs) ≡ different xs + cond (nat_lt 0 (places x xs)) 0 1
 different-front x xs = ap (λ b. cond b (different xs) (different xs + 1)) (has-is x xs) ∙ chosen (nat_lt 0 (places x xs)) (different xs)
 
 pub counting_more : (initial counts table : List ℕ) (i added later x : ℕ) → Counting initial counts table i added → AreBelow (length initial) table → i < length table → x ≡ get_or table i 0 → later ≡ added + cond (nat_lt 0 (get_or counts x 0)) 0 1 → Counting initial (set counts x (get_or counts x 0 + 1)) table (i + 1) later
@@ -182,7 +182,7 @@ stack_push counts after live next free x size near so same was is =
           ];
     }
 
-small : (b : Bool) → cond b 0 1 ≤ 1
+pub small : (b : Bool) → cond b 0 1 ≤ 1
 small true = omega arith
 small false = omega arith
 

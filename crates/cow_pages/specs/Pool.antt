@@ -44,6 +44,24 @@ pub record IsStack (counts live free : List ℕ) : Type 0 where
   pub below : (k : ℕ) → k < length free → slice_index free k < length counts
   pub each : (n : ℕ) → n < length counts → places n free ≡ (if nat_lt 0 (slice_index counts n) || has n live then 0 else 1)
 
+-- counts, a table, the live one and free frames that fit together: a number that both tables have stands at one place in both,
+-- the first so many numbers of the table are the live ones, and each other live one can be counted once more
+pub record IsRenewed (done : ℕ) (counts table live free : List ℕ) : Type 0 where
+  pub size : length live ≡ length table
+  pub below : (k : ℕ) → k < length table → slice_index table k < length counts
+  pub live_below : (k : ℕ) → k < length live → slice_index live k < length counts
+  pub home : (k j : ℕ) → k < length table → j < length live → slice_index table k ≡ slice_index live j → k ≡ j
+  pub once : (k j : ℕ) → k < length live → j < length live → slice_index live k ≡ slice_index live j → k ≡ j
+  pub same : (k : ℕ) → k < done → slice_index table k ≡ slice_index live k
+  pub counted : (n : ℕ) → n < length counts → places n table ≤ slice_index counts n
+  pub few : (k : ℕ) → done ≤ k → k < length live → slice_index counts (slice_index live k) < 255
+  pub stack : IsStack counts live free
+
+-- counts became those of another table, whatever numbers they count beside it: so many numbers have a count that had none,
+-- and so many have none that had one
+abbrev pub Recounts : List ℕ → List ℕ → List ℕ → List ℕ → ℕ → ℕ → Type 0
+Recounts counts table after next added removed = (numbers : List ℕ) → Counts counts (table ++ numbers) → (Counts after (next ++ numbers)) × (added + different (table ++ numbers) ≡ removed + different (next ++ numbers))
+
 -- a table has a frame for each page, and each frame is that of one page in all tables
 pub record IsTable (pages : ℕ) (homes table : List ℕ) : Type 0 where
   pub size : length table ≡ pages

@@ -7,7 +7,7 @@ ghost use Rattle.cow_pages.specs.Little.{little_number, little_bytes};
 
 use crate::little::{half_bytes, half_of, word_bytes, word_of};
 use crate::slot::{Slot, blank_slots};
-use crate::tables::{count_table, give_up, row, uncount_table};
+use crate::tables::{count_table, give_up, renew_table, row, uncount_table};
 use std::alloc::{AllocError, Global};
 use std::marker::Model;
 
@@ -276,6 +276,24 @@ impl PageStore {
             self.live.as_slice(),
             &mut self.free,
         );
+    }
+
+    /// Gives up what is saved in a slot, and saves the live space there.
+    pub fn save_over(&mut self, slot: u32)
+        requires some { IsSome (slot_at self.old slot) }
+        requires room { used_of self.old + self.old.pages ≤ self.old.frames }
+        ensures saved { self.new ≡ record self.old { slots = slice_set self.old.slots slot (Some self.old.live) } }
+        ensures held { held_of self.new ≡ used_of self.new }
+        ensures lawful { IsLawful self.new }
+    {
+        let saved = &mut self.slots[slot as usize];
+        let recount = renew_table(
+            self.counts.as_mut_slice(),
+            saved.table.as_mut_slice(),
+            self.live.as_slice(),
+            &mut self.free,
+        );
+        self.held = self.held + recount.added - recount.removed;
     }
 
     /// Makes the live space what is saved in a slot.

@@ -1,7 +1,7 @@
 // Walks over a table of frames, which change counts and free frames.
-ghost use Rattle.std.specs.Prelude.{◌≡◌, ◌≢◌, ℕ, ◌+◌, ◌*◌, ◌^◌, ◌<◌, ◌≤◌, List, ◌++◌, length, slice_index, vec_capacity, IfOk};
+ghost use Rattle.std.specs.Prelude.{◌≡◌, ◌≢◌, ℕ, ◌+◌, ◌-◌, ◌*◌, ◌^◌, ◌<◌, ◌≤◌, List, [], ◌∷◌, ◌++◌, length, true, nat_lt, if◌then◌else◌, slice_index, slice_set, vec_capacity, IfOk};
 ghost use Rattle.cow_pages.specs.Pages.{different};
-ghost use Rattle.cow_pages.specs.Pool.{places, Counts, IsStack, IsRow};
+ghost use Rattle.cow_pages.specs.Pool.{places, Counts, IsStack, IsRow, IsRenewed, Recounts};
 
 use std::alloc::{AllocError, Global};
 
@@ -64,6 +64,131 @@ pub fn uncount_table(counts: &mut [u8], table: &[u32], live: &[u32], free: &mut 
         }
     }
     removed
+}
+
+// How many entries of two tables are compared at a time.
+const BLOCK: usize = 16;
+
+// How many frames have a count that had none, and how many have none that had one.
+#[derive(Clone, Copy, Debug)]
+pub struct Recount {
+    pub added: u32,
+    pub removed: u32,
+}
+
+// Makes a table that is counted the live one, and the counts those of it. Frames that then have no count are given back.
+pub fn renew_table(
+    counts: &mut [u8],
+    table: &mut [u32],
+    live: &[u32],
+    free: &mut Vec<u32>,
+) -> Recount
+    requires fits { IsRenewed 0 counts.old table.old live.now free.old.items }
+    requires reserved { length counts.old ≤ vec_capacity free.old }
+    requires short { length table.old < 2 ^ 31 }
+    ensures table { table.new ≡ live.now }
+    ensures counts { Recounts counts.old table.old counts.new live.now result.added result.removed }
+    ensures few { result.added ≤ length table.old }
+    ensures stack { IsStack counts.new live.now free.new.items }
+    ensures reserved { vec_capacity free.new ≡ vec_capacity free.old }
+{
+    let mut added = 0;
+    let mut removed = 0;
+    let mut start = 0;
+    'blocks: while table.len() - start >= BLOCK {
+        let end = start + BLOCK;
+        if !is_same(&table[start..end], &live[start..end]) {
+            let block = renew_part(counts, table, live, free, start, end);
+            added += block.added;
+            removed += block.removed;
+        }
+        start = end;
+    }
+    let end = table.len();
+    let rest = renew_part(counts, table, live, free, start, end);
+    Recount {
+        added: added + rest.added,
+        removed: removed + rest.removed,
+    }
+}
+
+// Whether two parts of tables have the same entries. It looks at all, so that several are compared at once.
+#[inline(always)]
+fn is_same(part: &[u32], other: &[u32]) -> bool
+    requires { length other.now ≡ length part.now }
+    ensures { result ≡ true → part.now ≡ other.now }
+{
+    let mut same = true;
+    'entries: for k in 0..part.len() {
+        same &= part[k] == other[k];
+    }
+    same
+}
+
+// Makes the entries of a table from one place up to another those of the live one, and the counts those of the table.
+fn renew_part(
+    counts: &mut [u8],
+    table: &mut [u32],
+    live: &[u32],
+    free: &mut Vec<u32>,
+    start: usize,
+    end: usize,
+) -> Recount
+    requires fits { IsRenewed start counts.old table.old live.now free.old.items }
+    requires order { start ≤ end }
+    requires inside { end ≤ length table.old }
+    requires reserved { length counts.old ≤ vec_capacity free.old }
+    requires short { length table.old < 2 ^ 31 }
+    ensures renewed { IsRenewed end counts.new table.new live.now free.new.items }
+    ensures counts { Recounts counts.old table.old counts.new table.new result.added result.removed }
+    ensures few { (result.added ≤ end - start) × (result.removed ≤ end - start) }
+    ensures reserved { vec_capacity free.new ≡ vec_capacity free.old }
+{
+    let mut added = 0;
+    let mut removed = 0;
+    'entries: for k in start..end {
+        let frame = live[k];
+        let other = table[k];
+        if other != frame {
+            removed += uncount_frame(counts, other, free);
+            added += count_frame(counts, frame);
+            table[k] = frame;
+        }
+    }
+    Recount { added, removed }
+}
+
+// Counts a frame once more. The answer is 1 where it had no count, and else 0.
+#[inline(always)]
+fn count_frame(counts: &mut [u8], frame: u32) -> u32
+    requires inside { frame < length counts.old }
+    requires few { slice_index counts.old frame < 255 }
+    ensures counts { counts.new ≡ slice_set counts.old frame (slice_index counts.old frame + 1) }
+    ensures added { result ≡ (if nat_lt 0 (slice_index counts.old frame) then 0 else 1) }
+{
+    let count = counts[frame as usize];
+    counts[frame as usize] = count + 1;
+    if count > 0 { 0 } else { 1 }
+}
+
+// Counts a frame once less, and gives it back where it then has no count. The answer is 1 there, and else 0.
+#[inline(always)]
+fn uncount_frame(counts: &mut [u8], frame: u32, free: &mut Vec<u32>) -> u32
+    requires inside { frame < length counts.old }
+    requires some { 0 < slice_index counts.old frame }
+    requires reserved { length free.old.items < vec_capacity free.old }
+    ensures counts { counts.new ≡ slice_set counts.old frame (slice_index counts.old frame - 1) }
+    ensures removed { result ≡ (if nat_lt 0 (slice_index counts.old frame - 1) then 0 else 1) }
+    ensures free { free.new.items ≡ (if nat_lt 0 (slice_index counts.old frame - 1) then free.old.items else free.old.items ++ frame ∷ []) }
+    ensures reserved { vec_capacity free.new ≡ vec_capacity free.old }
+{
+    let count = counts[frame as usize] - 1;
+    counts[frame as usize] = count;
+    if count > 0 {
+        return 0;
+    }
+    free.push_reserved(frame);
+    1
 }
 
 // Gives back the frames of a live table that have no count.

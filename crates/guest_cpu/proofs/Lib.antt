@@ -4,6 +4,7 @@ pub mod HeapLemmas
 pub mod CoreLemmas
 pub mod StepTurns
 pub mod CpuLemmas
+pub mod OldestLemmas
 pub mod RangeLemmas
 pub mod RecordTurns
 pub mod ChoiceLemmas

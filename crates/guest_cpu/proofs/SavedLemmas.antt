@@ -1,18 +1,20 @@
 -- One guest with its checkpoints, when it is saved, comes back or gives one up.
 use Rattle.std.proofs.Common.{◌≡◌, ◌≢◌, inl, inr, Bool, true, ℕ, zero, suc, ◌-◌, ◌<◌, Option, Some, None, IsSome, IfSome, List, [], ◌∷◌, ◌++◌, length, set, get_or, take, drop, All, Contains, refl, sym, ap, subst, ◌∙◌, arith}
 use Rattle.std.specs.Prelude.{slice_get, slice_set, MatchOption}
-use Rattle.std.proofs.lemmas.List.{length-set, length-replicate}
+use Rattle.std.proofs.lemmas.List.{length-set, set-set, length-replicate}
 use Rattle.std.proofs.lemmas.List.Elements.{All-set, All-head, All-tail, All-contains}
 use Rattle.circular_buffer.proofs.Places.{slice_get-set_same, slice_get-set_other}
 use Rattle.block_book.specs.Heap.{SameEnds}
 use Rattle.cow_pages.specs.Pages.{Space, slot_at}
 use Rattle.guest_space.specs.Space.{GuestPages, flat, IsLawfulSpace}
-use Rattle.guest_space.specs.Access.{Saves, Releases}
+use Rattle.guest_space.specs.Access.{Saves, SavesOver, Releases}
 use Rattle.ckpt_ring.specs.Slots.{Slots, AreSound, slot_numbers, newest_slot, saved_to, restored, without_newest, without_oldest, IsUnusedNewest, IsOldest}
+use Rattle.ckpt_ring.proofs.RingLemmas.{base-without_oldest}
 use Rattle.page_line.specs.Line.{Line, IsLine, line_of, slots_of, frames_of, differ, written_since, written_pages, base_without_oldest}
 use Rattle.page_line.proofs.Flags.{length-differ}
 use Rattle.page_line.proofs.Saved.{line_has}
 use Rattle.page_line.proofs.Changes.{this_slot, other_slot}
+use Rattle.page_line.proofs.Calls.{line_room}
 use Rattle.page_line.proofs.Saves.{line_saves}
 use Rattle.page_line.proofs.Restores.{line_restores}
 use Rattle.page_line.proofs.States.{line_drops_newest_with, line_drops_oldest_with}
@@ -136,12 +138,10 @@ cpu_drops_newest core old new saved line slot fits unused after =
     )
 
 -- the oldest slot is given up
-pub cpu_drops_oldest : (core : Core) (old new : GuestPages) (saved : List Core) (line : Line) (slot : ℕ) → IsCpu core old saved line → IsOldest slot (slots_in core old saved line) → Releases old slot new
-    → IsCpu core new saved (line_of (drop 1 line.order) (base_without_oldest line)) × (slots_in core new saved (line_of (drop 1 line.order) (base_without_oldest line)) ≡ without_oldest (slots_in core old saved line))
-cpu_drops_oldest core old new saved line slot fits oldest after =
-    let rest = line_of (drop 1 line.order) (base_without_oldest line) in
-    let dropped = line_drops_oldest_with (state_in old saved) (state_in (with_slot_of old slot None) saved) (standing core (flat old)) old.store (with_slot_of old slot None).store line slot fits.line_is oldest (others_stay old saved slot line) refl in
-    subst (λ s. IsCpu core s saved rest × (slots_in core s saved rest ≡ without_oldest (slots_in core old saved line))) (sym after.store_is) (
+dropped_as : (core : Core) (old : GuestPages) (saved : List Core) (line : Line) (slot : ℕ) → IsCpu core old saved line → IsOldest slot (slots_in core old saved line)
+    → IsCpu core (with_slot_of old slot None) saved (line_of (drop 1 line.order) (base_without_oldest line)) × (slots_in core (with_slot_of old slot None) saved (line_of (drop 1 line.order) (base_without_oldest line)) ≡ without_oldest (slots_in core old saved line))
+dropped_as core old saved line slot fits oldest =
+    let dropped = line_drops_oldest_with (state_in old saved) (state_in (with_slot_of old slot None) saved) (standing core (flat old)) old.store (with_slot_of old slot None).store line slot fits.line_is oldest (others_stay old saved slot line) refl in (
       record {
         line_is = dropped.0;
         heap = fits.heap;
@@ -152,6 +152,39 @@ cpu_drops_oldest core old new saved line slot fits oldest after =
       },
       dropped.1,
     )
+
+pub cpu_drops_oldest : (core : Core) (old new : GuestPages) (saved : List Core) (line : Line) (slot : ℕ) → IsCpu core old saved line → IsOldest slot (slots_in core old saved line) → Releases old slot new
+    → IsCpu core new saved (line_of (drop 1 line.order) (base_without_oldest line)) × (slots_in core new saved (line_of (drop 1 line.order) (base_without_oldest line)) ≡ without_oldest (slots_in core old saved line))
+cpu_drops_oldest core old new saved line slot fits oldest after =
+    let rest = line_of (drop 1 line.order) (base_without_oldest line) in
+    subst (λ s. IsCpu core s saved rest × (slots_in core s saved rest ≡ without_oldest (slots_in core old saved line))) (sym after.store_is) (dropped_as core old saved line slot fits oldest)
+
+-- without the oldest slot the line has room
+pub over_room : (core : Core) (old : GuestPages) (saved : List Core) (line : Line) (slot : ℕ) → IsCpu core old saved line → slot < length old.store.slots → IsOldest slot (slots_in core old saved line) → length (drop 1 line.order) < 16
+over_room core old saved line slot fits less oldest =
+    let mid = with_slot_of old slot None in
+    let rest = line_of (drop 1 line.order) (base_without_oldest line) in
+    let dropped = dropped_as core old saved line slot fits oldest in
+    let near : slot < length mid.store.slots = omega (arith, length-set old.store.slots slot None) in
+    omega (arith, line_room mid.store rest slot dropped.0.line_is near (this_slot old.store slot None less), dropped.0.few)
+
+-- the guest is saved over the oldest slot
+pub cpu_saves_over : (core : Core) (old new : GuestPages) (saved after : List Core) (line : Line) (slot : ℕ) → IsCpu core old saved line → slot < length old.store.slots → IsOldest slot (slots_in core old saved line) → SavesOver old slot new → after ≡ set saved slot core
+    → IsCpu core new after (line_of (drop 1 line.order ++ slot ∷ []) (Some slot)) × (slots_in core new after (line_of (drop 1 line.order ++ slot ∷ []) (Some slot)) ≡ saved_to slot (without_oldest (slots_in core old saved line)))
+cpu_saves_over core old new saved after line slot fits less oldest saves after_is =
+    let mid = with_slot_of old slot None in
+    let rest = line_of (drop 1 line.order) (base_without_oldest line) in
+    let end = line_of (drop 1 line.order ++ slot ∷ []) (Some slot) in
+    let dropped = dropped_as core old saved line slot fits oldest in
+    let near : slot < length mid.store.slots = omega (arith, length-set old.store.slots slot None) in
+    let stands : (slots_in core mid saved rest).base ≡ newest_slot (slots_in core mid saved rest).saved =
+    subst (λ (slots : Slots Standing). slots.base ≡ newest_slot slots.saved) (sym dropped.1) (base-without_oldest (slots_in core old saved line) oldest.1) in
+    let kept = saved_as core mid saved rest slot dropped.0 near (this_slot old.store slot None less) stands in
+    let same : with_slot_of mid slot (Some mid.store.live) ≡ new =
+    ap (λ slots. record old { store = record old.store { slots = slots } }) (set-set old.store.slots slot None (Some old.store.live)) ∙ sym saves.store_is in
+    subst (λ list. IsCpu core new list end × (slots_in core new list end ≡ saved_to slot (without_oldest (slots_in core old saved line)))) (sym after_is)
+    (subst (λ space. IsCpu core space (set saved slot core) end × (slots_in core space (set saved slot core) end ≡ saved_to slot (without_oldest (slots_in core old saved line)))) same
+    (kept.0, kept.1 ∙ ap (saved_to slot) dropped.1))
 
 -- there is a flag for each page
 pub written_length : (space : GuestPages) (line : Line) → IsLawfulSpace space → IsLine space.store line → length (written_pages space.store line) ≡ space.store.pages

@@ -1,5 +1,5 @@
 // One guest, with its checkpoints.
-ghost use Rattle.std.specs.Prelude.{◌≡◌, ◌+◌, ◌-◌, ◌^◌, ◌<◌, length, true, None, MatchBool};
+ghost use Rattle.std.specs.Prelude.{◌≡◌, ◌+◌, ◌-◌, ◌^◌, ◌<◌, length, slice_get, true, None, IfSome, MatchBool};
 ghost use Rattle.block_book.specs.Heap.{is_bare};
 ghost use Rattle.ckpt_ring.specs.Slots.{AreSound};
 ghost use Rattle.page_line.specs.Line.{count_true};
@@ -67,6 +67,14 @@ impl<R: AccessRule> Cpu<R> {
         ensures { result ≡ marks_of self.now.slots.live }
     {
         self.core.marks
+    }
+
+    /// How far the guest had come at the oldest checkpoint.
+    pub fn oldest_marks(&self) -> Marks
+        requires { 0 < length self.now.slots.saved }
+        ensures { IfSome (slice_get self.now.slots.saved 0) (λ one. result ≡ marks_of one.state) }
+    {
+        self.saved[self.line.oldest() as usize].marks
     }
 
     /// The program counter.

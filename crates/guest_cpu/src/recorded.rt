@@ -92,29 +92,28 @@ fn recorded_call<L: Ledger>(
             }
         }
         Call::Malloc { size } => Ok(Some(Question::Wants(size))),
-        Call::Free { at } => {
-            release(core, at, steps);
-            Ok(None)
-        }
+        Call::Free { at } => Ok(release(core, at, steps)),
         Call::Exit { code } => Ok(Some(end(core, code, steps))),
         Call::Assert { code } => Ok(Some(Question::Failed(Cause::AssertFailed(code)))),
     }
 }
 
-// Free of the block at an address, as in the model: what isn't live stays as it is.
-fn release<L: Ledger>(core: &mut Core, at: u32, steps: &mut Steps<L>)
+// Free of the block at an address, as in the model: what isn't live stays as it is, and no free fails.
+fn release<L: Ledger>(core: &mut Core, at: u32, steps: &mut Steps<L>) -> Option<Question>
     requires asked { at ≡ slice_index core.old.regs.x 10 }
     requires counts { AreCounted core.old.marks }
     requires room { core.old.marks.steps < 2 ^ 64 - 1 }
-    ensures turned { (memory : List Area) → recorded_of (Some Ecall) (released core.old.book at) (standing core.old memory) (free (machine_of core.old memory)) ≡ turn_to None (standing core.new memory) None }
+    ensures turned { (memory : List Area) → recorded_of (Some Ecall) (released core.old.book at) (standing core.old memory) (free (machine_of core.old memory)) ≡ turn_to result (standing core.new memory) None }
     ensures keeps { Keeps core.old core.new }
-    ensures rises { (core.new.marks.since ≡ core.old.marks.since + 1) × (core.new.marks.steps ≡ core.old.marks.steps + 1) × (core.new.ended ≡ core.old.ended) }
+    ensures rises { Rises core.old (Ok result) core.new }
+    ensures lasts { RecordedLasts (Ok result) core.old.ended core.new.ended }
     ensures counted { steps.new + core.old.marks.steps ≡ steps.old + core.new.marks.steps }
 {
     core.book.sound();
     core.book.release(at);
     core.go_on();
     steps.tick();
+    None
 }
 
 // The guest ends itself with a code.

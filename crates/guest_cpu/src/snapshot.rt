@@ -58,6 +58,14 @@ impl<R: AccessRule> Snapshot for Cpu<R> {
         self.line.drop_newest();
     }
 
+    fn save_over(&mut self, slot: u32) {
+        self.space.sound();
+        self.space.save_over(slot);
+        self.saved[slot as usize].copy_from(&self.core);
+        self.line.drop_oldest();
+        self.line.push(slot);
+    }
+
     fn taken(&self) -> u64 {
         self.core.marks.taken
     }

@@ -10,7 +10,7 @@ use Rattle.cow_pages.specs.Little as pages
 use Rattle.cow_pages.specs.Writes.{Writes}
 use Rattle.cow_pages.proofs.RunSteps.{writes_nothing}
 use Rattle.guest_space.specs.Space.{Span, GuestPages, guest_pages, flat_of, flat, saved_flat, LiesIn, IsLawfulSpace}
-use Rattle.guest_space.specs.Access.{Puts, Saves, Releases, Restores}
+use Rattle.guest_space.specs.Access.{Puts, Saves, SavesOver, Releases, Restores}
 use Rattle.guest_space.specs.Ranges.{AreHeld}
 use Rattle.guest_space.proofs.FlatLemmas.{permitted-held, held-permitted, range_inside, bytes_at-flat, put_bytes-flat}
 
@@ -172,6 +172,14 @@ parts_saved base spans before store old slot so is e used held lawful =
     subst (λ (o : GuestPages). Saves o slot (guest_pages base spans store)) is record {
       store_is = ap (guest_pages base spans) e;
       used = used;
+      held = held;
+      lawful = parts_kept base spans before store so (ap (λ (s : Pages). s.pages) e) lawful;
+    }
+
+pub parts_saved_over : (base : ℕ) (spans : List Span) (before store : Pages) (old : GuestPages) (slot : ℕ) → IsLawfulSpace (guest_pages base spans before) → guest_pages base spans before ≡ old → store ≡ record before { slots = slice_set before.slots slot (Some before.live) } → held_of store ≡ used_of store → IsLawful store → SavesOver old slot (guest_pages base spans store)
+parts_saved_over base spans before store old slot so is e held lawful =
+    subst (λ (o : GuestPages). SavesOver o slot (guest_pages base spans store)) is record {
+      store_is = ap (guest_pages base spans) e;
       held = held;
       lawful = parts_kept base spans before store so (ap (λ (s : Pages). s.pages) e) lawful;
     }

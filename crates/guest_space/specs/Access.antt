@@ -44,6 +44,12 @@ pub record Saves (old : GuestPages) (slot : ℕ) (new : GuestPages) : Type 0 whe
   pub held : held_of new.store ≡ used_of old.store
   pub lawful : IsLawfulSpace new
 
+-- what was saved in a slot was given up, and the memory was saved there
+pub record SavesOver (old : GuestPages) (slot : ℕ) (new : GuestPages) : Type 0 where
+  pub store_is : new ≡ record old { store = record old.store { slots = slice_set old.store.slots slot (Some old.store.live) } }
+  pub held : held_of new.store ≡ used_of new.store
+  pub lawful : IsLawfulSpace new
+
 -- what was saved in a slot was given up
 pub record Releases (old : GuestPages) (slot : ℕ) (new : GuestPages) : Type 0 where
   pub store_is : new ≡ record old { store = record old.store { slots = slice_set old.store.slots slot None } }

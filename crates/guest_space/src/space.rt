@@ -5,7 +5,7 @@ ghost use Rattle.rv_isa.specs.Words.{little_bytes, little_number};
 ghost use Rattle.elf_image.specs.Memory.{permitted, bytes_at};
 ghost use Rattle.cow_pages.specs.Pages.{slot_at, used_of, held_of};
 ghost use Rattle.guest_space.specs.Space.{flat, IsLawfulSpace};
-ghost use Rattle.guest_space.specs.Access.{IsStart, Reads, Puts, Stores, Saves, Releases, Restores};
+ghost use Rattle.guest_space.specs.Access.{IsStart, Reads, Puts, Stores, Saves, SavesOver, Releases, Restores};
 ghost use Rattle.guest_space.specs.Ranges.{AreHeld};
 ghost use Rattle.guest_space.specs.Stretches.{IsOpen};
 
@@ -216,6 +216,15 @@ impl GuestSpace {
         ensures saved { Saves self.old slot self.new }
     {
         self.store.save(slot);
+    }
+
+    /// Gives up what is saved in a slot, and saves the memory there.
+    pub fn save_over(&mut self, slot: u32)
+        requires some { IsSome (slot_at self.old.store slot) }
+        requires room { used_of self.old.store + self.old.store.pages ≤ self.old.store.frames }
+        ensures saved { SavesOver self.old slot self.new }
+    {
+        self.store.save_over(slot);
     }
 
     /// Gives up what is saved in a slot.

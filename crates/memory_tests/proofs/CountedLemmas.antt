@@ -9,8 +9,8 @@ use Rattle.std.proofs.lemmas.Option.{slice_get-map, get_or_from_slice_get, slice
 use Rattle.std.proofs.lemmas.List.Sums.{sum_by_push, sum_by_more, sum_by-take-le, sum-map, sum_by-cons}
 use Rattle.std.proofs.lemmas.Map.Steps.{length-le_from_distinct_below}
 use Rattle.std.proofs.lemmas.Map.Views.{Contains-from_any}
-use Rattle.ckpt_ring.specs.Slots.{Saved, Slots, AreSound, used_pages, StandsEarlier, slot_numbers, page_numbers, newest_slot, saved_to, restored, without_newest, without_first, without_oldest}
-use Rattle.ckpt_ring.proofs.SlotLemmas.{length-slot_numbers, keep_last-fitting}
+use Rattle.ckpt_ring.specs.Slots.{Saved, Slots, AreSound, IsOldest, used_pages, StandsEarlier, slot_numbers, page_numbers, newest_slot, saved_to, restored, without_newest, without_first, without_oldest}
+use Rattle.ckpt_ring.proofs.SlotLemmas.{all_at, length-slot_numbers, keep_last-fitting}
 use Rattle.ckpt_ring.proofs.SoundLemmas.{sound-saved_to, sound-restored, sound-without_newest, sound-without_oldest, used_pages-saved_to, used_pages-restored, used_pages-without_newest, used_pages-without_oldest, restored_each, distinct-none}
 use Rattle.circular_buffer.specs.Buffer.{keep_last}
 use Rattle.memory_tests.specs.CountedSlots.{saved_of, counted_slots, fresh_slots, AreCounted}
@@ -50,6 +50,16 @@ few_by : (capacity live : ℕ) (saved : List (Saved ℕ)) (base : Option ℕ) (w
 few_by capacity live [] base written count pages frames few = few
 few_by capacity live (one ∷ []) base written count pages frames few = few
 few_by capacity live (one ∷ two ∷ saved) base written count pages frames few = few
+
+count_by : (saved : List (Saved ℕ)) (slots : Slots ℕ) → (without_first saved slots).count ≡ slots.count
+count_by [] slots = refl
+count_by (one ∷ []) slots = refl
+count_by (one ∷ two ∷ saved) slots = refl
+
+-- the oldest slot is one of as many without it
+pub below-without_oldest : (slot : ℕ) (slots : Slots ℕ) → AreSound slots → IsOldest slot slots → slot < (without_oldest slots).count
+below-without_oldest slot slots sound oldest =
+    subst (λ n. slot < n) (sym (count_by slots.saved slots)) (all_at (λ n. n < slots.count) (slot_numbers slots.saved) 0 slot sound.counted oldest.0)
 
 pub counted-without_oldest : (capacity : ℕ) (slots : Slots ℕ) → AreCounted capacity slots → slots.base ≡ newest_slot slots.saved → AreCounted capacity (without_oldest slots)
 counted-without_oldest capacity slots counted stands =

@@ -1,4 +1,4 @@
-// Answers of malloc and free by the table of environments, on a heap of 65536 bytes, with addresses worked out by hand.
+// Answers of malloc and free by the table of environments, on a heap of 65536 bytes and on one of 4096, with addresses worked out by hand.
 use alloc_env::{Env, serve_free, serve_malloc};
 use block_book::{Book, Choice};
 use std::alloc::Global;
@@ -84,6 +84,53 @@ static ALL: [Call; 7] = [
     Call::Malloc(Env::All, 0, H + 33024, true),
 ];
 
+// The same on the heap of addresses 4096 to 8192, whose middle is 6144.
+#[rattlefmt::skip]
+static SMALL_PLAIN: [Call; 8] = [
+    Call::Malloc(Env::Plain, 17, 4096, false), // reserves 32
+    Call::Malloc(Env::Plain, 0, 4128, false), // reserves 16
+    Call::Malloc(Env::Plain, 1, 4144, false),
+    Call::Free(Env::Plain, 4096, true),
+    Call::Malloc(Env::Plain, 33, 4160, false), // 32 bytes are too few
+    Call::Malloc(Env::Plain, 32, 4096, false), // the lowest fit
+    Call::Malloc(Env::Plain, 3984, 4208, false), // all that is left
+    Call::Malloc(Env::Plain, 1, 0, false),
+];
+
+#[rattlefmt::skip]
+static SMALL_PAD: [Call; 7] = [
+    Call::Malloc(Env::Pad, 16, 4352, false), // an extent from 4096 to 4624
+    Call::Malloc(Env::Pad, 17, 4880, false), // and on to 5168, with 32 bytes in its middle
+    Call::Free(Env::Pad, 4352, true),
+    Call::Malloc(Env::Pad, 17, 5424, false), // 528 bytes at 4096 are too few
+    Call::Malloc(Env::Pad, 16, 4352, false),
+    Call::Malloc(Env::Pad, 1968, 5968, false), // from 5712 to 8192
+    Call::Malloc(Env::Pad, 0, 0, false),
+];
+
+#[rattlefmt::skip]
+static SMALL_ISOLATE: [Call; 6] = [
+    Call::Malloc(Env::Isolate, 17, 6144, false),
+    Call::Malloc(Env::Isolate, 16, 6176, false),
+    Call::Malloc(Env::Isolate, 2016, 4096, false), // 2000 bytes are left above
+    Call::Malloc(Env::Isolate, 2000, 6192, false),
+    Call::Malloc(Env::Isolate, 32, 6112, false),
+    Call::Malloc(Env::Isolate, 0, 0, false),
+];
+
+#[rattlefmt::skip]
+static SMALL_DELAY: [Call; 9] = [
+    Call::Malloc(Env::Delay, 16, 4096, false),
+    Call::Malloc(Env::Delay, 32, 4112, false),
+    Call::Free(Env::Delay, 4096, true),
+    Call::Free(Env::Delay, 4112, true),
+    Call::Malloc(Env::Delay, 16, 4144, false), // not where one was
+    Call::Malloc(Env::Delay, 4032, 4160, false), // now nothing is left
+    Call::Malloc(Env::Delay, 48, 4096, false), // so both are recycled
+    Call::Free(Env::Delay, 4112, false), // nothing stands there now
+    Call::Malloc(Env::Delay, 0, 0, false),
+];
+
 fn try_call(rt: &impl Abort, book: &mut Book, call: Call) {
     match call {
         Call::Malloc(env, size, at, zeroed) => {
@@ -100,11 +147,21 @@ fn try_call(rt: &impl Abort, book: &mut Book, call: Call) {
     }
 }
 
+fn try_in(rt: &impl Abort, book: &mut Book, calls: &[Call]) {
+    for call in calls {
+        try_call(rt, book, *call);
+    }
+}
+
 fn try_calls(rt: &impl Abort, alloc: Global, calls: &[Call]) -> Result<(), Fail> {
     let mut book = Book::make(alloc, H, H + 65536)?;
-    for call in calls {
-        try_call(rt, &mut book, *call);
-    }
+    try_in(rt, &mut book, calls);
+    Ok(())
+}
+
+fn try_small(rt: &impl Abort, alloc: Global, calls: &[Call]) -> Result<(), Fail> {
+    let mut book = Book::make(alloc, 4096, 8192)?;
+    try_in(rt, &mut book, calls);
     Ok(())
 }
 
@@ -116,4 +173,12 @@ fn environments_answer_by_the_table(rt: HostRuntime) -> Result<(), Fail> {
     try_calls(&rt, rt.alloc(), &ISOLATE)?;
     try_calls(&rt, rt.alloc(), &DELAY)?;
     try_calls(&rt, rt.alloc(), &ALL)
+}
+
+#[test]
+fn a_small_heap_answers_by_the_table(rt: HostRuntime) -> Result<(), Fail> {
+    try_small(&rt, rt.alloc(), &SMALL_PLAIN)?;
+    try_small(&rt, rt.alloc(), &SMALL_PAD)?;
+    try_small(&rt, rt.alloc(), &SMALL_ISOLATE)?;
+    try_small(&rt, rt.alloc(), &SMALL_DELAY)
 }

@@ -166,6 +166,13 @@ impl Snapshot for CountedSnapshot {
         }
     }
 
+    fn save_over(&mut self, slot: u32) {
+        // What holds of all slots is known from here on.
+        let _ = self.pages();
+        self.drop_oldest();
+        self.save_to(slot);
+    }
+
     fn taken(&self) -> u64 {
         self.live
     }

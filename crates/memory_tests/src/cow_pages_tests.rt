@@ -13,6 +13,7 @@ enum Call {
     Write(u32, usize, u8),
     Zero(u32, u32),
     Save(u32),
+    SaveOver(u32),
     Release(u32),
     Restore(u32),
     ByteIs(u32, u8),
@@ -92,6 +93,37 @@ static RUNS: [Row; 24] = [
     (Call::Release(0), 4, 4),
 ];
 
+// Forty pages, two slots, a hundred and sixty frames. A table has two whole blocks of sixteen entries and eight more.
+#[rattlefmt::skip]
+static OVER: [Row; 26] = [
+    (Call::Save(0), 40, 40),
+    (Call::SaveOver(0), 40, 40), // the tables are the same
+    (Call::Byte(0, 1), 41, 40), // the first entry of the first block
+    (Call::Byte(65535, 2), 42, 40), // and its last one, page 15
+    (Call::Byte(65536, 3), 43, 40), // page 16 begins the second block
+    (Call::Byte(163_839, 4), 44, 40), // page 39 is the last one, behind the blocks
+    (Call::SaveOver(0), 40, 40), // gives four frames back
+    (Call::Byte(0, 5), 41, 40),
+    (Call::Save(1), 41, 41), // the first page has a frame in each slot
+    (Call::Byte(0, 6), 42, 41),
+    (Call::Byte(4096, 7), 43, 41),
+    (Call::SaveOver(0), 42, 42), // the oldest frame of the first page is free; both slots hold the second one
+    (Call::Restore(1), 42, 42),
+    (Call::ByteIs(0, 5), 42, 42),
+    (Call::ByteIs(4096, 0), 42, 42),
+    (Call::ByteIs(65535, 2), 42, 42),
+    (Call::Restore(0), 42, 42),
+    (Call::ByteIs(0, 6), 42, 42),
+    (Call::ByteIs(4096, 7), 42, 42),
+    (Call::ByteIs(65536, 3), 42, 42),
+    (Call::ByteIs(163_839, 4), 42, 42),
+    (Call::SaveOver(1), 40, 40), // both slots have all frames
+    (Call::Byte(0, 8), 41, 40),
+    (Call::SaveOver(1), 41, 41),
+    (Call::Release(0), 40, 40), // gives back one frame
+    (Call::ByteIs(0, 8), 40, 40),
+];
+
 // Makes a call, or looks.
 fn apply(rt: &impl Abort, store: &mut PageStore, call: Call) {
     let bytes = 4096 * store.pages();
@@ -114,6 +146,11 @@ fn apply(rt: &impl Abort, store: &mut PageStore, call: Call) {
             store.zero_run(at, count);
         }
         Call::Save(slot) => save(rt, store, slot),
+        Call::SaveOver(slot) => {
+            assert!(rt; store.is_saved(slot));
+            assert!(rt; store.used() + store.pages() <= store.frames());
+            store.save_over(slot);
+        }
         Call::Release(slot) => {
             assert!(rt; store.is_saved(slot));
             store.release(slot);
@@ -161,7 +198,11 @@ fn write(rt: &impl Abort, store: &mut PageStore, at: u32, count: usize, first: u
 
 #[test]
 fn rows(rt: HostRuntime) -> Result<(), Fail> {
-    for (pages, frames, rows) in [(2, 4, SMALL.as_slice()), (4, 12, RUNS.as_slice())] {
+    for (pages, frames, rows) in [
+        (2, 4, SMALL.as_slice()),
+        (4, 12, RUNS.as_slice()),
+        (40, 160, OVER.as_slice()),
+    ] {
         let mut store = PageStore::make(rt.alloc(), pages, 2, frames)?;
         for (i, (call, used, held)) in rows.iter().enumerate() {
             apply(&rt, &mut store, *call);
@@ -218,6 +259,10 @@ fn beside_copies(rt: HostRuntime) -> Result<(), Fail> {
             }
             10..14 if !store.is_saved(slot) && store.used() <= 6 => {
                 apply(&rt, &mut store, Call::Save(slot));
+                put(&rt, saved.as_mut_slice(), from as u32, live.as_slice());
+            }
+            13 if store.is_saved(slot) && store.used() <= 6 => {
+                apply(&rt, &mut store, Call::SaveOver(slot));
                 put(&rt, saved.as_mut_slice(), from as u32, live.as_slice());
             }
             _ if store.is_saved(slot) => {

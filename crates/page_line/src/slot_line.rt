@@ -1,5 +1,5 @@
 // The order of saved slots.
-ghost use Rattle.std.specs.Prelude.{◌≡◌, ◌-◌, ◌<◌, ℕ, [], ◌∷◌, ◌++◌, length, drop, take, Some, None, IfOk, if◌then◌else◌, nat_lt, ◌↔◌, IsTrue};
+ghost use Rattle.std.specs.Prelude.{◌≡◌, ◌-◌, ◌<◌, ℕ, [], ◌∷◌, ◌++◌, length, drop, take, slice_get, Some, None, IfOk, if◌then◌else◌, nat_lt, ◌↔◌, IsTrue};
 ghost use Rattle.page_line.specs.Line.{line_of, newest_of, base_without_oldest};
 
 use circular_buffer::HeapCircularBuffer;
@@ -47,6 +47,14 @@ impl SlotLine {
         ensures { self.new ≡ line_of self.old.order (Some slot) }
     {
         self.base = Some(slot);
+    }
+
+    /// The slot that was saved first of those that are saved.
+    pub fn oldest(&self) -> u32
+        requires { 0 < length self.now.order }
+        ensures { slice_get self.now.order 0 ≡ Some result }
+    {
+        self.order.front().copied().unwrap()
     }
 
     /// The oldest slot isn't saved any more. Where it was the only one, the live state stands on none.

@@ -13,6 +13,6 @@ returns-then-len-capacity-clause-room g c =
     let held : length c.self.inside.buffer.items ≡ length c.args.self.now.standing = ap (λ ring. length ring.standing) c.self.view_is in
     let most : c.self.inside.buffer.capacity ≡ c.args.self.now.capacity = ap (λ ring. ring.capacity) c.self.view_is in
     let within : length (all_numbers slots) ≤ c.args.self.now.capacity = omega (arith, c.len.ensures.len, c.capacity.ensures.capacity, c.if-len-capacity.true) in
-    rw (c.from.ensures, c.from-2.ensures, c.from-3.ensures, c.used.ensures.used, c.pages.ensures.pages, c.frames.ensures.frames)
-    (has_room_by_used c.args.self.now.capacity slots.pages slots.frames (sum (all_numbers slots)) (all_numbers slots)
-    (sum-all_numbers slots c.used.ensures.sound c.requires.base) within)
+    c.has_frames-fits.ensures.room
+    ∙ (has_room_by_used c.args.self.now.capacity slots.pages slots.frames (sum (all_numbers slots)) (all_numbers slots)
+    (sum-all_numbers slots c.has_frames-fits.ensures.sound c.requires.base) within)

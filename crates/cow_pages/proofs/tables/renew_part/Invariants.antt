@@ -1,0 +1,12 @@
+use Rattle.std.proofs.Common.{◌≡◌, ◌+◌, ◌≤◌, vec_capacity}
+use Rattle.cow_pages.specs.Pool.{IsRenewed, Recounts}
+use Rattle.cow_pages.proofs.tables.renew_part.Given as goal
+
+abbrev pub invariant-entries : goal.invariant-entries
+invariant-entries l = record {
+  renewed : IsRenewed l.k l.counts l.table l.live l.free.items;
+  counts : Recounts l.fn.counts l.fn.table l.counts l.table l.added l.removed;
+  added : l.added + l.start ≤ l.k;
+  removed : l.removed + l.start ≤ l.k;
+  reserved : vec_capacity l.free ≡ vec_capacity l.fn.free;
+}

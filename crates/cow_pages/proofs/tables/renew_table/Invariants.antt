@@ -1,0 +1,16 @@
+use Rattle.std.proofs.Common.{◌≡◌, ◌-◌, ◌≤◌, length, vec_capacity}
+use Rattle.cow_pages.specs.Pool.{IsRenewed, Recounts}
+use Rattle.cow_pages.proofs.tables.renew_table.Given as goal
+
+abbrev pub invariant-blocks-2 : goal.invariant-blocks-2
+invariant-blocks-2 l = record {
+  renewed : IsRenewed l.start l.counts l.table l.live l.free.items;
+  counts : Recounts l.fn.counts l.fn.table l.counts l.table l.added l.removed;
+  inside : l.start ≤ length l.table;
+  added : l.added ≤ l.start;
+  removed : l.removed ≤ l.start;
+  reserved : vec_capacity l.free ≡ vec_capacity l.fn.free;
+}
+
+abbrev pub decreases-blocks-2 : goal.decreases-blocks-2
+decreases-blocks-2 l = length l.table - l.start

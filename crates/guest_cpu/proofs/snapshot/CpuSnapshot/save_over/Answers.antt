@@ -1,0 +1,73 @@
+use Rattle.std.proofs.Common.{◌≡◌, ◌+◌, ◌≤◌, ◌<◌, length, Some, [], ◌∷◌, ◌++◌, set, sym, ap, subst, ◌∙◌, inr, arith}
+use Rattle.ckpt_ring.specs.Slots.{used_pages, saved_to, without_oldest, IsOldest}
+use Rattle.guest_space.specs.Space.{flat}
+use Rattle.page_line.specs.Line.{line_of}
+use Rattle.page_line.proofs.Calls.{line_dropped, line_has_frames}
+use Rattle.guest_cpu.specs.Standing.{standing, AreCounted}
+use Rattle.guest_cpu.specs.declared.guest_core.Core.{Core}
+use Rattle.block_book.specs.Heap.{SameEnds}
+use Rattle.guest_cpu.specs.Cpus.{CpuState, state_in, IsCpu}
+use Rattle.guest_cpu.proofs.SavedLemmas.{slots_in, all_at, at_index, over_room, cpu_saves_over, cpu_sound}
+use Rattle.guest_cpu.proofs.snapshot.CpuSnapshot.save_over.Given as given
+use Rattle.guest_cpu.proofs.snapshot.CpuSnapshot.save_over.Goals as goal
+use Rattle.guest_cpu.proofs.snapshot.CpuSnapshot.save_over.Goals.{After-push}
+
+pub save_over-requires-clause-some : goal.save_over-requires-clause-some
+save_over-requires-clause-some g c =
+    let s = c.self.inside in
+    let has = line_dropped (state_in s.space s.saved.items) (standing s.core (flat s.space)) s.space.store s.line c.args.slot c.self.invariant.line_is
+    (inr (subst (λ (state : CpuState _). IsOldest c.args.slot state.slots) (sym c.self.view_is) c.requires.oldest)) in
+    has.3
+
+pub save_over-requires-clause-room : goal.save_over-requires-clause-room
+save_over-requires-clause-room g c =
+    let s = c.self.inside in
+    line_has_frames (state_in s.space s.saved.items) (standing s.core (flat s.space)) s.space.store s.line c.sound.ensures.store c.self.invariant.line_is
+    (subst (λ (state : CpuState _). used_pages state.slots + state.slots.pages ≤ state.slots.frames) (sym c.self.view_is) c.requires.room)
+
+pub index_mut-requires : goal.index_mut-requires
+index_mut-requires g c =
+    let s = c.self.inside in
+    let has = line_dropped (state_in s.space s.saved.items) (standing s.core (flat s.space)) s.space.store s.line c.args.slot c.self.invariant.line_is
+    (inr (subst (λ (state : CpuState _). IsOldest c.args.slot state.slots) (sym c.self.view_is) c.requires.oldest)) in
+    omega (arith, has.2, c.self.invariant.each_slot, s.saved.ok.0)
+
+pub copy_from-requires : goal.copy_from-requires
+copy_from-requires g c =
+    let s = c.self.inside in
+    let has = line_dropped (state_in s.space s.saved.items) (standing s.core (flat s.space)) s.space.store s.line c.args.slot c.self.invariant.line_is
+    (inr (subst (λ (state : CpuState _). IsOldest c.args.slot state.slots) (sym c.self.view_is) c.requires.oldest)) in
+    let near : c.args.slot < length s.saved.items = omega (arith, has.2, c.self.invariant.each_slot) in
+    let same = (all_at (λ (other : Core). SameEnds s.core.book other.book × AreCounted other.marks) s.saved.items c.args.slot c.index_mut.result.now c.self.invariant.same
+    (at_index s.saved.items c.args.slot c.index_mut.result.now near c.index_mut.ensures.value)).0 in
+    (sym same.0, sym same.1)
+
+pub push-requires : goal.push-requires
+push-requires g c =
+    let s = c.self.inside in
+    let oldest = subst (λ (state : CpuState _). IsOldest c.args.slot state.slots) (sym c.self.view_is) c.requires.oldest in
+    let has = line_dropped (state_in s.space s.saved.items) (standing s.core (flat s.space)) s.space.store s.line c.args.slot c.self.invariant.line_is (inr oldest) in
+    let room = over_room s.core s.space s.saved.items s.line c.args.slot c.self.invariant has.2 oldest in
+    rw c.drop_oldest.ensures room
+
+saved : (g : given.Over) (c : After-push g) → IsCpu c.self.inside.core c.save_over.new.self (set c.self.inside.saved.items c.args.slot c.copy_from.new.self) c.push.new.self
+    × (slots_in c.self.inside.core c.save_over.new.self (set c.self.inside.saved.items c.args.slot c.copy_from.new.self) c.push.new.self ≡ saved_to c.args.slot (without_oldest (slots_in c.self.inside.core c.self.inside.space c.self.inside.saved.items c.self.inside.line)))
+saved g c =
+    let s = c.self.inside in
+    let after = set s.saved.items c.args.slot c.copy_from.new.self in
+    let oldest = subst (λ (state : CpuState _). IsOldest c.args.slot state.slots) (sym c.self.view_is) c.requires.oldest in
+    let has = line_dropped (state_in s.space s.saved.items) (standing s.core (flat s.space)) s.space.store s.line c.args.slot c.self.invariant.line_is (inr oldest) in
+    let order = c.push.ensures ∙ ap (λ line. line_of (line.order ++ c.args.slot ∷ []) (Some c.args.slot)) c.drop_oldest.ensures in
+    subst (λ line. IsCpu s.core c.save_over.new.self after line × (slots_in s.core c.save_over.new.self after line ≡ saved_to c.args.slot (without_oldest (slots_in s.core s.space s.saved.items s.line))))
+    (sym order)
+    (cpu_saves_over s.core s.space c.save_over.new.self s.saved.items after s.line c.args.slot c.self.invariant has.2 oldest
+    c.save_over.ensures.saved (ap (set s.saved.items c.args.slot) c.copy_from.ensures))
+
+pub invariant_of-self : goal.invariant_of-self
+invariant_of-self g c = (saved g c).0
+
+pub returns-clause-saved : goal.returns-clause-saved
+returns-clause-saved g c = (saved g c).1 ∙ ap (λ (state : CpuState _). saved_to c.args.slot (without_oldest state.slots)) c.self.view_is
+
+pub returns-clause-sound : goal.returns-clause-sound
+returns-clause-sound g c = cpu_sound c.self.inside.core c.save_over.new.self (set c.self.inside.saved.items c.args.slot c.copy_from.new.self) c.push.new.self (invariant_of-self g c)
