@@ -52,7 +52,7 @@ row_found P f (r ∷ rs) each e =
       | false ↦ λ here more. row_found P f rs each.1 more
     ] refl e
 
-each_of_none : (n : Text) (rows : List TableRow) → is_row n rows ≡ false → EachRow (λ r. bytes_eq r.name n ≡ false) rows
+pub each_of_none : (n : Text) (rows : List TableRow) → is_row n rows ≡ false → EachRow (λ r. bytes_eq r.name n ≡ false) rows
 each_of_none n [] e = tt
 each_of_none n (r ∷ rs) e = let parts = neither (bytes_eq r.name n) _ e in (parts.0, each_of_none n rs parts.1)
 

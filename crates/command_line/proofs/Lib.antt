@@ -5,6 +5,7 @@ mod Asking
 mod Pieces
 mod Walking
 mod Cutting
+mod Rows
 mod Finding
 mod Clapping
 mod Readable

@@ -1,18 +1,20 @@
--- The numbers of words that are taken are in the ranges of their rows.
-use Rattle.std.proofs.Common.{◌≡◌, ◌∙◌, ◌≤◌, ◌&&◌, ℕ, cond, true, false, true≢false, not, ap, refl, sym, subst, List, [], ◌∷◌, Option, Some, None, unwrap_or, nat_le, length, leb-true}
-use Rattle.std.specs.List.{find}
+-- The numbers of words that are taken are in the ranges of their rows. No row of the table is named here.
+use Rattle.std.proofs.Common.{◌≡◌, ◌∙◌, ◌≤◌, ◌&&◌, ◌||◌, ℕ, Bool, cond, true, false, true≢false, not, ap, refl, sym, subst, List, [], ◌∷◌, map, Option, Some, None, unwrap_or, nat_le, length, leb-true}
+use Rattle.std.specs.List.{filter, find, list_all}
 use Rattle.std.specs.Option.{option_map, option_map_or}
 use Rattle.std.specs.Str.{bytes_eq}
-use Rattle.command_line.specs.declared.options.TakesOf.TheVariants.{Number}
+use Rattle.command_line.specs.declared.options.TakesOf.TheVariants.{Name, OneOf, Number}
 use Rattle.command_line.specs.Texts.{Text, is_name, number_of}
-use Rattle.command_line.specs.Table.{Row, asm_form, budget_row, every_row, frames_row, hold_row, ring_row, run_form, window_row}
+use Rattle.command_line.specs.Table.{Row, Takes, asm_form, run_form}
 use Rattle.command_line.specs.Options.{Options, are_options, default_of, has_option, is_between, is_for, is_taken, number_at, takes_of, value_of}
 use Rattle.command_line.specs.Parts.{Parts, are_positionals, parts}
 use Rattle.command_line.specs.Commands.{RunValue, asm, asm_of, asm_value, fits, is_asm, is_run, run, run_of, run_value}
 use Rattle.command_line.specs.Reading.{EachRow}
-use Rattle.command_line.specs.Ranges.{AreInRange, IsInRange, NumbersOf, RangesOf}
+use Rattle.command_line.specs.Ranges.{AreInRange, EachInRange, IsInRange, NumbersOf, RangesOf, takes_numbers}
 use Rattle.command_line.proofs.Numbers.{both}
-use Rattle.command_line.proofs.Cutting.{equal_text, row_found}
+use Rattle.command_line.proofs.Pieces.{is_row}
+use Rattle.command_line.proofs.Rows.{apart, each_both}
+use Rattle.command_line.proofs.Cutting.{each_of_none, equal_text, off, row_found, swapped_text}
 
 -- each row of this row's name takes what this row takes
 abbrev pub Alone : Row → List Row → Type 0
@@ -42,103 +44,62 @@ number_taken least most (Some n) taken =
     let ends = both (nat_le least n) (nat_le n most) taken in
     (leb-true least n ends.0, leb-true n most ends.1)
 
--- a row of the table that takes numbers: no other has its name, and it takes its default
-pub record IsNumeric (row : Row) (rows : List Row) : Type 0 where
-  pub least : ℕ
-  pub most : ℕ
-  pub takes : row.takes ≡ Number least most
-  pub alone : Alone row rows
-  pub default : takes_of row.takes (default_of row) ≡ true
+-- the number that a row takes is of its range
+number_ranges : (takes : Takes) (value : Text) → takes_numbers takes ≡ true → takes_of takes value ≡ true → IsInRange takes (unwrap_or (number_of value) 0)
+number_ranges Name value numeric taken = absurd (true≢false (sym numeric))
+number_ranges (OneOf texts) value numeric taken = absurd (true≢false (sym numeric))
+number_ranges (Number least most) value numeric taken = number_taken least most (number_of value) taken
 
-in_range : (row : Row) (rows : List Row) (os : Options) → IsNumeric row rows → are_options rows os ≡ true → IsInRange row.takes (number_at row os)
-in_range row rows os numeric taken =
-    let value = given_taken row rows os numeric.alone taken numeric.default in
-    let fit = number_taken numeric.least numeric.most (number_of (value_of row os)) (sym (ap (λ t. takes_of t (value_of row os)) numeric.takes) ∙ value) in
-    subst (λ t. IsInRange t (number_at row os)) (sym numeric.takes) fit
+-- ---- what holds of every table by tests of it, which compute
 
--- ---- the table's own rows
+-- a row that takes numbers takes its default
+abbrev fits_default : Row → Bool
+fits_default row = not (takes_numbers row.takes) || takes_of row.takes (default_of row)
 
-other : {A : Type 0} → false ≡ true → A
-other e = absurd (true≢false (sym e))
+each_plain : (P Q : Row → Type 0) → ((row : Row) → P row → Q row) → (rows : List Row) → EachRow P rows → EachRow Q rows
+each_plain P Q f rows p = each_both P P Q (λ row p q. f row p) rows p p
 
-same : {A : Type 0} (a : A) → true ≡ true → a ≡ a
-same a e = refl
+each_alone : (rows : List Row) → apart rows ≡ true → EachRow (λ row. Alone row rows) rows
+each_alone [] e = tt
+each_alone (row ∷ rows) e =
+    let tests = both (not (is_row row.name rows)) _ e in
+    let others = each_of_none row.name rows (off _ tests.0) in (
+      (λ same. refl, each_plain (λ r. bytes_eq r.name row.name ≡ false) (λ r. bytes_eq r.name row.name ≡ true → r.takes ≡ row.takes) (λ r miss same. absurd (true≢false (sym same ∙ miss))) rows others),
+      each_both (λ r. bytes_eq r.name row.name ≡ false) (λ r. Alone r rows) (λ r. Alone r (row ∷ rows))
+          (λ r miss alone. (λ same. absurd (true≢false (sym same ∙ swapped_text row.name r.name ∙ miss)), alone)) rows others (each_alone rows tests.1),
+    )
 
-window_numeric : IsNumeric window_row run_form.options
-unfolding run_form window_row
-window_numeric = record {
-  least = 1;
-  most = 64;
-  takes = refl;
-  alone = (other, (other, (other, (other, (same _, (other, (other, (other, (other, (other, tt))))))))));
-  default = refl;
-}
+known : (a b : Bool) → a ≡ true → (not a || b) ≡ true → b ≡ true
+known true b e more = more
+known false b e more = absurd (true≢false (sym e))
 
-hold_numeric : IsNumeric hold_row run_form.options
-unfolding run_form hold_row
-hold_numeric = record {
-  least = 0;
-  most = 1000;
-  takes = refl;
-  alone = (other, (other, (other, (other, (other, (same _, (other, (other, (other, (other, tt))))))))));
-  default = refl;
-}
+-- a row with its number
+abbrev numbered : Options → Row → Row × ℕ
+numbered os row = (row, number_at row os)
 
-ring_numeric : IsNumeric ring_row run_form.options
-unfolding run_form ring_row
-ring_numeric = record {
-  least = 1;
-  most = 16;
-  takes = refl;
-  alone = (other, (other, (other, (other, (other, (other, (same _, (other, (other, (other, tt))))))))));
-  default = refl;
-}
+abbrev is_numeric : Row → Bool
+is_numeric row = takes_numbers row.takes
 
-every_numeric : IsNumeric every_row run_form.options
-unfolding run_form every_row
-every_numeric = record {
-  least = 1;
-  most = 64;
-  takes = refl;
-  alone = (other, (other, (other, (other, (other, (other, (other, (same _, (other, (other, tt))))))))));
-  default = refl;
-}
-
-frames_numeric : IsNumeric frames_row run_form.options
-unfolding run_form frames_row
-frames_numeric = record {
-  least = 2;
-  most = 16;
-  takes = refl;
-  alone = (other, (other, (other, (other, (other, (other, (other, (other, (same _, (other, tt))))))))));
-  default = refl;
-}
-
-budget_numeric : IsNumeric budget_row run_form.options
-unfolding run_form budget_row
-budget_numeric = record {
-  least = 1;
-  most = 16777216;
-  takes = refl;
-  alone = (other, (other, (other, (other, (other, (other, (other, (other, (other, (same _, tt))))))))));
-  default = refl;
-}
+-- each row that takes numbers has one of its range
+each_in_range : (all : List Row) (os : Options) → are_options all os ≡ true → (rows : List Row) → EachRow (λ row. Alone row all) rows → list_all fits_default rows ≡ true
+    → EachInRange (map (numbered os) (filter is_numeric rows))
+each_in_range all os taken [] alone fit = tt
+each_in_range all os taken (row ∷ rows) alone fit =
+    let fits = both (fits_default row) _ fit in
+    let rest = each_in_range all os taken rows alone.1 fits.1 in
+    elim (is_numeric row) as (λ b. is_numeric row ≡ b → EachInRange (map (numbered os) (cond b (row ∷ filter is_numeric rows) (filter is_numeric rows)))) [
+      | true ↦ λ e. (number_ranges row.takes (value_of row os) e (given_taken row all os alone.0 taken (known _ _ e fits.0)), rest)
+      | false ↦ λ e. rest
+    ] refl
 
 -- ---- the numbers of a command
 
 in_ranges : (p : Parts) → is_run p ≡ true → AreInRange (run_value p)
-unfolding is_run run_value
+unfolding is_run run_value run_form
 in_ranges p e =
     let names = both (are_positionals (length run_form.positionals) p.positionals) _ (both (fits run_form p) _ e).0 in
     let taken = (both (are_options run_form.options p.options) _ names.1).0 in
-    record {
-      window = in_range window_row run_form.options p.options window_numeric taken;
-      hold = in_range hold_row run_form.options p.options hold_numeric taken;
-      ring = in_range ring_row run_form.options p.options ring_numeric taken;
-      every = in_range every_row run_form.options p.options every_numeric taken;
-      frames = in_range frames_row run_form.options p.options frames_numeric taken;
-      budget = in_range budget_row run_form.options p.options budget_numeric taken;
-    }
+    each_in_range run_form.options p.options taken run_form.options (each_alone run_form.options refl) refl
 
 of_parts : (p : Parts) (value : RunValue) → run_of p ≡ Some (run value) → AreInRange value
 of_parts p value asked =
@@ -166,17 +127,5 @@ ranges_of (word ∷ rest) value asked =
     ] asked
 
 pub numbers_of : NumbersOf
-unfolding budget_row every_row frames_row hold_row ring_row window_row
-numbers_of value ranges = record {
-  window_least = ranges.window.0;
-  window_most = ranges.window.1;
-  hold_most = ranges.hold.1;
-  ring_least = ranges.ring.0;
-  ring_most = ranges.ring.1;
-  every_least = ranges.every.0;
-  every_most = ranges.every.1;
-  frames_least = ranges.frames.0;
-  frames_most = ranges.frames.1;
-  budget_least = ranges.budget.0;
-  budget_most = ranges.budget.1;
-}
+unfolding run_form
+numbers_of value = refl

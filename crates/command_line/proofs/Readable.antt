@@ -1,5 +1,5 @@
 -- clap's commands of `run` and of `asm`, computed.
-use Rattle.std.proofs.Common.{◌≡◌, ◌<◌, ℕ, refl, true, false, length, List, Some, codes, arith}
+use Rattle.std.proofs.Common.{◌≡◌, ◌<◌, ℕ, refl, true, false, length, List, Some, None, [], ◌∷◌, codes, arith}
 use Rattle.clap.specs.Matches.{first_value, found_of}
 use Rattle.clap.specs.Simple.{built, matches_of}
 use Rattle.clap.specs.Takes.{takes}
@@ -9,7 +9,8 @@ use Rattle.command_line.specs.Commands.{fits, positional}
 use Rattle.command_line.specs.Parts.{parts}
 use Rattle.command_line.specs.Table.{asm_form, run_form}
 use Rattle.command_line.specs.Reading.{EachName, HasRead, app_of_form}
-use Rattle.command_line.proofs.Pieces.{is_row}
+use Rattle.command_line.proofs.Pieces.{is_row, plain_rule}
+use Rattle.command_line.proofs.Rows.{each_optional}
 use Rattle.command_line.proofs.Clapping.{IsReadable, clap_takes, name_value, options_value}
 use Rattle.command_line.proofs.Finding.{NameAt}
 
@@ -34,37 +35,7 @@ run_readable = record {
   no_subs = refl;
   all_words = refl;
   places = (record { by_index = refl; by_id = refl }, refl, refl, tt);
-  options = (
-    (record { defaults = _; by_long = refl; by_id = refl; some = refl; long = refl }, refl, refl),
-    (
-      (record { defaults = _; by_long = refl; by_id = refl; some = refl; long = refl }, refl, refl),
-      (
-        (record { defaults = _; by_long = refl; by_id = refl; some = refl; long = refl }, refl, refl),
-        (
-          (record { defaults = _; by_long = refl; by_id = refl; some = refl; long = refl }, refl, refl),
-          (
-            (record { defaults = _; by_long = refl; by_id = refl; some = refl; long = refl }, refl, refl),
-            (
-              (record { defaults = _; by_long = refl; by_id = refl; some = refl; long = refl }, refl, refl),
-              (
-                (record { defaults = _; by_long = refl; by_id = refl; some = refl; long = refl }, refl, refl),
-                (
-                  (record { defaults = _; by_long = refl; by_id = refl; some = refl; long = refl }, refl, refl),
-                  (
-                    (record { defaults = _; by_long = refl; by_id = refl; some = refl; long = refl }, refl, refl),
-                    (
-                      (record { defaults = _; by_long = refl; by_id = refl; some = refl; long = refl }, refl, refl),
-                      tt,
-                    ),
-                  ),
-                ),
-              ),
-            ),
-          ),
-        ),
-      ),
-    ),
-  );
+  options = each_optional (plain_rule (codes "PROGRAM") None (Some 1) [] ∷ []) run_form.positionals run_form.options refl refl;
   defaults = refl;
   valid = λ rows. refl;
 }

@@ -6,14 +6,14 @@ use Rattle.msg_frame.specs.declared.framing.Framing.TheVariants.{Line, Length, W
 use Rattle.command_line.specs.Texts.{Text}
 use Rattle.command_line.specs.Parts.{Parts, are_positionals, parts}
 use Rattle.command_line.specs.Options.{are_options, has_required, number_at, value_of}
-use Rattle.command_line.specs.declared.command.Form.{Form}
-use Rattle.command_line.specs.declared.command.Form.TheVariants as form
+use Rattle.command_line.specs.declared.run_words.Form.{Form}
+use Rattle.command_line.specs.declared.run_words.Form.TheVariants as form
 use Rattle.command_line.specs.declared.command.Command.{Command}
 use Rattle.command_line.specs.declared.command.Command.TheVariants.{Run, Asm}
-use Rattle.command_line.specs.declared.command.RunCommand.{RunCommand}
+use Rattle.command_line.specs.declared.run_words.RunCommand.{RunCommand}
 use Rattle.command_line.specs.declared.command.AsmCommand.{AsmCommand}
-use Rattle.command_line.specs.declared.options.TheConstants.{JSON, LENGTH, WHOLE}
-use Rattle.command_line.specs.Table.{CommandForm, run_form, asm_form, record_row, report_row, form_row, frame_row, window_row, hold_row, ring_row, every_row, frames_row, budget_row}
+use Rattle.command_line.specs.declared.run_words.TheConstants as table
+use Rattle.command_line.specs.Table.{CommandForm, Row, static_row, run_form, asm_form, record_row, report_row, form_row, frame_row}
 
 -- what a session of a program is asked for
 pub record RunValue : Type 0 where
@@ -50,10 +50,10 @@ abbrev pub positional : ℕ → Parts → Text
 positional index p = unwrap_or (slice_get p.positionals index) []
 
 abbrev pub form_of : Text → Form
-form_of text = if bytes_eq text JSON.now then form.Json else form.Text
+form_of text = if bytes_eq text table.JSON.now then form.Json else form.Text
 
 abbrev pub frame_of : Text → Framing
-frame_of text = if bytes_eq text LENGTH.now then Length else (if bytes_eq text WHOLE.now then Whole else Line)
+frame_of text = if bytes_eq text table.LENGTH.now then Length else (if bytes_eq text table.WHOLE.now then Whole else Line)
 
 -- the names and numbers of `run`
 unfoldable pub run_value : Parts → RunValue
@@ -63,13 +63,24 @@ run_value p = record {
   report = value_of report_row p.options;
   form = form_of (value_of form_row p.options);
   frame = frame_of (value_of frame_row p.options);
-  window = number_at window_row p.options;
-  hold = number_at hold_row p.options;
-  ring = number_at ring_row p.options;
-  every = number_at every_row p.options;
-  frames = number_at frames_row p.options;
-  budget = number_at budget_row p.options;
+  window = number_at (static_row table.WINDOW) p.options;
+  hold = number_at (static_row table.HOLD) p.options;
+  ring = number_at (static_row table.RING) p.options;
+  every = number_at (static_row table.EVERY) p.options;
+  frames = number_at (static_row table.FRAMES) p.options;
+  budget = number_at (static_row table.BUDGET) p.options;
 }
+
+-- the numbers of `run`, each with its row
+abbrev pub numbers : RunValue → List (Row × ℕ)
+numbers value =
+    (static_row table.WINDOW, value.window)
+    ∷ (static_row table.HOLD, value.hold)
+    ∷ (static_row table.RING, value.ring)
+    ∷ (static_row table.EVERY, value.every)
+    ∷ (static_row table.FRAMES, value.frames)
+    ∷ (static_row table.BUDGET, value.budget)
+    ∷ []
 
 -- no two of three texts are alike
 abbrev pub differ : Text → Text → Text → Bool

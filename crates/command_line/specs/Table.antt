@@ -6,7 +6,8 @@ use Rattle.command_line.specs.declared.options.CommandOf.{CommandOf}
 use Rattle.command_line.specs.declared.options.RowOf.{RowOf}
 use Rattle.command_line.specs.declared.options.TakesOf.{TakesOf}
 use Rattle.command_line.specs.declared.options.TakesOf.TheVariants.{Name, OneOf, Number}
-use Rattle.command_line.specs.declared.options.TheConstants as table
+use Rattle.command_line.specs.declared.command.TheConstants as commands
+use Rattle.command_line.specs.declared.run_words.TheConstants as table
 
 -- what an option takes, a row of the table, and a command with its rows
 abbrev pub Takes : Type 0
@@ -70,7 +71,7 @@ unfoldable pub run_form : CommandForm
 run_form = static_form table.RUN
 
 unfoldable pub asm_form : CommandForm
-asm_form = static_form table.ASM
+asm_form = static_form commands.ASM
 
 unfoldable pub record_row : Row
 record_row = static_row table.RECORD
@@ -83,21 +84,3 @@ form_row = static_row table.FORM
 
 unfoldable pub frame_row : Row
 frame_row = static_row table.FRAME
-
-unfoldable pub window_row : Row
-window_row = static_row table.WINDOW
-
-unfoldable pub hold_row : Row
-hold_row = static_row table.HOLD
-
-unfoldable pub ring_row : Row
-ring_row = static_row table.RING
-
-unfoldable pub every_row : Row
-every_row = static_row table.EVERY
-
-unfoldable pub frames_row : Row
-frames_row = static_row table.FRAMES
-
-unfoldable pub budget_row : Row
-budget_row = static_row table.BUDGET

@@ -6,8 +6,10 @@ ghost use Rattle.command_line.specs.Parts.{parts_of, texts_of};
 ghost use Rattle.command_line.specs.Table.{asm_form, record_row, report_row, run_form, form_read, row_read};
 ghost use Rattle.command_line.specs.Commands.{command_of, differ, fits, is_asm, is_run, positional};
 
-use crate::options::{ASM, CommandRow, OptionRow, RECORD, REPORT, RUN};
+use crate::command::ASM;
+use crate::options::{CommandRow, OptionRow};
 use crate::parts::{are_complete, are_names, are_taken, given, positional};
+use crate::run_words::{RECORD, REPORT, RUN};
 
 // Whether the words have the form of this command.
 fn have_form(words: &[String], command: &CommandRow) -> bool

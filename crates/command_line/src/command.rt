@@ -1,29 +1,24 @@
-// A command with its names and numbers.
-use msg_frame::Framing;
+// The commands, and what the words of one come to.
+use crate::options::{CommandOf, CommandRow, OptionRow};
+use crate::run_words::{RUN, RunCommand};
 
-/// The form of a report.
-#[derive(Clone, Copy, Debug, PartialEq, Eq)]
-pub enum Form {
-    Text,
-    Json,
-}
+/// The file of an assembler's text.
+pub const SOURCE: &str = "SOURCE";
+/// The file that is written.
+pub const OUT: &str = "OUT";
 
-/// A session of a program: the names of the program, of the record and of the report, no two of them alike, and the settings.
-#[derive(Clone, Copy, Debug)]
-pub struct RunCommand<'a> {
-    pub program: &'a str,
-    pub recording: &'a str,
-    pub report: &'a str,
-    pub form: Form,
-    pub frame: Framing,
-    /// In MiB.
-    pub window: u32,
-    pub hold: u32,
-    pub ring: u32,
-    pub every: u32,
-    pub frames: u32,
-    pub budget: u32,
-}
+/// The options of `asm`.
+pub const ASM_OPTIONS: [OptionRow; 0] = [];
+
+/// Assembles a program.
+pub const ASM: CommandRow = CommandOf {
+    name: "asm",
+    positionals: &[SOURCE, OUT],
+    options: &ASM_OPTIONS,
+};
+
+/// The commands.
+pub const COMMANDS: [CommandRow; 2] = [RUN, ASM];
 
 /// An assembly: the names of its source and of what it writes, not alike.
 #[derive(Clone, Copy, Debug)]

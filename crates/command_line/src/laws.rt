@@ -6,7 +6,7 @@ pub fn ranges_of()
     ensures { RangesOf }
 {}
 
-/// These are the bounds of those ranges.
+/// Each row of the table that takes numbers is among those.
 pub fn numbers_of()
     ensures { NumbersOf }
 {}

@@ -7,7 +7,9 @@ ghost use Rattle.command_line.specs.Parts.{parts_of};
 ghost use Rattle.command_line.specs.Reading.{HasRead, app_of_form, option_rule};
 ghost use Rattle.command_line.specs.Table.{asm_form, form_read, row_read, rows_read, run_form};
 
-use crate::options::{ASM, CommandRow, OptionRow, RUN};
+use crate::command::ASM;
+use crate::options::{CommandRow, OptionRow};
+use crate::run_words::RUN;
 use clap::{Arg, ArgMatches, Error};
 use std::alloc::{AllocError, Global};
 

@@ -1,4 +1,4 @@
-// The table of the commands and of their options: names, ranges and defaults.
+// A row of the table of options: its name, what it takes and its default.
 ghost use Rattle.std.specs.Prelude.{◌≡◌, ◌&&◌};
 ghost use Rattle.std.specs.List.{list_any};
 ghost use Rattle.std.specs.Str.{bytes_eq};
@@ -44,110 +44,6 @@ pub struct CommandOf<Text, Texts, Rows> {
 
 /// A command with its positionals, in their order, and its options.
 pub type CommandRow = CommandOf<&'static str, &'static [&'static str], &'static [OptionRow]>;
-
-/// The program's file.
-pub const PROGRAM: &str = "PROGRAM";
-/// The file of an assembler's text.
-pub const SOURCE: &str = "SOURCE";
-/// The file that is written.
-pub const OUT: &str = "OUT";
-
-/// The report as text.
-pub const TEXT: &str = "text";
-/// The report as JSON.
-pub const JSON: &str = "json";
-/// A message is a line.
-pub const LINE: &str = "line";
-/// A message comes behind its length.
-pub const LENGTH: &str = "length";
-/// A message is a whole piece.
-pub const WHOLE: &str = "whole";
-
-/// Where the record goes.
-pub const RECORD: OptionRow = RowOf {
-    name: "record",
-    takes: TakesOf::Name,
-    default: None,
-};
-/// Where the report goes.
-pub const REPORT: OptionRow = RowOf {
-    name: "report",
-    takes: TakesOf::Name,
-    default: None,
-};
-/// The form of the report.
-pub const FORM: OptionRow = RowOf {
-    name: "form",
-    takes: TakesOf::OneOf(&[TEXT, JSON]),
-    default: Some(TEXT),
-};
-/// How the stream of a connection is cut into messages.
-pub const FRAME: OptionRow = RowOf {
-    name: "frame",
-    takes: TakesOf::OneOf(&[LINE, LENGTH, WHOLE]),
-    default: Some(LINE),
-};
-/// The window of memory, in MiB.
-pub const WINDOW: OptionRow = RowOf {
-    name: "window",
-    takes: TakesOf::Number(1, 64),
-    default: Some("4"),
-};
-/// How many items more are taken before a reply is passed.
-pub const HOLD: OptionRow = RowOf {
-    name: "hold",
-    takes: TakesOf::Number(0, 1000),
-    default: Some("0"),
-};
-/// How many checkpoints stand at most.
-pub const RING: OptionRow = RowOf {
-    name: "ring",
-    takes: TakesOf::Number(1, 16),
-    default: Some("8"),
-};
-/// How many items lie between two checkpoints at least.
-pub const EVERY: OptionRow = RowOf {
-    name: "every",
-    takes: TakesOf::Number(1, 64),
-    default: Some("1"),
-};
-/// How many frames the pages of the program have, as a multiple of the pages of its window.
-pub const FRAMES: OptionRow = RowOf {
-    name: "frames",
-    takes: TakesOf::Number(2, 16),
-    default: Some("4"),
-};
-/// How many instructions may come between two items.
-pub const BUDGET: OptionRow = RowOf {
-    name: "budget",
-    takes: TakesOf::Number(1, 16_777_216),
-    default: Some("1000000"),
-};
-
-/// The options of `run`.
-pub const RUN_OPTIONS: [OptionRow; 10] = [
-    RECORD, REPORT, FORM, FRAME, WINDOW, HOLD, RING, EVERY, FRAMES, BUDGET,
-];
-
-/// The options of `asm`.
-pub const ASM_OPTIONS: [OptionRow; 0] = [];
-
-/// Runs a program.
-pub const RUN: CommandRow = CommandOf {
-    name: "run",
-    positionals: &[PROGRAM],
-    options: &RUN_OPTIONS,
-};
-
-/// Assembles a program.
-pub const ASM: CommandRow = CommandOf {
-    name: "asm",
-    positionals: &[SOURCE, OUT],
-    options: &ASM_OPTIONS,
-};
-
-/// The commands.
-pub const COMMANDS: [CommandRow; 2] = [RUN, ASM];
 
 // Whether a text is one of these.
 fn is_one_of(texts: &[&str], value: &str) -> bool

@@ -1,10 +1,9 @@
 // What is wrong with words that are refused, for a person.
 use crate::accepted::{name_at, recording, report};
-use crate::options::{
-    ASM, COMMANDS, CommandRow, OUT, OptionRow, PROGRAM, RUN, SOURCE, Takes, TakesOf, is_named,
-    takes_value,
-};
+use crate::command::{ASM, COMMANDS, OUT, SOURCE};
+use crate::options::{CommandRow, OptionRow, Takes, TakesOf, is_named, takes_value};
 use crate::parts::{Part, given, is_there, next_part, positional};
+use crate::run_words::{PROGRAM, RUN};
 use crate::texts::is_name;
 use std::alloc::{AllocError, Global};
 
@@ -321,8 +320,8 @@ fn add_options(alloc: Global, lines: String, rows: &[OptionRow]) -> Result<Strin
     Ok(lines)
 }
 
-/// How a command is written, in lines that each end with a line feed, twelve at most. Of all commands where the name is that of
-/// none.
+/// How a command is written: a line for it and one for each of its options, and each ends with a line feed. Of all commands
+/// where the name is that of none.
 pub fn usage(alloc: Global, name: &str) -> Result<String, AllocError> {
     if let Some(command) = command_named(name) {
         return usage_of(alloc, &command);

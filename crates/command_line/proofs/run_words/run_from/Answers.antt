@@ -1,14 +1,14 @@
 use Rattle.std.proofs.Common.{◌∙◌, ℕ, ap, unwrap_or}
 use Rattle.command_line.specs.Texts.{Text, number_of}
-use Rattle.command_line.specs.Table.{run_form, budget_row, every_row, form_row, frame_row, frames_row, hold_row, record_row, report_row, ring_row, window_row}
+use Rattle.command_line.specs.Table.{run_form, form_row, frame_row, record_row, report_row}
 use Rattle.command_line.specs.Commands.{form_of, frame_of, run_value}
-use Rattle.command_line.proofs.reading.run_from.Goals as goal
+use Rattle.command_line.proofs.run_words.run_from.Goals as goal
 
 abbrev number_read : Text → ℕ
 number_read text = unwrap_or (number_of text) 0
 
 pub returns : goal.returns
-unfolding run_value run_form budget_row every_row form_row frame_row frames_row hold_row record_row report_row ring_row window_row
+unfolding run_value run_form form_row frame_row record_row report_row
 returns c =
     λ p read i. record {
       program = c.value_in.ensures _ read.names.0 i;
