@@ -1,13 +1,12 @@
 -- Each end has a cause of its own.
-use Rattle.std.proofs.Common.{◌≡◌, ℕ, ◌∷◌, ◌++◌, [], List, length, take, Some, refl, sym, ◌∙◌, ap, subst, arith, length-append}
-use Rattle.std.specs.Prelude.{slice_get}
-use Rattle.std.proofs.Math.Seq.{take-append_seam}
+use Rattle.std.proofs.Common.{◌≡◌, Option, ℕ, ◌∷◌, ◌++◌, [], List, length, Some, refl, sym, ◌∙◌, ap, subst}
+use Rattle.std.specs.Prelude.{slice_get, unwrap_or}
 use Rattle.std.proofs.lemmas.Option.{none-some, same_Some}
 use Rattle.rx_io.specs.declared.journal.Entry.{Entry}
 use Rattle.rx_io.specs.declared.journal.Entry.TheVariants as entry
 use Rattle.rx_io.specs.declared.journal.LinkEvent.{LinkEvent}
 use Rattle.rx_io.specs.declared.journal.LinkEvent.TheVariants as event
-use Rattle.rx_io.specs.Links.{events_in, Coming, Comes, Refuses}
+use Rattle.rx_io.specs.Links.{events_in, last_taken, HasEnded, Coming, Comes, Refuses}
 use Rattle.item_log.specs.Log.{IsPieceOf}
 use Rattle.run_history.specs.declared.answer.Answer.{Answer}
 use Rattle.run_history.specs.declared.answer.Answer.TheVariants as answer
@@ -19,13 +18,8 @@ use Rattle.session_history.specs.Heeding.{Bounds, Unheeded, refusal}
 use Rattle.session_history.specs.Heeding as unheeded
 use Rattle.session_history.specs.Lawful.{Rules, Survivor}
 use Rattle.session_history.specs.Ends.{IsWaiting, IsLastRefused, IsLastTooLong, StandsAt}
-use Rattle.account_laws.specs.Laws.{IsRefusedAlone, OneEnd}
-
--- of two lists with one more element each that are one, the lists before are one, and so are the elements
-pub same_before : {X : Type 0} (xs ys : List X) (x y : X) → xs ++ x ∷ [] ≡ ys ++ y ∷ [] → xs ≡ ys
-same_before xs ys x y same =
-    let count : length xs ≡ length ys = omega (arith, ap length same, length-append xs (x ∷ []), length-append ys (y ∷ [])) in
-    sym (take-append_seam xs (x ∷ [])) ∙ ap (take (length xs)) same ∙ ap (λ n. take n (ys ++ y ∷ [])) count ∙ take-append_seam ys (y ∷ [])
+use Rattle.account_laws.specs.Laws.{OneEnd}
+use Rattle.account_laws.proofs.Refused.{same_before, none_refused}
 
 same_last : {X : Type 0} (xs ys : List X) (x y : X) → xs ++ x ∷ [] ≡ ys ++ y ∷ [] → x ≡ y
 same_last xs ys x y same =
@@ -84,16 +78,25 @@ no_events h = cc
 no_both : unheeded.LimitItems ≡ unheeded.LimitEvents → ⊥
 no_both h = cc
 
+-- behind Ends no event was refused last
+last_taken-append : (entries : List Entry) (event : LinkEvent) → last_taken (entries ++ entry.Took event ∷ []) ≡ Some event
+last_taken-append [] event = refl
+last_taken-append (entry.Gave conn bytes gone ∷ entries) event = last_taken-append entries event
+last_taken-append (entry.Took first ∷ entries) event = ap (λ (found : Option LinkEvent). Some (unwrap_or found first)) (last_taken-append entries event)
+
+not_ended : {bounds : Bounds} {entries : List Entry} → HasEnded entries → (cause : Unheeded) → IsLastRefused bounds entries cause → ⊥
+not_ended ended cause last = last.no_end (same_Some last.event event.Ends (sym (ap last_taken last.last ∙ last_taken-append last.before last.event) ∙ ended))
+
 -- an end, and any other
-module _ (rules : Rules) (entries : List Entry) (next : Coming) (survivor : Survivor) (alone : IsRefusedAlone rules.bounds entries next) where
+module _ (rules : Rules) (entries : List Entry) (next : Coming) (survivor : Survivor) where
   finished : (other : Answer) → StandsAt rules entries (Some next) survivor answer.Finished → StandsAt rules entries (Some next) survivor other → answer.Finished ≡ other
   finished answer.Finished one stands = refl
   finished (answer.Exited code) one stands = absurd (no_exit rules entries survivor code one.0 stands)
   finished (answer.GaveUp point cause) one stands = absurd (no_failure rules entries survivor cause one.0 stands.0)
-  finished (answer.InputRefused kind offset) one stands = absurd (no_coming next kind offset one.2 stands.1)
-  finished (answer.MessageTooLong conn) one stands = absurd ((alone unheeded.TooLong stands.1.refused).no_end one.1)
-  finished answer.LimitItems one stands = absurd ((alone unheeded.LimitItems stands.1).no_end one.1)
-  finished answer.LimitEvents one stands = absurd ((alone unheeded.LimitEvents stands.1).no_end one.1)
+  finished (answer.InputRefused kind offset) one stands = absurd (no_coming next kind offset one.2 stands.2)
+  finished (answer.MessageTooLong conn) one stands = absurd (not_ended one.1 unheeded.TooLong stands.1.refused)
+  finished answer.LimitItems one stands = absurd (not_ended one.1 unheeded.LimitItems stands.1)
+  finished answer.LimitEvents one stands = absurd (not_ended one.1 unheeded.LimitEvents stands.1)
   finished _ one stands = absurd stands
 
   exited : (code : ℕ) (other : Answer) → StandsAt rules entries (Some next) survivor (answer.Exited code) → StandsAt rules entries (Some next) survivor other → answer.Exited code ≡ other
@@ -118,51 +121,51 @@ module _ (rules : Rules) (entries : List Entry) (next : Coming) (survivor : Surv
   gave_up point cause _ one stands = absurd stands
 
   refused : (kind offset : ℕ) (other : Answer) → StandsAt rules entries (Some next) survivor (answer.InputRefused kind offset) → StandsAt rules entries (Some next) survivor other → answer.InputRefused kind offset ≡ other
-  refused kind offset answer.Finished one stands = absurd (no_coming next kind offset stands.2 one.1)
+  refused kind offset answer.Finished one stands = absurd (no_coming next kind offset stands.2 one.2)
   refused kind offset (answer.Exited code) one stands = absurd (no_exit rules entries survivor code one.0 stands)
   refused kind offset (answer.GaveUp point cause) one stands = absurd (no_failure rules entries survivor cause one.0 stands.0)
-  refused kind offset (answer.InputRefused of place) one stands = same_refusal kind of offset place (sym one.1 ∙ stands.1)
-  refused kind offset (answer.MessageTooLong conn) one stands = absurd ((alone unheeded.TooLong stands.1.refused).no_refusal kind offset one.1)
-  refused kind offset answer.LimitItems one stands = absurd ((alone unheeded.LimitItems stands.1).no_refusal kind offset one.1)
-  refused kind offset answer.LimitEvents one stands = absurd ((alone unheeded.LimitEvents stands.1).no_refusal kind offset one.1)
+  refused kind offset (answer.InputRefused of place) one stands = same_refusal kind of offset place (sym one.2 ∙ stands.2)
+  refused kind offset (answer.MessageTooLong conn) one stands = absurd (none_refused rules.bounds entries unheeded.TooLong one.1 stands.1.refused)
+  refused kind offset answer.LimitItems one stands = absurd (none_refused rules.bounds entries unheeded.LimitItems one.1 stands.1)
+  refused kind offset answer.LimitEvents one stands = absurd (none_refused rules.bounds entries unheeded.LimitEvents one.1 stands.1)
   refused kind offset _ one stands = absurd stands
 
   too_long : (conn : ℕ) (other : Answer) → StandsAt rules entries (Some next) survivor (answer.MessageTooLong conn) → StandsAt rules entries (Some next) survivor other → answer.MessageTooLong conn ≡ other
-  too_long conn answer.Finished one stands = absurd ((alone unheeded.TooLong one.1.refused).no_end stands.1)
+  too_long conn answer.Finished one stands = absurd (not_ended stands.1 unheeded.TooLong one.1.refused)
   too_long conn (answer.Exited code) one stands = absurd (no_exit rules entries survivor code one.0 stands)
   too_long conn (answer.GaveUp point cause) one stands = absurd (no_failure rules entries survivor cause one.0 stands.0)
-  too_long conn (answer.InputRefused kind offset) one stands = absurd ((alone unheeded.TooLong one.1.refused).no_refusal kind offset stands.1)
+  too_long conn (answer.InputRefused kind offset) one stands = absurd (none_refused rules.bounds entries unheeded.TooLong stands.1 one.1.refused)
   too_long conn (answer.MessageTooLong of) one stands = ap answer.MessageTooLong (one_long rules.bounds entries conn of one.1 stands.1)
   too_long conn answer.LimitItems one stands = absurd (no_items (one_cause rules.bounds entries unheeded.TooLong unheeded.LimitItems one.1.refused stands.1))
   too_long conn answer.LimitEvents one stands = absurd (no_events (one_cause rules.bounds entries unheeded.TooLong unheeded.LimitEvents one.1.refused stands.1))
   too_long conn _ one stands = absurd stands
 
   most_items : (other : Answer) → StandsAt rules entries (Some next) survivor answer.LimitItems → StandsAt rules entries (Some next) survivor other → answer.LimitItems ≡ other
-  most_items answer.Finished one stands = absurd ((alone unheeded.LimitItems one.1).no_end stands.1)
+  most_items answer.Finished one stands = absurd (not_ended stands.1 unheeded.LimitItems one.1)
   most_items (answer.Exited code) one stands = absurd (no_exit rules entries survivor code one.0 stands)
   most_items (answer.GaveUp point cause) one stands = absurd (no_failure rules entries survivor cause one.0 stands.0)
-  most_items (answer.InputRefused kind offset) one stands = absurd ((alone unheeded.LimitItems one.1).no_refusal kind offset stands.1)
+  most_items (answer.InputRefused kind offset) one stands = absurd (none_refused rules.bounds entries unheeded.LimitItems stands.1 one.1)
   most_items (answer.MessageTooLong of) one stands = absurd (no_items (one_cause rules.bounds entries unheeded.TooLong unheeded.LimitItems stands.1.refused one.1))
   most_items answer.LimitItems one stands = refl
   most_items answer.LimitEvents one stands = absurd (no_both (one_cause rules.bounds entries unheeded.LimitItems unheeded.LimitEvents one.1 stands.1))
   most_items _ one stands = absurd stands
 
   most_events : (other : Answer) → StandsAt rules entries (Some next) survivor answer.LimitEvents → StandsAt rules entries (Some next) survivor other → answer.LimitEvents ≡ other
-  most_events answer.Finished one stands = absurd ((alone unheeded.LimitEvents one.1).no_end stands.1)
+  most_events answer.Finished one stands = absurd (not_ended stands.1 unheeded.LimitEvents one.1)
   most_events (answer.Exited code) one stands = absurd (no_exit rules entries survivor code one.0 stands)
   most_events (answer.GaveUp point cause) one stands = absurd (no_failure rules entries survivor cause one.0 stands.0)
-  most_events (answer.InputRefused kind offset) one stands = absurd ((alone unheeded.LimitEvents one.1).no_refusal kind offset stands.1)
+  most_events (answer.InputRefused kind offset) one stands = absurd (none_refused rules.bounds entries unheeded.LimitEvents stands.1 one.1)
   most_events (answer.MessageTooLong of) one stands = absurd (no_events (one_cause rules.bounds entries unheeded.TooLong unheeded.LimitEvents stands.1.refused one.1))
   most_events answer.LimitItems one stands = absurd (no_both (one_cause rules.bounds entries unheeded.LimitItems unheeded.LimitEvents stands.1 one.1))
   most_events answer.LimitEvents one stands = refl
   most_events _ one stands = absurd stands
 
 pub one_end : OneEnd
-one_end rules entries next survivor answer.Finished other alone one stands = finished rules entries next survivor alone other one stands
-one_end rules entries next survivor (answer.Exited code) other alone one stands = exited rules entries next survivor alone code other one stands
-one_end rules entries next survivor (answer.GaveUp point cause) other alone one stands = gave_up rules entries next survivor alone point cause other one stands
-one_end rules entries next survivor (answer.InputRefused kind offset) other alone one stands = refused rules entries next survivor alone kind offset other one stands
-one_end rules entries next survivor (answer.MessageTooLong conn) other alone one stands = too_long rules entries next survivor alone conn other one stands
-one_end rules entries next survivor answer.LimitItems other alone one stands = most_items rules entries next survivor alone other one stands
-one_end rules entries next survivor answer.LimitEvents other alone one stands = most_events rules entries next survivor alone other one stands
-one_end rules entries next survivor _ other alone one stands = absurd one
+one_end rules entries next survivor answer.Finished other one stands = finished rules entries next survivor other one stands
+one_end rules entries next survivor (answer.Exited code) other one stands = exited rules entries next survivor code other one stands
+one_end rules entries next survivor (answer.GaveUp point cause) other one stands = gave_up rules entries next survivor point cause other one stands
+one_end rules entries next survivor (answer.InputRefused kind offset) other one stands = refused rules entries next survivor kind offset other one stands
+one_end rules entries next survivor (answer.MessageTooLong conn) other one stands = too_long rules entries next survivor conn other one stands
+one_end rules entries next survivor answer.LimitItems other one stands = most_items rules entries next survivor other one stands
+one_end rules entries next survivor answer.LimitEvents other one stands = most_events rules entries next survivor other one stands
+one_end rules entries next survivor _ other one stands = absurd one

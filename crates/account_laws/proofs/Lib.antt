@@ -1,3 +1,4 @@
+pub mod Refused
 pub mod Causes
 pub mod Connected
 pub mod Asked

@@ -1,43 +1,25 @@
 -- What follows from the account of a session, and from the causes of its ends.
-use Rattle.std.specs.Prelude.{◌≡◌, ◌≢◌, ℕ, ◌<◌, Bool, List, [], ◌∷◌, ◌++◌, length, false, map, Option, Some}
+use Rattle.std.specs.Prelude.{◌≡◌, ◌≢◌, ℕ, Bool, List, [], ◌∷◌, ◌++◌, false, map, Option, Some}
 use Rattle.rx_io.specs.declared.journal.Entry.{Entry}
 use Rattle.rx_io.specs.declared.journal.LinkEvent.TheVariants as event
 use Rattle.rx_io.specs.declared.journal.LinkEvent.{LinkEvent}
-use Rattle.rx_io.specs.Links.{Phases, IsInOrder, phases_after, Told, Grew, Coming, Refuses, HasEnded, last_taken, Piece, pieces_in, events_in}
+use Rattle.rx_io.specs.Links.{Phases, IsInOrder, phases_after, Told, Grew, Coming, Refuses, Piece, pieces_in, events_in}
 use Rattle.block_book.specs.declared.choice.Choice.{Choice}
 use Rattle.rx_io.specs.Sends.{Send}
 use Rattle.elf_image.specs.declared.image.Image.{Image}
 use Rattle.run_history.specs.declared.answer.Answer.{Answer}
 use Rattle.run_history.specs.declared.answer.Answer.TheVariants as answer
-use Rattle.session_history.specs.Heeding.{Bounds, Unheeded, heeded, received}
+use Rattle.session_history.specs.Heeding.{received, AreHeeded}
 use Rattle.session_history.specs.Opened.{closes, is_gone}
 use Rattle.session_history.specs.Lawful.{Rules, Survivor}
 use Rattle.session_history.specs.Account.{Session, journal_of, IsAccount}
 use Rattle.session_history.specs.Giving.{AreGiven}
-use Rattle.session_history.specs.Ends.{IsEnd, IsLastRefused, StandsAt, OwesNothingAtEnd, before_end, HasServed}
-
--- nothing but the refusal of the last event is told behind it: the last event isn't Ends, and the link refuses nothing more
-pub record IsToldAlone (entries : List Entry) (next : Coming) : Type 0 where
-  pub no_end : last_taken entries ≢ Some event.Ends
-  pub no_refusal : (kind offset : ℕ) → next ≢ Refuses kind offset
-
--- where the last event is refused, it is so
-abbrev pub IsRefusedAlone : Bounds → List Entry → Coming → Type 0
-IsRefusedAlone bounds entries next = (cause : Unheeded) → IsLastRefused bounds entries cause → IsToldAlone entries next
-
--- every event is heeded, and the end of the link, where it was taken, came before the last event that may be
-pub record IsAllHeeded (bounds : Bounds) (entries : List Entry) : Type 0 where
-  pub all : heeded bounds (events_in entries) ≡ events_in entries
-  pub ends_early : HasEnded entries → length (events_in entries) < bounds.max_events
-
--- it is so where every event is heeded
-abbrev pub HeededRefuseNone : Type 0
-HeededRefuseNone = (bounds : Bounds) (entries : List Entry) (next : Coming) → IsAllHeeded bounds entries → IsRefusedAlone bounds entries next
+use Rattle.session_history.specs.Ends.{IsEnd, StandsAt, OwesNothingAtEnd, before_end, HasServed}
 
 -- no two answers have their cause in one journal, with what its link has behind it
 abbrev pub OneEnd : Type 0
 OneEnd =
-    (rules : Rules) (entries : List Entry) (next : Coming) (survivor : Survivor) (end other : Answer) → IsRefusedAlone rules.bounds entries next →
+    (rules : Rules) (entries : List Entry) (next : Coming) (survivor : Survivor) (end other : Answer) →
     StandsAt rules entries (Some next) survivor end → StandsAt rules entries (Some next) survivor other → end ≡ other
 
 -- the piece of a send, whole
@@ -87,6 +69,7 @@ IsComplete rules session (answer.Exited code) = Unit {0}
 IsComplete rules session (answer.GaveUp point cause) = Unit {0}
 IsComplete rules session answer.ReadFault = Unit {0}
 IsComplete rules session answer.WriteFault = Unit {0}
+IsComplete rules session answer.FileFault = Unit {0}
 IsComplete rules session answer.Memory = Unit {0}
 IsComplete rules session _ = ⊥
 
@@ -94,4 +77,4 @@ IsComplete rules session _ = ⊥
 abbrev pub NoOtherAnswer : Type 0
 NoOtherAnswer =
     (rules : Rules) (image : Image) (began now : Told) (next : Coming) (takes : Bool) (end : Answer) (choices : List Choice) (taken steps : ℕ) (served : HasServed rules image began now (Some next) takes end choices taken steps) →
-    IsAllHeeded rules.bounds (before_end served.session) → ((kind offset : ℕ) → next ≢ Refuses kind offset) → IsComplete rules served.session end
+    AreHeeded rules.bounds (before_end served.session) → ((kind offset : ℕ) → next ≢ Refuses kind offset) → IsComplete rules served.session end

@@ -1,5 +1,5 @@
 //! Laws of accounts and ends, each as the contract of a function that does nothing.
-ghost use Rattle.account_laws.specs.Laws.{SentIsPassed, ServedIsPassed, LinksOpenOnce, OneEnd, HeededRefuseNone, NoOtherAnswer};
+ghost use Rattle.account_laws.specs.Laws.{SentIsPassed, ServedIsPassed, LinksOpenOnce, OneEnd, NoOtherAnswer};
 
 /// What the program of a session sent was passed, one piece for each send.
 pub fn sent_is_passed()
@@ -16,14 +16,9 @@ pub fn links_open_once()
     ensures { LinksOpenOnce }
 {}
 
-/// A session has one end: no two answers have their cause in one journal, where nothing is told behind an event that is refused.
+/// A session has one end: no two answers have their cause in one journal.
 pub fn one_end()
     ensures { OneEnd }
-{}
-
-/// It does so where every event is heeded.
-pub fn heeded_refuse_none()
-    ensures { HeededRefuseNone }
 {}
 
 /// Where every event is heeded and the link refuses nothing, no other answer can come.

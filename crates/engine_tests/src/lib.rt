@@ -1,6 +1,10 @@
-//! Tests of sessions over a link: what no clause of the engine says.
+//! Tests of sessions over a link, and of example guests by themselves: what no clause of the engine says.
 #![tactic(auto)]
 
+#[cfg(test)]
+mod guests_tests;
+#[cfg(test)]
+mod notes_tests;
 #[cfg(test)]
 mod played;
 #[cfg(test)]

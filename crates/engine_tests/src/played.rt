@@ -1,4 +1,4 @@
-// Sessions over a link in memory, with what the link plays and what it noted as lines of text.
+// Sessions over a link and notes in memory, with what the link plays and what it noted as lines of text.
 ghost use Rattle.std.specs.Prelude.{◌≡◌, ◌<◌, true, IfOk};
 ghost use Rattle.rx_io.specs.Links.{IsFresh};
 ghost use Rattle.rx_io.specs.MemoryLinks.{link_phases, link_takes, link_gives};
@@ -11,9 +11,10 @@ use elf_image::Image;
 use example_guests::source_of;
 use guest_space::AllMapped;
 use msg_frame::Framing;
+use notes::{NoteList, Notes};
 use run_history::Answer;
 use rv_asm::assemble;
-use rx_engine::{Options, Session};
+use rx_engine::{Left, Options, Session};
 use rx_io::{Bytes, Entry, Link, LinkEvent, MemoryLink, Steps};
 use std::alloc::Global;
 use std::marker::Brand;
@@ -25,7 +26,7 @@ use std::test::Fail;
 const WINDOW: u32 = 1 << 20;
 
 // A session of a program: what is played to it, the numbers of the link's calls that fail, and of its gives that find their
-// connection gone after so many bytes.
+// connection gone after so many bytes, and the numbers of the calls of its notes that fail.
 #[derive(Clone, Copy)]
 pub struct Setting<'a> {
     pub image: &'a Image,
@@ -33,6 +34,7 @@ pub struct Setting<'a> {
     pub events: &'a str,
     pub fails: &'a [u64],
     pub gones: &'a [(u64, usize)],
+    pub note_fails: &'a [u64],
 }
 
 impl<'a> Setting<'a> {
@@ -44,16 +46,18 @@ impl<'a> Setting<'a> {
             events,
             fails: &[],
             gones: &[],
+            note_fails: &[],
         }
     }
 }
 
-// How a session ended, and the journal of its link.
+// How a session ended, what it left, what it noted, all answers of malloc (those that were noted and those behind them), and the
+// journal of its link.
 #[derive(Drop)]
 pub struct Outcome {
     pub answer: Answer,
-    pub taken: u64,
-    pub steps: u64,
+    pub left: Left<AllMapped>,
+    pub notes: NoteList,
     pub choices: Vec<Choice>,
     pub journal: Vec<u8>,
 }
@@ -179,10 +183,16 @@ fn link_of(alloc: Global, setting: &Setting<'_>) -> Result<MemoryLink, Fail>
     Ok(MemoryLink::make(alloc, events, fails, gones))
 }
 
+// The notes of a setting.
+fn notes_of(alloc: Global, setting: &Setting<'_>) -> Result<NoteList, Fail> {
+    Ok(NoteList::make(alloc, setting.note_fails.to_vec(alloc)?))
+}
+
 // Serves a link with a counter of its own. It is generic over its ledger, and is handed the blank of which the counter is made.
-fn serve_counted<K: Link, L: Ledger>(
+fn serve_counted<K: Link, N: Notes, L: Ledger>(
     session: &mut Session<AllMapped>,
     link: &mut K,
+    notes: &mut N,
     blank: Blank,
 ) -> Answer
     requires name { blank.name ≡ L.name }
@@ -194,31 +204,41 @@ fn serve_counted<K: Link, L: Ledger>(
     requires gives { K.gives link.old ≡ true }
 {
     let mut steps = Steps::<L>::start(blank);
-    session.serve(link, &mut steps)
+    session.serve(link, notes, &mut steps)
 }
 
-// What a session and the journal of its link show at its end.
+// What a session, its notes and the journal of its link show at its end.
 fn shown(
     alloc: Global,
-    session: &Session<AllMapped>,
+    session: Session<AllMapped>,
+    notes: NoteList,
     answer: Answer,
     journal: &[Entry],
 ) -> Result<Outcome, Fail> {
+    let left = session.into_end();
+    let mut choices = notes.kept_choices().to_vec(alloc)?;
+    choices.extend_from_slice(left.tail.as_slice())?;
     Ok(Outcome {
         answer,
-        taken: session.taken(),
-        steps: session.steps(),
-        choices: session.choices().to_vec(alloc)?,
+        left,
+        notes,
+        choices,
         journal: line_of(alloc, journal)?,
     })
 }
 
 // How a session ends.
-fn outcome_of(rt: &impl Abort, alloc: Global, setting: &Setting<'_>) -> Result<Outcome, Fail> {
+pub fn outcome_of(rt: &impl Abort, alloc: Global, setting: &Setting<'_>) -> Result<Outcome, Fail> {
     let mut session = begin(rt, alloc, setting)?;
     let mut link = link_of(alloc, setting)?;
-    let answer = serve_counted::<MemoryLink, Brand>(&mut session, &mut link, Blank::new(1));
-    shown(alloc, &session, answer, link.journal())
+    let mut notes = notes_of(alloc, setting)?;
+    let answer = serve_counted::<MemoryLink, NoteList, Brand>(
+        &mut session,
+        &mut link,
+        &mut notes,
+        Blank::new(1),
+    );
+    shown(alloc, session, notes, answer, link.journal())
 }
 
 // How a session ends whose link has memory for so many calls.
@@ -235,12 +255,14 @@ pub fn short_outcome(
         takes: true,
         gives: true,
     };
-    let answer = serve_counted::<ShortLink<MemoryLink>, Brand>(
+    let mut notes = notes_of(alloc, setting)?;
+    let answer = serve_counted::<ShortLink<MemoryLink>, NoteList, Brand>(
         &mut session,
         &mut link,
+        &mut notes,
         Blank::new(1),
     );
-    shown(alloc, &session, answer, link.link.journal())
+    shown(alloc, session, notes, answer, link.link.journal())
 }
 
 // Compares the answer, how many items were taken, and the journal.
@@ -258,7 +280,7 @@ pub fn expect_outcome(
         "at {events}"
     );
     assert_eq!(rt;
-        (outcome.answer, outcome.taken),
+        (outcome.answer, outcome.left.taken),
         (answer, taken),
         "at {events}"
     );
@@ -279,9 +301,14 @@ pub fn expect_session(
 }
 
 // Compares the places that malloc answered, each with whether its block was zeroed.
-pub fn expect_choices(rt: &impl Abort, name: &str, outcome: &Outcome, blocks: &[(u32, bool)]) {
-    assert_eq!(rt; outcome.choices.len(), blocks.len(), "at {name}");
-    for (choice, block) in outcome.choices.iter().zip(blocks) {
+pub fn expect_blocks(rt: &impl Abort, name: &str, choices: &[Choice], blocks: &[(u32, bool)]) {
+    assert_eq!(rt; choices.len(), blocks.len(), "at {name}");
+    for (choice, block) in choices.iter().zip(blocks) {
         assert_eq!(rt; (choice.at, choice.zeroed), *block, "at {name}");
     }
+}
+
+// The same of all that a session was answered.
+pub fn expect_choices(rt: &impl Abort, name: &str, outcome: &Outcome, blocks: &[(u32, bool)]) {
+    expect_blocks(rt, name, &outcome.choices, blocks);
 }

@@ -32,9 +32,10 @@ fn expect_row(
         events,
         fails,
         gones,
+        note_fails: &[],
     };
     let outcome = expect_session(rt, alloc, &setting, answer, taken, journal)?;
-    assert_eq!(rt; outcome.steps, steps, "at {program}, {events}");
+    assert_eq!(rt; outcome.left.steps, steps, "at {program}, {events}");
     expect_choices(rt, program, &outcome, blocks);
     Ok(())
 }

@@ -170,6 +170,7 @@ fn nothing_goes_to_a_connection_that_is_gone(rt: HostRuntime) -> Result<(), Fail
             events,
             fails: &[],
             gones: &gones,
+            note_fails: &[],
         };
         expect_session(&rt, rt.alloc(), &setting, Answer::Finished, taken, journal)?;
     }
@@ -331,6 +332,7 @@ fn a_link_fails_in_mid_stream(rt: HostRuntime) -> Result<(), Fail> {
             events,
             fails: &fails,
             gones: &[],
+            note_fails: &[],
         };
         expect_session(&rt, rt.alloc(), &setting, answer, taken, journal)?;
     }
@@ -437,7 +439,7 @@ fn instructions_are_counted_and_limited(rt: HostRuntime) -> Result<(), Fail> {
     for (budget, events, answer, taken, steps, journal) in cases {
         let setting = Setting::of(&image, Options { budget, ..USUAL }, events);
         let outcome = expect_session(&rt, rt.alloc(), &setting, answer, taken, journal)?;
-        assert_eq!(rt; outcome.steps, steps, "at {events}");
+        assert_eq!(rt; outcome.left.steps, steps, "at {events}");
     }
     Ok(())
 }

@@ -85,6 +85,10 @@ first_close bounds entries phases (event.Piece to bytes) all knows order conn is
 first_close bounds entries phases event.Settles all knows order conn is = absurd (none-some conn is)
 first_close bounds entries phases event.Ends all knows order conn is = absurd (none-some conn is)
 
+-- an event of the journal isn't Ends
+not_end : (found : LinkEvent) → IsEvent found → found ≡ event.Ends → ⊥
+not_end found one is = let never : [] ≡ event.Ends ∷ [] = subst IsEvent is one in absurd (cc)
+
 -- an event that is refused
 unheeded_with : (bounds : Bounds) (entries : List Entry) (sends : List Send) (event : LinkEvent) (cause : Unheeded) (ledger later : Ledger) (phases : Phases) → IsEvent event → heeded bounds (events_in entries) ≡ events_in entries → refusal bounds (events_in entries) event ≡ Some cause
     → KeepsPhases entries phases → IsInOrder phases event → later ≡ ledger → KeepsReplies bounds entries None sends ledger → IsUnheeded bounds entries sends event cause later
@@ -92,6 +96,7 @@ unheeded_with bounds entries sends event cause ledger later phases one all refus
     let still = heeded_without bounds entries event cause one all refused in
     record {
       refused = refused;
+      no_end = not_end event one;
       first_close = first_close bounds entries phases event all knows order;
       brings_none = ap (items_of bounds.framing) still;
       replies = subst (KeepsReplies bounds (entries ++ entry.Took event ∷ []) None sends) (sym same) (keeps_unheeded bounds entries sends event ledger still keeps);

@@ -1,7 +1,17 @@
 -- What a call that notes does.
 use Rattle.std.specs.Prelude.{◌≡◌, List, ◌++◌, Option, Result, Ok, Err}
+use Rattle.block_book.specs.declared.choice.Choice.{Choice}
+use Rattle.episodes.specs.declared.episode.Episode.{Episode}
 use Rattle.rx_io.specs.Links.{Grew}
 use Rattle.rx_io.specs.declared.fault.IoFault.{IoFault}
+
+-- what notes tell: the answers of malloc and the episodes that were noted so far, each if they tell it
+pub record Noted : Type 0 where
+  pub choices : Option (List Choice)
+  pub episodes : Option (List Episode)
+
+abbrev pub noted : Option (List Choice) → Option (List Episode) → Noted
+noted choices episodes = record { choices = choices; episodes = episodes }
 
 -- these stand behind those noted before, where that is told; after an `Err` what is told is as before
 abbrev pub IsNoted : {T : Type 0} → Option (List T) → Option (List T) → List T → Result (Unit {0}) IoFault → Type 0

@@ -13,6 +13,8 @@ impl<T: Notes> Notes for &mut T {
 
     ghost faults = { λ s. T.faults s.now };
 
+    ghost works = { λ s. T.works s.now };
+
     ghost Fixed = { GName × T.Fixed };
 
     ghost fixed = { λ s. (s.ghost_name, T.fixed s.now) };

@@ -1,5 +1,5 @@
 // Notes that keep nothing.
-ghost use Rattle.std.specs.Prelude.{None, IsOk};
+ghost use Rattle.std.specs.Prelude.{None, true, IsOk};
 ghost use Rattle.rx_io.specs.Faults.{HasCause};
 
 use crate::Notes;
@@ -17,6 +17,8 @@ impl Notes for NoNotes {
     ghost told_episodes = { λ _. None };
 
     ghost faults = { λ _. 0 };
+
+    ghost works = { λ _. true };
 
     ghost Fixed = { Unit {0} };
 

@@ -1,5 +1,5 @@
 // Notes in memory, of which certain calls fail.
-ghost use Rattle.std.specs.Prelude.{◌≡◌, ◌∷◌, [], ◌<◌, length, Option, Some};
+ghost use Rattle.std.specs.Prelude.{◌≡◌, ◌∷◌, [], ◌<◌, length, true, Option, Some};
 ghost use Rattle.block_book.specs.declared.choice.Choice.{Choice};
 ghost use Rattle.episodes.specs.declared.episode.Episode.{Episode};
 ghost use Rattle.rx_io.specs.Faults.{HasCause};
@@ -64,6 +64,8 @@ impl Notes for NoteList {
     ghost told_episodes = { λ notes. Some (list_episodes notes) };
 
     ghost faults = { λ notes. (list_plan notes).faults };
+
+    ghost works = { λ _. true };
 
     ghost Fixed = { Unit {0} };
 

@@ -1,5 +1,5 @@
 // What a session notes while it serves.
-ghost use Rattle.std.specs.Prelude.{◌≡◌, ◌∷◌, [], ◌<◌, ℕ, List, length, Option};
+ghost use Rattle.std.specs.Prelude.{◌≡◌, ◌∷◌, [], ◌<◌, ℕ, Bool, List, length, Option, IfOk};
 ghost use Rattle.block_book.specs.declared.choice.Choice.{Choice};
 ghost use Rattle.episodes.specs.declared.episode.Episode.{Episode};
 ghost use Rattle.rx_io.specs.Faults.{HasCause};
@@ -20,6 +20,9 @@ pub trait Notes {
     /// How often a call has failed. It never falls.
     ghost faults: { Self → ℕ };
 
+    /// Whether they work: a call that notes what it is given keeps that.
+    ghost works: { Self → Bool };
+
     /// What of it no call changes.
     ghost Fixed: { Type 0 };
 
@@ -36,6 +39,7 @@ pub trait Notes {
         requires { 0 < length list.now }
         ensures noted { IsNoted (told_choices self.old) (told_choices self.new) list.now result }
         ensures episodes { told_episodes self.new ≡ told_episodes self.old }
+        ensures works { IfOk result (λ _. works self.new ≡ works self.old) }
         ensures fixed { fixed self.new ≡ fixed self.old }
         ensures cause { HasCause (faults self.old) (faults self.new) result };
 
@@ -47,6 +51,7 @@ pub trait Notes {
     fn episode(&mut self, e: &Episode) -> Result<(), IoFault>
         ensures noted { IsNoted (told_episodes self.old) (told_episodes self.new) (e.now ∷ []) result }
         ensures choices { told_choices self.new ≡ told_choices self.old }
+        ensures works { IfOk result (λ _. works self.new ≡ works self.old) }
         ensures fixed { fixed self.new ≡ fixed self.old }
         ensures cause { HasCause (faults self.old) (faults self.new) result };
 }

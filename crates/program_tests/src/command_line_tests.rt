@@ -56,9 +56,22 @@ fn are_told(rt: &impl Abort, alloc: Global, table: &str) -> Result<(), Fail> {
     Ok(())
 }
 
+// What `run p --record r --report t` is, in whatever order.
+const SHORTEST: &str =
+    "Some(Run(RunCommand { program: \"p\", recording: \"r\", report: \"t\", form: Text, frame: Line, window: 4, hold: 0, ring: 8, every: 1, frames: 4, budget: 1000000 }))";
+
+// The program and the two names in each order.
+const ORDERS: &str = "\
+    run p --record r --report t\n\
+    run p --report t --record r\n\
+    run --record r p --report t\n\
+    run --report t p --record r\n\
+    run --record r --report t p\n\
+    run --report t --record r p\n\
+    run --hold 0 p --window 4 --record r --ring 8 --report t --budget 1000000\n\
+    run --budget 1000000 --report t --frames 4 --record r --every 1 p --form text\n";
+
 const ACCEPTED: &str = "\
-    run p --record r --report t => Some(Run(RunCommand { program: \"p\", recording: \"r\", report: \"t\", form: Text, frame: Line, window: 4, hold: 0, ring: 8, every: 1, frames: 4, budget: 1000000 }))\n\
-    run --report t p --record r => Some(Run(RunCommand { program: \"p\", recording: \"r\", report: \"t\", form: Text, frame: Line, window: 4, hold: 0, ring: 8, every: 1, frames: 4, budget: 1000000 }))\n\
     run --record r --report t p --form json --frame length --window 64 --hold 1000 --ring 16 --every 64 --frames 16 --budget 16777216 => Some(Run(RunCommand { program: \"p\", recording: \"r\", report: \"t\", form: Json, frame: Length, window: 64, hold: 1000, ring: 16, every: 64, frames: 16, budget: 16777216 }))\n\
     run p --budget 1 --frames 2 --every 1 --ring 1 --hold 0 --window 1 --frame whole --form text --report t --record r => Some(Run(RunCommand { program: \"p\", recording: \"r\", report: \"t\", form: Text, frame: Whole, window: 1, hold: 0, ring: 1, every: 1, frames: 2, budget: 1 }))\n\
     run --frame line --ring 10 p --hold 9 --record r --every 7 --report t --window 5 => Some(Run(RunCommand { program: \"p\", recording: \"r\", report: \"t\", form: Text, frame: Line, window: 5, hold: 9, ring: 10, every: 7, frames: 4, budget: 1000000 }))\n\
@@ -81,6 +94,7 @@ const REFUSED_ENDS: &str = "\
     --ring x\n\
     --ring --hold\n\
     --hold=2\n\
+    --hold -1\n\
     --hold 1001\n\
     --hold 00\n\
     --window 0\n\
@@ -108,7 +122,15 @@ const REFUSED_ENDS: &str = "\
     --Ring 2\n\
     ring 2\n\
     q\n\n\
+    --hold 2 --ring 2 --hold 2\n\
+    --window 4 --window 5\n\
+    --every 1 --every 1\n\
+    --frames 4 --frames 4\n\
+    --budget 1 --budget 2\n\
+    --form text --form json\n\
+    --frame line --frame line\n\
     --record s\n\
+    --record r\n\
     --report s\n\
     --color red\n\
     -- q\n";
@@ -147,6 +169,9 @@ const REFUSED: &str = "\n \n\
 fn words_are_read(rt: HostRuntime) -> Result<(), Fail> {
     let alloc = rt.alloc();
     are_read(&rt, alloc, ACCEPTED)?;
+    for line in ORDERS.lines() {
+        is_read(&rt, alloc, line, SHORTEST)?;
+    }
     are_refused(&rt, alloc, "run p --record r --report t ", REFUSED_ENDS)?;
     are_refused(&rt, alloc, "", REFUSED)
 }

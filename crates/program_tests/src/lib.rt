@@ -4,6 +4,8 @@
 #[cfg(test)]
 mod command_line_tests;
 #[cfg(test)]
+mod files_tests;
+#[cfg(test)]
 mod rx_serve_tests;
 #[cfg(test)]
 mod rx_tests;

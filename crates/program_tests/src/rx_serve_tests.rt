@@ -1,5 +1,6 @@
 // What no clause says of a command: that it comes to its answer, with which counts, and that a reply is written before
-// the next read. The values are worked by hand from the rules and from the texts of the guests.
+// the next read. The values are worked by hand from the rules and from the texts of the guests. What its two files have
+// stands in `files_tests`.
 ghost use Rattle.std.specs.Prelude.{◌≡◌, ◌<◌, None};
 
 use example_guests::source_of;
@@ -16,18 +17,20 @@ use std::test::Fail;
 pub const RUN: &str = "run p --record r --report t";
 
 // Opens connection 0.
-const OPEN: [u8; 5] = [1, 0, 0, 0, 0];
+pub const OPEN: [u8; 5] = [1, 0, 0, 0, 0];
 
 // Opens connection 0, and brings `hi` with a line feed there.
 const OPEN_AND_HI: [u8; 13] = [1, 0, 0, 0, 0, 2, 0, 0, 3, 0, b'h', b'i', b'\n'];
 
-// A command and what stands outside: the file `p`, the input, how many bytes a call on the source and on the sink moves at
-// most, and the numbers of the calls that fail on the files, the source and the sink; 0 is none.
+// A command and what stands outside: the file `p`, what `r` and `t` have, which aren't there where it is empty, the input, how many
+// bytes a call on the source and on the sink moves at most, and the numbers of the calls that fail on the files, the source
+// and the sink; 0 is none.
 #[derive(Drop)]
 pub struct Setting<'a> {
     pub alloc: Global,
     pub words: &'a str,
     pub program: &'a [u8],
+    pub before: &'a str,
     pub input: &'a [u8],
     pub most: (usize, usize),
     pub fails: (u64, u64, u64),
@@ -40,6 +43,7 @@ impl<'a> Setting<'a> {
             alloc,
             words: RUN,
             program,
+            before: "",
             input,
             most: (10_000, 10_000),
             fails: (0, 0, 0),
@@ -47,13 +51,16 @@ impl<'a> Setting<'a> {
     }
 }
 
-// How a command ended, all that stands in the sink, what the source gives in one call more, and the file `o`.
+// How a command ended, all that stands in the sink, what the source gives in one call more, the file `o`, and the texts of
+// `r` and `t`.
 #[derive(Drop)]
 pub struct Outcome {
     pub end: End,
     pub output: Vec<u8>,
     pub left: Vec<u8>,
     pub written: Option<Vec<u8>>,
+    pub record: String,
+    pub report: String,
 }
 
 // Runs a command over these files and streams with a counter of its own. It is generic over its ledger, and is handed the
@@ -87,11 +94,30 @@ fn run_over<L: Ledger, S: Source, K: Sink>(
     ))
 }
 
-// Files in memory with the file `p`, of which the call of a number fails.
-fn files_of(alloc: Global, program: &[u8], fails: u64) -> Result<MemoryFiles, AllocError> {
+// Files in memory with the file `p`, and with `r` and `t` unless their text is empty, of which the call of a number fails.
+fn files_of(
+    alloc: Global,
+    program: &[u8],
+    before: &str,
+    fails: u64,
+) -> Result<MemoryFiles, AllocError> {
     let mut held = Vec::new(alloc);
     held.push((String::from_str(alloc, "p")?, program.to_vec(alloc)?))?;
+    if !before.is_empty() {
+        for name in ["r", "t"] {
+            let bytes = before.as_bytes().to_vec(alloc)?;
+            held.push((String::from_str(alloc, name)?, bytes))?;
+        }
+    }
     Ok(MemoryFiles::make(alloc, held, [fails].to_vec(alloc)?))
+}
+
+// The text of a file, `none` where it isn't there.
+fn text_in(alloc: Global, files: &MemoryFiles, name: &str) -> Result<String, AllocError> {
+    match files.bytes_of(name) {
+        Some(bytes) => String::from_utf8_lossy(alloc, bytes),
+        None => String::from_str(alloc, "none"),
+    }
 }
 
 // What a source gives in one call, none where that fails.
@@ -110,7 +136,7 @@ fn run_counted<L: Ledger>(setting: &Setting<'_>, blank: Blank) -> Result<Outcome
     let alloc = setting.alloc;
     let (source_most, sink_most) = setting.most;
     let (file_fails, source_fails, sink_fails) = setting.fails;
-    let mut files = files_of(alloc, setting.program, file_fails)?;
+    let mut files = files_of(alloc, setting.program, setting.before, file_fails)?;
     let input = setting.input.to_vec(alloc)?;
     let source_plan = [source_fails].to_vec(alloc)?;
     let mut source = MemorySource::make(input, source_plan, source_most.max(1));
@@ -126,6 +152,8 @@ fn run_counted<L: Ledger>(setting: &Setting<'_>, blank: Blank) -> Result<Outcome
         output: sink.bytes().to_vec(alloc)?,
         left: left_in(alloc, &mut source)?,
         written,
+        record: text_in(alloc, &files, "r")?,
+        report: text_in(alloc, &files, "t")?,
     })
 }
 
@@ -142,7 +170,7 @@ pub fn program_of(alloc: Global, text: &str) -> Result<Vec<u8>, Fail> {
 
 // All fields of an end: the answer, the status, how many choices are recorded, those behind them, the instructions and the
 // items taken.
-fn shown(alloc: Global, end: &End) -> Result<String, AllocError> {
+pub fn shown(alloc: Global, end: &End) -> Result<String, AllocError> {
     format!(in alloc;
         "{:?} {} {} {:?} {} {}",
         end.answer,
@@ -155,23 +183,23 @@ fn shown(alloc: Global, end: &End) -> Result<String, AllocError> {
 }
 
 // Runs a command, and compares its end, what stands in the sink and what the source has left.
-fn expect(
+pub fn expect(
     rt: &impl Abort,
     setting: &Setting<'_>,
     end: &str,
     output: &[u8],
     left: &[u8],
-) -> Result<(), Fail> {
+) -> Result<Outcome, Fail> {
     let outcome = outcome_of(setting)?;
     let ended = shown(setting.alloc, &outcome.end)?;
     assert_eq!(rt; ended.as_str(), end, "at {}", setting.words);
     assert_eq!(rt; outcome.output.as_slice(), output, "at {end}");
     assert_eq!(rt; outcome.left.as_slice(), left, "at {end}");
-    Ok(())
+    Ok(outcome)
 }
 
 // The bytes that pairs of hexadecimal digits say. All other bytes part them.
-fn bytes_of(alloc: Global, hex: &str) -> Result<Vec<u8>, AllocError> {
+pub fn bytes_of(alloc: Global, hex: &str) -> Result<Vec<u8>, AllocError> {
     let mut bytes = Vec::new(alloc);
     let mut high: Option<u8> = None;
     for byte in hex.as_bytes() {
@@ -209,7 +237,8 @@ fn expect_row(rt: &impl Abort, alloc: Global, row: &str, most: usize) -> Result<
     setting.most = (most, most);
     let output = bytes_of(alloc, output)?;
     let left = bytes_of(alloc, left)?;
-    expect(rt, &setting, end, &output, &left)
+    expect(rt, &setting, end, &output, &left)?;
+    Ok(())
 }
 
 // The echo does 6 instructions up to its recv, 10 for an item that is no message, and 18 for one that is.
@@ -233,22 +262,22 @@ three; --budget 4;; Finished 0 0 [] 3 0;;
 three; --budget 3;; GaveUp { point: 0, cause: Hang } 5 0 [] 3 0;;
 three;; 0100000000 0200000300 68690a; GaveUp { point: 1, cause: BadAccess } 5 0 [] 4 1;; 0200000300 68690a
 null;; 0100000000 0200000200 780a; GaveUp { point: 2, cause: BadAccess } 5 0 [] 20 2;;
-overflow;; 0100000000 0200000300 68690a; Finished 0 0 [Choice { at: 73728, zeroed: false }, Choice { at: 73744, zeroed: false }] 81 2; 0200000300 68690a;
+overflow;; 0100000000 0200000300 68690a; Finished 0 2 [] 81 2; 0200000300 68690a;
 ";
 
-// Guests that fail. All are recovered but the first tell_over, which told where its block stands; dirty never fails, and has one checkpoint
+// Guests that fail. Where their blocks stand is in their records. All are recovered but the first tell_over, which told where its block stands; dirty never fails, and has one checkpoint
 // at a time. The values are those of `bench/second` too, which was written from the rules.
 const RECOVERED: &str = "\
-overflow;; 0100000000 0200002800 7878787878787878787878787878787878787878787878787878787878787878787878787878780a; Finished 0 0 [Choice { at: 73984, zeroed: false }, Choice { at: 74512, zeroed: false }] 303 2; 0200002800 7878787878787878787878787878787878787878787878787878787878787878787878787878780a;
-unset;; 0100000000 0200000300 68690a; Finished 0 0 [Choice { at: 73728, zeroed: true }, Choice { at: 73728, zeroed: true }] 106 2; 0200000300 68690a;
-twice;; 0100000000 0200000300 68690a; Finished 0 0 [Choice { at: 73728, zeroed: false }] 45 2; 0200000300 68690a;
-stale;; 0100000000 0200000200 610a 0200000200 620a; Finished 0 0 [Choice { at: 73728, zeroed: false }, Choice { at: 73792, zeroed: false }] 141 3; 0200000200 610a 0200000200 620a;
-tell_free;; 0100000000 0200000200 610a; Finished 0 0 [Choice { at: 77824, zeroed: false }] 119 2; 0200000900 30303031333030300a;
-pair;; 0100000000 0101000000 0201000300 676f0a; Finished 0 0 [Choice { at: 77824, zeroed: false }, Choice { at: 77824, zeroed: false }] 76 3; 0200000200 610a 0201000200 620a;
-tell_over;; 0100000000 0200000200 610a; GaveUp { point: 2, cause: AssertFailed(5) } 5 0 [Choice { at: 77824, zeroed: false }, Choice { at: 77840, zeroed: false }] 247 2; 0200000900 30303031333030300a;
-tell_over; --hold 2; 0100000000 0200000200 610a; Finished 0 0 [Choice { at: 78080, zeroed: false }, Choice { at: 78608, zeroed: false }] 256 2; 0200000900 30303031333130300a;
-dirty; --window 1 --frames 2; 0100000000 0200000200 610a 0200000200 620a 0200000200 630a; Finished 0 0 [Choice { at: 73728, zeroed: false }] 300 4; 0200000200 610a 0200000200 620a 0200000200 630a;
-late;; 0100000000 0200000200 780a; Finished 0 0 [Choice { at: 77824, zeroed: false }, Choice { at: 77824, zeroed: false }] 60 2; 0200000200 610a;
+overflow;; 0100000000 0200002800 7878787878787878787878787878787878787878787878787878787878787878787878787878780a; Finished 0 2 [] 303 2; 0200002800 7878787878787878787878787878787878787878787878787878787878787878787878787878780a;
+unset;; 0100000000 0200000300 68690a; Finished 0 2 [] 106 2; 0200000300 68690a;
+twice;; 0100000000 0200000300 68690a; Finished 0 1 [] 45 2; 0200000300 68690a;
+stale;; 0100000000 0200000200 610a 0200000200 620a; Finished 0 2 [] 141 3; 0200000200 610a 0200000200 620a;
+tell_free;; 0100000000 0200000200 610a; Finished 0 1 [] 119 2; 0200000900 30303031333030300a;
+pair;; 0100000000 0101000000 0201000300 676f0a; Finished 0 2 [] 76 3; 0200000200 610a 0201000200 620a;
+tell_over;; 0100000000 0200000200 610a; GaveUp { point: 2, cause: AssertFailed(5) } 5 2 [] 247 2; 0200000900 30303031333030300a;
+tell_over; --hold 2; 0100000000 0200000200 610a; Finished 0 2 [] 256 2; 0200000900 30303031333130300a;
+dirty; --window 1 --frames 2; 0100000000 0200000200 610a 0200000200 620a 0200000200 630a; Finished 0 1 [] 300 4; 0200000200 610a 0200000200 620a 0200000200 630a;
+late;; 0100000000 0200000200 780a; Finished 0 2 [] 60 2; 0200000200 610a;
 ";
 
 // A call on source or sink moves so many bytes at most.
@@ -272,7 +301,8 @@ fn a_guest_ends_as_its_row_says(rt: HostRuntime) -> Result<(), Fail> {
     }
     let exit = program_of(alloc, "li a0, 1\nli a7, 5\necall\n")?;
     let setting = Setting::of(alloc, &exit, &OPEN);
-    expect(&rt, &setting, "Exited(1) 1 0 [] 5 0", &[], &OPEN)
+    expect(&rt, &setting, "Exited(1) 1 0 [] 5 0", &[], &OPEN)?;
+    Ok(())
 }
 
 #[test]
@@ -301,7 +331,8 @@ fn a_line_has_4096_bytes_at_most(rt: HostRuntime) -> Result<(), Fail> {
     input.extend_from_slice(&line)?;
     let setting = Setting::of(alloc, &program, &input);
     let end = "MessageTooLong { conn: 0 } 4 0 [] 16 1";
-    expect(&rt, &setting, end, &[], &[])
+    expect(&rt, &setting, end, &[], &[])?;
+    Ok(())
 }
 
 // The echo's source fails at its second call, and the sink of guest overflow takes three bytes and fails at its second call.
@@ -319,7 +350,8 @@ fn a_fault_ends_a_session(rt: HostRuntime) -> Result<(), Fail> {
     setting.fails = (0, 0, 2);
     let end =
         "WriteFault 8 0 [Choice { at: 73728, zeroed: false }, Choice { at: 73744, zeroed: false }] 68 2";
-    expect(&rt, &setting, end, &[2, 0, 0], &[])
+    expect(&rt, &setting, end, &[2, 0, 0], &[])?;
+    Ok(())
 }
 
 // No session begins, and nothing is read or written: words that are refused, where no file is touched, as its call would
@@ -420,7 +452,7 @@ fn run_logged<L: Ledger>(alloc: Global, log: &RefCell<Vec<u8>>, blank: Blank) ->
     requires some { 0 < blank.parts }
 {
     let echo = program_of(alloc, source_of("echo").ok_or("no guest")?)?;
-    let mut files = files_of(alloc, &echo, 0)?;
+    let mut files = files_of(alloc, &echo, "", 0)?;
     let mut source = LoggedSource {
         rest: b"\x01\0\0\0\0\x02\0\0\x02\0a\n\x02\0\0\x03\0bc\n",
         log,

@@ -4,3 +4,5 @@ pub mod RingLemmas
 pub mod Forces
 pub mod Walked
 pub mod Recoveries
+pub mod TrimLemmas
+pub mod ForgetLemmas

@@ -32,9 +32,9 @@ use Rattle.recovery_gate.proofs.Walked.{LastAdopted, WalkLeaves, walk_leaves, so
 
 module _ {R : Type 0} where
   -- the walk was over the table of the survivor's checkpoints, so it is a recovery
-  pub recovers : (point : ℕ) (cause : Cause) (pc : ℕ) (failure : Failure) (begun : Path) (old cpu : CpuState R) (checkpoints : Checkpoints) (choices own : List Choice) (log : Log) (ledger later : Ledger) (before after : ℕ) (tries : List Try)
-      → HasToRecover point cause pc failure old checkpoints choices log ledger → (w : HasWalked failure point cpu own ledger later before after tries) → IsRecovery failure.rules failure.image failure.entries (recovery_of failure begun cause w.trials)
-  recovers point cause pc failure begun old cpu checkpoints choices own log ledger later before after tries has w = record {
+  pub recovers : (point : ℕ) (cause : Cause) (pc : ℕ) (failure : Failure) (begun : Path) (old cpu : CpuState R) (checkpoints : Checkpoints) (recorded : ℕ) (choices own : List Choice) (log : Log) (ledger later : Ledger) (before after : ℕ) (tries : List Try)
+      → HasToRecover point cause pc failure old checkpoints recorded choices log ledger → (w : HasWalked failure point cpu own ledger later before after tries) → IsRecovery failure.rules failure.image failure.entries (recovery_of failure begun cause w.trials)
+  recovers point cause pc failure begun old cpu checkpoints recorded choices own log ledger later before after tries has w = record {
     fails = has.fails;
     chained = has.failed.has.chained;
     checkpoints = has.failed.has.checkpoints;
@@ -42,10 +42,10 @@ module _ {R : Type 0} where
   }
 
   -- the episode tells of it
-  pub episode_tells : (point : ℕ) (cause : Cause) (pc : ℕ) (failure : Failure) (begun : Path) (old cpu : CpuState R) (checkpoints : Checkpoints) (choices own : List Choice) (log : Log) (ledger later : Ledger) (before after : ℕ) (episode : Episode)
-      → HasToRecover point cause pc failure old checkpoints choices log ledger → IsEpisode point cause pc episode → (w : HasWalked failure point cpu own ledger later before after episode.tries)
+  pub episode_tells : (point : ℕ) (cause : Cause) (pc : ℕ) (failure : Failure) (begun : Path) (old cpu : CpuState R) (checkpoints : Checkpoints) (recorded : ℕ) (choices own : List Choice) (log : Log) (ledger later : Ledger) (before after : ℕ) (episode : Episode)
+      → HasToRecover point cause pc failure old checkpoints recorded choices log ledger → IsEpisode point cause pc episode → (w : HasWalked failure point cpu own ledger later before after episode.tries)
       → episode ≡ episode_of (recovery_of failure begun cause w.trials)
-  episode_tells point cause pc failure begun old cpu checkpoints choices own log ledger later before after episode has is w =
+  episode_tells point cause pc failure begun old cpu checkpoints recorded choices own log ledger later before after episode has is w =
       let at : episode.point ≡ failure.failed.state.machine.taken = is.point_is ∙ sym has.failed.point_is in
       let counter : episode.pc ≡ failure.failed.state.machine.pc = is.pc_is ∙ sym has.pc_is in
       λ i. record { point = at i; cause = is.cause_is i; pc = counter i; tries = w.tries_are i }
@@ -70,26 +70,26 @@ module _ {R : Type 0} where
       by (inr last) = last
 
   -- what is asked for before it is adopted
-  pub record CanAdopt (number : ℕ) (cpu : CpuState R) (checkpoints : Checkpoints) (choices own : List Choice) : Type 0 where
+  pub record CanAdopt (number : ℕ) (cpu : CpuState R) (checkpoints : Checkpoints) (recorded : ℕ) (choices own : List Choice) : Type 0 where
     pub within : (number - 1) / 5 < length checkpoints.standing
     pub base : cpu.slots.base ≡ from_newest (slot_numbers cpu.slots.saved) ((number - 1) / 5)
-    pub few : length own ≤ cpu.slots.live.guest.machine.allocations
-    pub first : cpu.slots.live.guest.machine.allocations ≤ length choices + length own
+    pub few : recorded + length own ≤ cpu.slots.live.guest.machine.allocations
+    pub first : cpu.slots.live.guest.machine.allocations ≤ recorded + length choices + length own
 
-  own_of : (point : ℕ) (cause : Cause) (pc : ℕ) (failure : Failure) (old cpu : CpuState R) (checkpoints : Checkpoints) (choices own : List Choice) (log : Log) (ledger later : Ledger) (number : ℕ) (trials : List Trial)
-      → HasToRecover point cause pc failure old checkpoints choices log ledger → (last : LastAdopted failure point number cpu own later trials) → OwnAnswers failure.failed last.trial.path own
-  own_of point cause pc failure old cpu checkpoints choices own log ledger later number trials has last =
-      own_answers failure.rules.limits (items_of failure) failure.plan (plan_of_trial failure.plan last.trial.chance.checkpoint.state.machine.taken last.trial.chance.env point) failure.image failure.failed last.trial.path failure.ring last.has.index
-      last.trial.chance.checkpoint own has.failed.has.chained last.has.checkpoint_is last.right.from last.has.chose
+  own_of : (point : ℕ) (cause : Cause) (pc : ℕ) (failure : Failure) (old cpu : CpuState R) (checkpoints : Checkpoints) (recorded : ℕ) (choices own : List Choice) (log : Log) (ledger later : Ledger) (number : ℕ) (trials : List Trial)
+      → HasToRecover point cause pc failure old checkpoints recorded choices log ledger → (last : LastAdopted failure point number cpu own later trials) → OwnAnswers recorded failure.failed last.trial.path own
+  own_of point cause pc failure old cpu checkpoints recorded choices own log ledger later number trials has last =
+      own_answers recorded failure.rules.limits (items_of failure) failure.plan (plan_of_trial failure.plan last.trial.chance.checkpoint.state.machine.taken last.trial.chance.env point) failure.image failure.failed last.trial.path failure.ring last.has.index
+      last.trial.chance.checkpoint own has.early has.failed.has.chained last.has.checkpoint_is last.right.from last.has.chose
 
-  pub can_adopt : (point : ℕ) (cause : Cause) (pc : ℕ) (failure : Failure) (old cpu : CpuState R) (checkpoints : Checkpoints) (choices own : List Choice) (log : Log) (ledger later : Ledger) (number : ℕ) (trials : List Trial)
-      → HasToRecover point cause pc failure old checkpoints choices log ledger → LastAdopted failure point number cpu own later trials → CanAdopt number cpu checkpoints choices own
-  can_adopt point cause pc failure old cpu checkpoints choices own log ledger later number trials has last =
-      let answers = own_of point cause pc failure old cpu checkpoints choices own log ledger later number trials has last in
+  pub can_adopt : (point : ℕ) (cause : Cause) (pc : ℕ) (failure : Failure) (old cpu : CpuState R) (checkpoints : Checkpoints) (recorded : ℕ) (choices own : List Choice) (log : Log) (ledger later : Ledger) (number : ℕ) (trials : List Trial)
+      → HasToRecover point cause pc failure old checkpoints recorded choices log ledger → LastAdopted failure point number cpu own later trials → CanAdopt number cpu checkpoints recorded choices own
+  can_adopt point cause pc failure old cpu checkpoints recorded choices own log ledger later number trials has last =
+      let answers = own_of point cause pc failure old cpu checkpoints recorded choices own log ledger later number trials has last in
       let there : cpu.slots.live.guest.machine.allocations ≡ last.trial.path.state.machine.allocations = ap (λ (s : Standing). s.guest.machine.allocations) last.has.stands in
-      let chose : length choices ≡ length failure.failed.choices = ap length has.chose in
-      let few : length own ≤ last.trial.path.state.machine.allocations = answers.few in
-      let first : last.trial.path.state.machine.allocations ≤ length failure.failed.choices + length own = answers.first in
+      let chose : length choices ≡ length (drop recorded failure.failed.choices) = ap length has.chose in
+      let few : recorded + length own ≤ last.trial.path.state.machine.allocations = answers.few in
+      let first : last.trial.path.state.machine.allocations ≤ recorded + length (drop recorded failure.failed.choices) + length own = answers.first in
       let low : last.has.index < length failure.ring = slice_get_within failure.ring last.has.index last.trial.chance.checkpoint last.has.checkpoint_is in
       let many : length checkpoints.standing ≡ length failure.ring =
       as_many_stand failure.rules failure.image failure.entries failure.plan failure.failed failure.ring old checkpoints log ledger has.ring in
@@ -102,18 +102,18 @@ module _ {R : Type 0} where
       }
 
   -- the session goes on as the trial
-  pub adopts_run : (point : ℕ) (cause : Cause) (pc : ℕ) (failure : Failure) (begun : Path) (old cpu new : CpuState R) (checkpoints dropped : Checkpoints) (choices own joined : List Choice) (log : Log) (ledger later : Ledger) (number : ℕ)
-      (adopted : Adopted) (tries : List Try) (trials : List Trial) → HasToRecover point cause pc failure old checkpoints choices log ledger → KeepsSaved old cpu → HasSameBytes ledger later → (last : LastAdopted failure point number cpu own later trials)
-      → tries ≡ map try_of trials → adopted_in tries ≡ Some adopted → Adopts ((number - 1) / 5) own cpu new checkpoints dropped choices joined
-      → HasAdoptedRun failure (recovery_of failure begun cause trials) last.trial adopted new dropped joined log later
-  adopts_run point cause pc failure begun old cpu new checkpoints dropped choices own joined log ledger later number adopted tries trials has saved same last tries_are is adopts =
+  pub adopts_run : (point : ℕ) (cause : Cause) (pc : ℕ) (failure : Failure) (begun : Path) (old cpu new : CpuState R) (checkpoints dropped : Checkpoints) (recorded : ℕ) (choices own joined : List Choice) (log : Log) (ledger later : Ledger) (number : ℕ)
+      (adopted : Adopted) (tries : List Try) (trials : List Trial) → HasToRecover point cause pc failure old checkpoints recorded choices log ledger → KeepsSaved old cpu → HasSameBytes ledger later → (last : LastAdopted failure point number cpu own later trials)
+      → tries ≡ map try_of trials → adopted_in tries ≡ Some adopted → Adopts ((number - 1) / 5) recorded own cpu new checkpoints dropped choices joined
+      → HasAdoptedRun failure (recovery_of failure begun cause trials) last.trial adopted new dropped recorded joined log later
+  adopts_run point cause pc failure begun old cpu new checkpoints dropped recorded choices own joined log ledger later number adopted tries trials has saved same last tries_are is adopts =
       let trial : Trial = last.trial in
       let checkpoint : Path = trial.chance.checkpoint in
       let point_is : failure.failed.state.machine.taken ≡ point = has.failed.point_is in
       let what =
       adopted_is failure.rules.limits (items_of failure) (plan_of_trial failure.plan checkpoint.state.machine.taken trial.chance.env point) checkpoint (pieces_of failure) point trial.path trial.chance.env adopted trial.result
       (sym last.tries ∙ (sym (ap adopted_in tries_are) ∙ is)) last.right.comes in
-      let answers = own_of point cause pc failure old cpu checkpoints choices own log ledger later number trials has last in
+      let answers = own_of point cause pc failure old cpu checkpoints recorded choices own log ledger later number trials has last in
       let there : cpu.slots.live ≡ standing_of trial.path = last.has.stands in
       let by_number : last.has.index ≡ (number - 1) / 5 = last.has.by_number in
       let chain = chained_at failure.rules.limits (items_of failure) failure.plan failure.image failure.failed failure.ring last.has.index checkpoint has.failed.has.chained last.has.checkpoint_is in
@@ -125,8 +125,10 @@ module _ {R : Type 0} where
         asks = λ lives. subst (AsksFor failure.rules.limits [] trial.path) (sym point_is) (what.2 lives);
         stands = ap (λ (s : Slots Standing). s.live) adopts.slots ∙ there;
         chose =
-            adopts.choices_are ∙ (ap (λ n. take (n - length own) choices ++ own) (ap (λ (s : Standing). s.guest.machine.allocations) there)
-            ∙ (ap (λ (cs : List Choice). take (trial.path.state.machine.allocations - length own) cs ++ own) has.chose ∙ answers.joins));
+            adopts.choices_are ∙ (ap (λ n. take (n - length own - recorded) choices ++ own) (ap (λ (s : Standing). s.guest.machine.allocations) there)
+            ∙ (ap (λ (cs : List Choice). take (trial.path.state.machine.allocations - length own - recorded) cs ++ own) has.chose ∙ answers.joins));
+        low = answers.low;
+        front = answers.front;
         index = last.has.index;
         ring =
             ring_beside failure.rules failure.image failure.entries (plan_of_trial failure.plan checkpoint.state.machine.taken trial.chance.env failure.failed.state.machine.taken) trial.path (drop last.has.index failure.ring) new dropped log log ledger later refl

@@ -1,5 +1,5 @@
 -- What a walk leaves: none of its trials survived, or the last one is adopted.
-use Rattle.std.proofs.Common.{◌≡◌, ◌⊎◌, inl, inr, ℕ, suc, ◌+◌, ◌-◌, ◌≤◌, Bool, true, false, cond, List, [], ◌∷◌, ◌++◌, length, map, take, Option, Some, None, refl, sym, ◌∙◌, ap, arith, length-append}
+use Rattle.std.proofs.Common.{◌≡◌, ◌⊎◌, inl, inr, ℕ, zero, suc, ◌+◌, ◌-◌, ◌≤◌, Bool, true, false, cond, List, [], ◌∷◌, ◌++◌, length, map, take, drop, Option, Some, None, refl, sym, ◌∙◌, ap, subst, arith, length-append, length-drop}
 use Rattle.std.specs.Prelude.{slice_get, option_and_then, MatchBool}
 use Rattle.std.proofs.lemmas.Option.{same_Some, none-some}
 use Rattle.std.proofs.lemmas.Bool.{true≢false}
@@ -28,6 +28,7 @@ use Rattle.trial_history.proofs.Chained.{chained_at}
 use Rattle.trial_plan.specs.Sessions.{Failure, items_of, pieces_of}
 use Rattle.trial_plan.specs.Trying.{steps_of, HasAdopted, LeavesBy}
 use Rattle.recovery_gate.specs.declared.recovering.Adopted.{Adopted}
+use Rattle.recovery_gate.specs.Rings.{AreBehind}
 use Rattle.recovery_gate.specs.Recovering.{adopted_of, adopted_in}
 
 -- what is adopted of some trials is told by the last ones
@@ -145,15 +146,39 @@ start_used : (image : Image) → IsUsed (origin image)
 unfolding start start_machine
 start_used image = refl
 
--- The answers of malloc of a run that goes on from a checkpoint: those of a later run up to there, and its own.
-pub record OwnAnswers (later path : Path) (own : List Choice) : Type 0 where
-  pub few : length own ≤ path.state.machine.allocations
-  pub first : path.state.machine.allocations ≤ length later.choices + length own
-  pub joins : take (path.state.machine.allocations - length own) later.choices ++ own ≡ path.choices
+-- The answers of malloc of a run that goes on from a checkpoint, behind the first ones, which were used before it: those of a later run up to
+-- there, and its own.
+pub record OwnAnswers (recorded : ℕ) (later path : Path) (own : List Choice) : Type 0 where
+  pub few : recorded + length own ≤ path.state.machine.allocations
+  pub first : path.state.machine.allocations ≤ recorded + length (drop recorded later.choices) + length own
+  pub low : recorded ≤ length path.choices
+  pub front : take recorded path.choices ≡ take recorded later.choices
+  pub joins : take (path.state.machine.allocations - length own - recorded) (drop recorded later.choices) ++ own ≡ drop recorded path.choices
 
-pub own_answers : (limits : Limits) (items : List Item) (plan other : List Override) (image : Image) (later path : Path) (ring : List Path) (index : ℕ) (checkpoint : Path) (own : List Choice) → AreChained limits items plan image later ring
-    → slice_get ring index ≡ Some checkpoint → Served limits items other checkpoint path → path.choices ≡ checkpoint.choices ++ own → OwnAnswers later path own
-own_answers limits items plan other image later path ring index checkpoint own chain found served chose =
+-- a checkpoint of a ring has used so many
+pub behind_at : (count : ℕ) (ring : List Path) (index : ℕ) (checkpoint : Path) → AreBehind count ring → slice_get ring index ≡ Some checkpoint → count ≤ length checkpoint.choices
+behind_at count [] index checkpoint behind found = absurd (cc)
+behind_at count (newest ∷ older) zero checkpoint behind found = subst (λ (path : Path). count ≤ length path.choices) (same_Some newest checkpoint found) behind.0
+behind_at count (newest ∷ older) (suc index) checkpoint behind found = behind_at count older index checkpoint behind.1 found
+
+-- of some first elements, and others, those behind the first ones
+joined_behind : {X : Type 0} (count : ℕ) (first others own : List X) → count ≤ length first → take (length first - count) (drop count (first ++ others)) ++ own ≡ drop count (first ++ own)
+joined_behind zero first others own few =
+    let all : length first - 0 ≡ length first = omega arith in
+    ap (λ n. take n (first ++ others) ++ own) all ∙ ap (λ xs. xs ++ own) (take-append_seam first others)
+joined_behind (suc count) [] others own few = absurd (omega (arith, few))
+joined_behind (suc count) (x ∷ first) others own few =
+    let less : length (x ∷ first) - suc count ≡ length first - count = omega arith in
+    ap (λ n. take n (drop count (first ++ others)) ++ own) less ∙ joined_behind count first others own (omega (arith, few))
+
+taken_front : {X : Type 0} (count : ℕ) (first others : List X) → count ≤ length first → take count (first ++ others) ≡ take count first
+taken_front zero first others few = refl
+taken_front (suc count) [] others few = absurd (omega (arith, few))
+taken_front (suc count) (x ∷ first) others few = ap (λ xs. x ∷ xs) (taken_front count first others (omega (arith, few)))
+
+pub own_answers : (recorded : ℕ) (limits : Limits) (items : List Item) (plan other : List Override) (image : Image) (later path : Path) (ring : List Path) (index : ℕ) (checkpoint : Path) (own : List Choice) → AreBehind recorded ring
+    → AreChained limits items plan image later ring → slice_get ring index ≡ Some checkpoint → Served limits items other checkpoint path → path.choices ≡ checkpoint.choices ++ own → OwnAnswers recorded later path own
+own_answers recorded limits items plan other image later path ring index checkpoint own behind chain found served chose =
     let there = chained_at limits items plan image later ring index checkpoint chain found in
     let at_checkpoint = served_follows limits items plan (origin image) checkpoint there.1.more (start_used image) there.1.ran in
     let to_later = served_follows limits items plan checkpoint later there.0.more at_checkpoint.used there.0.ran in
@@ -161,11 +186,15 @@ own_answers limits items plan other image later path ring index checkpoint own c
     let used : path.state.machine.allocations ≡ length path.choices = to_path.used in
     let count : length path.choices ≡ length checkpoint.choices + length own = ap length chose ∙ length-append checkpoint.choices own in
     let whole : length later.choices ≡ length checkpoint.choices + length to_later.others = ap length to_later.chose ∙ length-append checkpoint.choices to_later.others in
-    let front : path.state.machine.allocations - length own ≡ length checkpoint.choices = omega (arith, used, count) in
+    let low : recorded ≤ length checkpoint.choices = behind_at recorded ring index checkpoint behind found in
+    let front : path.state.machine.allocations - length own - recorded ≡ length checkpoint.choices - recorded = omega (arith, used, count, low) in
+    let left : length (drop recorded later.choices) ≡ length later.choices - recorded = length-drop recorded later.choices in
     record {
-      few = omega (arith, used, count);
-      first = omega (arith, used, count, whole);
+      few = omega (arith, used, count, low);
+      first = omega (arith, used, count, whole, left, low);
+      low = omega (arith, count, low);
+      front = (ap (take recorded) chose ∙ taken_front recorded checkpoint.choices own low) ∙ sym (ap (take recorded) to_later.chose ∙ taken_front recorded checkpoint.choices to_later.others low);
       joins =
-          ap (λ n. take n later.choices ++ own) front ∙ (ap (λ (cs : List Choice). take (length checkpoint.choices) cs ++ own) to_later.chose
-          ∙ (ap (λ (cs : List Choice). cs ++ own) (take-append_seam checkpoint.choices to_later.others) ∙ sym chose));
+          ap (λ n. take n (drop recorded later.choices) ++ own) front ∙ (ap (λ (cs : List Choice). take (length checkpoint.choices - recorded) (drop recorded cs) ++ own) to_later.chose
+          ∙ (joined_behind recorded checkpoint.choices to_later.others own low ∙ sym (ap (drop recorded) chose)));
     }

@@ -1,5 +1,5 @@
 -- The ring of a session's checkpoints beside its guest, its log and its ledger.
-use Rattle.std.specs.Prelude.{◌≡◌, ℕ, ◌-◌, ◌<◌, ◌≤◌, Bool, true, false, List, ◌∷◌, ◌++◌, length, take, nat_le, nat_lt, if◌then◌else◌, Option, Some, None, option_map, slice_get}
+use Rattle.std.specs.Prelude.{◌≡◌, ℕ, ◌-◌, ◌<◌, ◌≤◌, Bool, true, false, List, [], ◌∷◌, ◌++◌, length, take, nat_le, nat_lt, if◌then◌else◌, Option, Some, None, option_map, slice_get}
 use Rattle.rx_io.specs.declared.bytes.Item.{Item}
 use Rattle.rx_io.specs.declared.journal.Entry.{Entry}
 use Rattle.rx_io.specs.Links.{events_in}
@@ -38,6 +38,11 @@ pub record KeepsRing {R : Type 0} (rules : Rules) (image : Image) (entries : Lis
   pub standing : checkpoints.standing ≡ checkpoints_of taken_in cpu.slots.saved
   pub capacity : checkpoints.capacity ≤ cpu.slots.count
   pub base : cpu.slots.base ≡ newest_slot cpu.slots.saved
+
+-- at each of some checkpoints so many answers of malloc were used, or more
+abbrev pub AreBehind : ℕ → List Path → Type 0
+AreBehind count [] = Unit {0}
+AreBehind count (newest ∷ older) = (count ≤ length newest.choices) × AreBehind count older
 
 -- with more entries a journal brings these items more, and what was opened stays opened
 pub record Brings (rules : Rules) (before after : List Entry) (more : List Item) : Type 0 where

@@ -2,7 +2,9 @@
 #![tactic(auto)]
 
 mod checkpoints;
+mod forgetting;
 mod recovering;
 
 pub use checkpoints::{begin_ring, checkpoint};
+pub use forgetting::forget;
 pub use recovering::{Adopted, Recovered, recover};

@@ -68,25 +68,26 @@ fn joined(alloc: Global, first: &[Choice], others: &[Choice]) -> Result<Vec<Choi
     Ok(all)
 }
 
-// Makes the trial that survived the session's run: of the answers of malloc as many as it has before its own stay, and its own come
-// behind them. Checkpoints that are newer than its own, the one at this index, are dropped.
+// Makes the trial that survived the session's run: of the answers of malloc behind the recorded ones as many as it has before its own stay,
+// and its own come behind them. Checkpoints that are newer than its own, the one at this index, are dropped.
 fn adopt<R: AccessRule>(
     alloc: Global,
     cpu: &mut Cpu<R>,
     ring: &mut Ring,
     index: u32,
+    recorded: u64,
     choices: &mut Vec<Choice>,
     own: &[Choice],
 ) -> Result<(), AllocError>
     requires within { index < length ring.old.standing }
     requires same { ring.old.standing ≡ checkpoints_of taken_in cpu.old.slots.saved }
     requires base { StandsOn cpu.old index }
-    requires own { length own.now ≤ cpu.old.slots.live.guest.machine.allocations }
-    requires first { cpu.old.slots.live.guest.machine.allocations ≤ length choices.old.items + length own.now }
-    ensures adopts { AdoptsBy index own.now cpu.old cpu.new ring.old ring.new choices.old.items choices.new.items result }
+    requires own { recorded + length own.now ≤ cpu.old.slots.live.guest.machine.allocations }
+    requires first { cpu.old.slots.live.guest.machine.allocations ≤ recorded + length choices.old.items + length own.now }
+    ensures adopts { AdoptsBy index recorded own.now cpu.old cpu.new ring.old ring.new choices.old.items choices.new.items result }
     ensures rule { cpu.new.rule ≡ cpu.old.rule }
 {
-    let first = cpu.marks().choices as usize - own.len();
+    let first = (cpu.marks().choices - own.len() as u64 - recorded) as usize;
     match joined(alloc, &choices[..first], own) {
         Ok(all) => {
             ring.drop_newer(cpu, index);
@@ -107,10 +108,11 @@ fn index_of(ring: &Ring, number: usize) -> u32
 }
 
 /// Tries to come past a failure, by `walk`, and adopts the trial that survives, if one does. `point` says how many items the program
-/// had taken, `cause` and `pc` why and where it failed; the episode tells of that and of all trials.
+/// had taken, `cause` and `pc` why and where it failed; the episode tells of that and of all trials. Of the program's answers of malloc the
+/// first `recorded` ones, none of which is behind the oldest checkpoint, aren't in `choices`.
 ///
 /// Where a trial is adopted, the guest stands where it has come, at its request for the item behind the failure, or at its end;
-/// `choices` are its answers of malloc from the start on, its sends are the survivor's in `replies`, and of the checkpoints those stand
+/// `choices` are its answers of malloc behind the first `recorded` ones, its sends are the survivor's in `replies`, and of the checkpoints those stand
 /// that aren't newer than its own. Where none survives the guest may stand anywhere, and all else is as it was. What was passed stays.
 /// `steps` counts the instructions of all trials.
 ///
@@ -127,12 +129,13 @@ pub fn recover<R: AccessRule, L: Ledger>(
     budget: u32,
     items: &ItemLog,
     replies: &mut Replies,
+    recorded: u64,
     choices: &mut Vec<Choice>,
     steps: &mut Steps<L>,
 ) -> Result<Recovered, AllocError>
-    requires can { CanRecover budget (R.rule cpu.old.rule) point cause pc cpu.old ring.old choices.old.items items.now replies.old }
-    ensures recovers { (failure : Failure) (begun : Path) → IsUnder failure budget (R.rule cpu.old.rule) → HasToRecover point cause pc failure cpu.old ring.old choices.old.items items.now replies.old
-        → RecoversBy failure begun cause cpu.new ring.old ring.new choices.old.items choices.new.items items.now replies.old replies.new steps.old steps.new result }
+    requires can { CanRecover budget (R.rule cpu.old.rule) point cause pc cpu.old ring.old recorded choices.old.items items.now replies.old }
+    ensures recovers { (failure : Failure) (begun : Path) → IsUnder failure budget (R.rule cpu.old.rule) → HasToRecover point cause pc failure cpu.old ring.old recorded choices.old.items items.now replies.old
+        → RecoversBy failure begun cause cpu.new ring.old ring.new recorded choices.old.items choices.new.items items.now replies.old replies.new steps.old steps.new result }
     ensures fault { KeepsAtFault ring.old ring.new choices.old.items choices.new.items result }
     ensures rule { cpu.new.rule ≡ cpu.old.rule }
     ensures ledger { IfOk result (λ _. HasSameBytes replies.old replies.new) }
@@ -151,7 +154,7 @@ pub fn recover<R: AccessRule, L: Ledger>(
                 }),
                 Some(adopted) => {
                     let index = index_of(ring, number);
-                    match adopt(alloc, cpu, ring, index, choices, own.as_slice()) {
+                    match adopt(alloc, cpu, ring, index, recorded, choices, own.as_slice()) {
                         Ok(()) => Ok(Recovered {
                             episode,
                             adopted: Some(adopted),

@@ -10,6 +10,8 @@ use std::fmt;
 pub struct RunMessage<'a> {
     pub answer: Answer,
     pub program: &'a str,
+    pub recording: &'a str,
+    pub report: &'a str,
     /// How many instructions may go by between two items.
     pub budget: u32,
     /// The field that the program file is refused for, where it was found.
@@ -78,11 +80,24 @@ impl RunMessage<'_> {
         cause: Cause,
     ) -> fmt::Result {
         let program = self.program;
+        let report = self.report;
         write!(
             f,
             "the program {program} failed with {point} items taken, opens and closes among them: "
         )?;
-        self.cause(f, cause)
+        self.cause(f, cause)?;
+        write!(f, "; the report {report} says where, and what was tried")
+    }
+
+    // Which file it was isn't known.
+    fn file_fault<W: fmt::Write>(&self, f: &mut fmt::Formatter<W>) -> fmt::Result {
+        let program = self.program;
+        let recording = self.recording;
+        let report = self.report;
+        write!(
+            f,
+            "the program file {program} can't be read, or the record {recording} or the report {report} can't be written"
+        )
     }
 
     // What ended a session from without.
@@ -122,10 +137,7 @@ impl fmt::Display for RunMessage<'_> {
     fn fmt<W: fmt::Write>(&self, f: &mut fmt::Formatter<W>) -> fmt::Result {
         let program = self.program;
         match self.answer {
-            Answer::FileFault => write!(
-                f,
-                "the program file {program} can't be read: give the name of a file that is there and may be read"
-            ),
+            Answer::FileFault => self.file_fault(f),
             Answer::TooLarge => write!(
                 f,
                 "the program file {program} has more than {MAX_PROGRAM} bytes, which is the limit"

@@ -92,6 +92,8 @@ fn tell_run(rt: &HostRuntime, answer: Answer, run: &RunCommand<'_>)
     let message = RunMessage {
         answer,
         program: run.program,
+        recording: run.recording,
+        report: run.report,
         budget: run.budget,
         field: refused_field(rt, answer, run.program, window_bytes(run)),
     };

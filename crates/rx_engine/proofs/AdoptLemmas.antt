@@ -1,13 +1,13 @@
 -- What a failure makes of a session: it goes on as a trial, or gives up.
-use Rattle.std.proofs.Common.{◌≡◌, inl, inr, ℕ, ◌+◌, ◌-◌, ◌^◌, ◌<◌, ◌≤◌, List, [], ◌∷◌, ◌++◌, length, map, drop, Option, None, Some, refl, sym, ◌∙◌, ap, subst, arith, append-nil, append_assoc}
-use Rattle.std.specs.Prelude.{◌≢◌, sum}
+use Rattle.std.proofs.Common.{◌≡◌, inl, inr, ℕ, zero, suc, ◌+◌, ◌-◌, ◌^◌, ◌<◌, ◌≤◌, List, [], ◌∷◌, ◌++◌, length, map, take, drop, Option, None, Some, false, refl, sym, ◌∙◌, ap, subst, arith, append-nil, append_assoc}
+use Rattle.std.specs.Prelude.{◌≢◌, sum, option_map}
 use Rattle.std.proofs.lemmas.List.{map-append}
 use Rattle.std.proofs.lemmas.List.Sums.{sum_by-append}
 use Rattle.std.proofs.lemmas.Option.{none-some}
 use Rattle.block_book.specs.declared.choice.Choice.{Choice}
 use Rattle.alloc_env.specs.declared.env.Env.{Env}
 use Rattle.rx_io.specs.declared.journal.Entry.{Entry}
-use Rattle.rx_io.specs.Links.{Phases, Told, Tells, Coming, events_in}
+use Rattle.rx_io.specs.Links.{Phases, Told, Tells, Grew, Coming, events_in}
 use Rattle.elf_image.specs.declared.image.Image.{Image}
 use Rattle.reply_ledger.specs.Ledger.{Ledger}
 use Rattle.reply_ledger.specs.Trials.{discarded}
@@ -27,7 +27,7 @@ use Rattle.session_history.specs.Serving.{first_survivor}
 use Rattle.session_history.proofs.Paths.{served_same}
 use Rattle.session_history.proofs.Sessions.{serving_adopts}
 use Rattle.trial_history.specs.Tables.{Trial, survivor_in}
-use Rattle.trial_history.specs.Episodes.{Recovery, IsRecovery, AreRecovered, adopted_by}
+use Rattle.trial_history.specs.Episodes.{Recovery, episode_of, IsRecovery, AreRecovered, adopted_by}
 use Rattle.trial_history.specs.EpisodeLaws.{GoesOnAs}
 use Rattle.trial_history.proofs.Asking.{asks_under_all}
 use Rattle.trial_history.proofs.Going.{steps_later}
@@ -37,14 +37,22 @@ use Rattle.trial_plan.specs.Sessions.{Failure}
 use Rattle.trial_plan.specs.Trying.{steps_of}
 use Rattle.trial_plan.specs.Walking.{HasSameBytes}
 use Rattle.recovery_gate.specs.declared.recovering.Adopted.{Adopted}
-use Rattle.recovery_gate.specs.Rings.{KeepsRing, IsInForce}
+use Rattle.recovery_gate.specs.Rings.{KeepsRing, AreBehind, IsInForce}
 use Rattle.recovery_gate.specs.Recovering.{recovery_of, HasToRecover, HasAdoptedRun, LeavesRun, HasRecovery}
 use Rattle.recovery_gate.specs.declared.recovering.Recovered.{Recovered}
 use Rattle.recovery_gate.proofs.RingLemmas.{ring_fails}
-use Rattle.rx_engine.specs.Recovered.{spent, HasGivenUp}
+use Rattle.rx_engine.specs.Recovered.{spent, told_of, HasGivenUp, IsNoteFault}
+use Rattle.rx_engine.specs.Serving.{AdoptsTo, Adopting, end_of}
+use Rattle.notes.specs.Noting.{Noted}
+use Rattle.episodes.specs.declared.episode.Episode.{Episode}
+use Rattle.session_history.specs.Ends.{before_end}
+use Rattle.session_history.proofs.Sessions.{serving_account}
 use Rattle.rx_engine.specs.Sessions.{SessionState}
-use Rattle.rx_engine.specs.Standing.{Since, Story, entries, sends, IsTold, IsGoing, IsFailing, IsEnding, IsBrokenOff}
-use Rattle.rx_engine.proofs.GuestLemmas.{none_lost, received_is, broken_off}
+use Rattle.rx_engine.specs.Standing.{Since, Story, entries, sends, IsTold, AnswersFor, IsGoing, IsFailing, IsEnding, IsBrokenOff, HasNotedMore}
+use Rattle.rx_engine.proofs.GuestLemmas.{none_lost, none_noted, answers_as, notes_here, received_is, broken_off, broken_noting}
+use Rattle.rx_engine.proofs.StoryLemmas.{account_of, journal_of_story}
+use Rattle.rx_engine.proofs.NoteLemmas.{grew_on}
+use Rattle.rx_engine.proofs.FaultLemmas.{note_no_end, note_ends}
 
 -- what was spent with one recovery more
 spent_more : (recoveries : List Recovery) (recovery : Recovery) → spent (recoveries ++ recovery ∷ []) ≡ spent recoveries + ((recovery.survivor.now.steps - recovery.survivor.begun.steps) + steps_of recovery.trials)
@@ -73,9 +81,10 @@ same_entries story recovery trial =
     ∙ entries_then story.earlier (record { survivor = story.survivor; entries = story.since })
 
 -- it is told, where so many instructions were counted
-told_adopted : (rules : Rules) (image : Image) (began : Since) (now : Told) (story : Story) (recovery : Recovery) (trial : Trial) (lost : ℕ) → IsTold rules image began now story → recovery.survivor ≡ story.survivor → IsRecovery rules image (entries story) recovery
-    → survivor_in recovery.trials ≡ Some trial → lost + trial.path.steps ≡ began.lost + story.survivor.now.steps + steps_of recovery.trials → IsTold rules image (record began { lost = lost }) now (adopted_story story recovery trial)
-told_adopted rules image began now story recovery trial lost told is was found counts =
+told_adopted : (rules : Rules) (image : Image) (began : Since) (now : Told) (story : Story) (recovery : Recovery) (trial : Trial) (lost : ℕ) (noted : Noted) → IsTold rules image began now story → recovery.survivor ≡ story.survivor → IsRecovery rules image (entries story) recovery
+    → survivor_in recovery.trials ≡ Some trial → lost + trial.path.steps ≡ began.lost + story.survivor.now.steps + steps_of recovery.trials → Grew began.noted.episodes noted.episodes (episode_of recovery ∷ [])
+    → IsTold rules image (record began { lost = lost; noted = noted }) now (adopted_story story recovery trial)
+told_adopted rules image began now story recovery trial lost noted told is was found counts grew =
     let g : GoesOnAs rules image (entries story) recovery trial = recovery_adopts rules image (entries story) recovery trial was found in
     let early : trial.path.state.machine.taken ≤ story.survivor.now.state.machine.taken = subst (λ (s : Survivor). trial.path.state.machine.taken ≤ s.now.state.machine.taken) is g.early in
     let enough : story.survivor.now.state.machine.taken ≤ received rules.bounds (entries story) = told.serving.carries.taken in
@@ -94,6 +103,9 @@ told_adopted rules image began now story recovery trial lost told is was found c
       recovered =
           subst
           (λ (s : Survivor). AreRecovered rules image [] (first_survivor image) (story.earlier ++ record { survivor = s; entries = story.since } ∷ []) (story.recoveries ++ recovery ∷ []) (adopted_by recovery trial)) is first;
+      episodes =
+          subst (Grew began.noted_before.episodes noted.episodes) (sym (map-append episode_of story.recoveries (recovery ∷ [])))
+          (grew_on began.noted_before.episodes began.noted.episodes noted.episodes (map episode_of story.recoveries) (episode_of recovery ∷ []) told.episodes grew);
     }
 
 -- a run that fails doesn't stand at its request
@@ -114,10 +126,30 @@ discards_none ledger none = ap (λ t. record ledger { trial = t }) (sym none)
 some_counts : (before after lost began steps old failed to tried : ℕ) → after ≡ before + tried → lost + steps + before ≡ began + old + after → steps ≡ to → old ≡ failed → lost + to ≡ began + failed + tried
 some_counts before after lost began steps old failed to tried counted counts is same = omega (arith, counted, counts, is, same)
 
+-- checkpoints that stand still have used so many answers of malloc
+behind_drop : (count index : ℕ) (ring : List Path) → AreBehind count ring → AreBehind count (drop index ring)
+behind_drop count zero ring behind = behind
+behind_drop count (suc index) [] behind = behind
+behind_drop count (suc index) (newest ∷ older) behind = behind_drop count index older behind.1
+
 module _ {R : Type 0} where
+  -- the session answers for the run that it adopted, of which the first answers of malloc are those that are noted
+  answers_adopted : (began : Since) (noted : Noted) (story next : Story) (old new : SessionState R) → new.recorded ≡ old.recorded → new.recorded ≤ length next.survivor.now.choices → new.choices ≡ drop new.recorded next.survivor.now.choices
+      → new.taken ≡ next.survivor.now.state.machine.taken → new.steps ≡ next.survivor.now.steps → take old.recorded next.survivor.now.choices ≡ take old.recorded story.survivor.now.choices → AnswersFor began story old
+      → Grew began.noted.choices noted.choices [] → (lost : ℕ) → AnswersFor (record began { lost = lost; noted = noted }) next new
+  answers_adopted began noted story next old new same low chose taken steps front answers grew lost = record {
+    low = low;
+    recorded =
+        subst (Grew began.noted_before.choices noted.choices) (append-nil (take old.recorded story.survivor.now.choices) ∙ (sym front ∙ ap (λ n. take n next.survivor.now.choices) (sym same)))
+        (grew_on began.noted_before.choices began.noted.choices noted.choices (take old.recorded story.survivor.now.choices) [] answers.recorded grew);
+    choices = chose;
+    taken = taken;
+    steps = steps;
+  }
+
   -- what is asked for before a recovery
   pub to_recover : (rules : Rules) (image : Image) (began : Since) (now : Told) (phases : Phases) (cause : Cause) (session : SessionState R) (f : IsFailing rules image began now phases cause session) → rules.limits.budget ≤ 2 ^ 24 → rules.bounds.max_items ≤ 2 ^ 20
-      → HasToRecover session.taken cause session.cpu.slots.live.guest.machine.pc (failure_of rules image f.going.story f.going.saved.paths) session.cpu session.ring session.choices session.log session.replies
+      → HasToRecover session.taken cause session.cpu.slots.live.guest.machine.pc (failure_of rules image f.going.story f.going.saved.paths) session.cpu session.ring session.recorded session.choices session.log session.replies
   to_recover rules image began now phases cause session f budget items =
       let g = f.going in
       let story : Story = g.story in
@@ -129,6 +161,7 @@ module _ {R : Type 0} where
         };
         ring = g.saved.ring;
         chose = g.answers.choices;
+        early = g.saved.early;
         fails = f.fails;
         pc_is = sym (ap (λ (s : Standing). s.guest.machine.pc) g.goes.guest);
       }
@@ -143,10 +176,10 @@ module _ {R : Type 0} where
 
   -- no trial survived
   pub gives_up : (rules : Rules) (image : Image) (began : Since) (now : Told) (phases : Phases) (coming : Option Coming) (cause : Cause) (old : SessionState R) (cpu : CpuState R) (ring : Checkpoints) (replies : Ledger) (choices : List Choice)
-      (f : IsFailing rules image began now phases cause old) (trials : List Trial) (lost before after : ℕ) → IsRecovery rules image (entries f.going.story) (recovery_of (failure_of rules image f.going.story f.going.saved.paths) f.going.story.survivor.begun cause trials)
+      (f : IsFailing rules image began now phases cause old) (trials : List Trial) (lost before after : ℕ) (noted : Noted) → IsRecovery rules image (entries f.going.story) (recovery_of (failure_of rules image f.going.story f.going.saved.paths) f.going.story.survivor.begun cause trials)
       → survivor_in trials ≡ None → replies ≡ discarded old.replies → choices ≡ old.choices → after ≡ before + steps_of trials → lost + old.steps + before ≡ began.lost + old.steps + after
-      → IsEnding rules image (record began { lost = lost }) now coming (walked old cpu ring replies choices) (answer.GaveUp old.taken cause)
-  gives_up rules image began now phases coming cause old cpu ring replies choices f trials lost before after was none ledger chose counted counts =
+      → HasNotedMore began.noted noted [] (told_of f.going.story.survivor cause trials ∷ []) → IsEnding rules image (record began { lost = lost; noted = noted }) now coming (walked old cpu ring replies choices) (answer.GaveUp old.taken cause)
+  gives_up rules image began now phases coming cause old cpu ring replies choices f trials lost before after noted was none ledger chose counted counts more =
       let g = f.going in
       let story : Story = g.story in
       let same : replies ≡ old.replies = ledger ∙ discards_none old.replies g.passed.no_trial in
@@ -156,15 +189,18 @@ module _ {R : Type 0} where
         trials = trials;
         lost = began.lost;
         lost_is = omega (arith, counted, counts);
+        noted = began.noted;
+        last = told_of story.survivor cause trials ∷ [];
+        last_noted = more;
         told = g.told;
-        answers = record { choices = chose ∙ g.answers.choices; taken = g.answers.taken; steps = g.answers.steps };
+        answers = answers_as began story old (walked old cpu ring replies choices) refl chose refl refl g.answers;
         received_are = received_is rules.bounds (entries story) old.log g.goes.items;
         replies = subst (λ (l : Ledger). KeepsReplies rules.bounds (entries story) None (sends story) l) (sym same) g.passed.replies;
         no_trial = ap (λ (l : Ledger). l.trial) same ∙ g.passed.no_trial;
         closed = λ send stands closing owed. g.passed.done send stands owed;
         is_end = tt;
         stands = (f.fails, sym g.answers.taken);
-        tried = inr (cause, given_up);
+        tried = inr (cause, given_up, refl);
         gave_up = given_up;
       }
 
@@ -172,10 +208,10 @@ module _ {R : Type 0} where
   pub adopts_going : (rules : Rules) (image : Image) (began : Since) (now : Told) (phases : Phases) (cause : Cause) (old : SessionState R) (cpu : CpuState R) (ring : Checkpoints) (replies : Ledger) (choices : List Choice) (adopted : Adopted)
       (f : IsFailing rules image began now phases cause old) (trials : List Trial) (trial : Trial) (lost : ℕ) → IsRecovery rules image (entries f.going.story) (recovery_of (failure_of rules image f.going.story f.going.saved.paths) f.going.story.survivor.begun cause trials)
       → survivor_in trials ≡ Some trial
-      → HasAdoptedRun (failure_of rules image f.going.story f.going.saved.paths) (recovery_of (failure_of rules image f.going.story f.going.saved.paths) f.going.story.survivor.begun cause trials) trial adopted cpu ring choices old.log replies
+      → HasAdoptedRun (failure_of rules image f.going.story f.going.saved.paths) (recovery_of (failure_of rules image f.going.story f.going.saved.paths) f.going.story.survivor.begun cause trials) trial adopted cpu ring old.recorded choices old.log replies
       → HasSameBytes old.replies replies → adopted.code ≡ None → lost + trial.path.steps ≡ began.lost + f.going.story.survivor.now.steps + steps_of trials
-      → IsGoing rules image (record began { lost = lost }) now phases (goes_as old cpu ring replies choices adopted.env (old.taken + 4))
-  adopts_going rules image began now phases cause old cpu ring replies choices adopted f trials trial lost was found run bytes asks counts =
+      → (noted : Noted) → HasNotedMore began.noted noted [] (told_of f.going.story.survivor cause trials ∷ []) → IsGoing rules image (record began { lost = lost; noted = noted }) now phases (goes_as old cpu ring replies choices adopted.env (old.taken + 4))
+  adopts_going rules image began now phases cause old cpu ring replies choices adopted f trials trial lost was found run bytes asks counts noted more =
       let g = f.going in
       let story : Story = g.story in
       let recovery : Recovery = recovery_of (failure_of rules image story g.saved.paths) story.survivor.begun cause trials in
@@ -189,8 +225,9 @@ module _ {R : Type 0} where
       let few : story.survivor.now.state.machine.taken ≤ rules.bounds.max_items = g.goes.few in
       record {
         story = next;
-        told = told_adopted rules image began now story recovery trial lost g.told refl was found counts;
-        answers = record { choices = run.chose; taken = ap (λ (s : Standing). s.guest.machine.taken) run.stands; steps = ap (λ (s : Standing). s.steps) run.stands };
+        told = told_adopted rules image began now story recovery trial lost noted g.told refl was found counts more.episodes_more;
+        answers = answers_adopted began noted story next old (goes_as old cpu ring replies choices adopted.env (old.taken + 4)) refl run.low run.chose (ap (λ (s : Standing). s.guest.machine.taken) run.stands) (ap (λ (s : Standing). s.steps) run.stands)
+            run.front g.answers more.choices_more lost;
         goes = record {
           lives = lives;
           guest = run.stands;
@@ -198,13 +235,13 @@ module _ {R : Type 0} where
           few = omega (arith, taken, few);
           within = λ conn may. ap (λ es. opens conn (heeded rules.bounds (events_in es))) same ∙ run.goes.within conn may;
           items = subst (λ es. KeepsItems rules.bounds es old.log) (sym same) g.goes.items;
-          whole = g.goes.whole;
           events = g.goes.events ∙ ap (λ es. length (events_in es)) (sym same);
           phases_are = subst (λ (es : List Entry). KeepsPhases es phases) (sym same) g.goes.phases_are;
         };
         saved = record {
           paths = drop run.index g.saved.paths;
           ring = subst (λ es. KeepsRing rules image es (adopted_by recovery trial).plan trial.path (drop run.index g.saved.paths) cpu ring old.log replies) (sym same) run.ring;
+          early = behind_drop old.recorded run.index g.saved.paths g.saved.early;
           in_force =
               subst (λ n. IsInForce (adopted_by recovery trial).plan n adopted.env (old.taken + 4)) (sym taken)
               (subst (λ n. IsInForce (adopted_by recovery trial).plan story.survivor.now.state.machine.taken adopted.env n) (sym (ap (λ n. n + 4) point)) run.in_force);
@@ -222,10 +259,10 @@ module _ {R : Type 0} where
   pub adopts_ending : (rules : Rules) (image : Image) (began : Since) (now : Told) (phases : Phases) (coming : Option Coming) (cause : Cause) (old : SessionState R) (cpu : CpuState R) (ring : Checkpoints) (replies : Ledger) (choices : List Choice)
       (adopted : Adopted) (code : ℕ) (f : IsFailing rules image began now phases cause old) (trials : List Trial) (trial : Trial) (lost : ℕ)
       → IsRecovery rules image (entries f.going.story) (recovery_of (failure_of rules image f.going.story f.going.saved.paths) f.going.story.survivor.begun cause trials) → survivor_in trials ≡ Some trial
-      → HasAdoptedRun (failure_of rules image f.going.story f.going.saved.paths) (recovery_of (failure_of rules image f.going.story f.going.saved.paths) f.going.story.survivor.begun cause trials) trial adopted cpu ring choices old.log replies
+      → HasAdoptedRun (failure_of rules image f.going.story f.going.saved.paths) (recovery_of (failure_of rules image f.going.story f.going.saved.paths) f.going.story.survivor.begun cause trials) trial adopted cpu ring old.recorded choices old.log replies
       → HasSameBytes old.replies replies → adopted.code ≡ Some code → lost + trial.path.steps ≡ began.lost + f.going.story.survivor.now.steps + steps_of trials
-      → IsEnding rules image (record began { lost = lost }) now coming (goes_as old cpu ring replies choices adopted.env (old.taken + 4)) (answer.Exited code)
-  adopts_ending rules image began now phases coming cause old cpu ring replies choices adopted code f trials trial lost was found run bytes exits counts =
+      → (noted : Noted) → HasNotedMore began.noted noted [] (told_of f.going.story.survivor cause trials ∷ []) → IsEnding rules image (record began { lost = lost; noted = noted }) now coming (goes_as old cpu ring replies choices adopted.env (old.taken + 4)) (answer.Exited code)
+  adopts_ending rules image began now phases coming cause old cpu ring replies choices adopted code f trials trial lost was found run bytes exits counts noted more =
       let g = f.going in
       let story : Story = g.story in
       let recovery : Recovery = recovery_of (failure_of rules image story g.saved.paths) story.survivor.begun cause trials in
@@ -236,17 +273,34 @@ module _ {R : Type 0} where
         trials = [];
         lost = lost;
         lost_is = none_lost lost;
-        told = told_adopted rules image began now story recovery trial lost g.told refl was found counts;
-        answers = record { choices = run.chose; taken = ap (λ (s : Standing). s.guest.machine.taken) run.stands; steps = ap (λ (s : Standing). s.steps) run.stands };
+        noted = noted;
+        last = [];
+        last_noted = none_noted noted;
+        told = told_adopted rules image began now story recovery trial lost noted g.told refl was found counts more.episodes_more;
+        answers = answers_adopted began noted story next old (goes_as old cpu ring replies choices adopted.env (old.taken + 4)) refl run.low run.chose (ap (λ (s : Standing). s.guest.machine.taken) run.stands) (ap (λ (s : Standing). s.steps) run.stands)
+            run.front g.answers more.choices_more lost;
         received_are = received_is rules.bounds (entries story) old.log g.goes.items ∙ ap (received rules.bounds) (sym same);
         replies = subst (λ es. KeepsReplies rules.bounds es None trial.path.state.sends replies) (sym same) run.replies;
         no_trial = bytes.no_trial;
         closed = λ send stands closing owed. absurd owed;
         is_end = tt;
         stands = sym run.code_is ∙ exits;
-        tried = inl refl;
+        tried = inl (refl, refl);
         gave_up = tt;
       }
+
+  -- the episode of a recovery that adopted isn't noted: the session is broken off as the trial
+  adopted_unnoted : (rules : Rules) (image : Image) (began : Since) (now : Told) (coming : Option Coming) (story : Story) (recovery : Recovery) (trial : Trial) (lost : ℕ) (session : SessionState R) (fault : Answer) → IsTold rules image began now story
+      → recovery.survivor ≡ story.survivor → IsRecovery rules image (entries story) recovery → survivor_in recovery.trials ≡ Some trial → lost + trial.path.steps ≡ began.lost + story.survivor.now.steps + steps_of recovery.trials
+      → AnswersFor (record began { lost = lost }) (adopted_story story recovery trial) session → IsNoteFault fault → IsBrokenOff rules image (record began { lost = lost }) now coming session fault
+  adopted_unnoted rules image began now coming story recovery trial lost session fault told is was found counts answers note =
+      let next : Story = adopted_story story recovery trial in
+      let nobody : Noted = record { choices = None; episodes = None } in
+      let then = told_adopted rules image (record began { noted_before = nobody; noted = nobody }) now story recovery trial lost nobody
+      (record { serving = told.serving; way = told.way; tells = told.tells; counted = told.counted; recovered = told.recovered; episodes = tt }) is was found counts tt in
+      (broken_noting (λ account. Unit {0}) rules image (record began { lost = lost }) nobody nobody now coming session next fault then
+      (notes_here (record began { lost = lost }) next session fault (map episode_of story.recoveries) (episode_of recovery ∷ []) told.episodes answers (map-append episode_of story.recoveries (recovery ∷ [])) (omega arith) (λ some. note)
+      (note_no_end fault note)) answers.taken answers.steps (note_ends rules coming (account_of next) fault note) (note_no_end fault note) tt).0
 
   -- what is counted otherwise at want of memory isn't counted at all
   abbrev pub off_lost : (rules : Rules) (image : Image) (began : Since) (now : Told) (coming : Option Coming) (session : SessionState R) (end : Answer) (lost : ℕ) → (end ≢ answer.Memory → lost ≡ began.lost) → IsBrokenOff rules image began now coming session end
@@ -260,7 +314,10 @@ module _ {R : Type 0} where
     no_end = off.no_end;
     recoveries = off.recoveries;
     recovered = off.recovered;
-    choices = off.choices;
+    trials = off.trials;
+    last = off.last;
+    tried = off.tried;
+    notes = off.notes;
     taken = off.taken;
     steps = off.steps;
     counted = λ others. off.counted others ∙ ap (λ n. n + off.account.survivor.begun.steps) (sym (same others));
@@ -273,7 +330,7 @@ module _ {R : Type 0} where
   adopt_breaks rules image began now phases coming cause old cpu ring replies choices lost f chose =
       off_lost rules image began now coming (walked old cpu ring replies choices) answer.Memory lost (λ others. absurd (others refl))
       (broken_off rules image began now coming (walked old cpu ring replies choices) f.going.story answer.Memory f.going.told
-      (record { choices = chose ∙ f.going.answers.choices; taken = f.going.answers.taken; steps = f.going.answers.steps }) tt (λ is. is))
+      (answers_as began f.going.story old (walked old cpu ring replies choices) refl chose refl refl f.going.answers) tt (λ is. is))
 
   -- behind a failure the number is higher, up to which an environment is in force
   pub adopted_later : (rules : Rules) (image : Image) (began : Since) (now : Told) (phases : Phases) (cause : Cause) (old : SessionState R) → IsFailing rules image began now phases cause old → (old.until < old.taken + 4) × (old.taken ≤ rules.bounds.max_items)
@@ -291,44 +348,113 @@ module _ {R : Type 0} where
   pub failing_moved : {rules : Rules} {image : Image} {began : Since} {now : Told} {phases : Phases} {cause : Cause} {s t : SessionState R} → s ≡ t → IsFailing rules image began now phases cause s → IsFailing rules image began now phases cause t
   failing_moved {rules = rules} {image = image} {began = began} {now = now} {phases = phases} {cause = cause} same = subst (λ (s : SessionState R). IsFailing rules image began now phases cause s) same
 
+  -- the point of a failure by another word for it
+  pub adopting_at : {rules : Rules} {image : Image} {began : Since} {now : Told} {phases : Phases} {coming : Option Coming} {cause : Cause} {session : SessionState R} {recovered : Recovered} {one other : ℕ} → one ≡ other
+      → Adopting rules image began now phases coming one cause session recovered → Adopting rules image began now phases coming other cause session recovered
+  adopting_at {rules = rules} {image = image} {began = began} {now = now} {phases = phases} {coming = coming} {cause = cause} {session = session} {recovered = recovered} same =
+      subst (λ n. Adopting rules image began now phases coming n cause session recovered) same
+
   -- what a recovery left of it
   abbrev pub Left : (rules : Rules) (image : Image) (began : Since) (now : Told) (phases : Phases) (cause : Cause) (old : SessionState R) → IsFailing rules image began now phases cause old → Recovered → CpuState R → Checkpoints → Ledger → List Choice → ℕ → ℕ → Type 0
   Left rules image began now phases cause old f recovered cpu ring replies choices before after =
-      HasRecovery (failure_of rules image f.going.story f.going.saved.paths) f.going.story.survivor.begun cause recovered cpu old.ring ring old.choices choices old.log old.replies replies before after
+      HasRecovery (failure_of rules image f.going.story f.going.saved.paths) f.going.story.survivor.begun cause recovered cpu old.ring ring old.recorded old.choices choices old.log old.replies replies before after
+
+  -- no trial survived, and the episode isn't noted
+  gave_up_unnoted : (rules : Rules) (image : Image) (began : Since) (now : Told) (coming : Option Coming) (cause : Cause) (story : Story) (paths : List Path) (trials : List Trial) (lost : ℕ) (session : SessionState R) (fault : Answer) → IsTold rules image began now story
+      → (given_up : HasGivenUp rules image (entries story) story.survivor trials cause) → lost ≡ began.lost + steps_of trials → AnswersFor began story session → IsNoteFault fault → IsBrokenOff rules image (record began { lost = lost }) now coming session fault
+  gave_up_unnoted rules image began now coming cause story paths trials lost session fault told given_up counts answers note =
+      let is : entries story ≡ before_end (account_of story) = refl in
+      record {
+        account = account_of story;
+        tells = subst (Tells began.told now) (sym (journal_of_story story)) told.tells;
+        is_account = serving_account rules image story.earlier story.survivor story.since false told.serving;
+        ends = note_ends rules coming (account_of story) fault note;
+        pieces = tt;
+        no_end = note_no_end fault note;
+        recoveries = story.recoveries;
+        recovered = told.recovered;
+        trials = trials;
+        last = told_of story.survivor cause trials ∷ [];
+        tried = inr (cause, given_up, refl);
+        notes = notes_here began story session fault (map episode_of story.recoveries) (told_of story.survivor cause trials ∷ []) told.episodes answers refl (omega arith) (λ some. note) (note_no_end fault note);
+        taken = answers.taken;
+        steps = answers.steps;
+        counted = λ others. let before = told.counted in omega (arith, before, counts);
+        later = steps_later rules.limits (items_in rules.bounds (entries story)) story.survivor.plan story.survivor.begun story.survivor.now told.way;
+      }
 
   pub adopt_none : (rules : Rules) (image : Image) (began : Since) (now : Told) (phases : Phases) (coming : Option Coming) (cause : Cause) (old : SessionState R) (cpu : CpuState R) (ring : Checkpoints) (replies : Ledger) (choices : List Choice) (recovered : Recovered)
       (lost before after : ℕ) (f : IsFailing rules image began now phases cause old) → Left rules image began now phases cause old f recovered cpu ring replies choices before after → recovered.adopted ≡ None → lost + old.steps + before ≡ began.lost + old.steps + after
-      → IsEnding rules image (record began { lost = lost }) now coming (walked old cpu ring replies choices) (answer.GaveUp old.taken cause)
+      → Adopting rules image (record began { lost = lost }) now phases coming old.taken cause (walked old cpu ring replies choices) recovered
   adopt_none rules image began now phases coming cause old cpu ring replies choices recovered lost before after f h is counts =
-      let failure : Failure = failure_of rules image f.going.story f.going.saved.paths in
-      let leaves = subst (λ a. LeavesRun failure (recovery_of failure f.going.story.survivor.begun cause h.trials) cpu old.ring ring old.choices choices old.log old.replies replies a) is h.leaves in
-      gives_up rules image began now phases coming cause old cpu ring replies choices f h.trials lost before after h.recovers leaves.0 leaves.3 leaves.2 h.counted counts
+      let g = f.going in
+      let story : Story = g.story in
+      let failure : Failure = failure_of rules image story g.saved.paths in
+      let leaves = subst (λ a. LeavesRun failure (recovery_of failure story.survivor.begun cause h.trials) cpu old.ring ring old.recorded old.choices choices old.log old.replies replies a) is h.leaves in
+      let end : end_of old.taken cause recovered.adopted ≡ Some (answer.GaveUp old.taken cause) = ap (end_of old.taken cause) is in
+      let counted = h.counted in
+      let given_up : HasGivenUp rules image (entries story) story.survivor h.trials cause = record { ring = g.saved.paths; some = g.saved.ring.some; recovers = h.recovers; none = leaves.0 } in
+      record {
+        goes = λ noted more.
+            subst (AdoptsTo rules image (record began { lost = lost; noted = noted }) now phases coming (walked old cpu ring replies choices)) (sym end)
+            (gives_up rules image began now phases coming cause old cpu ring replies choices f h.trials lost before after noted h.recovers leaves.0 leaves.3 leaves.2 h.counted counts
+            (subst (λ (e : Episode). HasNotedMore began.noted noted [] (e ∷ [])) h.episode_is more));
+        breaks = λ fault note.
+            gave_up_unnoted rules image began now coming cause story g.saved.paths h.trials lost (walked old cpu ring replies choices) fault g.told given_up (omega (arith, counted, counts))
+            (answers_as began story old (walked old cpu ring replies choices) refl leaves.2 refl refl g.answers) note;
+      }
 
-  pub adopt_going : (rules : Rules) (image : Image) (began : Since) (now : Told) (phases : Phases) (cause : Cause) (old : SessionState R) (cpu : CpuState R) (ring : Checkpoints) (replies : Ledger) (choices : List Choice) (recovered : Recovered) (adopted : Adopted)
+  pub adopt_some : (rules : Rules) (image : Image) (began : Since) (now : Told) (phases : Phases) (coming : Option Coming) (cause : Cause) (old : SessionState R) (cpu : CpuState R) (ring : Checkpoints) (replies : Ledger) (choices : List Choice) (recovered : Recovered) (adopted : Adopted)
       (lost before after : ℕ) (f : IsFailing rules image began now phases cause old) → Left rules image began now phases cause old f recovered cpu ring replies choices before after → HasSameBytes old.replies replies → recovered.adopted ≡ Some adopted
-      → adopted.code ≡ None → lost + cpu.slots.live.steps + before ≡ began.lost + old.steps + after → IsGoing rules image (record began { lost = lost }) now phases (goes_as old cpu ring replies choices adopted.env (old.taken + 4))
-  adopt_going rules image began now phases cause old cpu ring replies choices recovered adopted lost before after f h bytes is asks counts =
-      let failure : Failure = failure_of rules image f.going.story f.going.saved.paths in
-      let leaves = subst (λ a. LeavesRun failure (recovery_of failure f.going.story.survivor.begun cause h.trials) cpu old.ring ring old.choices choices old.log old.replies replies a) is h.leaves in
-      adopts_going rules image began now phases cause old cpu ring replies choices adopted f h.trials leaves.0 lost h.recovers leaves.1 leaves.2 bytes asks
-      (some_counts before after lost began.lost cpu.slots.live.steps old.steps f.going.story.survivor.now.steps leaves.0.path.steps (steps_of h.trials) h.counted counts (ap (λ (s : Standing). s.steps) leaves.2.stands) f.going.answers.steps)
-
-  pub adopt_ending : (rules : Rules) (image : Image) (began : Since) (now : Told) (phases : Phases) (coming : Option Coming) (cause : Cause) (old : SessionState R) (cpu : CpuState R) (ring : Checkpoints) (replies : Ledger) (choices : List Choice) (recovered : Recovered)
-      (adopted : Adopted) (code lost before after : ℕ) (f : IsFailing rules image began now phases cause old) → Left rules image began now phases cause old f recovered cpu ring replies choices before after → HasSameBytes old.replies replies
-      → recovered.adopted ≡ Some adopted → adopted.code ≡ Some code → lost + cpu.slots.live.steps + before ≡ began.lost + old.steps + after
-      → IsEnding rules image (record began { lost = lost }) now coming (goes_as old cpu ring replies choices adopted.env (old.taken + 4)) (answer.Exited code)
-  adopt_ending rules image began now phases coming cause old cpu ring replies choices recovered adopted code lost before after f h bytes is exits counts =
-      let failure : Failure = failure_of rules image f.going.story f.going.saved.paths in
-      let leaves = subst (λ a. LeavesRun failure (recovery_of failure f.going.story.survivor.begun cause h.trials) cpu old.ring ring old.choices choices old.log old.replies replies a) is h.leaves in
-      adopts_ending rules image began now phases coming cause old cpu ring replies choices adopted code f h.trials leaves.0 lost h.recovers leaves.1 leaves.2 bytes exits
-      (some_counts before after lost began.lost cpu.slots.live.steps old.steps f.going.story.survivor.now.steps leaves.0.path.steps (steps_of h.trials) h.counted counts (ap (λ (s : Standing). s.steps) leaves.2.stands) f.going.answers.steps)
+      → lost + cpu.slots.live.steps + before ≡ began.lost + old.steps + after
+      → Adopting rules image (record began { lost = lost }) now phases coming old.taken cause (goes_as old cpu ring replies choices adopted.env (old.taken + 4)) recovered
+  adopt_some rules image began now phases coming cause old cpu ring replies choices recovered adopted lost before after f h bytes is counts =
+      let g = f.going in
+      let story : Story = g.story in
+      let failure : Failure = failure_of rules image story g.saved.paths in
+      let recovery : Recovery = recovery_of failure story.survivor.begun cause h.trials in
+      let leaves = subst (λ a. LeavesRun failure recovery cpu old.ring ring old.recorded old.choices choices old.log old.replies replies a) is h.leaves in
+      let trial : Trial = leaves.0 in
+      let run = leaves.2 in
+      let new : SessionState R = goes_as old cpu ring replies choices adopted.env (old.taken + 4) in
+      let all = some_counts before after lost began.lost cpu.slots.live.steps old.steps story.survivor.now.steps trial.path.steps (steps_of h.trials) h.counted counts (ap (λ (s : Standing). s.steps) run.stands) g.answers.steps in
+      let episode = λ (noted : Noted) (more : HasNotedMore began.noted noted [] (recovered.episode ∷ [])). subst (λ (e : Episode). HasNotedMore began.noted noted [] (e ∷ [])) h.episode_is more in
+      record {
+        goes = λ noted more.
+            subst (AdoptsTo rules image (record began { lost = lost; noted = noted }) now phases coming new) (sym (ap (end_of old.taken cause) is))
+            (of_code adopted.code refl noted (episode noted more));
+        breaks = λ fault note.
+            adopted_unnoted rules image began now coming story recovery trial lost new fault g.told refl h.recovers leaves.1 all
+            (record {
+              low = run.low;
+              recorded = subst (Grew began.noted_before.choices began.noted.choices) (sym run.front) g.answers.recorded;
+              choices = run.chose;
+              taken = ap (λ (s : Standing). s.guest.machine.taken) run.stands;
+              steps = ap (λ (s : Standing). s.steps) run.stands;
+            }) note;
+      }
+    where
+      of_code : (code : Option ℕ) → adopted.code ≡ code → (noted : Noted) → HasNotedMore began.noted noted [] (told_of f.going.story.survivor cause h.trials ∷ [])
+          → AdoptsTo rules image (record began { lost = lost; noted = noted }) now phases coming (goes_as old cpu ring replies choices adopted.env (old.taken + 4)) (option_map answer.Exited adopted.code)
+      of_code None asks noted more =
+          let failure : Failure = failure_of rules image f.going.story f.going.saved.paths in
+          let leaves = subst (λ a. LeavesRun failure (recovery_of failure f.going.story.survivor.begun cause h.trials) cpu old.ring ring old.recorded old.choices choices old.log old.replies replies a) is h.leaves in
+          subst (λ code. AdoptsTo rules image (record began { lost = lost; noted = noted }) now phases coming (goes_as old cpu ring replies choices adopted.env (old.taken + 4)) (option_map answer.Exited code)) (sym asks)
+          (adopts_going rules image began now phases cause old cpu ring replies choices adopted f h.trials leaves.0 lost h.recovers leaves.1 leaves.2 bytes asks
+          (some_counts before after lost began.lost cpu.slots.live.steps old.steps f.going.story.survivor.now.steps leaves.0.path.steps (steps_of h.trials) h.counted counts (ap (λ (s : Standing). s.steps) leaves.2.stands) f.going.answers.steps) noted more)
+      of_code (Some code) exits noted more =
+          let failure : Failure = failure_of rules image f.going.story f.going.saved.paths in
+          let leaves = subst (λ a. LeavesRun failure (recovery_of failure f.going.story.survivor.begun cause h.trials) cpu old.ring ring old.recorded old.choices choices old.log old.replies replies a) is h.leaves in
+          subst (λ code. AdoptsTo rules image (record began { lost = lost; noted = noted }) now phases coming (goes_as old cpu ring replies choices adopted.env (old.taken + 4)) (option_map answer.Exited code)) (sym exits)
+          (adopts_ending rules image began now phases coming cause old cpu ring replies choices adopted code f h.trials leaves.0 lost h.recovers leaves.1 leaves.2 bytes exits
+          (some_counts before after lost began.lost cpu.slots.live.steps old.steps f.going.story.survivor.now.steps leaves.0.path.steps (steps_of h.trials) h.counted counts (ap (λ (s : Standing). s.steps) leaves.2.stands) f.going.answers.steps) noted more)
 
   -- the run that is adopted has no more instructions than were counted
   pub adopt_least : (rules : Rules) (image : Image) (began : Since) (now : Told) (phases : Phases) (cause : Cause) (old : SessionState R) (cpu : CpuState R) (ring : Checkpoints) (replies : Ledger) (choices : List Choice) (recovered : Recovered) (adopted : Adopted)
       (before after : ℕ) (f : IsFailing rules image began now phases cause old) → Left rules image began now phases cause old f recovered cpu ring replies choices before after → recovered.adopted ≡ Some adopted → cpu.slots.live.steps + before ≤ after + old.steps
   adopt_least rules image began now phases cause old cpu ring replies choices recovered adopted before after f h is =
       let failure : Failure = failure_of rules image f.going.story f.going.saved.paths in
-      let leaves = subst (λ a. LeavesRun failure (recovery_of failure f.going.story.survivor.begun cause h.trials) cpu old.ring ring old.choices choices old.log old.replies replies a) is h.leaves in
+      let leaves = subst (λ a. LeavesRun failure (recovery_of failure f.going.story.survivor.begun cause h.trials) cpu old.ring ring old.recorded old.choices choices old.log old.replies replies a) is h.leaves in
       let enough : leaves.0.path.steps ≤ f.going.story.survivor.now.steps + steps_of h.trials = leaves.2.enough in
       let counted = h.counted in
       let steps : cpu.slots.live.steps ≡ leaves.0.path.steps = ap (λ (s : Standing). s.steps) leaves.2.stands in

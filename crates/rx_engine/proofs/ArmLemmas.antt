@@ -80,7 +80,7 @@ module _ {R : Type 0} where
 
   -- but for its replies, a session is the same
   pub same_run : (old : SessionState R) (replies : Ledger) → HasSameRun old (record old { replies = replies })
-  same_run old replies = record { cpu = refl; choices = refl; taken = refl; steps = refl; first = refl; ring = refl; env = refl; until = refl }
+  same_run old replies = record { cpu = refl; recorded = refl; choices = refl; taken = refl; steps = refl; first = refl; ring = refl; env = refl; until = refl }
 
   -- guest, items and phases behind pieces
   pub goes_given : (rules : Rules) (story : Story) (old : SessionState R) (replies : Ledger) (phases later : Phases) (more : List Entry) → AreGiven more → ((conn : ℕ) → later conn ≡ phases conn) → GoesWith rules story old phases
@@ -109,7 +109,7 @@ module _ {R : Type 0} where
     hearing = record {
       story = then_story h.story more;
       told = told;
-      answers = answers_still h.story old (record old { replies = replies }) more (same_run old replies) h.answers;
+      answers = answers_still began h.story old (record old { replies = replies }) more (same_run old replies) h.answers;
       goes = goes_given rules h.story old replies phases later more given stay h.goes;
       saved = saved_given rules image h.story old replies more given kept h.saved;
       passed = passed;
@@ -127,7 +127,7 @@ module _ {R : Type 0} where
     going = record {
       story = then_story g.story more;
       told = told;
-      answers = answers_still g.story old (record old { replies = replies }) more (same_run old replies) g.answers;
+      answers = answers_still began g.story old (record old { replies = replies }) more (same_run old replies) g.answers;
       goes = goes_given rules g.story old replies phases later more given stay g.goes;
       saved = saved_given rules image g.story old replies more given kept g.saved;
       passed = passed;

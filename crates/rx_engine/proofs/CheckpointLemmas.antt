@@ -10,7 +10,7 @@ use Rattle.run_history.specs.Served.{Limits, Override, Path, Served, AsksFor}
 use Rattle.guest_cpu.specs.Cpus.{live_of, with_live}
 use Rattle.session_history.specs.Heeding.{items_in}
 use Rattle.session_history.specs.Lawful.{Rules}
-use Rattle.recovery_gate.specs.Rings.{KeepsRing, IsInForce}
+use Rattle.recovery_gate.specs.Rings.{KeepsRing, AreBehind, IsInForce}
 use Rattle.recovery_gate.proofs.RingLemmas.{ring_on, ring_beside}
 use Rattle.recovery_gate.proofs.Forces.{in_force_later}
 use Rattle.rx_engine.specs.Sessions.{SessionState}
@@ -32,8 +32,9 @@ past_on limits items plan now to until till served more same (inr there) =
     ]
 
 module _ {R : Type 0} where
-  -- all but the live state of the guest, the replies, the counts and the answers of malloc is the same
+  -- all but the live state of the guest, the replies, the counts and the answers of malloc that aren't noted is the same
   pub record HasSameSide (old new : SessionState R) : Type 0 where
+    pub recorded : new.recorded ≡ old.recorded
     pub log : new.log ≡ old.log
     pub events : new.events ≡ old.events
     pub cpu : new.cpu ≡ with_live (live_of new.cpu) old.cpu
@@ -53,6 +54,7 @@ module _ {R : Type 0} where
             subst (λ (c : Checkpoints). KeepsRing rules image (entries story) plan to k.paths new.cpu c new.log new.replies) (sym side.ring)
             (ring_beside rules image (entries story) plan to k.paths new.cpu old.ring old.log new.log old.replies new.replies (ap (λ (l : Log). l.first) side.log) first
             (ring_on rules image (entries story) plan now to k.paths old.cpu new.cpu (live_of new.cpu) old.ring old.log old.replies served side.cpu k.ring));
+        early = subst (λ n. AreBehind n k.paths) (sym side.recorded) k.early;
         in_force =
             in_force_by plan to.state.machine.taken old.env new.env old.until new.until side.env side.until (in_force_later plan now.state.machine.taken to.state.machine.taken old.env old.until more k.in_force);
         past = past_on rules.limits (items_in rules.bounds (entries story)) plan now to old.until new.until served more side.until k.past;

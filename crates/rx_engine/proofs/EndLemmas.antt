@@ -1,5 +1,5 @@
 -- The end of a session: what is left is passed, and there is an account of it all.
-use Rattle.std.proofs.Common.{◌≡◌, inl, ◌+◌, ◌-◌, ◌≤◌, ℕ, Bool, true, false, List, [], ◌∷◌, ◌++◌, Option, refl, sym, ◌∙◌, ap, subst, arith, append-nil, append_assoc}
+use Rattle.std.proofs.Common.{◌≡◌, inl, ◌+◌, ◌-◌, ◌≤◌, ℕ, Bool, true, false, List, [], ◌∷◌, ◌++◌, map, Option, refl, sym, ◌∙◌, ap, subst, arith, append-nil, append_assoc}
 use Rattle.rx_io.specs.declared.bytes.Item.{Item}
 use Rattle.rx_io.specs.declared.journal.Entry.{Entry}
 use Rattle.rx_io.specs.declared.journal.Entry.TheVariants as entry
@@ -25,8 +25,12 @@ use Rattle.std.specs.Prelude.{◌≢◌}
 use Rattle.trial_history.specs.Tables.{Trial}
 use Rattle.trial_history.proofs.Going.{steps_later}
 use Rattle.trial_plan.specs.Trying.{steps_of}
-use Rattle.rx_engine.specs.Recovered.{HasRecovered, GivesUpBy, spent}
-use Rattle.rx_engine.proofs.GuestLemmas.{none_lost}
+use Rattle.rx_engine.specs.Recovered.{HasRecovered, HasNoted, GivesUpBy, spent}
+use Rattle.rx_engine.proofs.GuestLemmas.{notes_here}
+use Rattle.rx_engine.proofs.NoteLemmas.{notes_fault}
+use Rattle.block_book.specs.declared.choice.Choice.{Choice}
+use Rattle.notes.specs.Noting.{Noted}
+use Rattle.trial_history.specs.Episodes.{episode_of}
 use Rattle.rx_engine.proofs.TellLemmas.{tells_on}
 use Rattle.rx_engine.proofs.PieceLemmas.{are_given, pieces}
 use Rattle.rx_engine.proofs.PieceLemmas as piece
@@ -121,6 +125,9 @@ off_is rules image story more (entry.Took event ∷ rest) stood part = absurd pa
 count_all : (first last since lost before steps now begun tried : ℕ) → last ≡ first + (since + steps) → since ≡ lost + tried → before ≡ lost + begun → steps ≡ now → begun ≤ now → last ≡ first + (before + (now - begun) + tried)
 count_all first last since lost before steps now begun tried all is earlier same later = omega (arith, all, is, earlier, same, later)
 
+count_off : (first last since before steps now begun tried : ℕ) → last ≡ first + (since + steps) → before + tried ≡ since + begun → steps ≡ now → begun ≤ now → last ≡ first + (before + (now - begun) + tried)
+count_off first last since before steps now begun tried all earlier same later = omega (arith, all, earlier, same, later)
+
 -- nobody gives up but at an end
 gives_no_end : (rules : Rules) (image : Image) (entries : List Entry) (survivor : Survivor) (trials : List Trial) (end : Answer) → (IsEnd end → ⊥) → GivesUpBy rules image entries survivor trials end
 gives_no_end rules image entries survivor trials (answer.GaveUp point cause) never = absurd (never tt)
@@ -153,11 +160,13 @@ module _ {R : Type 0} where
   -- all was passed
   pub served_end : (rules : Rules) (image : Image) (began : Since) (before now : Told) (coming later : Option Coming) (takes : Bool) (session : SessionState R) (end : Answer) (e : IsEnding rules image began before coming session end) (more : List Entry)
       → later ≡ coming → AreDuePieces rules (sends e.story) (end_of e.story) more → Tells before now more → OwesNothing rules.bounds rules.hold (then_entries (end_of e.story) more) (sends e.story)
-      → (takes ≡ false → IsAsking rules e.story) → (first last : ℕ) → last ≡ first + (began.lost + session.steps) → HasRecovered rules image began.told now later takes end session.choices session.taken session.steps first last
-  served_end rules image began before now coming later takes session end e more same due tells owes asked first last all =
+      → (takes ≡ false → IsAsking rules e.story) → (noted : Noted) (recorded : ℕ) (tail : List Choice) → HasNoted began.noted_before noted end e.story.survivor.now.choices (map episode_of e.story.recoveries ++ e.last) recorded tail
+      → (first last : ℕ) → last ≡ first + (began.lost + session.steps) → HasRecovered rules image began.told now later takes end began.noted_before noted recorded tail session.taken session.steps first last
+  served_end rules image began before now coming later takes session end e more same due tells owes asked noted recorded tail notes first last all =
       let story : Story = e.story in
       let stands : StandsAt rules (entries story) later story.survivor end = subst (λ (c : Option Coming). StandsAt rules (entries story) c story.survivor end) (sym same) e.stands in
       record {
+        choices = story.survivor.now.choices;
         served = record {
           session = ended_account story more [];
           at_end = true;
@@ -167,14 +176,16 @@ module _ {R : Type 0} where
           ends = ends_end rules later (ended_account story more []) end e.is_end stands owes refl;
           pieces = are_given rules (sends story) (end_of story) more due;
           asked = asked;
-          choices_are = sym e.answers.choices;
+          choices_are = refl;
           taken_is = sym e.answers.taken;
           steps_are = sym e.answers.steps;
         };
         recoveries = e.story.recoveries;
         recovered = e.told.recovered;
         trials = e.trials;
+        last = e.last;
         tried = e.tried;
+        notes = notes;
         gave_up = e.gave_up;
         counted = λ others.
             count_all first last began.lost e.lost (spent story.recoveries) session.steps story.survivor.now.steps story.survivor.begun.steps (steps_of e.trials) all e.lost_is e.told.counted e.answers.steps
@@ -184,11 +195,14 @@ module _ {R : Type 0} where
   -- a fault came while it was passed
   pub served_broken : (rules : Rules) (image : Image) (began : Since) (before now : Told) (coming later : Option Coming) (takes : Bool) (session : SessionState R) (end fault : Answer) (e : IsEnding rules image began before coming session end) (more broken : List Entry)
       → later ≡ coming → AreDuePieces rules (sends e.story) (end_of e.story) more → IsBroken rules (sends e.story) (then_entries (end_of e.story) more) broken → Tells before now (more ++ broken)
-      → EndsBy rules later (ended_account e.story more broken) fault → (IsEnd fault → ⊥) → (takes ≡ false → IsAsking rules e.story) → (first last : ℕ) → last ≡ first + (began.lost + session.steps) → HasRecovered rules image began.told now later takes fault session.choices session.taken session.steps first last
-  served_broken rules image began before now coming later takes session end fault e more broken same due part tells ends no_end asked first last all =
+      → EndsBy rules later (ended_account e.story more broken) fault → (IsEnd fault → ⊥) → (takes ≡ false → IsAsking rules e.story)
+      → (noted : Noted) → noted.choices ≡ began.noted.choices → noted.episodes ≡ began.noted.episodes → (first last : ℕ) → last ≡ first + (began.lost + session.steps)
+      → HasRecovered rules image began.told now later takes fault began.noted_before noted session.recorded session.choices session.taken session.steps first last
+  served_broken rules image began before now coming later takes session end fault e more broken same due part tells ends no_end asked noted same_choices same_episodes first last all =
       let story : Story = e.story in
       let stands : StandsAt rules (entries story) later story.survivor end = subst (λ (c : Option Coming). StandsAt rules (entries story) c story.survivor end) (sym same) e.stands in
       record {
+        choices = story.survivor.now.choices;
         served = record {
           session = ended_account story more broken;
           at_end = true;
@@ -198,14 +212,16 @@ module _ {R : Type 0} where
           ends = ends;
           pieces = are_given rules (sends story) (end_of story) more due;
           asked = asked;
-          choices_are = sym e.answers.choices;
+          choices_are = refl;
           taken_is = sym e.answers.taken;
           steps_are = sym e.answers.steps;
         };
         recoveries = e.story.recoveries;
         recovered = e.told.recovered;
         trials = e.trials;
+        last = e.last;
         tried = e.tried;
+        notes = notes_fault rules image began before coming session end fault noted e no_end same_choices same_episodes;
         gave_up = gives_no_end rules image (entries story) story.survivor e.trials fault no_end;
         counted = λ others.
             count_all first last began.lost e.lost (spent story.recoveries) session.steps story.survivor.now.steps story.survivor.begun.steps (steps_of e.trials) all e.lost_is e.told.counted e.answers.steps
@@ -214,8 +230,9 @@ module _ {R : Type 0} where
 
   -- a session that was broken off has served
   pub served_off : (rules : Rules) (image : Image) (began : Since) (now : Told) (coming : Option Coming) (takes : Bool) (session : SessionState R) (end : Answer) → (off : IsBrokenOff rules image began now coming session end) → (takes ≡ false → WasAsked rules off.account) → (first last : ℕ)
-      → (end ≢ answer.Memory → last ≡ first + (began.lost + session.steps)) → HasRecovered rules image began.told now coming takes end session.choices session.taken session.steps first last
+      → (end ≢ answer.Memory → last ≡ first + (began.lost + session.steps)) → HasRecovered rules image began.told now coming takes end began.noted_before began.noted session.recorded session.choices session.taken session.steps first last
   served_off rules image began now coming takes session end off asked first last all = record {
+    choices = off.account.survivor.now.choices;
     served = record {
       session = off.account;
       at_end = false;
@@ -225,21 +242,23 @@ module _ {R : Type 0} where
       ends = off.ends;
       pieces = off.pieces;
       asked = asked;
-      choices_are = sym off.choices;
+      choices_are = refl;
       taken_is = sym off.taken;
       steps_are = sym off.steps;
     };
     recoveries = off.recoveries;
     recovered = off.recovered;
-    trials = [];
-    tried = inl refl;
-    gave_up = gives_no_end rules image (before_end off.account) off.account.survivor [] end off.no_end;
+    trials = off.trials;
+    last = off.last;
+    tried = off.tried;
+    notes = off.notes;
+    gave_up = gives_no_end rules image (before_end off.account) off.account.survivor off.trials end off.no_end;
     counted = λ others.
-        count_all first last began.lost began.lost (spent off.recoveries) session.steps off.account.survivor.now.steps off.account.survivor.begun.steps (steps_of []) (all others) (none_lost began.lost) (off.counted others) off.steps off.later;
+        count_off first last began.lost (spent off.recoveries) session.steps off.account.survivor.now.steps off.account.survivor.begun.steps (steps_of off.trials) (all others) (off.counted others) off.steps off.later;
   }
 
   -- a fault came while what is due was passed
-  pub off_pieces : (rules : Rules) (image : Image) (began : Since) (before now : Told) (coming : Option Coming) (story : Story) (session : SessionState R) (fault : Answer) (more broken : List Entry) → IsTold rules image began before story → AnswersFor story session
+  pub off_pieces : (rules : Rules) (image : Image) (began : Since) (before now : Told) (coming : Option Coming) (story : Story) (session : SessionState R) (fault : Answer) (more broken : List Entry) → IsTold rules image began before story → AnswersFor began story session
       → AreDuePieces rules (sends story) (moment story) more → IsBroken rules (sends story) (then_entries (moment story) more) broken → Tells before now (more ++ broken)
       → EndsBy rules coming (off_account story more broken) fault → (IsEnd fault → ⊥) → IsBrokenOff rules image began now coming session fault
   off_pieces rules image began before now coming story session fault more broken told answers due part tells ends no_end =
@@ -255,9 +274,12 @@ module _ {R : Type 0} where
         no_end = no_end;
         recoveries = story.recoveries;
         recovered = told.recovered;
-        counted = λ others. told.counted;
+        trials = [];
+        last = [];
+        tried = inl (refl, refl);
+        notes = notes_here began story session fault (map episode_of story.recoveries) [] told.episodes answers refl (omega arith) (λ some. absurd (omega (arith, some))) no_end;
+        counted = λ others. let none : steps_of [] ≡ 0 = refl in let counts = told.counted in omega (arith, none, counts);
         later = steps_later rules.limits (items_in rules.bounds (entries story)) story.survivor.plan story.survivor.begun story.survivor.now told.way;
-        choices = answers.choices;
         taken = answers.taken;
         steps = answers.steps;
       }

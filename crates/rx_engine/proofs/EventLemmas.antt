@@ -9,7 +9,7 @@ use Rattle.rx_io.specs.declared.journal.LinkEvent.TheVariants as event
 use Rattle.rx_io.specs.Links.{Told, Tells}
 use Rattle.elf_image.specs.declared.image.Image.{Image}
 use Rattle.run_history.specs.Served.{Served, AsksFor}
-use Rattle.session_history.specs.Heeding.{items_in, received}
+use Rattle.session_history.specs.Heeding.{items_in, received, AreHeeded}
 use Rattle.session_history.specs.Opened.{opens}
 use Rattle.session_history.specs.Owing.{Latest, behind, latest, IsOwed, IsPassed, OwesNothing}
 use Rattle.session_history.specs.Lawful.{Rules, Survivor, entries_of, IsDue}
@@ -30,13 +30,13 @@ owes_nothing rules story all due done send stands owed = of owed
 
 -- an event that is due is taken
 pub told_event : (rules : Rules) (image : Image) (began : Since) (old now : Told) (story : Story) (event : LinkEvent) (more : List Item) → IsTold rules image began old story
-    → AsksFor rules.limits story.survivor.plan story.survivor.now (received rules.bounds (entries story)) → OwesNothing rules.bounds rules.hold (moment story) (sends story) → Tells old now (entry.Took event ∷ [])
+    → AsksFor rules.limits story.survivor.plan story.survivor.now (received rules.bounds (entries story)) → OwesNothing rules.bounds rules.hold (moment story) (sends story) → AreHeeded rules.bounds (entries story) → Tells old now (entry.Took event ∷ [])
     → items_in rules.bounds (entries story ++ entry.Took event ∷ []) ≡ items_in rules.bounds (entries story) ++ more → IsTold rules image began now (then_story story (entry.Took event ∷ []))
-told_event rules image began old now story event more told asks owes tells brings =
+told_event rules image began old now story event more told asks owes heeds tells brings =
     let items : List Item = items_in rules.bounds (entries story) in
     let survivor : Survivor = story.survivor in
     let due : IsDue rules items survivor (moment story) (entry.Took event) =
-    record { way = record { path = survivor.now; from = told.way; on = served_same rules.limits items survivor.plan survivor.now }; due = record { asks = asks; owes_nothing = owes } } in
+    record { way = record { path = survivor.now; from = told.way; on = served_same rules.limits items survivor.plan survivor.now }; due = record { asks = asks; owes_nothing = owes; heeded = heeds } } in
     let same : entries story ++ entry.Took event ∷ [] ≡ entries_of story.earlier ++ (story.since ++ entry.Took event ∷ []) = append_assoc (entries_of story.earlier) story.since (entry.Took event ∷ []) in
     record {
       serving = serving_event rules image story.earlier survivor story.since event more told.serving due brings;
@@ -46,6 +46,7 @@ told_event rules image began old now story event more told asks owes tells bring
       tells = subst (Tells began.told now) same (tells_on began.told old now (entries story) (entry.Took event ∷ []) told.tells tells);
       recovered = told.recovered;
       counted = told.counted;
+      episodes = told.episodes;
     }
 
 -- the latest event of some entries and one that was taken last, which isn't Ends

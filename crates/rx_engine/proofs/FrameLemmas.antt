@@ -15,3 +15,9 @@ module _ {R : Type 0} where
 
   pub saved_frame : (old new : SessionState R) → new ≡ record old { cpu = new.cpu; ring = new.ring } → new.cpu.rule ≡ old.cpu.rule → HasSameFrame old new
   saved_frame old new same rule = record { options = ap (λ (s : SessionState R). s.options) same; rule = rule }
+
+  pub noted_frame : (old new : SessionState R) → new ≡ record old { recorded = new.recorded; choices = new.choices } → HasSameFrame old new
+  noted_frame old new same = record { options = ap (λ (s : SessionState R). s.options) same; rule = ap (λ (s : SessionState R). s.cpu.rule) same }
+
+  pub forgot_frame : (old new : SessionState R) → new ≡ record old { log = new.log; replies = new.replies } → HasSameFrame old new
+  forgot_frame old new same = record { options = ap (λ (s : SessionState R). s.options) same; rule = ap (λ (s : SessionState R). s.cpu.rule) same }

@@ -1,5 +1,5 @@
 -- What an event of the guest makes of a session.
-use Rattle.std.proofs.Common.{◌≡◌, inl, ℕ, ◌+◌, ◌≤◌, true, false, List, [], ◌∷◌, ◌++◌, length, Option, None, Ok, refl, sym, ◌∙◌, ap, subst, arith}
+use Rattle.std.proofs.Common.{◌≡◌, inl, ℕ, zero, suc, ◌+◌, ◌<◌, ◌≤◌, true, false, List, [], ◌∷◌, ◌++◌, length, map, take, drop, Option, None, Some, Ok, refl, sym, ◌∙◌, ap, subst, arith, append-nil, length-append}
 use Rattle.std.specs.Prelude.{slice_get, unwrap_or}
 use Rattle.block_book.specs.declared.choice.Choice.{Choice}
 use Rattle.item_log.specs.Log.{Log}
@@ -15,7 +15,7 @@ use Rattle.guest_cpu.specs.Standing.{Standing}
 use Rattle.session_history.specs.Serving.{gone_on}
 use Rattle.session_history.specs.Ends.{IsEnd, StandsAt, EndsBy}
 use Rattle.session_history.proofs.Sessions.{serving_account}
-use Rattle.rx_io.specs.Links.{Phases, Told, events_in}
+use Rattle.rx_io.specs.Links.{Phases, Told, Grew, events_in}
 use Rattle.rx_io.specs.Sends.{Send}
 use Rattle.rx_io.specs.declared.journal.Entry.{Entry}
 use Rattle.elf_image.specs.declared.image.Image.{Image}
@@ -33,12 +33,15 @@ use Rattle.session_history.specs.Lawful.{Rules}
 use Rattle.session_history.specs.Account.{Session}
 use Rattle.session_history.specs.Keeping.{KeepsReplies, KeepsItems}
 use Rattle.rx_engine.specs.Sessions.{SessionState}
-use Rattle.rx_engine.specs.Standing.{Since, Story, entries, moment, IsTold, AnswersFor, GoesWith, IsLatestDone, IsLatestBefore, HasPassedDue, HasPassed, IsGoing, IsBetween, IsWaitingFor, IsFailing, IsEnding, IsBrokenOff}
+use Rattle.rx_engine.specs.Standing.{Since, Story, entries, moment, IsTold, AnswersFor, GoesWith, IsLatestDone, IsLatestBefore, HasPassedDue, HasPassed, IsGoing, IsBetween, IsWaitingFor, IsFailing, IsEnding, IsBrokenOff, HasNotedMore}
 use Rattle.rx_engine.specs.Serving.{IsCounted}
 use Rattle.rx_engine.proofs.StoryLemmas.{on_story, told_on, account_of, journal_of_story}
 use Rattle.trial_history.proofs.Going.{steps_later}
 use Rattle.trial_plan.specs.Trying.{steps_of}
-use Rattle.rx_engine.specs.Recovered.{GivesUpBy}
+use Rattle.rx_engine.specs.Recovered.{GivesUpBy, HasNoted, IsNoteFault}
+use Rattle.episodes.specs.declared.episode.Episode.{Episode}
+use Rattle.notes.specs.Noting.{Noted}
+use Rattle.trial_history.specs.Episodes.{episode_of}
 use Rattle.rx_engine.proofs.CheckpointLemmas.{HasSameSide, saved_on}
 
 -- without trials nothing was counted for them
@@ -48,6 +51,40 @@ none_lost lost = let none : steps_of [] ≡ 0 = refl in omega (arith, none)
 -- a log received as many items as its journal has
 pub received_is : (bounds : Bounds) (entries : List Entry) (log : Log) → KeepsItems bounds entries log → logs.received log ≡ received bounds entries
 received_is bounds entries log keeps = (shown_items bounds.framing (events_in entries) log keeps.shows).0 ∙ ap (λ (events : List LinkEvent). length (items_of bounds.framing events)) (sym keeps.all_heeded)
+
+-- what is recorded of a run's answers of malloc stays recorded where it uses more
+module _ {X : Type 0} where
+  take_front : (count : ℕ) (xs more : List X) → count ≤ length xs → take count (xs ++ more) ≡ take count xs
+  take_front zero xs more low = refl
+  take_front (suc count) [] more low = absurd (omega (arith, low))
+  take_front (suc count) (x ∷ xs) more low = ap (λ ys. x ∷ ys) (take_front count xs more (omega (arith, low)))
+
+  drop_front : (count : ℕ) (xs more : List X) → count ≤ length xs → drop count xs ++ more ≡ drop count (xs ++ more)
+  drop_front zero xs more low = refl
+  drop_front (suc count) [] more low = absurd (omega (arith, low))
+  drop_front (suc count) (x ∷ xs) more low = drop_front count xs more (omega (arith, low))
+
+  answers_low : (before after more : List X) (now was : ℕ) → now ≡ was → after ≡ before ++ more → was ≤ length before → now ≤ length after
+  answers_low before after more now was same goes low = let long = ap length goes ∙ length-append before more in omega (arith, same, long, low)
+
+  answers_front : (before after more : List X) (now was : ℕ) → now ≡ was → after ≡ before ++ more → was ≤ length before → take now after ≡ take was before
+  answers_front before after more now was same goes low = ap (λ n. take n after) same ∙ (ap (take was) goes ∙ take_front was before more low)
+
+  answers_behind : (before after more : List X) (now was : ℕ) → now ≡ was → after ≡ before ++ more → was ≤ length before → drop was before ++ more ≡ drop now after
+  answers_behind before after more now was same goes low = drop_front was before more low ∙ (sym (ap (drop was) goes) ∙ sym (ap (λ n. drop n after) same))
+
+  pub none_more : {xs ys : List X} → xs ≡ ys → xs ≡ ys ++ []
+  none_more {ys = ys} same = same ∙ sym (append-nil ys)
+
+pub none_used : {first second : Path} → IsSilent first second → second.choices ≡ first.choices ++ []
+none_used {first = first} silent = silent.choices ∙ sym (append-nil first.choices)
+
+grew_none : {X : Type 0} (told : Option (List X)) → Grew told told []
+grew_none None = tt
+grew_none (Some list) = sym (append-nil list)
+
+pub none_noted : (noted : Noted) → HasNotedMore noted noted [] []
+none_noted noted = record { choices_more = grew_none noted.choices; episodes_more = grew_none noted.episodes }
 
 -- who may be sent to is told by the machine's connections
 may_send_by : (m n : Machine) (conn : ℕ) → n.connections ≡ m.connections → may_send n conn ≡ true → may_send m conn ≡ true
@@ -79,10 +116,23 @@ module _ {R : Type 0} where
     pub side : HasSameSide old new
     pub replies : new.replies ≡ old.replies
 
-  -- it answers for a run that its guest is
-  pub answers_for : (story : Story) (session : SessionState R) (to : Path) → session.choices ≡ to.choices → IsCounted session → session.cpu.slots.live ≡ standing_of to → AnswersFor (on_story story to) session
-  answers_for story session to chosen counted stands = record {
-    choices = chosen;
+  -- it answers for the same run
+  pub answers_as : (began : Since) (story : Story) (old new : SessionState R) → new.recorded ≡ old.recorded → new.choices ≡ old.choices → new.taken ≡ old.taken → new.steps ≡ old.steps → AnswersFor began story old → AnswersFor began story new
+  answers_as began story old new recorded choices taken steps answers = record {
+    low = subst (λ n. n ≤ length story.survivor.now.choices) (sym recorded) answers.low;
+    recorded = subst (λ n. Grew began.noted_before.choices began.noted.choices (take n story.survivor.now.choices)) (sym recorded) answers.recorded;
+    choices = choices ∙ (answers.choices ∙ ap (λ n. drop n story.survivor.now.choices) (sym recorded));
+    taken = taken ∙ answers.taken;
+    steps = steps ∙ answers.steps;
+  }
+
+  -- it answers for a run that its guest is, and that used these answers of malloc more
+  pub answers_for : (began : Since) (story : Story) (old session : SessionState R) (to : Path) (more : List Choice) → AnswersFor began story old → session.recorded ≡ old.recorded → to.choices ≡ story.survivor.now.choices ++ more
+      → session.choices ≡ old.choices ++ more → IsCounted session → session.cpu.slots.live ≡ standing_of to → AnswersFor began (on_story story to) session
+  answers_for began story old session to more answers recorded goes chosen counted stands = record {
+    low = answers_low story.survivor.now.choices to.choices more session.recorded old.recorded recorded goes answers.low;
+    recorded = subst (Grew began.noted_before.choices began.noted.choices) (sym (answers_front story.survivor.now.choices to.choices more session.recorded old.recorded recorded goes answers.low)) answers.recorded;
+    choices = chosen ∙ (ap (λ cs. cs ++ more) answers.choices ∙ answers_behind story.survivor.now.choices to.choices more session.recorded old.recorded recorded goes answers.low);
     taken = counted.taken ∙ ap (λ (s : Standing). s.guest.machine.taken) stands;
     steps = counted.steps ∙ ap (λ (s : Standing). s.steps) stands;
   }
@@ -97,20 +147,20 @@ module _ {R : Type 0} where
     few = subst (λ taken. taken ≤ rules.bounds.max_items) (sym goes.taken) with.few;
     within = λ conn may. with.within conn (may_send_by story.survivor.now.state.machine to.state.machine conn goes.connections may);
     items = subst (KeepsItems rules.bounds (entries story)) (sym log) with.items;
-    whole = ap (λ (l : Log). l.first) log ∙ with.whole;
     events = events ∙ with.events;
     phases_are = with.phases_are;
   }
 
   -- where the survivor goes on, used these answers of malloc and sent nothing, the session goes on
-  pub going_on : (rules : Rules) (image : Image) (began : Since) (now : Told) (phases : Phases) (old new : SessionState R) (g : IsGoing rules image began now phases old) (to : Path) → HasSameParts old new → new.choices ≡ to.choices → IsCounted new
+  pub going_on : (rules : Rules) (image : Image) (began : Since) (now : Told) (phases : Phases) (old new : SessionState R) (g : IsGoing rules image began now phases old) (to : Path) (more : List Choice) → HasSameParts old new
+      → to.choices ≡ g.story.survivor.now.choices ++ more → new.choices ≡ old.choices ++ more → IsCounted new
       → GoesOn rules.limits (items_in rules.bounds (entries g.story)) g.story.survivor.plan g.story.survivor.now to → to.state.ended ≡ None → new.cpu.slots.live ≡ standing_of to → to.state.sends ≡ g.story.survivor.now.state.sends
       → IsGoing rules image began now phases new
-  going_on rules image began now phases old new g to same chosen counted goes lives stands none =
+  going_on rules image began now phases old new g to more same used chosen counted goes lives stands none =
       record {
         story = on_story g.story to;
         told = told_on rules image began now g.story to g.told goes.served (still_received rules image began now g.story to g.told goes.taken);
-        answers = answers_for g.story new to chosen counted stands;
+        answers = answers_for began g.story old new to more g.answers same.side.recorded used chosen counted stands;
         goes = goes_with rules g.story old new phases to g.goes same.side.log same.side.events goes lives stands;
         saved = saved_on rules image g.story old new to same.side (ap (λ (ledger : Ledger). ledger.first) same.replies) goes.served (let still = goes.taken in omega (arith, still)) g.saved;
         passed = has_passed rules g.story old.replies new.replies to g.passed same.replies none;
@@ -125,7 +175,7 @@ module _ {R : Type 0} where
       let comes = runs.comes in
       record {
         going =
-            going_on rules image began now phases old new b.going runs.now same (chosen ∙ (ap (λ cs. cs ++ choice ∷ []) b.going.answers.choices ∙ sym comes.0)) counted runs.goes comes.2 (sym runs.stands) comes.1;
+            going_on rules image began now phases old new b.going runs.now (choice ∷ []) same comes.0 chosen counted runs.goes comes.2 (sym runs.stands) comes.1;
         due = due_still rules b.going.story runs.now comes.1 runs.goes.taken b.due;
       }
 
@@ -138,7 +188,7 @@ module _ {R : Type 0} where
       let to : Path = runs.now in
       let asks : AsksFor rules.limits story.survivor.plan to story.survivor.now.state.machine.taken = runs.comes.1 in
       let silent : IsSilent story.survivor.now to = runs.comes.0 in
-      let going = going_on rules image began now phases old new b.going to same (chosen ∙ (b.going.answers.choices ∙ sym silent.choices)) counted runs.goes asks.lives (sym runs.stands) silent.sends in
+      let going = going_on rules image began now phases old new b.going to [] same (none_used silent) (none_more chosen) counted runs.goes asks.lives (sym runs.stands) silent.sends in
       record {
         hearing = record {
           story = going.story;
@@ -165,14 +215,17 @@ module _ {R : Type 0} where
         lost = began.lost;
         lost_is = none_lost began.lost;
         told = told_on rules image began now g.story to g.told goes.served (still_received rules image began now g.story to g.told goes.taken);
-        answers = answers_for g.story new to (chosen ∙ (g.answers.choices ∙ sym silent.choices)) counted stands;
+        noted = began.noted;
+        last = [];
+        last_noted = none_noted began.noted;
+        answers = answers_for began g.story old new to [] g.answers same.side.recorded (none_used silent) (none_more chosen) counted stands;
         received_are = ap (λ (log : Log). logs.received log) same.side.log ∙ received_is rules.bounds (entries g.story) old.log g.goes.items;
         replies = passed.replies;
         no_trial = passed.no_trial;
         closed = λ send stands closing owed. passed.done send stands owed;
         is_end = is_end;
         stands = cause;
-        tried = inl refl;
+        tried = inl (refl, refl);
         gave_up = gave_up;
       }
 
@@ -190,14 +243,33 @@ module _ {R : Type 0} where
   fails_failing rules image began now phases cause old new b same chosen counted runs =
       let silent : IsSilent b.going.story.survivor.now runs.now = runs.comes.0 in
       record {
-        going = going_on rules image began now phases old new b.going runs.now same (chosen ∙ (b.going.answers.choices ∙ sym silent.choices)) counted runs.goes runs.comes.1.lives (sym runs.stands) silent.sends;
+        going = going_on rules image began now phases old new b.going runs.now [] same (none_used silent) (none_more chosen) counted runs.goes runs.comes.1.lives (sym runs.stands) silent.sends;
         fails = runs.comes.1;
       }
 
-  -- a session that is broken off where it stood has an account, of which holds what holds of its story's
-  pub broken_with : (P : Session → Type 0) (rules : Rules) (image : Image) (began : Since) (now : Told) (coming : Option Coming) (session : SessionState R) (story : Story) (end : Answer) → IsTold rules image began now story → AnswersFor story session
+  -- what is noted of a session that stands so: these episodes of all, but perhaps the last one
+  pub notes_here : (began : Since) (story : Story) (session : SessionState R) (end : Answer) (told missing : List Episode) {all : List Episode} → Grew began.noted_before.episodes began.noted.episodes told → AnswersFor began story session
+      → all ≡ told ++ missing → length missing ≤ 1 → (0 < length missing → IsNoteFault end) → (IsEnd end → ⊥) → HasNoted began.noted_before began.noted end story.survivor.now.choices all session.recorded session.choices
+  notes_here began story session end told missing grew answers all few missed no_end = record {
+    low = answers.low;
+    tail_is = answers.choices;
+    all_recorded = λ is. absurd (no_end is);
+    choices_noted = answers.recorded;
+    told = told;
+    missing = missing;
+    all_told = sym all;
+    few_missing = few;
+    none_missing = missed;
+    episodes_noted = grew;
+  }
+
+  -- A session that is broken off where it stood, and has noted so much, has an account, of which holds what holds of its story's. What its
+  -- story was told beside that may be told otherwise.
+  pub broken_noting : (P : Session → Type 0) (rules : Rules) (image : Image) (began : Since) (before noted : Noted) (now : Told) (coming : Option Coming) (session : SessionState R) (story : Story) (end : Answer)
+      → IsTold rules image (record began { noted_before = before; noted = noted }) now story
+      → HasNoted began.noted_before began.noted end story.survivor.now.choices (map episode_of story.recoveries) session.recorded session.choices → session.taken ≡ story.survivor.now.state.machine.taken → session.steps ≡ story.survivor.now.steps
       → EndsBy rules coming (account_of story) end → (IsEnd end → ⊥) → P (account_of story) → (off : IsBrokenOff rules image began now coming session end) × P off.account
-  broken_with P rules image began now coming session story end told answers ends no_end holds = (
+  broken_noting P rules image began before noted now coming session story end told notes taken steps ends no_end holds = (
     record {
       account = account_of story;
       tells = subst (Tells began.told now) (sym (journal_of_story story)) told.tells;
@@ -207,15 +279,24 @@ module _ {R : Type 0} where
       no_end = no_end;
       recoveries = story.recoveries;
       recovered = told.recovered;
-      counted = λ others. told.counted;
+      trials = [];
+      last = [];
+      tried = inl (refl, refl);
+      notes = subst (λ all. HasNoted began.noted_before began.noted end story.survivor.now.choices all session.recorded session.choices) (sym (append-nil (map episode_of story.recoveries))) notes;
+      taken = taken;
+      steps = steps;
+      counted = λ others. let none : steps_of [] ≡ 0 = refl in let counts = told.counted in omega (arith, none, counts);
       later = steps_later rules.limits (items_in rules.bounds (entries story)) story.survivor.plan story.survivor.begun story.survivor.now told.way;
-      choices = answers.choices;
-      taken = answers.taken;
-      steps = answers.steps;
     },
     holds,
   )
 
-  pub broken_off : (rules : Rules) (image : Image) (began : Since) (now : Told) (coming : Option Coming) (session : SessionState R) (story : Story) (end : Answer) → IsTold rules image began now story → AnswersFor story session
+  pub broken_with : (P : Session → Type 0) (rules : Rules) (image : Image) (began : Since) (now : Told) (coming : Option Coming) (session : SessionState R) (story : Story) (end : Answer) → IsTold rules image began now story → AnswersFor began story session
+      → EndsBy rules coming (account_of story) end → (IsEnd end → ⊥) → P (account_of story) → (off : IsBrokenOff rules image began now coming session end) × P off.account
+  broken_with P rules image began now coming session story end told answers ends no_end holds =
+      broken_noting P rules image began began.noted_before began.noted now coming session story end told
+      (notes_here began story session end (map episode_of story.recoveries) [] told.episodes answers (sym (append-nil (map episode_of story.recoveries))) (omega arith) (λ some. absurd (omega (arith, some))) no_end) answers.taken answers.steps ends no_end holds
+
+  pub broken_off : (rules : Rules) (image : Image) (began : Since) (now : Told) (coming : Option Coming) (session : SessionState R) (story : Story) (end : Answer) → IsTold rules image began now story → AnswersFor began story session
       → EndsBy rules coming (account_of story) end → (IsEnd end → ⊥) → IsBrokenOff rules image began now coming session end
   broken_off rules image began now coming session story end told answers ends no_end = (broken_with (λ account. Unit {0}) rules image began now coming session story end told answers ends no_end tt).0

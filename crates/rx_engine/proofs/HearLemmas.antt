@@ -8,7 +8,7 @@ use Rattle.elf_image.specs.declared.image.Image.{Image}
 use Rattle.rx_io.specs.declared.bytes.Item.{Item}
 use Rattle.ckpt_ring.specs.Rings.{Checkpoints}
 use Rattle.guest_cpu.specs.Cpus.{CpuState}
-use Rattle.recovery_gate.specs.Rings.{KeepsRing, Brings}
+use Rattle.recovery_gate.specs.Rings.{KeepsRing, AreBehind, Brings}
 use Rattle.recovery_gate.proofs.RingLemmas.{ring_more}
 use Rattle.run_history.specs.Served.{Override, Path, AsksFor}
 use Rattle.session_history.specs.Heeding.{Bounds, heeded, items_in, received}
@@ -20,6 +20,7 @@ use Rattle.session_history.proofs.Heeding.{events_in-append}
 use Rattle.rx_engine.specs.Sessions.{SessionState}
 use Rattle.rx_engine.specs.Standing.{Since, Story, entries, sends, then_story, IsTold, AnswersFor, GoesWith, KeepsCheckpoints, IsWaitingFor}
 use Rattle.rx_engine.proofs.CheckpointLemmas.{in_force_by}
+use Rattle.rx_engine.proofs.GuestLemmas.{answers_as}
 use Rattle.rx_engine.proofs.EventLemmas.{owes_nothing, told_event, opens_more}
 
 -- the entries of a story with more behind them
@@ -37,6 +38,7 @@ module _ {R : Type 0} where
   -- but for log, replies and the count of events, nothing of a session changed; and the log gave nothing up
   pub record HasSameRun (old new : SessionState R) : Type 0 where
     pub cpu : new.cpu ≡ old.cpu
+    pub recorded : new.recorded ≡ old.recorded
     pub choices : new.choices ≡ old.choices
     pub taken : new.taken ≡ old.taken
     pub steps : new.steps ≡ old.steps
@@ -45,8 +47,11 @@ module _ {R : Type 0} where
     pub env : new.env ≡ old.env
     pub until : new.until ≡ old.until
 
-  pub answers_still : (story : Story) (old new : SessionState R) (more : List Entry) → HasSameRun old new → AnswersFor story old → AnswersFor (then_story story more) new
-  answers_still story old new more same answers = record { choices = same.choices ∙ answers.choices; taken = same.taken ∙ answers.taken; steps = same.steps ∙ answers.steps }
+  answers_then : (began : Since) (story : Story) (session : SessionState R) (more : List Entry) → AnswersFor began story session → AnswersFor began (then_story story more) session
+  answers_then began story session more answers = record { low = answers.low; recorded = answers.recorded; choices = answers.choices; taken = answers.taken; steps = answers.steps }
+
+  pub answers_still : (began : Since) (story : Story) (old new : SessionState R) (more : List Entry) → HasSameRun old new → AnswersFor began story old → AnswersFor began (then_story story more) new
+  answers_still began story old new more same answers = answers_as began (then_story story more) old new same.recorded same.choices same.taken same.steps (answers_then began story old more answers)
 
   -- the guest, the items and the phases behind more entries
   pub goes_then : (rules : Rules) (story : Story) (old new : SessionState R) (phases later : Phases) (more : List Entry) → HasSameRun old new → GoesWith rules story old phases → KeepsItems rules.bounds (entries (then_story story more)) new.log
@@ -58,7 +63,6 @@ module _ {R : Type 0} where
     few = goes.few;
     within = λ conn may. opens_still rules.bounds (entries story) (entries (then_story story more)) more conn (sym (more_entries story more)) goes.items.all_heeded items.all_heeded (goes.within conn may);
     items = items;
-    whole = same.first ∙ goes.whole;
     events = events;
     phases_are = knows;
   }
@@ -75,6 +79,7 @@ module _ {R : Type 0} where
             subst (λ (c : Checkpoints). KeepsRing rules image (entries (then_story story more)) plan now k.paths new.cpu c new.log new.replies) (sym same.ring)
             (subst (λ (cpu : CpuState R). KeepsRing rules image (entries (then_story story more)) plan now k.paths cpu old.ring new.log new.replies) (sym same.cpu)
             (ring_more rules image (entries story) (entries (then_story story more)) items plan now k.paths old.cpu old.ring old.log new.log old.replies new.replies brings same.first kept k.ring));
+        early = subst (λ n. AreBehind n k.paths) (sym same.recorded) k.early;
         in_force = in_force_by plan now.state.machine.taken old.env new.env old.until new.until same.env same.until k.in_force;
         past = subst (λ n. (n < now.state.machine.taken + 4) ⊎ ((n ≡ now.state.machine.taken + 4) × AsksFor rules.limits [] now now.state.machine.taken)) (sym same.until) k.past;
       }
@@ -82,7 +87,7 @@ module _ {R : Type 0} where
   -- what is known behind an event that was heard, but for the replies
   pub record HasHeard (rules : Rules) (image : Image) (began : Since) (now : Told) (phases : Phases) (story : Story) (session : SessionState R) : Type 0 where
     pub told : IsTold rules image began now story
-    pub answers : AnswersFor story session
+    pub answers : AnswersFor began story session
     pub goes : GoesWith rules story session phases
     pub asks : AsksFor rules.limits story.survivor.plan story.survivor.now story.survivor.now.state.machine.taken
 
@@ -97,9 +102,9 @@ module _ {R : Type 0} where
       let asks = w.hearing.asks in
       record {
         told =
-            told_event rules image began before now story event heard.more w.hearing.told (subst (AsksFor rules.limits story.survivor.plan story.survivor.now) (sym exact) asks) (owes_nothing rules story all w.due w.hearing.passed.done) tells
+            told_event rules image began before now story event heard.more w.hearing.told (subst (AsksFor rules.limits story.survivor.plan story.survivor.now) (sym exact) asks) (owes_nothing rules story all w.due w.hearing.passed.done) w.hearing.goes.items.all_heeded tells
             heard.brings;
-        answers = answers_still story old new (entry.Took event ∷ []) same w.hearing.answers;
+        answers = answers_still began story old new (entry.Took event ∷ []) same w.hearing.answers;
         goes =
             goes_then rules story old new phases later (entry.Took event ∷ []) same w.hearing.goes (subst (λ es. KeepsItems rules.bounds es new.log) is heard.items) (events ∙ ap (λ es. length (events_in es)) is)
             (subst (λ (es : List Entry). KeepsPhases es later) is knows);

@@ -1,5 +1,5 @@
 -- What a session makes of a call that heard its link: one lemma for each arm.
-use Rattle.std.proofs.Common.{◌≡◌, ℕ, ◌+◌, ◌<◌, ◌≤◌, Bool, true, false, List, [], ◌∷◌, ◌++◌, length, Option, None, Some, Result, Ok, Err, refl, sym, ◌∙◌, ap, subst, inl, inr, ◌⊎◌, arith, append-nil}
+use Rattle.std.proofs.Common.{◌≡◌, ℕ, ◌+◌, ◌<◌, ◌≤◌, Bool, true, false, List, [], ◌∷◌, ◌++◌, length, Option, None, Some, Result, Ok, Err, refl, sym, ◌∙◌, ap, subst, inl, inr, ◌⊎◌, arith}
 use Rattle.std.specs.Prelude.{◌||◌, ◌==◌, is_some, slice_set, IfOk, unwrap_or}
 use Rattle.std.proofs.lemmas.Bool.{eqb-true, eq-eqb, cases_lt}
 use Rattle.std.proofs.lemmas.List.{get_or-set_other, get_or-replicate, get_or_past, length-replicate, length-append}
@@ -48,13 +48,13 @@ use Rattle.rx_engine.specs.Standing.{Since, Story, entries, moment, sends, then_
 use Rattle.rx_engine.specs.Serving.{IsStopAt, UnlessBroken, StaysKnown, CanGive, HasStopCause, HasSameGuest, CanPass, StopsBy, PassesStory, PassesDue, WaitsBy}
 use Rattle.rx_engine.proofs.StoryLemmas.{still_takes}
 use Rattle.rx_engine.proofs.EventLemmas.{IsNoEnd}
-use Rattle.rx_engine.proofs.GuestLemmas.{received_is, none_lost}
+use Rattle.rx_engine.proofs.GuestLemmas.{received_is}
 use Rattle.rx_engine.specs.Recovered.{GivesUpBy}
 use Rattle.rx_engine.proofs.GivenLemmas.{latest-given}
 use Rattle.rx_engine.proofs.HearLemmas.{HasSameRun, HasHeard, has_heard, saved_heard, answers_still, more_entries}
 use Rattle.rx_engine.proofs.ArmLemmas.{IsQuiet, latest_story, before_story, before_given, hearing_items, same_run, goes_given, saved_given, waits_on}
 use Rattle.rx_engine.proofs.SettleLemmas.{settle_ready, all_due, settle_done, close_ready}
-use Rattle.rx_engine.proofs.StopLemmas.{done_ended, waits_took, waits_still, ending_refused, ending_ended, ending_stopped, off_read, off_memory}
+use Rattle.rx_engine.proofs.StopLemmas.{ending_refused, ending_ended, ending_stopped, off_read, off_memory}
 
 -- one place of the connections' rests is set: the others are as they were
 other_open : (rests : List (Option (List ℕ))) (place : ℕ) (rest : Option (List ℕ)) (conn : ℕ) → place == conn ≡ false → log_connections.is_open (slice_set rests place rest) conn ≡ log_connections.is_open rests conn
@@ -239,7 +239,7 @@ module _ {R : Type 0} where
       omega (arith, none_left, same, counts)
 
   pub run_of : (old : SessionState R) (log : Log) (ledger : Ledger) (events : ℕ) → log.first ≡ old.log.first → HasSameRun old (with_heard old log ledger events)
-  run_of old log ledger events first = record { cpu = refl; choices = refl; taken = refl; steps = refl; first = first; ring = refl; env = refl; until = refl }
+  run_of old log ledger events first = record { cpu = refl; recorded = refl; choices = refl; taken = refl; steps = refl; first = first; ring = refl; env = refl; until = refl }
 
   -- what is known behind an event
   pub story_heard : (rules : Rules) (image : Image) (began : Since) (before now : Told) (phases later : Phases) (old : SessionState R) (log : Log) (ledger : Ledger) (events : ℕ) (e : LinkEvent) (w : IsWaitingFor rules image began before phases old)
@@ -337,7 +337,7 @@ module _ {R : Type 0} where
     hearing = record {
       story = then_story story more;
       told = told;
-      answers = answers_still story old (record old { replies = replies }) more (same_run old replies) known.answers;
+      answers = answers_still began story old (record old { replies = replies }) more (same_run old replies) known.answers;
       goes = goes_given rules story old replies phases later more given stay known.goes;
       saved = saved_given rules image story old replies more given kept saved;
       passed = passed;
@@ -384,35 +384,6 @@ module _ {R : Type 0} where
   story_unless rules image began now coming story until session (Err (stop.Ends end)) P passes h = absurd passes
   story_unless rules image began now coming story until session (Err (stop.Breaks end)) P passes h = tt
 
-  -- an event that is refused where it is the end of the link
-  ending_refused_end : (rules : Rules) (image : Image) (began : Since) (before now : Told) (phases : Phases) (coming : Option Coming) (old new : SessionState R) (w : IsWaitingFor rules image began before phases old) (cause : Unheeded) (end : Answer)
-      → received rules.bounds (entries w.hearing.story) ≤ w.hearing.story.survivor.now.state.machine.taken → Tells before now (entry.Took event.Ends ∷ []) → (u : IsUnheeded rules.bounds (entries w.hearing.story) (sends w.hearing.story) event.Ends cause new.replies)
-      → HasSameRun old new → new.log ≡ old.log → new.replies.trial ≡ None → IsEnd end
-      → (IsWaiting rules (entries (then_story w.hearing.story (entry.Took event.Ends ∷ []))) w.hearing.story.survivor → IsLastRefused rules.bounds (entries (then_story w.hearing.story (entry.Took event.Ends ∷ []))) cause
-      → StandsAt rules (entries (then_story w.hearing.story (entry.Took event.Ends ∷ []))) coming w.hearing.story.survivor end)
-      → GivesUpBy rules image (entries (then_story w.hearing.story (entry.Took event.Ends ∷ []))) w.hearing.story.survivor [] end → IsEnding rules image began now coming new end
-  ending_refused_end rules image began before now phases coming old new w cause end all tells u same log no_trial is_end stands gave_up =
-      let story : Story = w.hearing.story in
-      let es = more_entries story (entry.Took event.Ends ∷ []) in
-      let none : items_in rules.bounds (entries (then_story story (entry.Took event.Ends ∷ []))) ≡ items_in rules.bounds (entries story) = ap (items_in rules.bounds) (sym es) ∙ u.brings_none in
-      let waits = waits_still rules image began before phases old w (entry.Took event.Ends ∷ []) all u.brings_none in
-      record {
-        story = then_story story (entry.Took event.Ends ∷ []);
-        trials = [];
-        lost = began.lost;
-        lost_is = none_lost began.lost;
-        told = waits_took rules image began before now phases old w event.Ends all tells [] (u.brings_none ∙ sym (append-nil (items_in rules.bounds (entries story))));
-        answers = answers_still story old new (entry.Took event.Ends ∷ []) same w.hearing.answers;
-        received_are = ap (λ (l : Log). logs.received l) log ∙ (received_is rules.bounds (entries story) old.log w.hearing.goes.items ∙ ap length (sym none));
-        replies = subst (λ (all : List Entry). KeepsReplies rules.bounds all None (sends story) new.replies) es u.replies;
-        no_trial = no_trial;
-        closed = λ send stands closing owed. done_ended rules story w.hearing.passed.done send stands owed;
-        is_end = is_end;
-        stands = stands waits (record { before = entries story; event = event.Ends; last = sym es; refused = u.refused });
-        tried = inl refl;
-        gave_up = gave_up;
-      }
-
   -- an event that is refused, whatever it is
   refused_any : (rules : Rules) (image : Image) (began : Since) (before now : Told) (phases : Phases) (coming : Option Coming) (old new : SessionState R) (w : IsWaitingFor rules image began before phases old) (e : LinkEvent) (cause : Unheeded) (end : Answer)
       → received rules.bounds (entries w.hearing.story) ≤ w.hearing.story.survivor.now.state.machine.taken → Tells before now (entry.Took e ∷ []) → (u : IsUnheeded rules.bounds (entries w.hearing.story) (sends w.hearing.story) e cause new.replies)
@@ -420,11 +391,11 @@ module _ {R : Type 0} where
       → (IsWaiting rules (entries (then_story w.hearing.story (entry.Took e ∷ []))) w.hearing.story.survivor → IsLastRefused rules.bounds (entries (then_story w.hearing.story (entry.Took e ∷ []))) cause
       → StandsAt rules (entries (then_story w.hearing.story (entry.Took e ∷ []))) coming w.hearing.story.survivor end)
       → GivesUpBy rules image (entries (then_story w.hearing.story (entry.Took e ∷ []))) w.hearing.story.survivor [] end → IsEnding rules image began now coming new end
-  refused_any rules image began before now phases coming old new w event.Ends cause end = ending_refused_end rules image began before now phases coming old new w cause end
-  refused_any rules image began before now phases coming old new w (event.Opens conn) cause end = ending_refused rules image began before now phases coming old new w (event.Opens conn) cause end tt
-  refused_any rules image began before now phases coming old new w (event.Piece conn bytes) cause end = ending_refused rules image began before now phases coming old new w (event.Piece conn bytes) cause end tt
-  refused_any rules image began before now phases coming old new w (event.Closes conn) cause end = ending_refused rules image began before now phases coming old new w (event.Closes conn) cause end tt
-  refused_any rules image began before now phases coming old new w event.Settles cause end = ending_refused rules image began before now phases coming old new w event.Settles cause end tt
+  refused_any rules image began before now phases coming old new w event.Ends cause end all tells u same log no_trial is_end stands gave_up = absurd (u.no_end refl)
+  refused_any rules image began before now phases coming old new w (event.Opens conn) cause end all tells u same log no_trial is_end stands gave_up = ending_refused rules image began before now phases coming old new w (event.Opens conn) cause end tt all tells u same log no_trial is_end stands gave_up
+  refused_any rules image began before now phases coming old new w (event.Piece conn bytes) cause end all tells u same log no_trial is_end stands gave_up = ending_refused rules image began before now phases coming old new w (event.Piece conn bytes) cause end tt all tells u same log no_trial is_end stands gave_up
+  refused_any rules image began before now phases coming old new w (event.Closes conn) cause end all tells u same log no_trial is_end stands gave_up = ending_refused rules image began before now phases coming old new w (event.Closes conn) cause end tt all tells u same log no_trial is_end stands gave_up
+  refused_any rules image began before now phases coming old new w event.Settles cause end all tells u same log no_trial is_end stands gave_up = ending_refused rules image began before now phases coming old new w event.Settles cause end tt all tells u same log no_trial is_end stands gave_up
 
   -- what stands behind a stop, by the fault
   pub stops_by : (rules : Rules) (image : Image) (began : Since) (before now : Told) (phases later : Phases) (coming was : Option Coming) (takes : Bool) (old : SessionState R) (log : Log) (ledger : Ledger) (events : ℕ) (why : HearFault) (stopped : Stop) (w : IsWaitingFor rules image began before phases old)
@@ -443,7 +414,7 @@ module _ {R : Type 0} where
       subst (StopsBy rules image began now coming takes (with_heard old log ledger events)) (sym is) (
         (refused_any rules image began before now phases coming old (with_heard old log ledger events) w h.0 unheeded.TooLong (answer.MessageTooLong conn) (all_taken rules image began before phases old w none_left) h.1 h.2 (run_of old log ledger events first) stays.0
             (trial ∙ w.hearing.passed.no_trial) tt
-            (λ waits refused. (waits, record { refused = record { before = entries w.hearing.story; event = h.0; last = sym (more_entries w.hearing.story (entry.Took h.0 ∷ [])); refused = h.2.refused }; piece = h.3 })) tt),
+            (λ waits refused. (waits, record { refused = record { before = entries w.hearing.story; event = h.0; last = sym (more_entries w.hearing.story (entry.Took h.0 ∷ [])); no_end = h.2.no_end; refused = h.2.refused }; piece = h.3 })) tt),
         λ none. still_takes takes _ behind none,
       )
   stops_by rules image began before now phases later coming was takes old log ledger events fault.LimitItems stopped w none_left first trial stays last h behind is =
@@ -454,7 +425,7 @@ module _ {R : Type 0} where
       )
   stops_by rules image began before now phases later coming was takes old log ledger events fault.ReadFault stopped w none_left first trial stays last h behind is =
       subst (StopsBy rules image began now coming takes (with_heard old log ledger events)) (sym is)
-      (let off = off_read rules image began before now phases coming old (with_heard old log ledger events) w (all_taken rules image began before phases old w none_left) h.0 (run_of old log ledger events first) in (off, λ none. (off.ends.0, off.ends.1)))
+      (let off = off_read rules image began before now phases coming old (with_heard old log ledger events) w (all_taken rules image began before phases old w none_left) h.0 (run_of old log ledger events first) in (off, λ none. off.ends.0))
   stops_by rules image began before now phases later coming was takes old log ledger events fault.Memory stopped w none_left first trial stays last h behind is =
       subst (StopsBy rules image began now coming takes (with_heard old log ledger events)) (sym is)
       (off_memory rules image began before now phases coming takes old (with_heard old log ledger events) w (all_taken rules image began before phases old w none_left) (run_of old log ledger events first) behind h)
@@ -482,6 +453,7 @@ module _ {R : Type 0} where
   same_then old mid new first second = record {
     options = second.options ∙ first.options;
     cpu = second.cpu ∙ first.cpu;
+    recorded = second.recorded ∙ first.recorded;
     choices = second.choices ∙ first.choices;
     taken = second.taken ∙ first.taken;
     steps = second.steps ∙ first.steps;

@@ -1,5 +1,5 @@
 -- What a link's grammar has next is told still, and a session's counts are those of its guest.
-use Rattle.std.proofs.Common.{◌≡◌, Bool, true, ◌≤◌, Option, None, Some, Result, Ok, Err, refl, sym, ◌∙◌, ap, subst, arith, inl, inr}
+use Rattle.std.proofs.Common.{◌≡◌, ℕ, Bool, true, ◌≤◌, Option, None, Some, Result, Ok, Err, refl, sym, ◌∙◌, ap, subst, arith, inl, inr}
 use Rattle.std.specs.Prelude.{IsSome, IsErrOf}
 use Rattle.rx_io.specs.Links.{Told, Coming}
 use Rattle.run_history.specs.declared.answer.Answer.{Answer}
@@ -15,7 +15,8 @@ use Rattle.reply_gate.specs.declared.pass_fault.PassFault.TheVariants as fault
 use Rattle.rx_engine.specs.declared.stop.Stop.{Stop}
 use Rattle.rx_engine.specs.declared.stop.Stop.TheVariants as stop
 use Rattle.rx_engine.specs.Sessions.{SessionState}
-use Rattle.rx_engine.specs.Serving.{IsAnswerTo, IsOkOrMemory, IsStopAt, UnlessBroken, TakesAtEnd, TakesBy, IsPassAnswer, BreaksPassing, StaysKnown, BreaksAt, BreaksOnce, HasSameGuest, IsCounted}
+use Rattle.rx_engine.specs.Recovered.{IsNoteFault}
+use Rattle.rx_engine.specs.Serving.{IsAnswerTo, IsOkOrMemory, IsStopAt, UnlessBroken, TakesAtEnd, TakesBy, IsPassAnswer, BreaksPassing, StaysKnown, BreaksAt, BreaksOnce, HasSameGuest, IsCounted, IsUnnoted, HasNoteStop}
 
 known_self : (coming : Option Coming) → StaysKnown coming coming
 known_self None = tt
@@ -132,6 +133,7 @@ once_stopped old new gives hear.Memory why still is = once_why old new gives why
 pub once_at : (old mid new : Option Coming) (gives : Bool) (end : Answer) → StaysKnown old mid → BreaksAt mid new gives end → BreaksAt old new gives end
 once_at old mid new gives answer.WriteFault known once = known_then old mid new known once
 once_at old mid new gives answer.ReadFault known once = once
+once_at old mid new gives answer.FileFault known once = (known_then old mid new known once.0, once.1)
 once_at old mid new gives answer.Memory known (inl once) = inl (known_then old mid new known once)
 once_at old mid new gives answer.Memory known (inr once) = inr once
 once_at old mid new gives _ known once = tt
@@ -147,6 +149,7 @@ once_broke old new gives why end is once = subst (λ (w : Stop). BreaksOnce {X =
 pub once_ended : (old new : Option Coming) (gives : Bool) (end : Answer) → IsEnd end → BreaksAt old new gives end
 once_ended old new gives answer.WriteFault is = absurd is
 once_ended old new gives answer.ReadFault is = absurd is
+once_ended old new gives answer.FileFault is = absurd is
 once_ended old new gives answer.Memory is = absurd is
 once_ended old new gives _ is = tt
 
@@ -157,6 +160,43 @@ pass_answer fault.Memory end is = subst IsPassAnswer (sym is) tt
 pub once_passing : (old new : Option Coming) (gives : Bool) (why : PassFault) (end : Answer) → new ≡ old → IsAnswerTo why end → BreaksAt old new gives end
 once_passing old new gives fault.WriteFault end same is = subst (BreaksAt old new gives) (sym is) (known_same old new same)
 once_passing old new gives fault.Memory end same is = subst (BreaksAt old new gives) (sym is) (inl (known_same old new same))
+
+-- passing and hearing answer no fault of the notes
+pub unnoted_passing : (result : Result (Unit {0}) Stop) → BreaksPassing result → IsUnnoted result
+unnoted_passing (Ok done) is = tt
+unnoted_passing (Err (stop.Ends end)) is = absurd is
+unnoted_passing (Err (stop.Breaks answer.WriteFault)) is = tt
+unnoted_passing (Err (stop.Breaks answer.Memory)) is = tt
+unnoted_passing (Err (stop.Breaks end)) is = absurd is
+
+unnoted_why : (why now : Stop) → why ≡ now → IsUnnoted (Err now) → IsUnnoted (Err why)
+unnoted_why why now is unnoted = subst (λ (w : Stop). IsUnnoted (Err w)) (sym is) unnoted
+
+pub unnoted_stopped : (cause : HearFault) (why : Stop) → IsStopAt cause why → IsUnnoted (Err why)
+unnoted_stopped (hear.Refused kind offset) why is = unnoted_why why (stop.Ends (answer.InputRefused kind offset)) is tt
+unnoted_stopped hear.LimitEvents why is = unnoted_why why (stop.Ends answer.LimitEvents) is tt
+unnoted_stopped (hear.TooLong conn) why is = unnoted_why why (stop.Ends (answer.MessageTooLong conn)) is tt
+unnoted_stopped hear.LimitItems why is = unnoted_why why (stop.Ends answer.LimitItems) is tt
+unnoted_stopped hear.ReadFault why is = unnoted_why why (stop.Breaks answer.ReadFault) is tt
+unnoted_stopped hear.Memory why is = unnoted_why why (stop.Breaks answer.Memory) is tt
+
+file_fault : (result : Result (Unit {0}) Stop) → IsUnnoted result → IsErrOf result (stop.Breaks answer.FileFault) → ⊥
+file_fault (Ok done) unnoted is = absurd (cc)
+file_fault (Err (stop.Ends end)) unnoted is = absurd (cc)
+file_fault (Err (stop.Breaks end)) unnoted is = subst (λ (w : Stop). IsUnnoted (Err w)) (err_is (stop.Breaks end) (stop.Breaks answer.FileFault) is) unnoted
+  where
+    err_is : (why other : Stop) → IsErrOf {T = Unit {0}} {E = Stop} (Err why) other → why ≡ other
+    err_is why other is = cc (is)
+
+-- behind notes that failed nothing
+pub noted_still : (before now : ℕ) (result : Result (Unit {0}) Stop) → before ≤ now → IsUnnoted result → HasNoteStop before now result
+noted_still before now result later unnoted = record { later = later; file_fault = λ is. absurd (file_fault result unnoted is) }
+
+-- a fault of the notes, where the link failed nothing
+pub once_noted : (coming : Option Coming) (gives : Bool) (end : Answer) → gives ≡ true → IsNoteFault end → BreaksAt coming coming gives end
+once_noted coming gives answer.FileFault still is = (known_same coming coming refl, still)
+once_noted coming gives answer.Memory still is = inr still
+once_noted coming gives _ still is = absurd is
 
 -- a stop that isn't for want of memory
 pub breaks_of : (why : Stop) (end other : Answer) → why ≡ stop.Breaks end → IsErrOf {T = Unit {0}} {E = Stop} (Err why) (stop.Breaks other) → end ≡ other

@@ -6,6 +6,8 @@ pub mod PieceLemmas
 pub mod EventLemmas
 pub mod HearLemmas
 pub mod GivenLemmas
+pub mod FaultLemmas
+pub mod NoteLemmas
 pub mod EndLemmas
 pub mod SendLemmas
 pub mod ArmLemmas
@@ -18,6 +20,7 @@ pub mod NeedLemmas
 pub mod DueLemmas
 pub mod TakeLemmas
 pub mod SaveLemmas
+pub mod ChoiceLemmas
 pub mod AdoptLemmas
 pub mod RecoverLemmas
 pub mod FrameLemmas

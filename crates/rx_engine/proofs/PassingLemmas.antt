@@ -8,7 +8,7 @@ use Rattle.rx_io.specs.declared.journal.Entry.{Entry}
 use Rattle.rx_io.specs.declared.journal.Entry.TheVariants as entry
 use Rattle.rx_io.specs.declared.journal.LinkEvent.{LinkEvent}
 use Rattle.rx_io.specs.declared.journal.LinkEvent.TheVariants as event
-use Rattle.rx_io.specs.Links.{Told, Coming, Phases, events_in}
+use Rattle.rx_io.specs.Links.{Told, Tells, Grew, Coming, Phases, events_in}
 use Rattle.rx_io.specs.Sends.{Send}
 use Rattle.elf_image.specs.declared.image.Image.{Image}
 use Rattle.item_log.specs.Log as logs
@@ -31,7 +31,10 @@ use Rattle.reply_gate.specs.declared.pass_fault.PassFault.{PassFault}
 use Rattle.reply_gate.specs.declared.pass_fault.PassFault.TheVariants as pass_fault
 use Rattle.run_history.specs.declared.answer.Answer.{Answer}
 use Rattle.session_history.specs.Ends.{IsEnd, EndsBy}
-use Rattle.rx_engine.specs.Recovered.{HasRecovered}
+use Rattle.rx_engine.specs.Recovered.{HasRecovered, IsNoteFault}
+use Rattle.notes.specs.Noting.{Noted}
+use Rattle.rx_engine.proofs.NoteLemmas.{notes_end}
+use Rattle.rx_engine.proofs.FaultLemmas.{note_no_end, note_ends}
 use Rattle.session_history.specs.Heeding.{Bounds, heeded, received}
 use Rattle.session_history.specs.Opened.{opens, closes, is_gone, is_open}
 use Rattle.session_history.specs.Owing.{Moment, journal, latest, IsOwed, IsDueBy, IsPassed, OwesNothing}
@@ -305,21 +308,30 @@ module _ {R : Type 0} where
 
   -- at an end all is passed
   pub finish_ok : (rules : Rules) (image : Image) (began : Since) (before now : Told) (coming later : Option Coming) (takes : Bool) (session : SessionState R) (end : Answer) (until : ℕ) (ledger : Ledger) (done : Unit {0}) (e : IsEnding rules image began before coming session end) → later ≡ coming → session.taken ≤ until
-      → Passes {E = PassFault} rules (sends e.story) (end_of e.story) until ledger before now (Ok done) → (takes ≡ false → IsAsking rules e.story) → (first last : ℕ)
-      → last ≡ first + (began.lost + session.steps) → HasRecovered rules image began.told now later takes end session.choices session.taken session.steps first last
-  finish_ok rules image began before now coming later takes session end until ledger done e same low passes asked first last all =
+      → Passes {E = PassFault} rules (sends e.story) (end_of e.story) until ledger before now (Ok done) → (takes ≡ false → IsAsking rules e.story) → (noted : Noted) → Grew began.noted.choices noted.choices session.choices
+      → noted.episodes ≡ began.noted.episodes → (first last : ℕ) → last ≡ first + (began.lost + session.steps)
+      → HasRecovered rules image began.told now later takes end began.noted_before noted (session.recorded + length session.choices) [] session.taken session.steps first last
+  finish_ok rules image began before now coming later takes session end until ledger done e same low passes asked noted choices episodes first last all =
       let few = e.answers.taken in
       served_end rules image began before now coming later takes session end e passes.0 same passes.1 passes.2
-      (end_owes rules image (record began { lost = e.lost }) before e.story passes.0 until ledger e.told (omega (arith, low, few)) passes.1 passes.3.0 passes.3.1 e.closed) asked first last all
+      (end_owes rules image (record began { lost = e.lost; noted = e.noted }) before e.story passes.0 until ledger e.told (omega (arith, low, few)) passes.1 passes.3.0 passes.3.1 e.closed) asked noted (session.recorded + length session.choices) [] (notes_end rules image began before coming session end noted e choices episodes) first last all
+
+  -- and noting the rest failed
+  pub finish_unnoted : (rules : Rules) (image : Image) (began : Since) (before now : Told) (coming later : Option Coming) (takes : Bool) (session : SessionState R) (end fault : Answer) (until : ℕ) (ledger : Ledger) (done : Unit {0}) (e : IsEnding rules image began before coming session end) → later ≡ coming
+      → Passes {E = PassFault} rules (sends e.story) (end_of e.story) until ledger before now (Ok done) → (takes ≡ false → IsAsking rules e.story) → IsNoteFault fault → (noted : Noted) → noted.choices ≡ began.noted.choices → noted.episodes ≡ began.noted.episodes
+      → (first last : ℕ) → last ≡ first + (began.lost + session.steps) → HasRecovered rules image began.told now later takes fault began.noted_before noted session.recorded session.choices session.taken session.steps first last
+  finish_unnoted rules image began before now coming later takes session end fault until ledger done e same passes asked is noted choices episodes first last all =
+      served_broken rules image began before now coming later takes session end fault e passes.0 [] same passes.1 tt (subst (Tells before now) (sym (append-nil passes.0)) passes.2) (note_ends rules later (ended_account e.story passes.0 []) fault is) (note_no_end fault is) asked
+      noted choices episodes first last all
 
   -- or a fault comes first
   pub finish_fault : (rules : Rules) (image : Image) (began : Since) (before now : Told) (coming later : Option Coming) (takes : Bool) (session : SessionState R) (end : Answer) (until : ℕ) (ledger : Ledger) (why : PassFault) (fault : Answer) (e : IsEnding rules image began before coming session end) → later ≡ coming
-      → IsAnswerTo why fault → Passes rules (sends e.story) (end_of e.story) until ledger before now (Err why) → (takes ≡ false → IsAsking rules e.story) → (first last : ℕ)
-      → last ≡ first + (began.lost + session.steps) → HasRecovered rules image began.told now later takes fault session.choices session.taken session.steps first last
-  finish_fault rules image began before now coming later takes session end until ledger pass_fault.WriteFault fault e same is passes asked first last all =
-      served_broken rules image began before now coming later takes session end fault e passes.0 passes.1 same passes.2 passes.3 passes.4 (subst (EndsBy rules later (ended_account e.story passes.0 passes.1)) (sym is) tt) (subst (λ (a : Answer). IsEnd a → ⊥) (sym is) (λ never. never)) asked first last all
-  finish_fault rules image began before now coming later takes session end until ledger pass_fault.Memory fault e same is passes asked first last all =
-      served_broken rules image began before now coming later takes session end fault e passes.0 passes.1 same passes.2 passes.3 passes.4 (subst (EndsBy rules later (ended_account e.story passes.0 passes.1)) (sym is) tt) (subst (λ (a : Answer). IsEnd a → ⊥) (sym is) (λ never. never)) asked first last all
+      → IsAnswerTo why fault → Passes rules (sends e.story) (end_of e.story) until ledger before now (Err why) → (takes ≡ false → IsAsking rules e.story) → (noted : Noted) → noted.choices ≡ began.noted.choices → noted.episodes ≡ began.noted.episodes
+      → (first last : ℕ) → last ≡ first + (began.lost + session.steps) → HasRecovered rules image began.told now later takes fault began.noted_before noted session.recorded session.choices session.taken session.steps first last
+  finish_fault rules image began before now coming later takes session end until ledger pass_fault.WriteFault fault e same is passes asked noted choices episodes first last all =
+      served_broken rules image began before now coming later takes session end fault e passes.0 passes.1 same passes.2 passes.3 passes.4 (subst (EndsBy rules later (ended_account e.story passes.0 passes.1)) (sym is) tt) (subst (λ (a : Answer). IsEnd a → ⊥) (sym is) (λ never. never)) asked noted choices episodes first last all
+  finish_fault rules image began before now coming later takes session end until ledger pass_fault.Memory fault e same is passes asked noted choices episodes first last all =
+      served_broken rules image began before now coming later takes session end fault e passes.0 passes.1 same passes.2 passes.3 passes.4 (subst (EndsBy rules later (ended_account e.story passes.0 passes.1)) (sym is) tt) (subst (λ (a : Answer). IsEnd a → ⊥) (sym is) (λ never. never)) asked noted choices episodes first last all
 
   -- a session at an end passes by what it was told
   pub ending_can : (rules : Rules) (image : Image) (began : Since) (now : Told) (coming : Option Coming) (session : SessionState R) (end : Answer) → IsEnding rules image began now coming session end → CanPass session
@@ -335,7 +347,7 @@ module _ {R : Type 0} where
   }
 
   pub ending_ready : (rules : Rules) (image : Image) (began : Since) (now : Told) (coming : Option Coming) (session : SessionState R) (end : Answer) (until : ℕ) (e : IsEnding rules image began now coming session end) → IsReady rules (sends e.story) (end_of e.story) until session.replies
-  ending_ready rules image began now coming session end until e = end_ready rules image (record began { lost = e.lost }) now e.story until session.replies e.told e.replies e.closed
+  ending_ready rules image began now coming session end until e = end_ready rules image (record began { lost = e.lost; noted = e.noted }) now e.story until session.replies e.told e.replies e.closed
 
   -- behind the close of a connection that was heard: what passing its rest asks for
   pub closing_stands : (rules : Rules) (image : Image) (began : Since) (before now : Told) (phases later : Phases) (conn : ℕ) (old new : SessionState R) (w : IsWaitingFor rules image began before phases old) → HasHeard rules image began now later (then_story w.hearing.story (entry.Took (event.Closes conn) ∷ [])) new

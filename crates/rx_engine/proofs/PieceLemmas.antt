@@ -66,4 +66,5 @@ told_pieces rules image began old now story more told due tells =
       tells = subst (Tells began.told now) (append_assoc (entries_of story.earlier) story.since more) (tells_on began.told old now (entries story) more told.tells tells);
       recovered = told.recovered;
       counted = told.counted;
+      episodes = told.episodes;
     }

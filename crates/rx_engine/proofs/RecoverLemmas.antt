@@ -1,7 +1,7 @@
 -- A failure, and what is due behind an adoption.
-use Rattle.std.proofs.Common.{◌≡◌, ℕ, ◌+◌, Bool, true, Option, Result, Ok, Err, inl, refl, sym, ◌∙◌, subst, arith}
-use Rattle.std.specs.Prelude.{IsErrOf}
-use Rattle.rx_io.specs.Links.{Phases, Told, Coming, Counts}
+use Rattle.std.proofs.Common.{◌≡◌, ℕ, ◌+◌, Bool, true, List, [], ◌∷◌, ◌++◌, Option, None, Some, Result, Ok, Err, refl, sym, ◌∙◌, subst, arith}
+use Rattle.std.specs.Prelude.{option_map}
+use Rattle.rx_io.specs.Links.{Phases, Told, Grew, Coming}
 use Rattle.elf_image.specs.declared.image.Image.{Image}
 use Rattle.reply_ledger.specs.Ledger.{Ledger}
 use Rattle.run_history.specs.declared.answer.Answer.{Answer}
@@ -10,55 +10,70 @@ use Rattle.session_history.specs.Lawful.{Rules}
 use Rattle.rx_engine.specs.declared.stop.Stop.{Stop}
 use Rattle.rx_engine.specs.declared.stop.Stop.TheVariants as stop
 use Rattle.rx_engine.specs.Sessions.{SessionState}
-use Rattle.rx_engine.specs.Standing.{Since}
-use Rattle.rx_engine.specs.Serving.{CanGive, HasStopCause, UnlessBroken, UnlessMemory, TakesBy, StaysKnown, BreaksOnce, ComesBetween, AdoptsTo, IsAdoptAnswer, HasSameOpen}
+use Rattle.block_book.specs.declared.choice.Choice.{Choice}
+use Rattle.episodes.specs.declared.episode.Episode.{Episode}
+use Rattle.notes.specs.Noting.{Noted, noted}
+use Rattle.rx_engine.proofs.GuestLemmas.{none_noted}
+use Rattle.rx_engine.specs.Standing.{Since, IsGoing, IsEnding, IsBrokenOff, HasNotedMore}
+use Rattle.run_history.specs.declared.answer.Cause.{Cause}
+use Rattle.recovery_gate.specs.declared.recovering.Adopted.{Adopted}
+use Rattle.std.proofs.lemmas.Option.{same_Some, none-some}
+use Rattle.rx_engine.specs.Serving.{CanGive, UnlessMemory, ComesBetween, AdoptsTo, HasSameOpen, TakesAtEnd, end_of}
 use Rattle.rx_engine.proofs.StoryLemmas.{still_takes}
 use Rattle.rx_engine.proofs.AdoptLemmas.{off_lost}
-use Rattle.rx_engine.proofs.KnownLemmas.{known_same, breaks_of}
+use Rattle.rx_engine.proofs.KnownLemmas.{breaks_of}
 
 -- the same connections are given to
 pub gives_same : (gives : Bool) (gives_to : ℕ → Bool) (old new : Ledger) → HasSameOpen old new → CanGive gives gives_to old → CanGive gives gives_to new
 gives_same gives gives_to old new same can = record { gives_still = can.gives_still; connected = λ conn is. can.connected conn (sym (same conn) ∙ is) }
 
--- where a recovery stops the session, by its answer
-pub gives_stopped : (gives : Bool) (gives_to : ℕ → Bool) (old new : Ledger) (why : Stop) → UnlessBroken {X = Unit {0}} (Err why) (HasSameOpen old new) → CanGive gives gives_to old → UnlessBroken {X = Unit {0}} (Err why) (CanGive gives gives_to new)
-gives_stopped gives gives_to old new (stop.Ends end) same can = gives_same gives gives_to old new same can
-gives_stopped gives gives_to old new (stop.Breaks end) same can = tt
-
-pub takes_stopped : (takes : Bool) (why : Stop) → takes ≡ true → IsAdoptAnswer (Err why) → TakesBy {X = Unit {0}} takes (Err why)
-takes_stopped takes (stop.Ends (answer.Exited code)) still is = λ end. still
-takes_stopped takes (stop.Ends (answer.GaveUp point cause)) still is = λ end. still
-takes_stopped takes (stop.Ends end) still is = absurd is
-takes_stopped takes (stop.Breaks end) still is = tt
-
-pub known_stopped : (coming : Option Coming) (why : Stop) → UnlessBroken {X = Unit {0}} (Err why) (StaysKnown coming coming)
-known_stopped coming (stop.Ends end) = known_same coming coming refl
-known_stopped coming (stop.Breaks end) = tt
-
-pub once_stopped : (coming : Option Coming) (gives : Bool) (why : Stop) → IsAdoptAnswer (Err why) → BreaksOnce {X = Unit {0}} coming coming gives (Err why)
-once_stopped coming gives (stop.Ends end) is = tt
-once_stopped coming gives (stop.Breaks answer.Memory) is = inl (known_same coming coming refl)
-once_stopped coming gives (stop.Breaks end) is = absurd is
-
-err_same : (why other : Stop) → IsErrOf {T = Unit {0}} {E = Stop} (Err why) other → why ≡ other
-err_same why other is = cc (is)
-
-not_fault : (why : Stop) (end : Answer) → IsAdoptAnswer (Err why) → (IsAdoptAnswer (Err (stop.Breaks end)) → ⊥) → IsErrOf {T = Unit {0}} {E = Stop} (Err why) (stop.Breaks end) → ⊥
-not_fault why end is never same = never (subst (λ (w : Stop). IsAdoptAnswer (Err w)) (err_same why (stop.Breaks end) same) is)
-
-pub cause_stopped : (counts : Counts) (why : Stop) → IsAdoptAnswer (Err why) → HasStopCause {X = Unit {0}} counts counts (Err why)
-cause_stopped counts why is = record { takes = omega arith; gives = omega arith; read_fault = λ same. absurd (not_fault why answer.ReadFault is (λ never. never) same); write_fault = λ same. absurd (not_fault why answer.WriteFault is (λ never. never) same) }
+-- an end that a recovery comes to
+pub adopted_takes : (point : ℕ) (cause : Cause) (adopted : Option Adopted) (end : Answer) (takes : Bool) → takes ≡ true → end_of point cause adopted ≡ Some end → TakesAtEnd takes end
+adopted_takes point cause None end takes still is = subst (TakesAtEnd takes) (same_Some (answer.GaveUp point cause) end is) (λ ends. still)
+adopted_takes point cause (Some adopted) end takes still is = of adopted.code is
+  where
+    of : (code : Option ℕ) → option_map answer.Exited code ≡ Some end → TakesAtEnd takes end
+    of None none = absurd (none-some end none)
+    of (Some code) found = subst (TakesAtEnd takes) (same_Some (answer.Exited code) end found) (λ ends. still)
 
 -- one number that is counted by two equations
 pub lost_behind : (lost more all steps before old : ℕ) → lost + steps + old ≡ all → more + before + old ≡ all → steps ≡ before → lost ≡ more
 lost_behind lost more all steps before old counts others same = omega (arith, counts, others, same)
 
+-- what notes tell with an episode more
+pub noted_episode : (choices later : Option (List Choice)) (episodes others : Option (List Episode)) (episode : Episode) → later ≡ choices → Grew episodes others (episode ∷ []) → HasNotedMore (noted choices episodes) (noted later others) [] (episode ∷ [])
+noted_episode choices later episodes others episode same grew = record { choices_more = subst (λ c. Grew choices c []) (sym same) (none_noted (noted choices episodes)).choices_more; episodes_more = grew }
+
+-- notes that would tell an episode more
+told_more : (told : Option (List Episode)) (episode : Episode) → (more : Option (List Episode)) × Grew told more (episode ∷ [])
+told_more None episode = (None, tt)
+told_more (Some list) episode = (Some (list ++ episode ∷ []), refl)
+
+pub one_more : (began : Since) (episode : Episode) → (told : Noted) × HasNotedMore began.noted told [] (episode ∷ [])
+one_more began episode =
+    let more = told_more began.noted.episodes episode in
+    (noted began.noted.choices more.0, record { choices_more = (none_noted began.noted).choices_more; episodes_more = more.1 })
+
 module _ {R : Type 0} where
-  -- where an adoption stops the session
-  pub stops_adopted : (rules : Rules) (image : Image) (began : Since) (now : Told) (phases : Phases) (coming : Option Coming) (takes : Bool) (session : SessionState R) (why : Stop) → takes ≡ true
-      → AdoptsTo rules image began now phases coming session (Err why) → ComesBetween rules image began now phases coming takes session (Err why)
-  stops_adopted rules image began now phases coming takes session (stop.Ends end) still ending = (ending, λ none. still_takes takes _ still none)
-  stops_adopted rules image began now phases coming takes session (stop.Breaks end) still off = (off, λ none. still_takes takes _ still none)
+  -- notes that tell the same
+  pub broken_told : (rules : Rules) (image : Image) (began : Since) (now : Told) (coming : Option Coming) (choices later : Option (List Choice)) (episodes others : Option (List Episode)) (session : SessionState R) (end : Answer) → later ≡ choices → others ≡ episodes
+      → IsBrokenOff rules image (record began { noted = noted choices episodes }) now coming session end → IsBrokenOff rules image (record began { noted = noted later others }) now coming session end
+  broken_told rules image began now coming choices later episodes others session end same alike off =
+      subst (λ e. IsBrokenOff rules image (record began { noted = noted later e }) now coming session end) (sym alike)
+      (subst (λ c. IsBrokenOff rules image (record began { noted = noted c episodes }) now coming session end) (sym same) off)
+
+  -- where an adoption ends the session, by its end
+  pub ends_adopted : (rules : Rules) (image : Image) (began : Since) (now : Told) (phases : Phases) (coming : Option Coming) (takes : Bool) (session : SessionState R) (found : Option Answer) (end : Answer) → takes ≡ true → found ≡ Some end
+      → AdoptsTo rules image began now phases coming session found → ComesBetween rules image began now phases coming takes session (Err (stop.Ends end))
+  ends_adopted rules image began now phases coming takes session None end still is adopts = absurd (none-some end is)
+  ends_adopted rules image began now phases coming takes session (Some other) end still is adopts =
+      (subst (IsEnding rules image began now coming session) (same_Some other end is) adopts, λ none. still_takes takes _ still none)
+
+  -- or it goes on
+  pub goes_adopted : (rules : Rules) (image : Image) (began : Since) (now : Told) (phases : Phases) (coming : Option Coming) (session : SessionState R) (found : Option Answer) → found ≡ None
+      → AdoptsTo rules image began now phases coming session found → IsGoing rules image began now phases session
+  goes_adopted rules image began now phases coming session None is adopts = adopts
+  goes_adopted rules image began now phases coming session (Some other) is adopts = absurd (none-some other (sym is))
 
   -- by another count of instructions that is the same unless memory ran out
   pub comes_lost : (rules : Rules) (image : Image) (began : Since) (now : Told) (phases : Phases) (coming : Option Coming) (takes : Bool) (session : SessionState R) (result : Result (Unit {0}) Stop) (lost : ℕ) → UnlessMemory result (lost ≡ began.lost)

@@ -1,21 +1,46 @@
 -- A checkpoint is saved while the guest waits for an item.
-use Rattle.std.proofs.Common.{◌≡◌, ◌≤◌, List, length, sym, ◌∙◌, ap, subst, arith}
+use Rattle.std.proofs.Common.{◌≡◌, ◌≤◌, ℕ, zero, suc, Bool, true, false, List, [], ◌∷◌, length, take, sym, ◌∙◌, ap, subst, arith}
 use Rattle.rx_io.specs.Links.{Phases, Told}
 use Rattle.elf_image.specs.declared.image.Image.{Image}
 use Rattle.ckpt_ring.specs.Rings.{Checkpoints}
-use Rattle.run_history.specs.Served.{Path, AsksFor}
+use Rattle.run_history.specs.Served.{Override, Path, AsksFor}
 use Rattle.guest_cpu.specs.Standing.{Standing}
 use Rattle.guest_cpu.specs.Cpus.{CpuState}
 use Rattle.session_history.specs.Lawful.{Rules}
 use Rattle.trial_plan.specs.Sessions.{CanGoOn}
-use Rattle.recovery_gate.specs.Rings.{IsRingOf, KeepsRing}
+use Rattle.recovery_gate.specs.Rings.{IsRingOf, KeepsRing, AreBehind, ring_if}
+use Rattle.trial_history.proofs.Going.{taken_later}
+use Rattle.session_history.specs.Heeding.{items_in}
+use Rattle.rx_io.specs.declared.journal.Entry.{Entry}
+use Rattle.item_log.specs.Log.{Log}
+use Rattle.reply_ledger.specs.Ledger.{Ledger}
 use Rattle.recovery_gate.proofs.RingLemmas.{is_ring_of}
 use Rattle.recovery_gate.proofs.Chains.{survivor_goes}
 use Rattle.rx_engine.specs.Sessions.{SessionState}
 use Rattle.rx_engine.specs.Standing.{Since, entries, IsWaitingFor}
 use Rattle.rx_engine.specs.Serving.{IsCounted}
 
+-- the newest checkpoints of some that used so many answers of malloc
+behind_take : (count number : ℕ) (ring : List Path) → AreBehind count ring → AreBehind count (take number ring)
+behind_take count zero ring behind = tt
+behind_take count (suc number) [] behind = tt
+behind_take count (suc number) (newest ∷ older) behind = (behind.0, behind_take count number older behind.1)
+
+-- a checkpoint that is made where no fewer were used
+pub behind_saved : (count number : ℕ) (due : Bool) (now : Path) (ring : List Path) → count ≤ length now.choices → AreBehind count ring → AreBehind count (ring_if due number now ring)
+behind_saved count number true now ring low behind = behind_take count number (now ∷ ring) (low, behind)
+behind_saved count number false now ring low behind = behind
+
 module _ {R : Type 0} where
+  -- the log has each item that the survivor takes from here on
+  pub kept_first : (rules : Rules) (image : Image) (entries : List Entry) (plan : List Override) (now : Path) (ring : List Path) (cpu : CpuState R) (checkpoints : Checkpoints) (log : Log) (ledger : Ledger)
+      → KeepsRing rules image entries plan now ring cpu checkpoints log ledger → log.first ≤ now.state.machine.taken
+  kept_first rules image entries plan now [] cpu checkpoints log ledger keeps = let some = keeps.some in absurd (omega (arith, some))
+  kept_first rules image entries plan now (newest ∷ older) cpu checkpoints log ledger keeps =
+      let later = taken_later rules.limits (items_in rules.bounds entries) plan newest now keeps.chained.0 in
+      let kept = keeps.kept.0.items in
+      omega (arith, later, kept)
+
   -- its ring and its guest have the same checkpoints
   pub waits_ring : (rules : Rules) (image : Image) (began : Since) (now : Told) (phases : Phases) (session : SessionState R) → IsWaitingFor rules image began now phases session → IsRingOf session.cpu session.ring
   waits_ring rules image began now phases session w =
@@ -37,21 +62,25 @@ module _ {R : Type 0} where
 
   -- the log has all items, and the ledger all that was sent later
   pub waits_whole : (rules : Rules) (image : Image) (began : Since) (now : Told) (phases : Phases) (session : SessionState R) → IsWaitingFor rules image began now phases session → session.log.first ≤ session.taken
-  waits_whole rules image began now phases session w = let whole = w.hearing.goes.whole in omega (arith, whole)
+  waits_whole rules image began now phases session w =
+      let h = w.hearing in
+      let taken = h.answers.taken in
+      let kept = kept_first rules image (entries h.story) h.story.survivor.plan h.story.survivor.now h.saved.paths session.cpu session.ring session.log session.replies h.saved.ring in
+      omega (arith, taken, kept)
 
   pub waits_counted : (rules : Rules) (image : Image) (began : Since) (now : Told) (phases : Phases) (session : SessionState R) (w : IsWaitingFor rules image began now phases session) → session.replies.first ≤ length w.hearing.story.survivor.now.state.sends
   waits_counted rules image began now phases session w = w.hearing.passed.replies.shows.counted
 
   -- with another ring of its checkpoints it waits on
   pub waits_saved : (rules : Rules) (image : Image) (began : Since) (now : Told) (phases : Phases) (old : SessionState R) (cpu : CpuState R) (ring : Checkpoints) (paths : List Path) (w : IsWaitingFor rules image began now phases old) → cpu.slots.live ≡ old.cpu.slots.live
-      → KeepsRing rules image (entries w.hearing.story) w.hearing.story.survivor.plan w.hearing.story.survivor.now paths cpu ring old.log old.replies → IsWaitingFor rules image began now phases (record old { cpu = cpu; ring = ring })
-  waits_saved rules image began now phases old cpu ring paths w live keeps =
+      → KeepsRing rules image (entries w.hearing.story) w.hearing.story.survivor.plan w.hearing.story.survivor.now paths cpu ring old.log old.replies → AreBehind old.recorded paths → IsWaitingFor rules image began now phases (record old { cpu = cpu; ring = ring })
+  waits_saved rules image began now phases old cpu ring paths w live keeps early =
       let h = w.hearing in
       record {
         hearing = record {
           story = h.story;
           told = h.told;
-          answers = record { choices = h.answers.choices; taken = h.answers.taken; steps = h.answers.steps };
+          answers = record { low = h.answers.low; recorded = h.answers.recorded; choices = h.answers.choices; taken = h.answers.taken; steps = h.answers.steps };
           goes = record {
             lives = h.goes.lives;
             guest = live ∙ h.goes.guest;
@@ -59,11 +88,10 @@ module _ {R : Type 0} where
             few = h.goes.few;
             within = h.goes.within;
             items = h.goes.items;
-            whole = h.goes.whole;
             events = h.goes.events;
             phases_are = h.goes.phases_are;
           };
-          saved = record { paths = paths; ring = keeps; in_force = h.saved.in_force; past = h.saved.past };
+          saved = record { paths = paths; ring = keeps; early = early; in_force = h.saved.in_force; past = h.saved.past };
           passed = h.passed;
           asks = h.asks;
           latest = h.latest;

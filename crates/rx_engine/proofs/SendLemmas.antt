@@ -7,7 +7,6 @@ use Rattle.rx_io.specs.declared.journal.LinkEvent.{LinkEvent}
 use Rattle.rx_io.specs.Links.{Phases, Told, events_in}
 use Rattle.rx_io.specs.Sends.{Send}
 use Rattle.elf_image.specs.declared.image.Image.{Image}
-use Rattle.item_log.specs.Log.{Log}
 use Rattle.reply_ledger.specs.Ledger.{Ledger, with_send, connection_of, IsOpened}
 use Rattle.run_history.specs.Call.{may_send}
 use Rattle.run_history.specs.Served.{Path}
@@ -28,7 +27,7 @@ use Rattle.rx_engine.specs.Standing.{Since, Story, entries, moment, sends, GoesW
 use Rattle.rx_engine.specs.Serving.{IsCounted}
 use Rattle.rx_engine.proofs.StoryLemmas.{on_story, told_on}
 use Rattle.rx_engine.proofs.CheckpointLemmas.{HasSameSide, saved_on}
-use Rattle.rx_engine.proofs.GuestLemmas.{HasSameParts, answers_for, goes_with, has_passed, still_received}
+use Rattle.rx_engine.proofs.GuestLemmas.{HasSameParts, none_more, none_used, answers_for, goes_with, has_passed, still_received}
 
 -- nothing is due by an event before which fewer items were received than the send was made with
 made_late : (bounds : Bounds) (at : Moment) (conn taken before : ℕ) (e : LinkEvent) → before < taken → IsMadeDue bounds at conn taken e before → ⊥
@@ -90,7 +89,7 @@ module _ {R : Type 0} where
       record {
         story = on_story story to;
         told = told_on rules image began now story to b.going.told runs.goes.served (still_received rules image began now story to b.going.told runs.goes.taken);
-        answers = answers_for story new to (chosen ∙ (b.going.answers.choices ∙ sym comes.0)) counted (sym runs.stands);
+        answers = answers_for began story old new to [] b.going.answers side.recorded (none_more comes.0) (none_more chosen) counted (sym runs.stands);
         goes = goes_with rules story old new phases to b.going.goes side.log side.events runs.goes comes.5 (sym runs.stands);
         saved = saved_on rules image story old new to side (ap (λ (ledger : Ledger). ledger.first) replies) runs.goes.served (let still = runs.goes.taken in omega (arith, still)) b.going.saved;
         passed = record {
@@ -122,7 +121,7 @@ module _ {R : Type 0} where
       record {
         story = on_story story to;
         told = told_on rules image began now story to w.hearing.told t.served (subst (λ n. n ≤ received rules.bounds (entries story)) (sym t.taken) (omega (arith, low)));
-        answers = answers_for story new to (chosen ∙ (w.hearing.answers.choices ∙ sym t.silent.choices)) counted stands;
+        answers = answers_for began story old new to [] w.hearing.answers same.side.recorded (none_used t.silent) (none_more chosen) counted stands;
         goes = record {
           lives = t.lives;
           guest = stands;
@@ -130,7 +129,6 @@ module _ {R : Type 0} where
           few = subst (λ n. n ≤ rules.bounds.max_items) (sym t.taken) (omega (arith, low, few));
           within = after.each;
           items = subst (KeepsItems rules.bounds (entries story)) (sym same.side.log) goes.items;
-          whole = ap (λ (log : Log). log.first) same.side.log ∙ goes.whole;
           events = same.side.events ∙ goes.events;
           phases_are = goes.phases_are;
         };

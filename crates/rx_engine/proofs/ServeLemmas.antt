@@ -18,7 +18,7 @@ use Rattle.rx_engine.specs.Sessions.{SessionState}
 use Rattle.rx_engine.specs.Standing.{Since, IsGoing, IsBetween, IsWaitingFor, IsFailing, IsEnding, IsBrokenOff}
 use Rattle.rx_engine.specs.Serving.{IsCounted, HasRun}
 use Rattle.rx_engine.proofs.CheckpointLemmas.{HasSameSide}
-use Rattle.rx_engine.proofs.GuestLemmas.{HasSameParts, broken_off, chooses_between, asks_waits, exits_ending, fails_failing}
+use Rattle.rx_engine.proofs.GuestLemmas.{HasSameParts, answers_as, broken_off, chooses_between, asks_waits, exits_ending, fails_failing}
 use Rattle.rx_engine.proofs.SendLemmas.{emits_going}
 
 -- a run by where its guest stands
@@ -28,15 +28,12 @@ runs_at limits items plan first happened one other same runs = subst (RunsOn lim
 module _ {R : Type 0} where
   -- memory ran out behind the event: the session answers for the run before it
   pub run_breaks : (rules : Rules) (image : Image) (began : Since) (now : Told) (phases : Phases) (coming : Option Coming) (happened : Event) (session after : SessionState R) → HasRun rules image began now phases happened session
-      → after.choices ≡ session.choices → after.taken ≡ session.taken → after.steps ≡ session.steps → IsBrokenOff rules image began now coming after answer.Memory
-  run_breaks rules image began now phases coming happened session after h choices taken steps =
+      → after.recorded ≡ session.recorded → after.choices ≡ session.choices → after.taken ≡ session.taken → after.steps ≡ session.steps → IsBrokenOff rules image began now coming after answer.Memory
+  run_breaks rules image began now phases coming happened session after h recorded choices taken steps =
       let going = h.between.going in
       broken_off rules image began now coming after going.story answer.Memory going.told
-      (record {
-        choices = choices ∙ (ap (λ (s : SessionState R). s.choices) h.same ∙ going.answers.choices);
-        taken = taken ∙ (ap (λ (s : SessionState R). s.taken) h.same ∙ going.answers.taken);
-        steps = steps ∙ (ap (λ (s : SessionState R). s.steps) h.same ∙ going.answers.steps);
-      }) tt (λ is. is)
+      (answers_as began going.story h.before after (recorded ∙ ap (λ (s : SessionState R). s.recorded) h.same) (choices ∙ ap (λ (s : SessionState R). s.choices) h.same) (taken ∙ ap (λ (s : SessionState R). s.taken) h.same)
+      (steps ∙ ap (λ (s : SessionState R). s.steps) h.same) going.answers) tt (λ is. is)
 
   -- all but the replies, the answers of malloc and the counts is the same
   abbrev pub IsSameBut : SessionState R → SessionState R → Type 0
@@ -47,6 +44,7 @@ module _ {R : Type 0} where
   run_side rules image began now phases happened session after h same =
       let is : after.cpu ≡ session.cpu = ap (λ (s : SessionState R). s.cpu) same in
       record {
+        recorded = ap (λ (s : SessionState R). s.recorded) same ∙ ap (λ (s : SessionState R). s.recorded) h.same;
         log = ap (λ (s : SessionState R). s.log) same ∙ ap (λ (s : SessionState R). s.log) h.same;
         events = ap (λ (s : SessionState R). s.events) same ∙ ap (λ (s : SessionState R). s.events) h.same;
         cpu = is ∙ (h.cpu ∙ ap (λ (cpu : CpuState R). with_live (live_of cpu) h.before.cpu) (sym is));

@@ -1,7 +1,7 @@
 -- Where a session stands at its begin, and after each turn.
-use Rattle.std.proofs.Common.{inl, ◌-◌, ◌≡◌, ℕ, zero, suc, ◌+◌, ◌≤◌, Bool, true, false, List, [], ◌∷◌, ◌++◌, Option, None, refl, sym, ◌∙◌, ap, subst, arith}
+use Rattle.std.proofs.Common.{inl, ◌-◌, ◌≡◌, ℕ, zero, suc, ◌+◌, ◌≤◌, Bool, true, false, List, [], ◌∷◌, ◌++◌, take, drop, Option, None, refl, sym, ◌∙◌, ap, subst, arith}
 use Rattle.block_book.specs.Heap.{Heap}
-use Rattle.rx_io.specs.Links.{Phases, Told, Coming, IsFresh, Counts}
+use Rattle.rx_io.specs.Links.{Phases, Told, Grew, Coming, IsFresh, Counts}
 use Rattle.elf_image.specs.declared.image.Image.{Image}
 use Rattle.item_log.specs.Log as logs
 use Rattle.reply_ledger.specs.Ledger.{Ledger, no_replies}
@@ -33,7 +33,9 @@ use Rattle.session_history.proofs.Paths.{served_same}
 use Rattle.session_history.proofs.Sessions.{serving_first}
 use Rattle.rx_engine.specs.Options.{rules_of}
 use Rattle.rx_engine.specs.Sessions.{SessionState, IsBegun}
-use Rattle.rx_engine.specs.Standing.{Since, Story, IsBetween}
+use Rattle.notes.specs.Noting.{Noted}
+use Rattle.rx_engine.proofs.GuestLemmas.{none_noted}
+use Rattle.rx_engine.specs.Standing.{Since, Story, IsBetween, told_since}
 use Rattle.rx_engine.proofs.CheckpointLemmas.{in_force_by}
 use Rattle.rx_engine.proofs.TellLemmas.{tells_same}
 use Rattle.rx_engine.specs.Serving.{CanGive, StaysKnown, IsCounted, HasSameFrame}
@@ -88,11 +90,11 @@ module _ {R : Type 0} where
   starts_at image session begun = let start : IsStart image 0 = runs_start image 0 in begun.cpu.live_is ∙ sym start.stands
 
   -- it begins with its start as its first checkpoint
-  starts_saved : (permits : R → Heap → ℕ → ℕ → Bool) (image : Image) (now : Told) (phases : Phases) (session : SessionState R) (cpu : CpuState R) (ring : Checkpoints) → IsBegun image session.options session.cpu.rule session → IsFresh phases
+  starts_saved : (permits : R → Heap → ℕ → ℕ → Bool) (image : Image) (now : Told) (noted : Noted) (phases : Phases) (session : SessionState R) (cpu : CpuState R) (ring : Checkpoints) → IsBegun image session.options session.cpu.rule session → IsFresh phases
       → KeepsRing (rules_of session.options (permits session.cpu.rule)) image [] [] (origin image) (origin image ∷ []) cpu ring session.log session.replies → cpu.slots.live ≡ session.cpu.slots.live
-      → IsBetween (rules_of session.options (permits session.cpu.rule)) image (record { told = now; lost = 0 }) now phases (record session { cpu = cpu; ring = ring })
+      → IsBetween (rules_of session.options (permits session.cpu.rule)) image (told_since now noted noted 0) now phases (record session { cpu = cpu; ring = ring })
   unfolding M.start M.start_machine H.heeded_behind
-  starts_saved permits image now phases session cpu ring begun fresh keeps live =
+  starts_saved permits image now noted phases session cpu ring begun fresh keeps live =
       let rules : Rules = rules_of session.options (permits session.cpu.rule) in
       let start : IsStart image rules.limits.budget = runs_start image rules.limits.budget in
       record {
@@ -104,8 +106,15 @@ module _ {R : Type 0} where
             tells = tells_same now;
             recovered = recovered_first rules image;
             counted = refl;
+            episodes = (none_noted noted).episodes_more;
           };
-          answers = record { choices = begun.no_choices; taken = begun.no_items; steps = begun.no_steps };
+          answers = record {
+            low = omega (arith, begun.none_recorded);
+            recorded = subst (λ n. Grew noted.choices noted.choices (take n [])) (sym begun.none_recorded) (none_noted noted).choices_more;
+            choices = begun.no_choices ∙ sym (ap (λ n. drop n []) begun.none_recorded);
+            taken = begun.no_items;
+            steps = begun.no_steps;
+          };
           goes = record {
             lives = start.lives;
             guest = live ∙ (begun.cpu.live_is ∙ sym start.stands);
@@ -113,28 +122,27 @@ module _ {R : Type 0} where
             few = omega arith;
             within = λ conn may. absurd (let none : unwrap_or (slice_get no_connections conn) false ≡ false = none_known conn in let no : ⊥ = cc in no);
             items = record { all_heeded = refl; shows = begun.shows; most = ap (λ (log : logs.Log). log.max_items) begun.log };
-            whole = ap (λ (log : logs.Log). log.first) begun.log;
             events = begun.no_events;
             phases_are = fresh;
           };
-          saved = record { paths = origin image ∷ []; ring = keeps; in_force = in_force_by [] 0 Plain session.env 0 session.until begun.plain begun.until_none (in_force_none 0); past = inl (let none : session.until ≡ 0 = begun.until_none in omega (arith, none)) };
+          saved = record { paths = origin image ∷ []; ring = keeps; early = (omega (arith, begun.none_recorded), tt); in_force = in_force_by [] 0 Plain session.env 0 session.until begun.plain begun.until_none (in_force_none 0); past = inl (let none : session.until ≡ 0 = begun.until_none in omega (arith, none)) };
           passed = record { replies = subst (λ (ledger : Ledger). KeepsReplies rules.bounds [] None [] ledger) (sym begun.replies) (first_replies rules.bounds); no_trial = ap (λ (ledger : Ledger). ledger.trial) begun.replies; done = λ send stands due. absurd due };
           latest = λ last found. absurd (let no : ⊥ = cc in no);
         };
         due = λ send stands is taken. absurd (none_stands send stands);
       }
 
-  pub starts_between : (permits : R → Heap → ℕ → ℕ → Bool) (image : Image) (now : Told) (phases : Phases) (session after : SessionState R) → IsBegun image session.options session.cpu.rule session → IsFresh phases
+  pub starts_between : (permits : R → Heap → ℕ → ℕ → Bool) (image : Image) (now : Told) (noted : Noted) (phases : Phases) (session after : SessionState R) → IsBegun image session.options session.cpu.rule session → IsFresh phases
       → ((rules : Rules) → KeepsRing rules image [] [] (origin image) (origin image ∷ []) after.cpu after.ring session.log session.replies) → after ≡ record session { cpu = after.cpu; ring = after.ring } → after.cpu.slots.live ≡ session.cpu.slots.live
-      → IsBetween (rules_of session.options (permits session.cpu.rule)) image (record { told = now; lost = 0 }) now phases after
-  starts_between permits image now phases session after begun fresh keeps same live =
-      subst (λ (s : SessionState R). IsBetween (rules_of session.options (permits session.cpu.rule)) image (record { told = now; lost = 0 }) now phases s) (sym same)
-      (starts_saved permits image now phases session after.cpu after.ring begun fresh (keeps (rules_of session.options (permits session.cpu.rule))) live)
+      → IsBetween (rules_of session.options (permits session.cpu.rule)) image (told_since now noted noted 0) now phases after
+  starts_between permits image now noted phases session after begun fresh keeps same live =
+      subst (λ (s : SessionState R). IsBetween (rules_of session.options (permits session.cpu.rule)) image (told_since now noted noted 0) now phases s) (sym same)
+      (starts_saved permits image now noted phases session after.cpu after.ring begun fresh (keeps (rules_of session.options (permits session.cpu.rule))) live)
 
   -- how far a session has come that serves
-  pub record HasTurned (Went : Type 0) (permits : R → Heap → ℕ → ℕ → Bool) (before now : Told) (phases : Phases) (coming upcoming : Option Coming) (from to : Counts) (takes gives : Bool) (gives_to : ℕ → Bool) (first last : ℕ) (old new : SessionState R) : Type 0 where
+  pub record HasTurned (Went Fixed Works : Type 0) (permits : R → Heap → ℕ → ℕ → Bool) (before now : Told) (noted_before noted : Noted) (faults_before faults : ℕ) (phases : Phases) (coming upcoming : Option Coming) (from to : Counts) (takes gives : Bool) (gives_to : ℕ → Bool) (first last : ℕ) (old new : SessionState R) : Type 0 where
     pub lost : ℕ
-    pub stands : (image : Image) → IsBegun image old.options old.cpu.rule old → IsBetween (rules_of old.options (permits old.cpu.rule)) image (record { told = before; lost = lost }) now phases new
+    pub stands : (image : Image) → IsBegun image old.options old.cpu.rule old → IsBetween (rules_of old.options (permits old.cpu.rule)) image (told_since before noted_before noted lost) now phases new
     pub frame : HasSameFrame old new
     pub known : StaysKnown coming upcoming
     pub takes_still : takes ≡ true
@@ -143,6 +151,9 @@ module _ {R : Type 0} where
     pub counted : last ≡ first + (lost + new.cpu.slots.live.steps)
     pub no_takes_fell : from.takes ≤ to.takes
     pub no_gives_fell : from.gives ≤ to.gives
+    pub no_faults_fell : faults_before ≤ faults
+    pub fixed : Fixed
+    pub works : Works
     pub went : Went
 
   -- it gives to each connection that is open: none was opened

@@ -34,7 +34,7 @@ use Rattle.rx_engine.specs.Sessions.{SessionState}
 use Rattle.rx_engine.specs.Standing.{Since, Story, entries, moment, sends, then_story, IsTold, AnswersFor, IsLatestDone, IsAsking, IsWaitingFor, IsEnding, IsBrokenOff}
 use Rattle.rx_engine.proofs.StoryLemmas.{still_takes}
 use Rattle.rx_engine.proofs.TellLemmas.{tells_on}
-use Rattle.rx_engine.proofs.GuestLemmas.{received_is, broken_off, broken_with, none_lost}
+use Rattle.rx_engine.proofs.GuestLemmas.{received_is, answers_as, none_noted, broken_off, broken_with, none_lost}
 use Rattle.rx_engine.specs.Recovered.{GivesUpBy}
 use Rattle.rx_engine.proofs.EventLemmas.{IsNoEnd, owes_nothing, told_event, latest-took, latest-ended}
 use Rattle.rx_engine.proofs.HearLemmas.{HasSameRun, answers_still, more_entries}
@@ -106,6 +106,7 @@ told_nothing rules image began before now story told tells = record {
   tells = subst (Tells began.told now) (append-nil (entries story)) (tells_on began.told before now (entries story) [] told.tells tells);
   recovered = told.recovered;
   counted = told.counted;
+  episodes = told.episodes;
 }
 
 module _ {R : Type 0} where
@@ -117,7 +118,7 @@ module _ {R : Type 0} where
       let story : Story = w.hearing.story in
       let low = w.hearing.told.serving.carries.taken in
       let exact : received rules.bounds (entries story) ≡ story.survivor.now.state.machine.taken = omega (arith, low, all) in
-      told_event rules image began before now story e more w.hearing.told (subst (AsksFor rules.limits story.survivor.plan story.survivor.now) (sym exact) w.hearing.asks) (owes_nothing rules story all w.due w.hearing.passed.done) tells brings
+      told_event rules image began before now story e more w.hearing.told (subst (AsksFor rules.limits story.survivor.plan story.survivor.now) (sym exact) w.hearing.asks) (owes_nothing rules story all w.due w.hearing.passed.done) w.hearing.goes.items.all_heeded tells brings
 
   -- it waits behind entries that bring nothing
   pub waits_still : (rules : Rules) (image : Image) (began : Since) (before : Told) (phases : Phases) (old : SessionState R) (w : IsWaitingFor rules image began before phases old) (more : List Entry) → received rules.bounds (entries w.hearing.story) ≤ w.hearing.story.survivor.now.state.machine.taken
@@ -138,8 +139,8 @@ module _ {R : Type 0} where
       let exact : story.survivor.now.state.machine.taken ≡ received rules.bounds (entries story) = omega (arith, low, all) in
       subst (AsksFor rules.limits story.survivor.plan story.survivor.now) exact w.hearing.asks
 
-  answers_here : (story : Story) (old new : SessionState R) → HasSameRun old new → AnswersFor story old → AnswersFor story new
-  answers_here story old new same answers = record { choices = same.choices ∙ answers.choices; taken = same.taken ∙ answers.taken; steps = same.steps ∙ answers.steps }
+  answers_here : (began : Since) (story : Story) (old new : SessionState R) → HasSameRun old new → AnswersFor began story old → AnswersFor began story new
+  answers_here began story old new same answers = answers_as began story old new same.recorded same.choices same.taken same.steps answers
 
   -- an event that is refused ends the session
   pub ending_refused : (rules : Rules) (image : Image) (began : Since) (before now : Told) (phases : Phases) (coming : Option Coming) (old new : SessionState R) (w : IsWaitingFor rules image began before phases old) (e : LinkEvent) (cause : Unheeded) (end : Answer) → IsNoEnd e
@@ -160,15 +161,18 @@ module _ {R : Type 0} where
         trials = [];
         lost = began.lost;
         lost_is = none_lost began.lost;
+        noted = began.noted;
+        last = [];
+        last_noted = none_noted began.noted;
         told = waits_took rules image began before now phases old w e all tells [] (u.brings_none ∙ sym (append-nil (items_in rules.bounds (entries story))));
-        answers = answers_still story old new (entry.Took e ∷ []) same w.hearing.answers;
+        answers = answers_still began story old new (entry.Took e ∷ []) same w.hearing.answers;
         received_are = ap (λ (l : Log). logs.received l) log ∙ (received_is rules.bounds (entries story) old.log w.hearing.goes.items ∙ ap length (sym none));
         replies = subst (λ (all : List Entry). KeepsReplies rules.bounds all None (sends story) new.replies) es u.replies;
         no_trial = no_trial;
         closed = λ send stands closing owed. absurd (refused_closes rules.bounds story e no_end heeds u.first_close send.conn closing);
         is_end = is_end;
-        stands = stands waits (record { before = entries story; event = e; last = sym es; refused = u.refused });
-        tried = inl refl;
+        stands = stands waits (record { before = entries story; event = e; last = sym es; no_end = u.no_end; refused = u.refused });
+        tried = inl (refl, refl);
         gave_up = gave_up;
       }
 
@@ -185,15 +189,18 @@ module _ {R : Type 0} where
         trials = [];
         lost = began.lost;
         lost_is = none_lost began.lost;
+        noted = began.noted;
+        last = [];
+        last_noted = none_noted began.noted;
         told = waits_took rules image began before now phases old w event.Ends all tells heard.more heard.brings;
-        answers = answers_still story old new (entry.Took event.Ends ∷ []) same w.hearing.answers;
+        answers = answers_still began story old new (entry.Took event.Ends ∷ []) same w.hearing.answers;
         received_are = received_is rules.bounds (entries story ++ entry.Took event.Ends ∷ []) new.log heard.items ∙ ap (received rules.bounds) es;
         replies = subst (λ (all : List Entry). KeepsReplies rules.bounds all None (sends story) new.replies) es heard.replies;
         no_trial = no_trial;
         closed = λ send stands closing owed. done_ended rules story w.hearing.passed.done send stands owed;
         is_end = tt;
         stands = (waits_still rules image began before phases old w (entry.Took event.Ends ∷ []) all none, subst HasEnded es (last_taken-took (entries story) event.Ends), last);
-        tried = inl refl;
+        tried = inl (refl, refl);
         gave_up = tt;
       }
 
@@ -210,18 +217,21 @@ module _ {R : Type 0} where
           trials = [];
           lost = began.lost;
           lost_is = none_lost began.lost;
+          noted = began.noted;
+          last = [];
+          last_noted = none_noted began.noted;
           told = told;
-          answers = record { choices = same.choices ∙ w.hearing.answers.choices; taken = same.taken ∙ w.hearing.answers.taken; steps = same.steps ∙ w.hearing.answers.steps };
+          answers = answers_here began story old new same w.hearing.answers;
           received_are = ap (λ (l : Log). logs.received l) log ∙ received_is rules.bounds (entries story) old.log w.hearing.goes.items;
           replies = subst (λ (ledger : Ledger). KeepsReplies rules.bounds (entries story) None (sends story) ledger) (sym replies) w.hearing.passed.replies;
           no_trial = ap (λ (ledger : Ledger). ledger.trial) replies ∙ w.hearing.passed.no_trial;
           closed = λ send stands closing owed. w.hearing.passed.done send stands owed;
           is_end = tt;
-          stands = (waits, stops);
-          tried = inl refl;
+          stands = (waits, w.hearing.goes.items.all_heeded, stops);
+          tried = inl (refl, refl);
           gave_up = tt;
         },
-        (waits, owes_nothing rules story all w.due w.hearing.passed.done),
+        (waits, owes_nothing rules story all w.due w.hearing.passed.done, w.hearing.goes.items.all_heeded),
       )
 
   -- no event could be taken
@@ -229,8 +239,8 @@ module _ {R : Type 0} where
       → received rules.bounds (entries w.hearing.story) ≤ w.hearing.story.survivor.now.state.machine.taken → Tells before now [] → HasSameRun old new → IsBrokenOff rules image began now coming new answer.ReadFault
   off_read rules image began before now phases coming old new w all tells same =
       let story : Story = w.hearing.story in
-      broken_off rules image began now coming new story answer.ReadFault (told_nothing rules image began before now story w.hearing.told tells) (answers_here story old new same w.hearing.answers)
-      (waits_here rules image began before phases old w all, owes_nothing rules story all w.due w.hearing.passed.done, (refl, refl)) (λ is. is)
+      broken_off rules image began now coming new story answer.ReadFault (told_nothing rules image began before now story w.hearing.told tells) (answers_here began story old new same w.hearing.answers)
+      ((waits_here rules image began before phases old w all, owes_nothing rules story all w.due w.hearing.passed.done, w.hearing.goes.items.all_heeded), (refl, refl)) (λ is. is)
 
   -- memory ran out, before an event was taken or behind one that is heeded
   pub off_memory : (rules : Rules) (image : Image) (began : Since) (before now : Told) (phases : Phases) (coming : Option Coming) (takes : Bool) (old new : SessionState R) (w : IsWaitingFor rules image began before phases old)
@@ -239,12 +249,12 @@ module _ {R : Type 0} where
       → (off : IsBrokenOff rules image began now coming new answer.Memory) × (takes ≡ false → WasAsked rules off.account)
   off_memory rules image began before now phases coming takes old new w all same (inl tells) took =
       let story : Story = w.hearing.story in
-      broken_with (λ account. takes ≡ false → WasAsked rules account) rules image began now coming new story answer.Memory (told_nothing rules image began before now story w.hearing.told tells) (answers_here story old new same w.hearing.answers) tt (λ is. is)
-      (λ none. (waits_here rules image began before phases old w all, owes_nothing rules story all w.due w.hearing.passed.done))
+      broken_with (λ account. takes ≡ false → WasAsked rules account) rules image began now coming new story answer.Memory (told_nothing rules image began before now story w.hearing.told tells) (answers_here began story old new same w.hearing.answers) tt (λ is. is)
+      (λ none. (waits_here rules image began before phases old w all, owes_nothing rules story all w.due w.hearing.passed.done, w.hearing.goes.items.all_heeded))
   off_memory rules image began before now phases coming takes old new w all same (inr still) (inl tells) =
-      broken_with (λ account. takes ≡ false → WasAsked rules account) rules image began now coming new w.hearing.story answer.Memory (told_nothing rules image began before now w.hearing.story w.hearing.told tells) (answers_here w.hearing.story old new same w.hearing.answers) tt (λ is. is)
+      broken_with (λ account. takes ≡ false → WasAsked rules account) rules image began now coming new w.hearing.story answer.Memory (told_nothing rules image began before now w.hearing.story w.hearing.told tells) (answers_here began w.hearing.story old new same w.hearing.answers) tt (λ is. is)
       (λ none. still_takes takes _ still none)
   off_memory rules image began before now phases coming takes old new w all same (inr still) (inr took) =
       broken_with (λ account. takes ≡ false → WasAsked rules account) rules image began now coming new (then_story w.hearing.story (entry.Took took.0 ∷ [])) answer.Memory
-      (waits_took rules image began before now phases old w took.0 all took.1 took.2.more took.2.brings) (answers_still w.hearing.story old new (entry.Took took.0 ∷ []) same w.hearing.answers) tt (λ is. is)
+      (waits_took rules image began before now phases old w took.0 all took.1 took.2.more took.2.brings) (answers_still began w.hearing.story old new (entry.Took took.0 ∷ []) same w.hearing.answers) tt (λ is. is)
       (λ none. still_takes takes _ still none)

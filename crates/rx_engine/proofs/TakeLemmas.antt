@@ -88,6 +88,7 @@ module _ {R : Type 0} where
       (takes_going rules image began now phases item old (record inside { cpu = cpu; taken = cpu.slots.live.guest.machine.taken; steps = cpu.slots.live.steps }) w
       (record {
         side = record {
+          recorded = ap (λ (s : SessionState R). s.recorded) same;
           log = ap (λ (s : SessionState R). s.log) same;
           events = ap (λ (s : SessionState R). s.events) same;
           cpu = kept ∙ ap (λ (s : SessionState R). with_live (live_of cpu) s.cpu) same;

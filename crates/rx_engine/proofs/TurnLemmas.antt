@@ -26,7 +26,7 @@ use Rattle.rx_engine.specs.Options.{rules_of}
 use Rattle.rx_engine.specs.Sessions.{SessionState, env_of}
 use Rattle.rx_engine.specs.Standing.{Since, entries, IsBetween, IsWaitingFor, IsFailing, IsEnding, IsBrokenOff}
 use Rattle.rx_engine.specs.Serving.{UnlessMemory, IsCounted, ComesBetween, HasRun, HasSameFrame, GoesFurther, IsAdoptedLater}
-use Rattle.rx_engine.proofs.GuestLemmas.{broken_off}
+use Rattle.rx_engine.proofs.GuestLemmas.{answers_as, broken_off}
 use Rattle.rx_engine.proofs.ServeLemmas.{run_asks, run_exits, run_fails}
 
 module _ {R : Type 0} where
@@ -137,11 +137,8 @@ module _ {R : Type 0} where
       → IsBrokenOff rules image began now coming (record inside { cpu = cpu }) answer.Memory
   breaks_now rules image began now phases coming old inside cpu same b =
       broken_off rules image began now coming (record inside { cpu = cpu }) b.going.story answer.Memory b.going.told
-      (record {
-        choices = ap (λ (s : SessionState R). s.choices) same ∙ b.going.answers.choices;
-        taken = ap (λ (s : SessionState R). s.taken) same ∙ b.going.answers.taken;
-        steps = ap (λ (s : SessionState R). s.steps) same ∙ b.going.answers.steps;
-      }) tt (λ is. is)
+      (answers_as began b.going.story old (record inside { cpu = cpu }) (ap (λ (s : SessionState R). s.recorded) same) (ap (λ (s : SessionState R). s.choices) same) (ap (λ (s : SessionState R). s.taken) same) (ap (λ (s : SessionState R). s.steps) same)
+      b.going.answers) tt (λ is. is)
 
   -- by other rules that are the same
   pub comes_under : (image : Image) (began : Since) (now : Told) (phases : Phases) (coming : Option Coming) (takes : Bool) (session : SessionState R) (result : Result (Unit {0}) Stop) (first second : Rules) → first ≡ second

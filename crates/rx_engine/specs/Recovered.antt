@@ -1,7 +1,7 @@
 -- What a session leaves that recovered its program.
-use Rattle.std.specs.Prelude.{◌≡◌, ◌≢◌, ◌⊎◌, ℕ, ◌+◌, ◌-◌, ◌<◌, List, [], length, map, sum, Bool, Option, None}
+use Rattle.std.specs.Prelude.{◌≡◌, ◌≢◌, ◌⊎◌, ℕ, ◌+◌, ◌-◌, ◌<◌, ◌≤◌, List, [], ◌∷◌, ◌++◌, length, map, sum, take, drop, Bool, Option, None}
 use Rattle.block_book.specs.declared.choice.Choice.{Choice}
-use Rattle.rx_io.specs.Links.{Told, Coming}
+use Rattle.rx_io.specs.Links.{Told, Coming, Grew}
 use Rattle.elf_image.specs.declared.image.Image.{Image}
 use Rattle.rx_io.specs.declared.journal.Entry.{Entry}
 use Rattle.run_history.specs.declared.answer.Answer.{Answer}
@@ -10,15 +10,21 @@ use Rattle.run_history.specs.declared.answer.Cause.{Cause}
 use Rattle.run_history.specs.Served.{Path}
 use Rattle.session_history.specs.Lawful.{Rules, Survivor}
 use Rattle.session_history.specs.Serving.{first_survivor}
-use Rattle.session_history.specs.Ends.{HasServed, before_end}
+use Rattle.session_history.specs.Ends.{IsEnd, HasServed, before_end}
 use Rattle.trial_history.specs.Tables.{Trial, survivor_in}
-use Rattle.trial_history.specs.Episodes.{Recovery, IsRecovery, AreRecovered}
+use Rattle.episodes.specs.declared.episode.Episode.{Episode}
+use Rattle.notes.specs.Noting.{Noted}
+use Rattle.trial_history.specs.Episodes.{Recovery, episode_of, IsRecovery, AreRecovered}
 use Rattle.trial_plan.specs.Trying.{steps_of}
 
 -- How many instructions were done before a survivor began: those of each survivor before it, from where it began to where it failed, and
 -- those of all trials, each from its checkpoint.
 abbrev pub spent : List Recovery → ℕ
 spent recoveries = sum (map (λ (recovery : Recovery). (recovery.survivor.now.steps - recovery.survivor.begun.steps) + steps_of recovery.trials) recoveries)
+
+-- the episode of trials behind a survivor that failed by a cause
+abbrev pub told_of : Survivor → Cause → List Trial → Episode
+told_of survivor cause trials = episode_of (record { survivor = survivor; cause = cause; ring = []; trials = trials })
 
 -- the last survivor failed by this cause, and none of these trials, a walk over all of its checkpoints, at least one, survived
 pub record HasGivenUp (rules : Rules) (image : Image) (entries : List Entry) (survivor : Survivor) (trials : List Trial) (cause : Cause) : Type 0 where
@@ -31,18 +37,42 @@ abbrev pub GivesUpBy : Rules → Image → List Entry → Survivor → List Tria
 GivesUpBy rules image entries survivor trials (answer.GaveUp point cause) = HasGivenUp rules image entries survivor trials cause
 GivesUpBy rules image entries survivor trials _ = Unit {0}
 
--- trials are made behind the last survivor only where it failed
-abbrev pub AreLastTrials : Rules → Image → List Entry → Survivor → List Trial → Type 0
-AreLastTrials rules image entries survivor trials = (trials ≡ []) ⊎ ((cause : Cause) × HasGivenUp rules image entries survivor trials cause)
+-- trials are made behind the last survivor only where it failed, and there is an episode of them
+abbrev pub AreLastTrials : Rules → Image → List Entry → Survivor → List Trial → List Episode → Type 0
+AreLastTrials rules image entries survivor trials last =
+    ((trials ≡ []) × (last ≡ [])) ⊎ ((cause : Cause) × HasGivenUp rules image entries survivor trials cause × (last ≡ told_of survivor cause trials ∷ []))
+
+-- an answer behind which the notes of a session may lack its last episode
+abbrev pub IsNoteFault : Answer → Type 0
+IsNoteFault answer.FileFault = Unit {0}
+IsNoteFault answer.Memory = Unit {0}
+IsNoteFault _ = ⊥
+
+-- What a session has noted, by what its notes told when it began, and tell now. Of the run's answers of malloc the first ones are recorded, and
+-- the others are its tail; at an end all are recorded. And each episode is noted, but perhaps the last one, where noting failed.
+pub record HasNoted (before now : Noted) (end : Answer) (choices : List Choice) (episodes : List Episode) (recorded : ℕ) (tail : List Choice) : Type 0 where
+  pub low : recorded ≤ length choices
+  pub tail_is : tail ≡ drop recorded choices
+  pub all_recorded : IsEnd end → tail ≡ []
+  pub choices_noted : Grew before.choices now.choices (take recorded choices)
+  pub told : List Episode
+  pub missing : List Episode
+  pub all_told : told ++ missing ≡ episodes
+  pub few_missing : length missing ≤ 1
+  pub none_missing : 0 < length missing → IsNoteFault end
+  pub episodes_noted : Grew before.episodes now.episodes told
 
 -- A session has served, and its account is told by survivors of which the first stood at the start and each later one is the trial that was
 -- adopted behind a failure. It gives up only where no trial from its checkpoints survives. Each instruction was counted: those of the
--- survivors, and those of all trials.
-pub record HasRecovered (rules : Rules) (image : Image) (began now : Told) (coming : Option Coming) (takes : Bool) (end : Answer) (choices : List Choice) (taken steps before after : ℕ) : Type 0 where
+-- survivors, and those of all trials. Its notes tell of its answers of malloc and of each recovery.
+pub record HasRecovered (rules : Rules) (image : Image) (began now : Told) (coming : Option Coming) (takes : Bool) (end : Answer) (noted_before noted_now : Noted) (recorded : ℕ) (tail : List Choice) (taken steps before after : ℕ) : Type 0 where
+  pub choices : List Choice
   pub served : HasServed rules image began now coming takes end choices taken steps
   pub recoveries : List Recovery
   pub recovered : AreRecovered rules image [] (first_survivor image) served.session.earlier recoveries served.session.survivor
   pub trials : List Trial
-  pub tried : AreLastTrials rules image (before_end served.session) served.session.survivor trials
+  pub last : List Episode
+  pub tried : AreLastTrials rules image (before_end served.session) served.session.survivor trials last
   pub gave_up : GivesUpBy rules image (before_end served.session) served.session.survivor trials end
   pub counted : end ≢ answer.Memory → after ≡ before + (spent recoveries + (served.session.survivor.now.steps - served.session.survivor.begun.steps) + steps_of trials)
+  pub notes : HasNoted noted_before noted_now end choices (map episode_of recoveries ++ last) recorded tail

@@ -1,8 +1,11 @@
 -- What the parts of a session's code make of it.
-use Rattle.std.specs.Prelude.{◌≡◌, ◌≢◌, ◌⊎◌, ℕ, ◌+◌, ◌<◌, ◌≤◌, List, Bool, true, false, Option, None, Some, IsSome, Result, Ok, Err, IsErrOf}
+use Rattle.std.specs.declared.alloc.AllocError.{AllocError}
+use Rattle.std.specs.Prelude.{◌≡◌, ◌≢◌, ◌⊎◌, ℕ, ◌+◌, ◌<◌, ◌≤◌, List, length, Bool, true, false, Option, None, Some, IsSome, option_map, [], ◌∷◌, Result, Ok, Err, IsErrOf}
 use Rattle.rx_io.specs.declared.journal.Entry.{Entry}
 use Rattle.rx_io.specs.Faults.{Rose}
-use Rattle.rx_io.specs.Links.{Phases, Told, Coming, Counts}
+use Rattle.rx_io.specs.declared.fault.IoFault.{IoFault}
+use Rattle.rx_io.specs.declared.fault.IoFault.TheVariants as note
+use Rattle.rx_io.specs.Links.{Phases, Told, Grew, Coming, Counts}
 use Rattle.rx_io.specs.Sends.{Send}
 use Rattle.elf_image.specs.declared.image.Image.{Image}
 use Rattle.item_log.specs.Log as logs
@@ -11,6 +14,7 @@ use Rattle.reply_ledger.specs.Parts.{next_part}
 use Rattle.run_history.specs.declared.answer.Answer.{Answer}
 use Rattle.run_history.specs.declared.answer.Cause.{Cause}
 use Rattle.run_history.specs.declared.answer.Answer.TheVariants as answer
+use Rattle.block_book.specs.declared.choice.Choice.{Choice}
 use Rattle.guest_cpu.specs.declared.event.Event.{Event}
 use Rattle.guest_cpu.specs.declared.event.Event.TheVariants as step
 use Rattle.guest_cpu.specs.Cpus.{live_of, with_live}
@@ -25,10 +29,14 @@ use Rattle.reply_gate.specs.declared.pass_fault.PassFault.{PassFault}
 use Rattle.reply_gate.specs.declared.pass_fault.PassFault.TheVariants as fault
 use Rattle.event_gate.specs.declared.heard.HearFault.{HearFault}
 use Rattle.event_gate.specs.declared.heard.HearFault.TheVariants as hear
+use Rattle.recovery_gate.specs.declared.recovering.Adopted.{Adopted}
+use Rattle.recovery_gate.specs.declared.recovering.Recovered.{Recovered}
+use Rattle.notes.specs.Noting.{Noted}
 use Rattle.rx_engine.specs.declared.stop.Stop.{Stop}
 use Rattle.rx_engine.specs.declared.stop.Stop.TheVariants as stop
 use Rattle.rx_engine.specs.Sessions.{SessionState, IsBegun}
-use Rattle.rx_engine.specs.Standing.{Since, Story, entries, moment, sends, then_story, IsTold, HasPassed, HasPassedDue, IsGoing, IsBetween, IsAsking, IsWaitingFor, IsFailing, IsEnding, IsBrokenOff}
+use Rattle.rx_engine.specs.Recovered.{IsNoteFault}
+use Rattle.rx_engine.specs.Standing.{Since, Story, entries, moment, sends, then_story, IsTold, HasPassed, HasPassedDue, IsGoing, IsBetween, IsAsking, IsWaitingFor, IsFailing, IsEnding, IsBrokenOff, HasNotedMore}
 
 -- a fault of passing is this answer
 abbrev pub IsAnswerTo : PassFault → Answer → Type 0
@@ -46,6 +54,29 @@ pub record HasAnswerCause (before now : Counts) (end : Answer) : Type 0 where
   pub gives : before.gives ≤ now.gives
   pub read_fault : end ≡ answer.ReadFault → Rose before.takes now.takes
   pub write_fault : end ≡ answer.WriteFault → Rose before.gives now.gives
+
+-- a fault of notes is this answer
+abbrev pub IsNoteAnswer : IoFault → Answer → Type 0
+IsNoteAnswer note.Failed end = end ≡ answer.FileFault
+IsNoteAnswer note.Memory end = end ≡ answer.Memory
+
+-- the count of failed calls of the notes doesn't fall, and FileFault is answered only where it rose
+pub record HasNoteCause (before now : ℕ) (end : Answer) : Type 0 where
+  pub later : before ≤ now
+  pub file_fault : end ≡ answer.FileFault → Rose before now
+
+pub record HasNoteStop {X : Type 0} (before now : ℕ) (result : Result X Stop) : Type 0 where
+  pub later : before ≤ now
+  pub file_fault : IsErrOf result (stop.Breaks answer.FileFault) → Rose before now
+
+-- the end that a recovery comes to, if it does: none survived, or the trial that did had ended itself
+abbrev pub end_of : ℕ → Cause → Option Adopted → Option Answer
+end_of point cause None = Some (answer.GaveUp point cause)
+end_of point cause (Some adopted) = option_map answer.Exited adopted.code
+
+abbrev pub HasNoteRest : ℕ → ℕ → Result (Unit {0}) Answer → Type 0
+HasNoteRest before now (Ok done) = before ≤ now
+HasNoteRest before now (Err end) = HasNoteCause before now end
 
 -- what an event that wasn't heard means for a session
 abbrev pub IsStopAt : HearFault → Stop → Type 0
@@ -106,16 +137,39 @@ BreaksPassing (Ok done) = Unit {0}
 BreaksPassing (Err (stop.Ends end)) = ⊥
 BreaksPassing (Err (stop.Breaks end)) = IsPassAnswer end
 
+-- noting breaks a session off by a fault of the notes, or want of memory
+abbrev pub BreaksNoting : Result (Unit {0}) Stop → Type 0
+BreaksNoting (Ok done) = Unit {0}
+BreaksNoting (Err (stop.Ends end)) = ⊥
+BreaksNoting (Err (stop.Breaks end)) = IsNoteFault end
+
+-- what holds unless noting failed
+abbrev pub UnlessNoteFault : Answer → Type 0 → Type 0
+UnlessNoteFault answer.FileFault P = Unit {0}
+UnlessNoteFault answer.Memory P = Unit {0}
+UnlessNoteFault end P = P
+
+abbrev pub UnlessNoteStop : Result (Unit {0}) Stop → Type 0 → Type 0
+UnlessNoteStop (Ok done) P = P
+UnlessNoteStop (Err (stop.Ends end)) P = P
+UnlessNoteStop (Err (stop.Breaks end)) P = UnlessNoteFault end P
+
+-- no fault of the notes stopped it
+abbrev pub IsUnnoted : Result (Unit {0}) Stop → Type 0
+IsUnnoted (Err (stop.Breaks answer.FileFault)) = ⊥
+IsUnnoted _ = Unit {0}
+
 -- where it was told what a link's grammar has next, it is told still
 abbrev pub StaysKnown : Option Coming → Option Coming → Type 0
 StaysKnown None new = Unit {0}
 StaysKnown (Some old) new = IsSome new
 
 -- What is known of a link where a session was broken off: at a fault of writing what comes is told still, at a fault of reading the link
--- gives still, and at want of memory one of both holds. So no call failed but one.
+-- gives still, at one of the notes both hold, and at want of memory one of both. So no call failed but one.
 abbrev pub BreaksAt : Option Coming → Option Coming → Bool → Answer → Type 0
 BreaksAt old new gives answer.WriteFault = StaysKnown old new
 BreaksAt old new gives answer.ReadFault = gives ≡ true
+BreaksAt old new gives answer.FileFault = StaysKnown old new × (gives ≡ true)
 BreaksAt old new gives answer.Memory = StaysKnown old new ⊎ (gives ≡ true)
 BreaksAt old new gives _ = Unit {0}
 
@@ -173,6 +227,7 @@ module _ {R : Type 0} where
   pub record HasSameGuest (old new : SessionState R) : Type 0 where
     pub options : new.options ≡ old.options
     pub cpu : new.cpu ≡ old.cpu
+    pub recorded : new.recorded ≡ old.recorded
     pub choices : new.choices ≡ old.choices
     pub taken : new.taken ≡ old.taken
     pub steps : new.steps ≡ old.steps
@@ -233,6 +288,11 @@ module _ {R : Type 0} where
     pub options : new.options ≡ old.options
     pub rule : new.cpu.rule ≡ old.cpu.rule
 
+  -- the rest of the answers of malloc was noted, if there were any; or noting failed, and nothing changed
+  abbrev pub NotesRest : Option (List Choice) → Option (List Choice) → SessionState R → SessionState R → Result (Unit {0}) Answer → Type 0
+  NotesRest before now old new (Ok done) = Grew before now old.choices × (new ≡ record old { recorded = old.recorded + length old.choices; choices = [] })
+  NotesRest before now old new (Err end) = (now ≡ before) × (new ≡ old) × IsNoteFault end
+
   -- it was begun for some image
   pub record IsReadyToServe (session : SessionState R) : Type 0 where
     pub image : Image
@@ -247,20 +307,20 @@ module _ {R : Type 0} where
   abbrev pub GoesFurther : SessionState R → SessionState R → Type 0
   GoesFurther old new = ((new.until ≡ old.until) × (old.cpu.slots.live.steps < new.cpu.slots.live.steps)) ⊎ IsAdoptedLater old new
 
-  -- the session goes on as a trial, of which what is due has to be passed; or it came to its end, or memory ran out
-  abbrev pub AdoptsTo : Rules → Image → Since → Told → Phases → Option Coming → SessionState R → Result (Unit {0}) Stop → Type 0
-  AdoptsTo rules image began now phases coming session (Ok done) = IsGoing rules image began now phases session
-  AdoptsTo rules image began now phases coming session (Err (stop.Ends end)) = IsEnding rules image began now coming session end
-  AdoptsTo rules image began now phases coming session (Err (stop.Breaks end)) = IsBrokenOff rules image began now coming session end
+  -- what a recovery makes of a session: it goes on as a trial, of which what is due has to be passed; or it came to this end
+  abbrev pub AdoptsTo : Rules → Image → Since → Told → Phases → Option Coming → SessionState R → Option Answer → Type 0
+  AdoptsTo rules image began now phases coming session None = IsGoing rules image began now phases session
+  AdoptsTo rules image began now phases coming session (Some end) = IsEnding rules image began now coming session end
 
--- a recovery ends a session by the exit of a trial, or where it gives up; and breaks it off for want of memory
-abbrev pub IsAdoptAnswer : Result (Unit {0}) Stop → Type 0
-IsAdoptAnswer (Ok done) = Unit {0}
-IsAdoptAnswer (Err (stop.Ends (answer.Exited code))) = Unit {0}
-IsAdoptAnswer (Err (stop.Ends (answer.GaveUp point cause))) = Unit {0}
-IsAdoptAnswer (Err (stop.Ends end)) = ⊥
-IsAdoptAnswer (Err (stop.Breaks answer.Memory)) = Unit {0}
-IsAdoptAnswer (Err (stop.Breaks end)) = ⊥
+  -- so it is once the episode is noted. And where noting it fails, the session is broken off
+  pub record Adopting (rules : Rules) (image : Image) (began : Since) (now : Told) (phases : Phases) (coming : Option Coming) (point : ℕ) (cause : Cause) (session : SessionState R) (recovered : Recovered) : Type 0 where
+    pub goes : (noted : Noted) → HasNotedMore began.noted noted [] (recovered.episode ∷ []) → AdoptsTo rules image (record began { noted = noted }) now phases coming session (end_of point cause recovered.adopted)
+    pub breaks : (end : Answer) → IsNoteFault end → IsBrokenOff rules image began now coming session end
+
+  -- or memory ran out
+  abbrev pub AdoptsBy : Rules → Image → Since → Told → Phases → Option Coming → ℕ → Cause → SessionState R → Result Recovered AllocError → Type 0
+  AdoptsBy rules image began now phases coming point cause session (Ok recovered) = Adopting rules image began now phases coming point cause session recovered
+  AdoptsBy rules image began now phases coming point cause session (Err fault) = IsBrokenOff rules image began now coming session answer.Memory
 
 -- the same connections are open
 abbrev pub HasSameOpen : Ledger → Ledger → Type 0

@@ -12,8 +12,8 @@ use Rattle.reply_ledger.specs.Ledger.{Ledger, no_replies}
 use Rattle.rx_engine.specs.declared.options.Options.{Options}
 use Rattle.rx_engine.specs.Options.{AreInRange}
 
--- a session: its options, its guest with its checkpoints, the items and the replies; how many events came; of the run that it answers for
--- the answers of malloc, the items taken and the instructions; and an environment, up to a number of items
+-- A session: its options, its guest with its checkpoints, the items and the replies; how many events came; of the run that it answers for
+-- how many answers of malloc are recorded, the others, the items taken and the instructions; and an environment, up to a number of items
 pub record SessionState (R : Type 0) : Type 0 where
   pub options : Options
   pub cpu : CpuState R
@@ -21,6 +21,7 @@ pub record SessionState (R : Type 0) : Type 0 where
   pub log : Log
   pub replies : Ledger
   pub events : ℕ
+  pub recorded : ℕ
   pub choices : List Choice
   pub taken : ℕ
   pub steps : ℕ
@@ -42,6 +43,7 @@ pub record IsBegun {R : Type 0} (image : Image) (options : Options) (rule : R) (
   pub shows : logs.Shows options.frame [] session.log
   pub replies : session.replies ≡ no_replies
   pub no_events : session.events ≡ 0
+  pub none_recorded : session.recorded ≡ 0
   pub no_choices : session.choices ≡ []
   pub no_items : session.taken ≡ 0
   pub no_steps : session.steps ≡ 0

@@ -1,7 +1,7 @@
 -- Where a session stands between two events of its guest.
-use Rattle.std.specs.Prelude.{◌≡◌, ◌≢◌, ◌⊎◌, ℕ, ◌+◌, ◌<◌, ◌≤◌, List, [], ◌++◌, length, true, false, Option, None, Some}
+use Rattle.std.specs.Prelude.{◌≡◌, ◌≢◌, ◌⊎◌, ℕ, ◌+◌, ◌<◌, ◌≤◌, List, [], ◌++◌, length, map, take, drop, true, false, Option, None, Some}
 use Rattle.rx_io.specs.declared.journal.Entry.{Entry}
-use Rattle.rx_io.specs.Links.{Phases, Told, Tells, Coming, events_in}
+use Rattle.rx_io.specs.Links.{Phases, Told, Tells, Coming, Grew, events_in}
 use Rattle.rx_io.specs.Sends.{Send}
 use Rattle.elf_image.specs.declared.image.Image.{Image}
 use Rattle.reply_ledger.specs.Ledger.{Ledger}
@@ -12,7 +12,7 @@ use Rattle.run_history.specs.Call.{may_send}
 use Rattle.run_history.specs.Served.{Path, Served, FailsBy, AsksFor}
 use Rattle.guest_cpu.specs.Serving.{standing_of}
 use Rattle.guest_runs.specs.Runs.{IsBounded}
-use Rattle.session_history.specs.Heeding.{heeded, items_in, received}
+use Rattle.session_history.specs.Heeding.{heeded, items_in, received, AreHeeded}
 use Rattle.item_log.specs.Log as logs
 use Rattle.session_history.specs.Opened.{opens, is_open}
 use Rattle.session_history.specs.Owing.{Moment, journal, Latest, latest, received_before, Stands, IsDueBy, IsPassed, OwesNothing}
@@ -21,12 +21,15 @@ use Rattle.session_history.specs.Account.{Session, journal_of, IsAccount}
 use Rattle.session_history.specs.Serving.{moment_of, Serving, first_survivor}
 use Rattle.session_history.specs.Keeping.{KeepsReplies, KeepsItems, KeepsPhases}
 use Rattle.session_history.specs.Giving.{AreGiven}
-use Rattle.session_history.specs.Ends.{IsEnd, IsWaiting, StandsAt, EndsBy}
+use Rattle.session_history.specs.Ends.{IsEnd, IsWaiting, StandsAt, EndsBy, before_end}
 use Rattle.trial_history.specs.Tables.{Trial}
 use Rattle.trial_plan.specs.Trying.{steps_of}
-use Rattle.rx_engine.specs.Recovered.{spent, GivesUpBy, AreLastTrials}
-use Rattle.trial_history.specs.Episodes.{Recovery, AreRecovered}
-use Rattle.recovery_gate.specs.Rings.{KeepsRing, IsInForce}
+use Rattle.rx_engine.specs.Recovered.{spent, GivesUpBy, AreLastTrials, HasNoted}
+use Rattle.trial_history.specs.Episodes.{Recovery, episode_of, AreRecovered}
+use Rattle.recovery_gate.specs.Rings.{KeepsRing, AreBehind, IsInForce}
+use Rattle.block_book.specs.declared.choice.Choice.{Choice}
+use Rattle.episodes.specs.declared.episode.Episode.{Episode}
+use Rattle.notes.specs.Noting.{Noted}
 use Rattle.rx_engine.specs.Sessions.{SessionState}
 
 -- a session so far, as data: the chapters of earlier survivors, with the recovery behind each, the survivor, and the entries of its time
@@ -49,24 +52,37 @@ sends story = story.survivor.now.state.sends
 abbrev pub then_story : Story → List Entry → Story
 then_story story more = record story { since = story.since ++ more }
 
--- Since when a session is told: what its link had told when it began, and how many instructions were counted that aren't of the survivor's
--- run, which is counted from its start.
+-- Since when a session is told: what its link and its notes had told when it began, what the notes tell now, and how many instructions
+-- were counted that aren't of the survivor's run, which is counted from its start.
 pub record Since : Type 0 where
   pub told : Told
+  pub noted_before : Noted
+  pub noted : Noted
   pub lost : ℕ
 
--- it is told by one account, and by what the link told since the session began
+abbrev pub told_since : Told → Noted → Noted → ℕ → Since
+told_since told noted_before noted lost = record { told = told; noted_before = noted_before; noted = noted; lost = lost }
+
+-- notes tell these answers of malloc and these episodes more
+pub record HasNotedMore (before now : Noted) (choices : List Choice) (episodes : List Episode) : Type 0 where
+  pub choices_more : Grew before.choices now.choices choices
+  pub episodes_more : Grew before.episodes now.episodes episodes
+
+-- it is told by one account, by what the link told since the session began, and by its notes, which have an episode of each recovery
 pub record IsTold (rules : Rules) (image : Image) (began : Since) (now : Told) (story : Story) : Type 0 where
   pub serving : Serving rules image story.earlier story.survivor story.since
   pub way : Served rules.limits (items_in rules.bounds (entries story)) story.survivor.plan story.survivor.begun story.survivor.now
   pub tells : Tells began.told now (entries story)
   pub counted : spent story.recoveries ≡ began.lost + story.survivor.begun.steps
   pub recovered : AreRecovered rules image [] (first_survivor image) story.earlier story.recoveries story.survivor
+  pub episodes : Grew began.noted_before.episodes began.noted.episodes (map episode_of story.recoveries)
 
 module _ {R : Type 0} where
-  -- a session answers for the survivor's run
-  pub record AnswersFor (story : Story) (session : SessionState R) : Type 0 where
-    pub choices : session.choices ≡ story.survivor.now.choices
+  -- a session answers for the survivor's run: of its answers of malloc the first ones are noted, and it has the others
+  pub record AnswersFor (began : Since) (story : Story) (session : SessionState R) : Type 0 where
+    pub low : session.recorded ≤ length story.survivor.now.choices
+    pub recorded : Grew began.noted_before.choices began.noted.choices (take session.recorded story.survivor.now.choices)
+    pub choices : session.choices ≡ drop session.recorded story.survivor.now.choices
     pub taken : session.taken ≡ story.survivor.now.state.machine.taken
     pub steps : session.steps ≡ story.survivor.now.steps
 
@@ -78,14 +94,14 @@ module _ {R : Type 0} where
     pub few : story.survivor.now.state.machine.taken ≤ rules.bounds.max_items
     pub within : (conn : ℕ) → may_send story.survivor.now.state.machine conn ≡ true → opens conn (heeded rules.bounds (events_in (entries story))) ≡ true
     pub items : KeepsItems rules.bounds (entries story) session.log
-    pub whole : session.log.first ≡ 0
     pub events : session.events ≡ length (events_in (entries story))
     pub phases_are : KeepsPhases (entries story) phases
 
-  -- it has the survivor's checkpoints, and the environment in which the survivor runs: past the failure behind which it was adopted, or there
+  -- it has the survivor's checkpoints, before which all answers of malloc were used that are noted, and the environment in which the survivor runs: past the failure behind which it was adopted, or there
   pub record KeepsCheckpoints (rules : Rules) (image : Image) (story : Story) (session : SessionState R) : Type 0 where
     pub paths : List Path
     pub ring : KeepsRing rules image (entries story) story.survivor.plan story.survivor.now paths session.cpu session.ring session.log session.replies
+    pub early : AreBehind session.recorded paths
     pub in_force : IsInForce story.survivor.plan story.survivor.now.state.machine.taken session.env session.until
     pub past : (session.until < story.survivor.now.state.machine.taken + 4) ⊎ ((session.until ≡ story.survivor.now.state.machine.taken + 4) × AsksFor rules.limits [] story.survivor.now story.survivor.now.state.machine.taken)
 
@@ -114,16 +130,16 @@ pub record HasPassed (rules : Rules) (story : Story) (ledger : Ledger) : Type 0 
   pub no_trial : ledger.trial ≡ None
   pub done : IsLatestDone rules (moment story) (sends story)
 
--- its guest waits for the item that is received next, and owes nothing: so an event is asked for
+-- its guest waits for the item that is received next, it owes nothing, and no event was refused: so an event is asked for
 abbrev pub IsAsking : Rules → Story → Type 0
-IsAsking rules story = IsWaiting rules (entries story) story.survivor × OwesNothing rules.bounds rules.hold (moment story) (sends story)
+IsAsking rules story = IsWaiting rules (entries story) story.survivor × OwesNothing rules.bounds rules.hold (moment story) (sends story) × AreHeeded rules.bounds (entries story)
 
 module _ {R : Type 0} where
   -- a session that goes on, of which what is due may still have to be passed
   pub record IsGoing (rules : Rules) (image : Image) (began : Since) (now : Told) (phases : Phases) (session : SessionState R) : Type 0 where
     pub story : Story
     pub told : IsTold rules image began now story
-    pub answers : AnswersFor story session
+    pub answers : AnswersFor began story session
     pub goes : GoesWith rules story session phases
     pub saved : KeepsCheckpoints rules image story session
     pub passed : HasPassed rules story session.replies
@@ -138,7 +154,7 @@ module _ {R : Type 0} where
   pub record IsHearing (rules : Rules) (image : Image) (began : Since) (now : Told) (phases : Phases) (session : SessionState R) : Type 0 where
     pub story : Story
     pub told : IsTold rules image began now story
-    pub answers : AnswersFor story session
+    pub answers : AnswersFor began story session
     pub goes : GoesWith rules story session phases
     pub saved : KeepsCheckpoints rules image story session
     pub passed : HasPassed rules story session.replies
@@ -161,15 +177,18 @@ module _ {R : Type 0} where
     pub trials : List Trial
     pub lost : ℕ
     pub lost_is : began.lost ≡ lost + steps_of trials
-    pub told : IsTold rules image (record began { lost = lost }) now story
-    pub answers : AnswersFor story session
+    pub noted : Noted
+    pub last : List Episode
+    pub last_noted : HasNotedMore noted began.noted [] last
+    pub told : IsTold rules image (record began { lost = lost; noted = noted }) now story
+    pub answers : AnswersFor (record began { lost = lost; noted = noted }) story session
     pub received_are : logs.received session.log ≡ received rules.bounds (entries story)
     pub replies : KeepsReplies rules.bounds (entries story) None (sends story) session.replies
     pub no_trial : session.replies.trial ≡ None
     pub closed : IsCloseDone rules (moment story) (sends story)
     pub is_end : IsEnd end
     pub stands : StandsAt rules (entries story) coming story.survivor end
-    pub tried : AreLastTrials rules image (entries story) story.survivor trials
+    pub tried : AreLastTrials rules image (entries story) story.survivor trials last
     pub gave_up : GivesUpBy rules image (entries story) story.survivor trials end
 
   -- a session that was broken off, by no end of its own
@@ -182,8 +201,11 @@ module _ {R : Type 0} where
     pub no_end : IsEnd end → ⊥
     pub recoveries : List Recovery
     pub recovered : AreRecovered rules image [] (first_survivor image) account.earlier recoveries account.survivor
-    pub choices : session.choices ≡ account.survivor.now.choices
+    pub trials : List Trial
+    pub last : List Episode
+    pub tried : AreLastTrials rules image (before_end account) account.survivor trials last
+    pub notes : HasNoted began.noted_before began.noted end account.survivor.now.choices (map episode_of recoveries ++ last) session.recorded session.choices
     pub taken : session.taken ≡ account.survivor.now.state.machine.taken
     pub steps : session.steps ≡ account.survivor.now.steps
-    pub counted : end ≢ answer.Memory → spent recoveries ≡ began.lost + account.survivor.begun.steps
+    pub counted : end ≢ answer.Memory → spent recoveries + steps_of trials ≡ began.lost + account.survivor.begun.steps
     pub later : account.survivor.begun.steps ≤ account.survivor.now.steps

@@ -32,7 +32,7 @@ impl<R: AccessRule> Session<R> {
     pub(crate) fn pass<K: Link>(&mut self, link: &mut K, until: u64) -> Result<(), Stop>
         requires can { CanPass self.old }
         requires gives { CanGive (K.gives link.old) (K.gives_to link.old) self.old.replies }
-        ensures passes { (rules : Rules) (image : Image) (began : Since) (story : Story) → IsTold rules image began (K.told link.old) story → AnswersFor story self.old
+        ensures passes { (rules : Rules) (image : Image) (began : Since) (story : Story) → IsTold rules image began (K.told link.old) story → AnswersFor began story self.old
             → received self.old.log ≡ heeding.received rules.bounds (entries story) → IsReady rules (sends story) (moment story) until self.old.replies
             → PassesStory rules image began (K.told link.new) (K.coming link.new) story until self.new result }
         ensures same { self.new ≡ record self.old { replies = self.new.replies } }
@@ -55,7 +55,7 @@ impl<R: AccessRule> Session<R> {
     pub(crate) fn pass_due<K: Link>(&mut self, link: &mut K) -> Result<(), Stop>
         requires can { CanPass self.old }
         requires gives { CanGive (K.gives link.old) (K.gives_to link.old) self.old.replies }
-        ensures passes { (rules : Rules) (image : Image) (began : Since) (story : Story) → rules.hold ≡ self.old.options.hold → IsTold rules image began (K.told link.old) story → AnswersFor story self.old
+        ensures passes { (rules : Rules) (image : Image) (began : Since) (story : Story) → rules.hold ≡ self.old.options.hold → IsTold rules image began (K.told link.old) story → AnswersFor began story self.old
             → received self.old.log ≡ heeding.received rules.bounds (entries story) → HasPassed rules story self.old.replies
             → PassesDue rules image began (K.told link.new) (K.coming link.new) story self.new result }
         ensures same { self.new ≡ record self.old { replies = self.new.replies } }
@@ -78,7 +78,7 @@ impl<R: AccessRule> Session<R> {
         requires stands { StandsClosing (K.told link.old) conn self.old }
         requires opened { IsOpened self.old.replies conn }
         requires gives { CanGive (K.gives link.old) (K.gives_to link.old) self.old.replies }
-        ensures passes { (rules : Rules) (image : Image) (began : Since) (story : Story) → rules.hold ≡ self.old.options.hold → IsTold rules image began (K.told link.old) story → AnswersFor story self.old
+        ensures passes { (rules : Rules) (image : Image) (began : Since) (story : Story) → rules.hold ≡ self.old.options.hold → IsTold rules image began (K.told link.old) story → AnswersFor began story self.old
             → received self.old.log ≡ heeding.received rules.bounds (entries story) → IsClosing rules (sends story) (moment story) conn self.old.replies
             → PassesDue rules image began (K.told link.new) (K.coming link.new) story self.new result }
         ensures same { self.new ≡ record self.old { replies = self.new.replies } }

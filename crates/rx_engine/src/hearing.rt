@@ -5,7 +5,7 @@ ghost use Rattle.elf_image.specs.declared.image.Image.{Image};
 ghost use Rattle.item_log.specs.Log.{received};
 ghost use Rattle.rx_engine.specs.Options.{rules_of};
 ghost use Rattle.rx_engine.specs.Standing.{Since, IsWaitingFor};
-ghost use Rattle.rx_engine.specs.Serving.{IsStopAt, CanGive, HasStopCause, UnlessBroken, TakesBy, StaysKnown, BreaksOnce, HasSameGuest, StandsWaiting, WaitsBy};
+ghost use Rattle.rx_engine.specs.Serving.{IsStopAt, CanGive, HasStopCause, UnlessBroken, TakesBy, StaysKnown, BreaksOnce, HasSameGuest, StandsWaiting, WaitsBy, IsUnnoted};
 
 use crate::Session;
 use crate::stop::Stop;
@@ -45,6 +45,7 @@ impl<R: AccessRule> Session<R> {
         ensures coming { UnlessBroken result (StaysKnown (K.coming link.old) (K.coming link.new)) }
         ensures once { BreaksOnce (K.coming link.old) (K.coming link.new) (K.gives link.new) result }
         ensures cause { HasStopCause (K.counts link.old) (K.counts link.new) result }
+        ensures unnoted { IsUnnoted result }
         ensures went { K.Went link.old link.new }
     {
         match hear(
@@ -76,6 +77,7 @@ impl<R: AccessRule> Session<R> {
         ensures coming { UnlessBroken result (StaysKnown (K.coming link.old) (K.coming link.new)) }
         ensures once { BreaksOnce (K.coming link.old) (K.coming link.new) (K.gives link.new) result }
         ensures cause { HasStopCause (K.counts link.old) (K.counts link.new) result }
+        ensures unnoted { IsUnnoted result }
         ensures went { K.Went link.old link.new }
     {
         'waits: while self.log.received() <= self.taken {

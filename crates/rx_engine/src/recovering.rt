@@ -1,24 +1,48 @@
 // What a session does where its program failed.
-ghost use Rattle.std.specs.Prelude.{◌≡◌, ℕ, ◌+◌, ◌≤◌, true, Option, IfOk};
+ghost use Rattle.std.specs.Prelude.{◌≡◌, ℕ, ◌+◌, ◌≤◌, true, None, Option, IfOk};
 ghost use Rattle.rx_io.specs.Links.{Told, Phases, Coming};
 ghost use Rattle.elf_image.specs.declared.image.Image.{Image};
+ghost use Rattle.notes.specs.Noting.{noted};
 ghost use Rattle.rx_engine.specs.Options.{rules_of};
 ghost use Rattle.rx_engine.specs.Standing.{Since, IsFailing};
-ghost use Rattle.rx_engine.specs.Serving.{CanGive, HasStopCause, UnlessBroken, UnlessMemory, TakesBy, BreaksOnce, StaysKnown, IsCounted, HasSameFrame, ComesBetween, StandsFailing, AdoptsTo, IsAdoptAnswer, IsAdoptedLater, HasSameOpen};
+ghost use Rattle.rx_engine.specs.Serving.{CanGive, HasStopCause, HasNoteStop, IsNoteAnswer, UnlessBroken, UnlessMemory, TakesBy, BreaksOnce, StaysKnown, IsCounted, HasSameFrame, ComesBetween, StandsFailing, AdoptsBy, IsAdoptedLater, HasSameOpen, UnlessNoteStop, end_of};
 
 use crate::Session;
 use crate::stop::Stop;
 use guest_space::AccessRule;
-use recovery_gate::recover;
+use notes::Notes;
+use recovery_gate::{Adopted, Recovered, recover};
 use run_history::{Answer, Cause};
-use rx_io::{Link, Steps};
+use rx_io::{IoFault, Link, Steps};
+use std::alloc::AllocError;
 use std::sync::ledger::Ledger;
+
+/// A fault of notes, as a session's answer.
+pub fn note_answer(fault: IoFault) -> Answer
+    ensures { IsNoteAnswer fault result }
+{
+    match fault {
+        IoFault::Failed => Answer::FileFault,
+        IoFault::Memory => Answer::Memory,
+    }
+}
+
+// The end that a recovery comes to, if it does: none survived, or the trial that did had ended itself.
+fn end_of(point: u64, cause: Cause, adopted: Option<Adopted>) -> Option<Answer>
+    ensures { result ≡ end_of point cause adopted }
+{
+    match adopted {
+        None => Some(Answer::GaveUp { point, cause }),
+        Some(adopted) => adopted.code.map(|code| Answer::Exited(code)),
+    }
+}
 
 impl<R: AccessRule> Session<R> {
     /// The guest failed: the session goes on as a trial that came past the failure, or gives up.
-    pub(crate) fn recover<K: Link, L: Ledger>(
+    pub(crate) fn recover<K: Link, N: Notes, L: Ledger>(
         &mut self,
         link: &mut K,
+        notes: &mut N,
         cause: Cause,
         steps: &mut Steps<L>,
     ) -> Result<(), Stop>
@@ -26,9 +50,9 @@ impl<R: AccessRule> Session<R> {
         requires marked { IsCounted self.old }
         requires takes { K.takes link.old ≡ true }
         requires gives { CanGive (K.gives link.old) (K.gives_to link.old) self.old.replies }
-        ensures turns { (image : Image) (began : Since) (lost : ℕ) → IsFailing (rules_of self.old.options (R.rule self.old.cpu.rule)) image began (K.told link.old) (K.phases link.old) cause self.old
+        ensures turns { (image : Image) (began : Since) (lost : ℕ) → IsFailing (rules_of self.old.options (R.rule self.old.cpu.rule)) image (record began { noted = noted (N.told_choices notes.old) (N.told_episodes notes.old) }) (K.told link.old) (K.phases link.old) cause self.old
             → UnlessMemory result (lost + self.new.steps + steps.old ≡ began.lost + self.old.steps + steps.new)
-            → ComesBetween (rules_of self.old.options (R.rule self.old.cpu.rule)) image (record began { lost = lost }) (K.told link.new) (K.phases link.new) (K.coming link.new) (K.takes link.new) self.new result }
+            → ComesBetween (rules_of self.old.options (R.rule self.old.cpu.rule)) image (record began { lost = lost; noted = noted (N.told_choices notes.new) (N.told_episodes notes.new) }) (K.told link.new) (K.phases link.new) (K.coming link.new) (K.takes link.new) self.new result }
         ensures frame { HasSameFrame self.old self.new }
         ensures takes { TakesBy (K.takes link.new) result }
         ensures gives { UnlessBroken result (CanGive (K.gives link.new) (K.gives_to link.new) self.new.replies) }
@@ -38,27 +62,41 @@ impl<R: AccessRule> Session<R> {
         ensures least { self.new.steps + steps.old ≤ steps.new + self.old.steps }
         ensures later { IfOk result (λ _. IsAdoptedLater self.old self.new) }
         ensures cause { HasStopCause (K.counts link.old) (K.counts link.new) result }
+        ensures noted { HasNoteStop (N.faults notes.old) (N.faults notes.new) result }
+        ensures works { UnlessNoteStop result (N.works notes.new ≡ N.works notes.old) }
+        ensures fixed { N.fixed notes.new ≡ N.fixed notes.old }
         ensures went { K.Went link.old link.new }
     {
-        if let Err(stop) = self.adopt(cause, steps) {
-            return Err(stop);
+        let point = self.taken;
+        let recovered = match self.adopt(cause, steps) {
+            Ok(recovered) => recovered,
+            Err(AllocError) => return Err(Stop::Breaks(Answer::Memory)),
+        };
+        if let Err(fault) = notes.episode(&recovered.episode) {
+            return Err(Stop::Breaks(note_answer(fault)));
+        }
+        if let Some(end) = end_of(point, cause, recovered.adopted) {
+            return Err(Stop::Ends(end));
         }
         self.pass_due(link)
     }
 
-    // The session goes on as a trial, of which what is due has to be passed; or it gives up.
-    fn adopt<L: Ledger>(&mut self, cause: Cause, steps: &mut Steps<L>) -> Result<(), Stop>
+    // The session becomes a trial, of which what is due has to be passed, or comes to its end; but the episode isn't noted yet.
+    fn adopt<L: Ledger>(
+        &mut self,
+        cause: Cause,
+        steps: &mut Steps<L>,
+    ) -> Result<Recovered, AllocError>
         requires fails { (told : Told) × (phases : Phases) × StandsFailing (rules_of self.old.options (R.rule self.old.cpu.rule)) told phases cause self.old }
         requires marked { IsCounted self.old }
         ensures adopts { (image : Image) (began : Since) (now : Told) (phases : Phases) (coming : Option Coming) (lost : ℕ) → IsFailing (rules_of self.old.options (R.rule self.old.cpu.rule)) image began now phases cause self.old
-            → UnlessMemory result (lost + self.new.steps + steps.old ≡ began.lost + self.old.steps + steps.new)
-            → AdoptsTo (rules_of self.old.options (R.rule self.old.cpu.rule)) image (record began { lost = lost }) now phases coming self.new result }
-        ensures answer { IsAdoptAnswer result }
+            → (IfOk result (λ _. lost + self.new.steps + steps.old ≡ began.lost + self.old.steps + steps.new))
+            → AdoptsBy (rules_of self.old.options (R.rule self.old.cpu.rule)) image (record began { lost = lost }) now phases coming self.old.taken cause self.new result }
         ensures frame { HasSameFrame self.old self.new }
-        ensures opened { UnlessBroken result (HasSameOpen self.old.replies self.new.replies) }
-        ensures marked { IfOk result (λ _. IsCounted self.new) }
+        ensures opened { IfOk result (λ _. HasSameOpen self.old.replies self.new.replies) }
+        ensures marked { IfOk result (λ recovered. end_of self.old.taken cause recovered.adopted ≡ None → IsCounted self.new) }
         ensures least { self.new.steps + steps.old ≤ steps.new + self.old.steps }
-        ensures later { IfOk result (λ _. IsAdoptedLater self.old self.new) }
+        ensures later { IfOk result (λ recovered. end_of self.old.taken cause recovered.adopted ≡ None → IsAdoptedLater self.old self.new) }
     {
         let point = self.taken;
         let pc = self.cpu.pc();
@@ -72,6 +110,7 @@ impl<R: AccessRule> Session<R> {
             self.options.budget,
             &self.log,
             &mut self.replies,
+            self.recorded,
             &mut self.choices,
             steps,
         ) {
@@ -80,14 +119,11 @@ impl<R: AccessRule> Session<R> {
                     self.env = adopted.env;
                     self.until = point + 4;
                     self.count_run();
-                    match adopted.code {
-                        Some(code) => Err(Stop::Ends(Answer::Exited(code))),
-                        None => Ok(()),
-                    }
+                    Ok(recovered)
                 }
-                None => Err(Stop::Ends(Answer::GaveUp { point, cause })),
+                None => Ok(recovered),
             },
-            Err(_) => Err(Stop::Breaks(Answer::Memory)),
+            Err(e) => Err(e),
         }
     }
 }

@@ -1,6 +1,8 @@
 // The checkpoints of a session.
-ghost use Rattle.std.specs.Prelude.{◌≡◌, [], ◌∷◌};
-ghost use Rattle.rx_io.specs.Links.{Told, Phases};
+ghost use Rattle.std.specs.Prelude.{◌≡◌, ◌<◌, ◌≤◌, ◌+◌, ◌^◌, ℕ, [], ◌∷◌, length, drop, true, Option, IfOk};
+ghost use Rattle.rx_io.specs.Links.{Told, Phases, Coming};
+ghost use Rattle.reply_ledger.specs.Ledger.{is_open};
+ghost use Rattle.notes.specs.Noting.{noted};
 ghost use Rattle.elf_image.specs.declared.image.Image.{Image};
 ghost use Rattle.run_history.specs.Served.{origin};
 ghost use Rattle.session_history.specs.Lawful.{Rules};
@@ -8,11 +10,16 @@ ghost use Rattle.recovery_gate.specs.Rings.{KeepsRing, SavesIf, is_due};
 ghost use Rattle.rx_engine.specs.Options.{rules_of};
 ghost use Rattle.rx_engine.specs.Sessions.{IsBegun};
 ghost use Rattle.rx_engine.specs.Standing.{Since, IsWaitingFor};
-ghost use Rattle.rx_engine.specs.Serving.{IsReadyToServe, StandsWaiting};
+ghost use Rattle.rx_engine.specs.Serving.{IsReadyToServe, StandsWaiting, WaitsBy, BreaksNoting, HasNoteStop, NotesRest, HasNoteRest, UnlessNoteStop};
 
 use crate::Session;
+use crate::recovering::note_answer;
+use crate::stop::Stop;
+use block_book::Choice;
 use guest_space::AccessRule;
-use recovery_gate::{begin_ring, checkpoint};
+use notes::Notes;
+use recovery_gate::{begin_ring, checkpoint, forget};
+use run_history::Answer;
 
 impl<R: AccessRule> Session<R> {
     /// Saves the start of the program as the first checkpoint.
@@ -44,4 +51,67 @@ impl<R: AccessRule> Session<R> {
             self.options.every,
         );
     }
+
+    /// Notes the answers of malloc that no trial can take back any more: those from before the oldest checkpoint.
+    pub(crate) fn note_choices<N: Notes>(&mut self, notes: &mut N) -> Result<(), Stop>
+        requires waits { (told : Told) × (phases : Phases) × StandsWaiting (rules_of self.old.options (R.rule self.old.cpu.rule)) told phases self.old }
+        ensures waits { (image : Image) (began : Since) (now : Told) (phases : Phases) (coming : Option Coming) → IsWaitingFor (rules_of self.old.options (R.rule self.old.cpu.rule)) image (record began { noted = noted (N.told_choices notes.old) (N.told_episodes notes.old) }) now phases self.old
+            → WaitsBy (rules_of self.old.options (R.rule self.old.cpu.rule)) image (record began { noted = noted (N.told_choices notes.new) (N.told_episodes notes.new) }) now phases coming true self.new result }
+        ensures same { self.new ≡ record self.old { recorded = self.new.recorded; choices = self.new.choices } }
+        ensures broken { BreaksNoting result }
+        ensures noted { HasNoteStop (N.faults notes.old) (N.faults notes.new) result }
+        ensures works { UnlessNoteStop result (N.works notes.new ≡ N.works notes.old) }
+        ensures fixed { N.fixed notes.new ≡ N.fixed notes.old }
+    {
+        let safe = self.cpu.oldest_marks().choices;
+        if safe <= self.recorded {
+            return Ok(());
+        }
+        let count = (safe - self.recorded) as usize;
+        if let Err(fault) = notes.choices(&self.choices[..count]) {
+            return Err(Stop::Breaks(note_answer(fault)));
+        }
+        drop_front(&mut self.choices, count);
+        self.recorded = safe;
+        Ok(())
+    }
+
+    /// Gives up the items and the replies that no trial needs any more.
+    pub(crate) fn forget(&mut self)
+        requires waits { (told : Told) × (phases : Phases) × StandsWaiting (rules_of self.old.options (R.rule self.old.cpu.rule)) told phases self.old }
+        ensures waits { (image : Image) (began : Since) (now : Told) (phases : Phases) → IsWaitingFor (rules_of self.old.options (R.rule self.old.cpu.rule)) image began now phases self.old
+            → IsWaitingFor (rules_of self.old.options (R.rule self.old.cpu.rule)) image began now phases self.new }
+        ensures same { self.new ≡ record self.old { log = self.new.log; replies = self.new.replies } }
+        ensures open { (conn : ℕ) → is_open self.new.replies.connections conn ≡ is_open self.old.replies.connections conn }
+    {
+        forget(&self.cpu, &mut self.log, &mut self.replies);
+    }
+
+    /// At an end: notes the answers of malloc that aren't noted yet.
+    pub(crate) fn note_rest<N: Notes>(&mut self, notes: &mut N) -> Result<(), Answer>
+        requires fits { self.old.recorded + length self.old.choices < 2 ^ 64 }
+        ensures noted { NotesRest (N.told_choices notes.old) (N.told_choices notes.new) self.old self.new result }
+        ensures episodes { N.told_episodes notes.new ≡ N.told_episodes notes.old }
+        ensures cause { HasNoteRest (N.faults notes.old) (N.faults notes.new) result }
+        ensures works { IfOk result (λ _. N.works notes.new ≡ N.works notes.old) }
+        ensures fixed { N.fixed notes.new ≡ N.fixed notes.old }
+    {
+        if self.choices.is_empty() {
+            return Ok(());
+        }
+        if let Err(fault) = notes.choices(&self.choices) {
+            return Err(note_answer(fault));
+        }
+        self.recorded += self.choices.len() as u64;
+        self.choices.clear();
+        Ok(())
+    }
+}
+
+// A list without its first elements. It keeps its room.
+fn drop_front(choices: &mut Vec<Choice>, count: usize)
+    requires { count ≤ length choices.old.items }
+    ensures { choices.new.items ≡ drop count choices.old.items }
+{
+    choices.drain(..count);
 }

@@ -6,11 +6,12 @@ ghost use Rattle.item_log.specs.Log.{received};
 ghost use Rattle.run_history.specs.declared.answer.Answer.TheVariants as answer;
 ghost use Rattle.guest_cpu.specs.declared.event.Event.TheVariants as event;
 ghost use Rattle.session_history.specs.Ends.{IsEnd};
+ghost use Rattle.notes.specs.Noting.{noted};
 ghost use Rattle.rx_engine.specs.Options.{rules_of};
 ghost use Rattle.rx_engine.specs.Sessions.{IsBegun};
 ghost use Rattle.rx_engine.specs.Standing.{Since, IsGoing, IsBetween, IsAsking, IsWaitingFor, IsEnding};
 ghost use Rattle.rx_engine.specs.Recovered.{HasRecovered};
-ghost use Rattle.rx_engine.specs.Serving.{CanGive, HasStopCause, HasAnswerCause, UnlessBroken, UnlessMemory, TakesAtEnd, TakesBy, BreaksPassing, BreaksAt, BreaksOnce, StaysKnown, IsCounted, IsOkOrMemory, HasSameFrame, HasRun, GoesFurther, StandsBetween, StandsWaiting, StandsEmitting, StandsEnding, ComesBetween, IsReadyToServe};
+ghost use Rattle.rx_engine.specs.Serving.{CanGive, HasStopCause, HasNoteStop, HasAnswerCause, HasNoteCause, UnlessBroken, UnlessMemory, TakesAtEnd, TakesBy, BreaksPassing, BreaksAt, BreaksOnce, StaysKnown, IsCounted, IsOkOrMemory, HasSameFrame, HasRun, GoesFurther, StandsBetween, StandsWaiting, StandsEmitting, StandsEnding, ComesBetween, IsReadyToServe, IsUnnoted, UnlessNoteStop, UnlessNoteFault};
 
 use crate::Session;
 use crate::giving::answer_to;
@@ -18,6 +19,7 @@ use crate::stop::Stop;
 use block_book::Choice;
 use guest_cpu::Event;
 use guest_space::AccessRule;
+use notes::Notes;
 use reply_gate::pass_until;
 use run_history::Answer;
 use rx_io::{Bytes, Link, Steps};
@@ -25,15 +27,24 @@ use std::sync::ledger::Ledger;
 
 impl<R: AccessRule> Session<R> {
     /// Serves a link to which no connection was opened yet, from the start of the program to an end, a fault or want of memory, and
-    /// answers how it ended. At an end all that is held back is passed. Checkpoints of the program are saved on the way.
-    pub fn serve<K: Link, L: Ledger>(&mut self, link: &mut K, steps: &mut Steps<L>) -> Answer
+    /// answers how it ended. At an end all that is held back is passed. Checkpoints of the program are saved on the way. The notes are told each
+    /// recovery, and the answers of malloc: those from before the oldest checkpoint as it is saved, and the others at an end.
+    pub fn serve<K: Link, N: Notes, L: Ledger>(
+        &mut self,
+        link: &mut K,
+        notes: &mut N,
+        steps: &mut Steps<L>,
+    ) -> Answer
         requires begun { IsReadyToServe self.old }
         requires fresh { IsFresh (K.phases link.old) }
         requires takes { K.takes link.old ≡ true }
         requires gives { K.gives link.old ≡ true }
         ensures served { (image : Image) → IsBegun image self.old.options self.old.cpu.rule self.old
-            → HasRecovered (rules_of self.old.options (R.rule self.old.cpu.rule)) image (K.told link.old) (K.told link.new) (K.coming link.new) (K.takes link.new) result self.new.choices self.new.taken self.new.steps steps.old steps.new }
+            → HasRecovered (rules_of self.old.options (R.rule self.old.cpu.rule)) image (K.told link.old) (K.told link.new) (K.coming link.new) (K.takes link.new) result (noted (N.told_choices notes.old) (N.told_episodes notes.old)) (noted (N.told_choices notes.new) (N.told_episodes notes.new)) self.new.recorded self.new.choices self.new.taken self.new.steps steps.old steps.new }
         ensures cause { HasAnswerCause (K.counts link.old) (K.counts link.new) result }
+        ensures noted { HasNoteCause (N.faults notes.old) (N.faults notes.new) result }
+        ensures works { UnlessNoteFault result (N.works notes.new ≡ N.works notes.old) }
+        ensures fixed { N.fixed notes.new ≡ N.fixed notes.old }
         ensures takes { TakesAtEnd (K.takes link.new) result }
         ensures gives { IsEnd result → K.gives link.new ≡ true }
         ensures coming { IsEnd result → StaysKnown (K.coming link.old) (K.coming link.new) }
@@ -43,23 +54,26 @@ impl<R: AccessRule> Session<R> {
     {
         self.save_start();
         'turns: loop {
-            match self.turn(link, steps) {
+            match self.turn(link, notes, steps) {
                 Ok(()) => {}
                 Err(Stop::Breaks(answer)) => return answer,
-                Err(Stop::Ends(answer)) => return self.finish(link, answer),
+                Err(Stop::Ends(answer)) => return self.finish(link, notes, answer),
             }
         }
     }
 
-    // At an end: passes what is held back.
-    fn finish<K: Link>(&mut self, link: &mut K, answer: Answer) -> Answer
+    // At an end: passes what is held back, and notes the rest of the answers of malloc.
+    fn finish<K: Link, N: Notes>(&mut self, link: &mut K, notes: &mut N, answer: Answer) -> Answer
         requires ends { StandsEnding (rules_of self.old.options (R.rule self.old.cpu.rule)) (K.told link.old) (K.coming link.old) answer self.old }
         requires gives { CanGive (K.gives link.old) (K.gives_to link.old) self.old.replies }
-        ensures served { (image : Image) (began : Since) (ending : IsEnding (rules_of self.old.options (R.rule self.old.cpu.rule)) image began (K.told link.old) (K.coming link.old) self.old answer)
+        ensures served { (image : Image) (began : Since) (ending : IsEnding (rules_of self.old.options (R.rule self.old.cpu.rule)) image (record began { noted = noted (N.told_choices notes.old) (N.told_episodes notes.old) }) (K.told link.old) (K.coming link.old) self.old answer)
             → (K.takes link.old ≡ false → IsAsking (rules_of self.old.options (R.rule self.old.cpu.rule)) ending.story) → (before after : ℕ) → after ≡ before + (began.lost + self.old.steps)
-            → HasRecovered (rules_of self.old.options (R.rule self.old.cpu.rule)) image began.told (K.told link.new) (K.coming link.new) (K.takes link.new) result self.new.choices self.new.taken self.new.steps before after }
+            → HasRecovered (rules_of self.old.options (R.rule self.old.cpu.rule)) image began.told (K.told link.new) (K.coming link.new) (K.takes link.new) result began.noted_before (noted (N.told_choices notes.new) (N.told_episodes notes.new)) self.new.recorded self.new.choices self.new.taken self.new.steps before after }
         ensures cause { HasAnswerCause (K.counts link.old) (K.counts link.new) result }
-        ensures same { self.new ≡ record self.old { replies = self.new.replies } }
+        ensures noted { HasNoteCause (N.faults notes.old) (N.faults notes.new) result }
+        ensures works { UnlessNoteFault result (N.works notes.new ≡ N.works notes.old) }
+        ensures fixed { N.fixed notes.new ≡ N.fixed notes.old }
+        ensures same { self.new ≡ record self.old { replies = self.new.replies; recorded = self.new.recorded; choices = self.new.choices } }
         ensures takes { TakesAtEnd (K.takes link.old) answer → TakesAtEnd (K.takes link.new) result }
         ensures gives { IsEnd result → K.gives link.new ≡ true }
         ensures coming { K.coming link.new ≡ K.coming link.old }
@@ -70,17 +84,25 @@ impl<R: AccessRule> Session<R> {
         if let Err(fault) = pass_until(&mut self.replies, link, u64::MAX, stamp) {
             return answer_to(fault);
         }
+        if let Err(fault) = self.note_rest(notes) {
+            return fault;
+        }
         answer
     }
 
     // Runs the guest to its next event, and does what the event asks for.
-    fn turn<K: Link, L: Ledger>(&mut self, link: &mut K, steps: &mut Steps<L>) -> Result<(), Stop>
+    fn turn<K: Link, N: Notes, L: Ledger>(
+        &mut self,
+        link: &mut K,
+        notes: &mut N,
+        steps: &mut Steps<L>,
+    ) -> Result<(), Stop>
         requires stands { StandsBetween (rules_of self.old.options (R.rule self.old.cpu.rule)) (K.told link.old) (K.phases link.old) self.old }
         requires takes { K.takes link.old ≡ true }
         requires gives { CanGive (K.gives link.old) (K.gives_to link.old) self.old.replies }
-        ensures turns { (image : Image) (began : Since) (lost : ℕ) → IsBetween (rules_of self.old.options (R.rule self.old.cpu.rule)) image began (K.told link.old) (K.phases link.old) self.old
+        ensures turns { (image : Image) (began : Since) (lost : ℕ) → IsBetween (rules_of self.old.options (R.rule self.old.cpu.rule)) image (record began { noted = noted (N.told_choices notes.old) (N.told_episodes notes.old) }) (K.told link.old) (K.phases link.old) self.old
             → UnlessMemory result (lost + self.new.steps + steps.old ≡ began.lost + self.old.cpu.slots.live.steps + steps.new)
-            → ComesBetween (rules_of self.old.options (R.rule self.old.cpu.rule)) image (record began { lost = lost }) (K.told link.new) (K.phases link.new) (K.coming link.new) (K.takes link.new) self.new result }
+            → ComesBetween (rules_of self.old.options (R.rule self.old.cpu.rule)) image (record began { lost = lost; noted = noted (N.told_choices notes.new) (N.told_episodes notes.new) }) (K.told link.new) (K.phases link.new) (K.coming link.new) (K.takes link.new) self.new result }
         ensures frame { HasSameFrame self.old self.new }
         ensures takes { TakesBy (K.takes link.new) result }
         ensures gives { UnlessBroken result (CanGive (K.gives link.new) (K.gives_to link.new) self.new.replies) }
@@ -90,6 +112,9 @@ impl<R: AccessRule> Session<R> {
         ensures least { self.new.steps + steps.old ≤ steps.new + self.old.cpu.slots.live.steps }
         ensures later { IfOk result (λ _. GoesFurther self.old self.new) }
         ensures cause { HasStopCause (K.counts link.old) (K.counts link.new) result }
+        ensures noted { HasNoteStop (N.faults notes.old) (N.faults notes.new) result }
+        ensures works { UnlessNoteStop result (N.works notes.new ≡ N.works notes.old) }
+        ensures fixed { N.fixed notes.new ≡ N.fixed notes.old }
         ensures went { K.Went link.old link.new }
     {
         let env = self.env_now();
@@ -99,7 +124,7 @@ impl<R: AccessRule> Session<R> {
         {
             Ok(Event::Asks) => {
                 self.count_run();
-                self.ask(link, steps)
+                self.ask(link, notes, steps)
             }
             Ok(Event::Emits(conn, bytes)) => self.send(link, conn, bytes),
             Ok(Event::Chooses(choice)) => self.choose(choice),
@@ -109,20 +134,26 @@ impl<R: AccessRule> Session<R> {
             }
             Ok(Event::Failed(cause)) => {
                 self.count_run();
-                self.recover(link, cause, steps)
+                self.recover(link, notes, cause, steps)
             }
             Err(_) => Err(Stop::Breaks(Answer::Memory)),
         }
     }
 
-    // The guest waits for an item: it is saved where a checkpoint is due, and then the item comes, and is taken.
-    fn ask<K: Link, L: Ledger>(&mut self, link: &mut K, steps: &mut Steps<L>) -> Result<(), Stop>
+    // The guest waits for an item: it is saved where a checkpoint is due, and what no trial needs any more is noted and given up. Then the item
+    // comes, and is taken.
+    fn ask<K: Link, N: Notes, L: Ledger>(
+        &mut self,
+        link: &mut K,
+        notes: &mut N,
+        steps: &mut Steps<L>,
+    ) -> Result<(), Stop>
         requires waits { StandsWaiting (rules_of self.old.options (R.rule self.old.cpu.rule)) (K.told link.old) (K.phases link.old) self.old }
         requires takes { K.takes link.old ≡ true }
         requires gives { CanGive (K.gives link.old) (K.gives_to link.old) self.old.replies }
         requires marked { IsCounted self.old }
-        ensures turns { (image : Image) (began : Since) → IsWaitingFor (rules_of self.old.options (R.rule self.old.cpu.rule)) image began (K.told link.old) (K.phases link.old) self.old
-            → ComesBetween (rules_of self.old.options (R.rule self.old.cpu.rule)) image began (K.told link.new) (K.phases link.new) (K.coming link.new) (K.takes link.new) self.new result }
+        ensures turns { (image : Image) (began : Since) → IsWaitingFor (rules_of self.old.options (R.rule self.old.cpu.rule)) image (record began { noted = noted (N.told_choices notes.old) (N.told_episodes notes.old) }) (K.told link.old) (K.phases link.old) self.old
+            → ComesBetween (rules_of self.old.options (R.rule self.old.cpu.rule)) image (record began { noted = noted (N.told_choices notes.new) (N.told_episodes notes.new) }) (K.told link.new) (K.phases link.new) (K.coming link.new) (K.takes link.new) self.new result }
         ensures until { self.new.until ≡ self.old.until }
         ensures frame { HasSameFrame self.old self.new }
         ensures takes { TakesBy (K.takes link.new) result }
@@ -133,9 +164,16 @@ impl<R: AccessRule> Session<R> {
         ensures later { IfOk result (λ _. self.old.cpu.slots.live.steps < self.new.cpu.slots.live.steps) }
         ensures counted { steps.new + self.old.cpu.slots.live.steps ≡ steps.old + self.new.cpu.slots.live.steps }
         ensures cause { HasStopCause (K.counts link.old) (K.counts link.new) result }
+        ensures noted { HasNoteStop (N.faults notes.old) (N.faults notes.new) result }
+        ensures works { UnlessNoteStop result (N.works notes.new ≡ N.works notes.old) }
+        ensures fixed { N.fixed notes.new ≡ N.fixed notes.old }
         ensures went { K.Went link.old link.new }
     {
         self.save();
+        if let Err(stop) = self.note_choices(notes) {
+            return Err(stop);
+        }
+        self.forget();
         self.receive(link, steps)
     }
 
@@ -161,6 +199,7 @@ impl<R: AccessRule> Session<R> {
         ensures later { IfOk result (λ _. self.old.cpu.slots.live.steps < self.new.cpu.slots.live.steps) }
         ensures counted { steps.new + self.old.cpu.slots.live.steps ≡ steps.old + self.new.cpu.slots.live.steps }
         ensures cause { HasStopCause (K.counts link.old) (K.counts link.new) result }
+        ensures unnoted { IsUnnoted result }
         ensures went { K.Went link.old link.new }
     {
         if let Err(stop) = self.await_item(link) {

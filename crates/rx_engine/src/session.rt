@@ -27,6 +27,8 @@ pub struct Session<R: AccessRule> {
     pub(crate) log: ItemLog,
     pub(crate) replies: Replies,
     pub(crate) events: u64,
+    // How many of the run's answers of malloc are noted, and the others.
+    pub(crate) recorded: u64,
     pub(crate) choices: Vec<Choice>,
     pub(crate) taken: u64,
     pub(crate) steps: u64,
@@ -40,7 +42,7 @@ impl<R: AccessRule> Model for Session<R> {
 
     ghost Value = { SessionState R };
 
-    ghost view = { λ s. record { options = s.options; cpu = s.cpu; ring = s.ring; log = s.log; replies = s.replies; events = s.events; choices = s.choices.items; taken = s.taken; steps = s.steps; env = s.env; until = s.until } };
+    ghost view = { λ s. record { options = s.options; cpu = s.cpu; ring = s.ring; log = s.log; replies = s.replies; events = s.events; recorded = s.recorded; choices = s.choices.items; taken = s.taken; steps = s.steps; env = s.env; until = s.until } };
 
     ghost invariant = { λ s. AreInRange s.options };
 }
@@ -66,6 +68,7 @@ impl<R: AccessRule + Drop> Session<R> {
             log: ItemLog::make(alloc, options.frame, options.max_items)?,
             replies: Replies::make(alloc)?,
             events: 0,
+            recorded: 0,
             choices: Vec::new(alloc),
             taken: 0,
             steps: 0,
@@ -74,24 +77,34 @@ impl<R: AccessRule + Drop> Session<R> {
         })
     }
 
-    /// What the session leaves. It takes no memory, and records nothing: all of the run's answers of malloc are in the tail.
-    pub fn into_end(self) -> Left
-        ensures recorded { result.recorded ≡ 0 }
+    /// What the session leaves. It takes no memory.
+    pub fn into_end(self) -> Left<R>
+        ensures recorded { result.recorded ≡ self.recorded }
         ensures tail { result.tail ≡ self.choices }
         ensures steps { result.steps ≡ self.steps }
         ensures taken { result.taken ≡ self.taken }
+        ensures cpu { result.cpu ≡ self.cpu }
+        ensures log { result.log ≡ self.log }
+        ensures replies { result.replies ≡ self.replies }
     {
         let Session {
+            cpu,
+            log,
+            replies,
+            recorded,
             choices,
             taken,
             steps,
             ..
         } = self;
         Left {
-            recorded: 0,
+            recorded,
             tail: Choices::from_vec(choices),
             steps,
             taken,
+            cpu,
+            log,
+            replies,
         }
     }
 }
@@ -111,7 +124,14 @@ impl<R: AccessRule> Session<R> {
         self.steps
     }
 
-    /// The answers of malloc that it used, in their order.
+    /// How many of its answers of malloc are noted.
+    pub fn recorded(&self) -> u64
+        ensures { result ≡ self.now.recorded }
+    {
+        self.recorded
+    }
+
+    /// The answers of malloc that it used behind those, in their order.
     pub fn choices(&self) -> &[Choice]
         ensures { result.now ≡ self.now.choices }
     {

@@ -1,6 +1,10 @@
 -- The headline, from what a session over a trunk leaves.
-use Rattle.std.proofs.Common.{◌≡◌, ◌≤◌, ℕ, zero, suc, List, [], ◌++◌, length, Bool, true, Option, None, Some, IfSome, refl, sym, ◌∙◌, ap, subst, arith, append-nil}
+use Rattle.std.proofs.Common.{◌≡◌, ◌≤◌, ℕ, zero, suc, List, [], ◌++◌, length, drop, Bool, true, Option, None, Some, IfSome, refl, sym, ◌∙◌, ap, subst, arith, append-nil}
+use Rattle.std.proofs.lemmas.List.{length-take-le, take-append-drop}
 use Rattle.std.proofs.lemmas.Option.{option_and_then_some}
+use Rattle.episodes.specs.declared.episode.Episode.{Episode}
+use Rattle.notes.specs.Noting.{noted}
+use Rattle.rx_engine.specs.Recovered.{HasNoted}
 use Rattle.block_book.specs.declared.choice.Choice.{Choice}
 use Rattle.rx_io.specs.declared.bytes.Item.{Item}
 use Rattle.rx_io.specs.Outside.{Stream, IsDrained}
@@ -93,26 +97,48 @@ drained : (source source_later : Option Stream) (events : List _) → StopsTrunk
 drained None later events stops = tt
 drained (Some stream) later events stops = stops.1
 
-pub headline : (rules : Rules) (image : Image) (source source_later : Option Stream) (sink sink_later : Option (List ℕ)) (end : End) → end.recorded ≡ 0
-    → (counted : ℕ) (s : ServesTrunk rules image source source_later sink sink_later end.answer end.tail end.taken end.steps counted) → Headline rules image s.session source source_later sink sink_later end
-headline rules image source source_later sink sink_later end none counted s =
+-- of the answers of malloc of a run the first ones stand in the record, and the others are the tail
+record Recorded (session : Session) (end : End) (recording : List Choice) : Type 0 where
+  pub count : length recording ≡ end.recorded
+  pub all : session.survivor.now.choices ≡ recording ++ end.tail
+
+recorded_in : (session : Session) (end : End) (ended : Answer) (recording : List Choice) (told : List Episode) (episodes : List Episode)
+    → HasNoted (noted (Some []) (Some [])) (noted (Some recording) (Some told)) ended session.survivor.now.choices episodes end.recorded end.tail → Recorded session end recording
+recorded_in session end ended recording told episodes has = record {
+  count = ap (λ (list : List Choice). length list) has.choices_noted ∙ length-take-le end.recorded session.survivor.now.choices has.low;
+  all =
+      sym (take-append-drop end.recorded session.survivor.now.choices)
+      ∙ ap (λ list. list ++ drop end.recorded session.survivor.now.choices) (sym has.choices_noted)
+      ∙ ap (λ list. recording ++ list) (sym has.tail_is);
+}
+
+pub headline : (rules : Rules) (image : Image) (source source_later : Option Stream) (sink sink_later : Option (List ℕ)) (ended : Answer) (end : End) (recording : List Choice) (told : List Episode)
+    → (IsEnd end.answer → end.answer ≡ ended) → (counted : ℕ)
+    (s : ServesTrunk rules image source source_later sink sink_later ended (noted (Some []) (Some [])) (noted (Some recording) (Some told)) end.recorded end.tail end.taken end.steps counted)
+    → Headline rules image s.session recording source source_later sink sink_later end
+headline rules image source source_later sink sink_later ended end recording told same counted s =
     let session : Session = s.session in
     let items : List Item = received_items rules session in
     let state : State = session.survivor.now.state in
-    let ran : Run image items end.tail end.steps state =
-    subst (λ n. Run image items end.tail n state) s.steps_are (subst (λ list. Run image items list session.survivor.now.steps state) s.choices_are s.account.ran) in
+    let recorded : Recorded session end recording = recorded_in session end ended recording told _ s.notes in
+    let ran : Run image items (recording ++ end.tail) end.steps state =
+    subst (λ n. Run image items (recording ++ end.tail) n state) s.steps_are (subst (λ list. Run image items list session.survivor.now.steps state) recorded.all s.account.ran) in
+    let ends_at : (a : Answer) → IsEnd a → end.answer ≡ a → ended ≡ a = λ a is e. sym (same (subst IsEnd (sym e) is)) ∙ e in
     record {
-      recorded = none;
+      recorded = recorded.count;
       ran = ran;
+      all_recorded = λ is. s.notes.all_recorded (subst IsEnd (same is) is);
       taken = s.taken_is;
       received = subst (λ n. n ≤ length items) s.taken_is s.account.taken;
       passed = passed_bytes rules image sink sink_later session s.at_end end.answer s.account
-          (λ is. let owes = ends_whole rules s.coming session end.answer is s.ends in all_at_end rules image session s.at_end s.account owes.0 owes.1) s.carried;
-      finished = λ is.
+          (λ is. let owes = ends_whole rules s.coming session ended (subst IsEnd (same is) is) s.ends in all_at_end rules image session s.at_end s.account owes.0 owes.1) s.carried;
+      finished = λ e.
+          let is : ended ≡ answer.Finished = ends_at answer.Finished tt e in
           let ends : EndsBy rules s.coming session answer.Finished = subst (EndsBy rules s.coming session) is s.ends in
           let asks : state.machine.taken ≡ received rules.bounds (before_end session) = ends.0.0.taken in
-          (sym s.taken_is ∙ asks ∙ sym (ap (λ (list : List Item). length list) (received_at_end rules.bounds session s.pieces (subst AreGiven (sym (ends_whole rules s.coming session end.answer (subst IsEnd (sym is) tt) s.ends).1) tt))), drained source source_later _ (subst (StopsTrunk source source_later _) is s.stops));
-      exited = λ code is.
+          (sym s.taken_is ∙ asks ∙ sym (ap (λ (list : List Item). length list) (received_at_end rules.bounds session s.pieces (subst AreGiven (sym (ends_whole rules s.coming session ended (subst IsEnd (sym is) tt) s.ends).1) tt))), drained source source_later _ (subst (StopsTrunk source source_later _) is s.stops));
+      exited = λ code e.
+          let is : ended ≡ answer.Exited code = ends_at (answer.Exited code) tt e in
           let ends : EndsBy rules s.coming session (answer.Exited code) = subst (EndsBy rules s.coming session) is s.ends in
-          last_exits image items end.tail end.steps state code ran.ran ends.0;
+          last_exits image items (recording ++ end.tail) end.steps state code ran.ran ends.0;
     }

@@ -1,4 +1,8 @@
 pub mod AssemblyLemmas
 pub mod SettingsLemmas
+pub mod FewItems
+pub mod FewSteps
+pub mod NamesLemmas
+pub mod NotingLemmas
 pub mod HeadlineLemmas
 pub mod RunLemmas

@@ -1,36 +1,56 @@
 -- What each command leaves.
-use Rattle.std.specs.Prelude.{◌≡◌, ◌⊎◌, ℕ, List, Option}
+use Rattle.std.specs.Prelude.{◌≡◌, ◌⊎◌, ℕ, List, Option, Ok, Err}
 use Rattle.command_line.specs.Commands.{RunValue, AsmValue}
 use Rattle.rx_io.specs.Named.{Contents}
 use Rattle.rx_io.specs.Outside.{Stream}
 use Rattle.elf_image.specs.declared.image.Image.{Image}
-use Rattle.trunk_session.specs.Serving.{ServesTrunk}
+use Rattle.rx_io.specs.declared.fault.IoFault.{IoFault}
+use Rattle.run_history.specs.declared.answer.Answer.{Answer}
+use Rattle.run_history.specs.declared.answer.Answer.TheVariants as answer
+use Rattle.rx_engine.specs.Serving.{IsNoteAnswer}
+use Rattle.session_history.specs.Ends.{IsEnd}
 use Rattle.rx_serve.specs.declared.ending.End.{End}
 use Rattle.rx_serve.specs.Assembly.{Assembles, HasAsmCause}
 use Rattle.rx_serve.specs.Ended.{HasNoSession, IsUntouched}
 use Rattle.rx_serve.specs.Headline.{Headline}
 use Rattle.rx_serve.specs.Loading.{HasImage, HasLoadCause}
+use Rattle.rx_serve.specs.Noting.{StartsFiles, ServesNoted, ClosesFiles, HaveTexts}
 use Rattle.rx_serve.specs.Settings.{window_of, rules_of_run}
 
--- no session began: the program has no image, or memory ran out. Nothing was read, written or run
-pub record HasNotBegun (value : RunValue) (files : Option Contents) (source source_later : Option Stream) (sink sink_later : Option (List ℕ)) (end : End) (counted : ℕ) : Type 0 where
+-- what the files have where no session began: nothing of them was touched; or a fault or want of memory came as the two were started; or they were
+-- started, and there was no memory for a session
+abbrev pub StartsPartly : RunValue → Option Contents → Option Contents → Answer → Type 0
+StartsPartly value files files_later end =
+    (files_later ≡ files)
+    ⊎ (((fault : IoFault) × (IsNoteAnswer fault end × StartsFiles value files files_later (Err fault)))
+    ⊎ ((end ≡ answer.Memory) × StartsFiles value files files_later (Ok tt)))
+
+-- no session began: the program has no image, or its files can't be started, or memory ran out. Nothing was read, passed or run
+pub record HasNotBegun (value : RunValue) (files files_later : Option Contents) (source source_later : Option Stream) (sink sink_later : Option (List ℕ)) (end : End) (counted : ℕ) : Type 0 where
   pub cause : HasLoadCause files value.program (window_of value) end.answer
+  pub starts : StartsPartly value files files_later end.answer
   pub untouched : IsUntouched source source_later sink sink_later
   pub nothing : HasNoSession end
   pub none_counted : counted ≡ 0
 
--- A session of the program served the trunk: one account of it, from which the bytes taken and written follow, the cause of the answer
--- stands behind it, and the headline is true of it.
-pub record HasServed (value : RunValue) (files : Option Contents) (source source_later : Option Stream) (sink sink_later : Option (List ℕ)) (end : End) (counted : ℕ) : Type 0 where
+-- A session of the program served the trunk, between the first and the last lines of its two files: one account of it, from which the bytes taken
+-- and written follow, with the cause of the session's end behind it, and of which the headline is true. At an end the record and the report are whole.
+pub record HasServed (value : RunValue) (files files_later : Option Contents) (source source_later : Option Stream) (sink sink_later : Option (List ℕ)) (end : End) (counted : ℕ) : Type 0 where
   pub image : Image
   pub program : HasImage files value.program (window_of value) image
-  pub serves : ServesTrunk (rules_of_run value) image source source_later sink sink_later end.answer end.tail end.taken end.steps counted
-  pub headline : Headline (rules_of_run value) image serves.session source source_later sink sink_later end
+  pub files_started : Option Contents
+  pub files_served : Option Contents
+  pub ended : Answer
+  pub starts : StartsFiles value files files_started (Ok tt)
+  pub noted : ServesNoted (rules_of_run value) image value files_started files_served source source_later sink sink_later ended end.recorded end.tail end.taken end.steps counted
+  pub closes : ClosesFiles value end.taken end.steps files_served files_later ended end.answer
+  pub texts : IsEnd end.answer → HaveTexts value noted.choices noted.episodes end.answer end.taken end.steps files files_later
+  pub headline : Headline (rules_of_run value) image noted.serves.session noted.choices source source_later sink sink_later end
 
 -- what `run` leaves, where so many instructions were counted
-abbrev pub RunEnds : RunValue → Option Contents → Option Stream → Option Stream → Option (List ℕ) → Option (List ℕ) → End → ℕ → Type 0
-RunEnds value files source source_later sink sink_later end counted =
-    HasNotBegun value files source source_later sink sink_later end counted ⊎ HasServed value files source source_later sink sink_later end counted
+abbrev pub RunEnds : RunValue → Option Contents → Option Contents → Option Stream → Option Stream → Option (List ℕ) → Option (List ℕ) → End → ℕ → Type 0
+RunEnds value files files_later source source_later sink sink_later end counted =
+    HasNotBegun value files files_later source source_later sink sink_later end counted ⊎ HasServed value files files_later source source_later sink sink_later end counted
 
 -- what `asm` leaves: the executable of the text's image, or why it has none
 pub record AsmEnds (value : AsmValue) (files files_later : Option Contents) (source source_later : Option Stream) (sink sink_later : Option (List ℕ)) (end : End) : Type 0 where

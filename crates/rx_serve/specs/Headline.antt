@@ -1,5 +1,5 @@
 -- The headline: the bytes passed to each connection are a prefix of those that the recorded run emits on it.
-use Rattle.std.specs.Prelude.{◌≡◌, ℕ, ◌+◌, ◌≤◌, List, length, true, Option, Some, IfSome}
+use Rattle.std.specs.Prelude.{◌≡◌, ℕ, ◌+◌, ◌≤◌, List, [], ◌++◌, length, true, Option, Some, IfSome}
 use Rattle.std.specs.Io.KnownBytes.{Appends}
 use Rattle.block_book.specs.declared.choice.Choice.{Choice}
 use Rattle.rx_io.specs.declared.bytes.Item.{Item}
@@ -39,11 +39,13 @@ pub record LastExits (image : Image) (items : List Item) (choices : List Choice)
   pub exits : effect items choices before.machine ≡ Ends code
 
 -- Over the account of a session:
-pub record Headline (rules : Rules) (image : Image) (session : Session) (source source_later : Option Stream) (sink sink_later : Option (List ℕ)) (end : End) : Type 0 where
+pub record Headline (rules : Rules) (image : Image) (session : Session) (recording : List Choice) (source source_later : Option Stream) (sink sink_later : Option (List ℕ)) (end : End) : Type 0 where
   -- one run of the program from its start on flat memory, which takes the received items once each in order, and of which every answer of
-  -- malloc is one that C allows: those that are recorded (none is yet), and those of the tail
-  pub recorded : end.recorded ≡ 0
-  pub ran : Run image (received_items rules session) end.tail end.steps session.survivor.now.state
+  -- malloc is one that C allows: those that stand in the record, and those of the tail
+  pub recorded : length recording ≡ end.recorded
+  pub ran : Run image (received_items rules session) (recording ++ end.tail) end.steps session.survivor.now.state
+  -- at an end all of them stand in the record
+  pub all_recorded : IsEnd end.answer → end.tail ≡ []
   pub taken : session.survivor.now.state.machine.taken ≡ end.taken
   pub received : end.taken ≤ length (received_items rules session)
   -- the bytes passed to each connection are a prefix of those that this run emits on it, and at an end all of them
@@ -51,4 +53,4 @@ pub record Headline (rules : Rules) (image : Image) (session : Session) (source 
   -- at Finished every received item is taken, and no byte of the input is left
   pub finished : end.answer ≡ answer.Finished → (end.taken ≡ length (received_items rules session)) × IfSome source (λ _. IsDrained source_later)
   -- at Exited the run's last instruction is exit with that code
-  pub exited : (code : ℕ) → end.answer ≡ answer.Exited code → LastExits image (received_items rules session) end.tail end.steps code
+  pub exited : (code : ℕ) → end.answer ≡ answer.Exited code → LastExits image (received_items rules session) (recording ++ end.tail) end.steps code

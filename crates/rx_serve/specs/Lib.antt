@@ -4,5 +4,6 @@ pub mod Assembly
 pub mod Status
 pub mod Settings
 pub mod Ended
+pub mod Noting
 pub mod Headline
 pub mod Commands

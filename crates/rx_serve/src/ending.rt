@@ -3,6 +3,7 @@ ghost use Rattle.std.specs.Prelude.{◌≡◌};
 ghost use Rattle.rx_serve.specs.Status.{status_of};
 
 use block_book::Choices;
+use guest_space::AccessRule;
 use run_history::Answer;
 use rx_engine::Left;
 use std::alloc::Global;
@@ -20,7 +21,7 @@ pub struct End {
 }
 
 // The status of an answer.
-fn status_of_answer(answer: Answer) -> u8
+pub(crate) fn status_of_answer(answer: Answer) -> u8
     ensures { result ≡ status_of answer }
 {
     match answer {
@@ -64,7 +65,7 @@ impl End {
     }
 
     /// The end of a session.
-    pub(crate) fn of_session(answer: Answer, left: Left) -> End
+    pub(crate) fn of_session<R: AccessRule + Drop>(answer: Answer, left: Left<R>) -> End
         ensures answer { result.answer ≡ answer }
         ensures status { result.status ≡ status_of answer }
         ensures recorded { result.recorded ≡ left.recorded }

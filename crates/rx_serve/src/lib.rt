@@ -4,6 +4,7 @@
 mod assembly;
 mod ending;
 mod loading;
+mod noting;
 mod run;
 mod serving;
 mod settings;

@@ -19,7 +19,8 @@ use std::sync::ledger::Ledger;
 /// Runs a command over any outside: `words` are those behind the program's own name.
 ///
 /// `run PROGRAM --record RECORD --report REPORT` loads the program, and lets it serve the trunk of `input` and `output`: its
-/// events are taken as the program asks for them, and its sends are passed as frames. `asm SOURCE OUT` loads a text,
+/// events are taken as the program asks for them, and its sends are passed as frames. The record has each answer of malloc of the
+/// run that the session answers for, the report each failure and what was tried after it. `asm SOURCE OUT` loads a text,
 /// assembles it in a window of 1 MiB, and writes its executable.
 pub fn run_rx<F: Files, S: Source, K: Sink, N: Listener, L: Ledger>(
     alloc: Global,
@@ -30,9 +31,9 @@ pub fn run_rx<F: Files, S: Source, K: Sink, N: Listener, L: Ledger>(
     listener: &mut N,
     steps: &mut Steps<L>,
 ) -> End
-    // The headline, with the account that it is true of; or no session began, by its cause, and nothing was touched.
+    // The headline, with the account that it is true of; or no session began, by its cause: nothing was read or passed, and of the files at most the record and the report were begun.
     ensures headline { (value : RunValue) → command_of (texts_of words.now) ≡ Some (run value)
-        → (counted : ℕ) → steps.new ≡ steps.old + counted → RunEnds value (F.told files.old) (S.told input.old) (S.told input.new) (K.told output.old) (K.told output.new) result counted }
+        → (counted : ℕ) → steps.new ≡ steps.old + counted → RunEnds value (F.told files.old) (F.told files.new) (S.told input.old) (S.told input.new) (K.told output.old) (K.told output.new) result counted }
 
     // `asm` writes the executable of the text's image, and touches nothing else.
     ensures assembles { (value : AsmValue) → command_of (texts_of words.now) ≡ Some (asm value)
@@ -49,7 +50,7 @@ pub fn run_rx<F: Files, S: Source, K: Sink, N: Listener, L: Ledger>(
     ensures write_fault { result.answer ≡ Answer.WriteFault → Rose (K.faults output.old) (K.faults output.new) }
 
     // What is left alone.
-    ensures files { ((value : AsmValue) → command_of (texts_of words.now) ≡ Some (asm value) → ⊥) → F.told files.new ≡ F.told files.old }
+    ensures files { command_of (texts_of words.now) ≡ None → F.told files.new ≡ F.told files.old }
     ensures listener { listener.new ≡ listener.old }
 
     ensures status { result.status ≡ status_of result.answer }

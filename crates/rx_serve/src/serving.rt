@@ -3,11 +3,14 @@ ghost use Rattle.std.specs.Prelude.{◌≡◌, ℕ, ◌+◌, ◌≤◌};
 ghost use Rattle.command_line.specs.Commands.{run_shown};
 ghost use Rattle.command_line.specs.Ranges.{AreInRange};
 ghost use Rattle.rx_io.specs.Faults.{Rose};
+ghost use Rattle.file_notes.specs.Names.{AreTwo};
 ghost use Rattle.rx_serve.specs.Commands.{RunEnds};
+ghost use Rattle.rx_serve.specs.Noting.{names_of};
 ghost use Rattle.rx_serve.specs.Status.{status_of};
 
 use crate::ending::End;
 use crate::loading::load_image;
+use crate::noting::{end_notes, note_answer, serve_noted, start_notes};
 use crate::settings::options_of;
 use command_line::RunCommand;
 use guest_space::AllMapped;
@@ -16,9 +19,8 @@ use rx_engine::Session;
 use rx_io::{Files, Sink, Source, Steps};
 use std::alloc::Global;
 use std::sync::ledger::Ledger;
-use trunk_session::serve_trunk;
 
-/// Loads the program of a command and lets it serve. Record and report are named and not written yet.
+/// Loads the program of a command and lets it serve, with a record and a report of it in two files.
 pub fn run_program<F: Files, S: Source, K: Sink, L: Ledger>(
     alloc: Global,
     run: &RunCommand<'_>,
@@ -28,8 +30,8 @@ pub fn run_program<F: Files, S: Source, K: Sink, L: Ledger>(
     steps: &mut Steps<L>,
 ) -> End
     requires in_range { AreInRange (run_shown run.now) }
-    ensures ends { (counted : ℕ) → steps.new ≡ steps.old + counted → RunEnds (run_shown run.now) (F.told files.old) (S.told input.old) (S.told input.new) (K.told output.old) (K.told output.new) result counted }
-    ensures same { F.told files.new ≡ F.told files.old }
+    requires two { AreTwo (names_of (run_shown run.now)) }
+    ensures ends { (counted : ℕ) → steps.new ≡ steps.old + counted → RunEnds (run_shown run.now) (F.told files.old) (F.told files.new) (S.told input.old) (S.told input.new) (K.told output.old) (K.told output.new) result counted }
     ensures file_fault { result.answer ≡ Answer.FileFault → Rose (F.faults files.old) (F.faults files.new) }
     ensures read_fault { result.answer ≡ Answer.ReadFault → Rose (S.faults input.old) (S.faults input.new) }
     ensures write_fault { result.answer ≡ Answer.WriteFault → Rose (K.faults output.old) (K.faults output.new) }
@@ -41,10 +43,14 @@ pub fn run_program<F: Files, S: Source, K: Sink, L: Ledger>(
         Ok(image) => image,
         Err(answer) => return End::without_session(alloc, answer),
     };
+    if let Err(fault) = start_notes(alloc, files, run) {
+        return End::without_session(alloc, note_answer(fault));
+    }
     let mut session = match Session::begin(alloc, &image, &options, AllMapped) {
         Ok(session) => session,
         Err(_) => return End::without_session(alloc, Answer::Memory),
     };
-    let answer = serve_trunk(alloc, &mut session, input, output, steps);
+    let ended = serve_noted(alloc, run, &mut session, files, input, output, steps);
+    let answer = end_notes(alloc, files, run, ended, session.taken(), session.steps());
     End::of_session(answer, session.into_end())
 }

@@ -11,4 +11,4 @@ mod writing;
 
 pub use reading::read_record;
 pub use recorded::{MAX_TAKEN, MAX_WINDOW, RecordRefusal, Recorded};
-pub use writing::{choice_line, end_line, head_line};
+pub use writing::{CHOICE_BYTES, choice_line, choice_text, end_line, head_line};

@@ -10,8 +10,8 @@ use msg_frame::Framing;
 use rx_io::Bytes;
 use std::alloc::{AllocError, Global};
 
-// How many bytes the line of a choice has.
-pub(crate) const CHOICE_BYTES: usize = 13;
+/// How many bytes the line of an answer of malloc has.
+pub const CHOICE_BYTES: usize = 13;
 
 fn frame_name(frame: Framing) -> &'static str
     ensures { result.now ≡ frame_name frame }
@@ -35,9 +35,9 @@ pub fn head_line(alloc: Global, window: u32, frame: Framing) -> Result<Bytes, Al
     Ok(Bytes::from_vec(text.into_bytes()))
 }
 
-// The line of an answer of malloc.
+/// The bytes of the line of an answer of malloc, with its line feed.
 #[tactic(auto, unfolding(crate::specs::Lines::choice_line))]
-pub(crate) fn choice_text(choice: Choice) -> [u8; CHOICE_BYTES]
+pub fn choice_text(choice: Choice) -> [u8; CHOICE_BYTES]
     ensures { result ≡ choice_line choice }
 {
     let [a, b, c, d, e, f, g, h] = eight_digits(choice.at);

@@ -1,17 +1,18 @@
 -- How a session ends: each answer by its cause, over one account of what came and went.
-use Rattle.std.specs.Prelude.{◌≡◌, ℕ, List, [], ◌∷◌, ◌++◌, Bool, true, false, Option, Some, IfSome}
+use Rattle.std.specs.Prelude.{◌≡◌, ◌≢◌, ℕ, List, [], ◌∷◌, ◌++◌, Bool, true, false, Option, Some, IfSome}
 use Rattle.block_book.specs.declared.choice.Choice.{Choice}
 use Rattle.rx_io.specs.declared.journal.Entry.{Entry}
 use Rattle.rx_io.specs.declared.journal.Entry.TheVariants as entry
 use Rattle.rx_io.specs.declared.journal.LinkEvent.{LinkEvent}
 use Rattle.rx_io.specs.declared.journal.LinkEvent.TheVariants as event
+use Rattle.rx_io.specs.declared.journal.LinkEvent.TheVariants.{Ends}
 use Rattle.rx_io.specs.Links.{Told, Tells, Coming, Comes, Refuses, events_in, HasEnded}
 use Rattle.elf_image.specs.declared.image.Image.{Image}
 use Rattle.item_log.specs.Log.{IsPieceOf}
 use Rattle.run_history.specs.declared.answer.Answer.{Answer}
 use Rattle.run_history.specs.declared.answer.Answer.TheVariants as answer
 use Rattle.run_history.specs.Served.{FailsBy, AsksFor}
-use Rattle.session_history.specs.Heeding.{Bounds, Unheeded, refusal, received}
+use Rattle.session_history.specs.Heeding.{Bounds, Unheeded, refusal, received, AreHeeded}
 use Rattle.session_history.specs.Heeding as unheeded
 use Rattle.session_history.specs.Owing.{OwesNothing}
 use Rattle.session_history.specs.Lawful.{Rules, Survivor, entries_of}
@@ -33,11 +34,12 @@ IsEnd _ = ⊥
 abbrev pub IsWaiting : Rules → List Entry → Survivor → Type 0
 IsWaiting rules entries survivor = AsksFor rules.limits survivor.plan survivor.now (received rules.bounds entries)
 
--- the last entry is an event that is refused for this cause
+-- the last entry is an event that is refused for this cause. Ends is none
 pub record IsLastRefused (bounds : Bounds) (entries : List Entry) (cause : Unheeded) : Type 0 where
   pub before : List Entry
   pub event : LinkEvent
   pub last : entries ≡ before ++ entry.Took event ∷ []
+  pub no_end : event ≢ Ends
   pub refused : refusal bounds (events_in before) event ≡ Some cause
 
 -- the last entry is an event of which a message of this connection is too long
@@ -50,7 +52,7 @@ abbrev pub StandsAt : Rules → List Entry → Option Coming → Survivor → An
 StandsAt rules entries coming survivor answer.Finished = IsWaiting rules entries survivor × HasEnded entries × IfSome coming (λ next. next ≡ Comes event.Ends)
 StandsAt rules entries coming survivor (answer.Exited code) = survivor.now.state.ended ≡ Some code
 StandsAt rules entries coming survivor (answer.GaveUp point cause) = FailsBy rules.limits survivor.plan survivor.now cause × (survivor.now.state.machine.taken ≡ point)
-StandsAt rules entries coming survivor (answer.InputRefused kind offset) = IsWaiting rules entries survivor × IfSome coming (λ next. next ≡ Refuses kind offset)
+StandsAt rules entries coming survivor (answer.InputRefused kind offset) = IsWaiting rules entries survivor × AreHeeded rules.bounds entries × IfSome coming (λ next. next ≡ Refuses kind offset)
 StandsAt rules entries coming survivor (answer.MessageTooLong conn) = IsWaiting rules entries survivor × IsLastTooLong rules.bounds entries conn
 StandsAt rules entries coming survivor answer.LimitItems = IsWaiting rules entries survivor × IsLastRefused rules.bounds entries unheeded.LimitItems
 StandsAt rules entries coming survivor answer.LimitEvents = IsWaiting rules entries survivor × IsLastRefused rules.bounds entries unheeded.LimitEvents
@@ -73,19 +75,21 @@ OwesNothingBefore rules session = OwesNothing rules.bounds rules.hold (after_sin
 abbrev pub OwesNothingAtEnd : Rules → Session → Type 0
 OwesNothingAtEnd rules session = OwesNothing rules.bounds rules.hold (after_ending session true) session.survivor.now.state.sends
 
--- the survivor stands at its request for the item that is received next, and owed nothing before: so an event was asked for
+-- the survivor stands at its request for the item that is received next, it owed nothing before, and no event was refused: so an event was
+-- asked for
 abbrev pub WasAsked : Rules → Session → Type 0
-WasAsked rules session = IsWaiting rules (before_end session) session.survivor × OwesNothingBefore rules session
+WasAsked rules session = IsWaiting rules (before_end session) session.survivor × OwesNothingBefore rules session × AreHeeded rules.bounds (before_end session)
 
 -- no piece is passed behind the journal, and none is broken off
 abbrev pub HasNoEnding : Session → Type 0
 HasNoEnding session = (session.ending ≡ []) × (session.broken ≡ [])
 
--- What stands behind each answer of a session. At an end its cause holds, and all was passed. At a fault of reading the survivor waits
--- for an item, and nothing is owed.
+-- What stands behind each answer of a session. At an end its cause holds, and all was passed. At a fault of reading an event was
+-- asked for.
 abbrev pub EndsBy : Rules → Option Coming → Session → Answer → Type 0
-EndsBy rules coming session answer.ReadFault = IsWaiting rules (before_end session) session.survivor × OwesNothingBefore rules session × HasNoEnding session
+EndsBy rules coming session answer.ReadFault = WasAsked rules session × HasNoEnding session
 EndsBy rules coming session answer.WriteFault = Unit {0}
+EndsBy rules coming session answer.FileFault = Unit {0}
 EndsBy rules coming session answer.Memory = Unit {0}
 EndsBy rules coming session end = StandsAt rules (before_end session) coming session.survivor end × OwesNothingAtEnd rules session × (session.broken ≡ [])
 

@@ -1,10 +1,11 @@
 -- What a session hears of its link's next event.
-use Rattle.std.specs.Prelude.{◌≡◌, ℕ, List, [], ◌∷◌, ◌++◌, Option, None, Some, false}
+use Rattle.std.specs.Prelude.{◌≡◌, ◌≢◌, ℕ, List, [], ◌∷◌, ◌++◌, Option, None, Some, false}
 use Rattle.rx_io.specs.declared.bytes.Item.{Item}
 use Rattle.rx_io.specs.declared.journal.Entry.{Entry}
 use Rattle.rx_io.specs.declared.journal.Entry.TheVariants as entry
 use Rattle.rx_io.specs.declared.journal.LinkEvent.{LinkEvent}
 use Rattle.rx_io.specs.declared.journal.LinkEvent.TheVariants as event
+use Rattle.rx_io.specs.declared.journal.LinkEvent.TheVariants.{Ends}
 use Rattle.rx_io.specs.Sends.{Send}
 use Rattle.rx_io.specs.Links.{events_in}
 use Rattle.item_log.specs.Log.{Log}
@@ -31,10 +32,11 @@ pub record IsHeard (bounds : Bounds) (entries : List Entry) (sends : List Send) 
   pub items : KeepsItems bounds (entries ++ entry.Took event ∷ []) log
   pub replies : KeepsReplies bounds (entries ++ entry.Took event ∷ []) (closing_of event) sends ledger
 
--- an event that is refused brings no item, and changes nothing that the session knows; a close that is refused is the first of its
+-- an event that is refused, which Ends never is, brings no item, and changes nothing that the session knows; a close that is refused is the first of its
 -- connection
 pub record IsUnheeded (bounds : Bounds) (entries : List Entry) (sends : List Send) (event : LinkEvent) (cause : Unheeded) (ledger : Ledger) : Type 0 where
   pub refused : refusal bounds (events_in entries) event ≡ Some cause
+  pub no_end : event ≢ Ends
   pub first_close : (conn : ℕ) → closing_of event ≡ Some conn → closes conn (heeded bounds (events_in entries)) ≡ false
   pub brings_none : items_in bounds (entries ++ entry.Took event ∷ []) ≡ items_in bounds entries
   pub replies : KeepsReplies bounds (entries ++ entry.Took event ∷ []) None sends ledger

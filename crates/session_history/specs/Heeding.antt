@@ -1,5 +1,5 @@
 -- The events of a link that a session heeds, and their items. A session ends at the first event that it refuses.
-use Rattle.std.specs.Prelude.{ℕ, List, [], ◌∷◌, ◌++◌, length, Option, None, Some, is_none, nat_le, nat_lt, if◌then◌else◌}
+use Rattle.std.specs.Prelude.{◌≡◌, ℕ, List, [], ◌∷◌, ◌++◌, length, Option, None, Some, is_none, nat_le, nat_lt, if◌then◌else◌}
 use Rattle.rx_io.specs.declared.bytes.Item.{Item}
 use Rattle.rx_io.specs.declared.journal.Entry.{Entry}
 use Rattle.rx_io.specs.declared.journal.LinkEvent.{LinkEvent}
@@ -44,3 +44,7 @@ items_in bounds entries = items_of bounds.framing (heeded bounds (events_in entr
 -- how many items were received with a journal
 abbrev pub received : Bounds → List Entry → ℕ
 received bounds entries = length (items_in bounds entries)
+
+-- every event of a journal is heeded: none was refused
+abbrev pub AreHeeded : Bounds → List Entry → Type 0
+AreHeeded bounds entries = heeded bounds (events_in entries) ≡ events_in entries

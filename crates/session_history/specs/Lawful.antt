@@ -10,7 +10,7 @@ use Rattle.rx_io.specs.Prefix.{Prefix}
 use Rattle.rx_io.specs.Sends.{Send, sent_to}
 use Rattle.run_history.specs.Served.{Limits, Override, Path, Served, AsksFor}
 use Rattle.rx_io.specs.Links.{events_in}
-use Rattle.session_history.specs.Heeding.{Bounds, heeded, received}
+use Rattle.session_history.specs.Heeding.{Bounds, heeded, received, AreHeeded}
 use Rattle.session_history.specs.Opened.{closes}
 use Rattle.session_history.specs.Passing.{passed_in}
 use Rattle.session_history.specs.Owing.{Moment, journal, Latest, latest, IsOwed, IsPassed, OwesNothing, Stands}
@@ -33,10 +33,12 @@ pub record OnTheWay (rules : Rules) (items : List Item) (survivor : Survivor) : 
   pub from : Served rules.limits items survivor.plan survivor.begun path
   pub on : Served rules.limits items survivor.plan path survivor.now
 
--- Before an event the survivor stood at its request for the item that is received next, and owed nothing.
+-- Before an event the survivor stood at its request for the item that is received next, and owed nothing; and no event was refused, since
+-- a session ends at the first one that is.
 pub record IsDueEvent (rules : Rules) (plan : List Override) (path : Path) (moment : Moment) : Type 0 where
   pub asks : AsksFor rules.limits plan path (received rules.bounds (journal moment))
   pub owes_nothing : OwesNothing rules.bounds rules.hold moment path.state.sends
+  pub heeded : AreHeeded rules.bounds (journal moment)
 
 -- whether the last event closes a connection
 abbrev pub is_close_of : ℕ → LinkEvent → Bool

@@ -1,5 +1,5 @@
 -- What a session over a trunk leaves, by what it leaves over a link.
-use Rattle.std.proofs.Common.{◌≡◌, arith, ◌+◌, ℕ, Bool, true, false, List, [], ◌++◌, length, Option, None, Some, option_map, refl, ap, ◌∙◌, subst, inl, inr}
+use Rattle.std.proofs.Common.{◌≡◌, arith, ◌+◌, ℕ, Bool, true, false, List, [], ◌++◌, length, map, Option, None, Some, option_map, refl, sym, ap, ◌∙◌, subst, inl, inr}
 use Rattle.std.proofs.Math.Path.{fun_ext}
 use Rattle.std.specs.Prelude.{IsSome}
 use Rattle.std.specs.Io.KnownBytes.{Appends}
@@ -13,7 +13,9 @@ use Rattle.run_history.specs.declared.answer.Answer.{Answer}
 use Rattle.run_history.specs.declared.answer.Answer.TheVariants as answer
 use Rattle.session_history.specs.Account.{Session, journal_of}
 use Rattle.session_history.specs.Ends.{IsEnd, EndsBy, WasAsked}
-use Rattle.rx_engine.specs.Recovered.{HasRecovered}
+use Rattle.rx_engine.specs.Recovered.{HasRecovered, HasNoted}
+use Rattle.notes.specs.Noting.{Noted}
+use Rattle.trial_history.specs.Episodes.{episode_of}
 use Rattle.session_history.specs.Heeding.{Bounds}
 use Rattle.session_history.specs.Lawful.{Rules}
 use Rattle.rx_engine.specs.Serving.{StaysKnown, TakesAtEnd, BreaksAt}
@@ -138,17 +140,18 @@ breaks_trunk : (old new : Intake) (out later : Output) (events : List LinkEvent)
     → (later.gives ≡ true → WritesWhole out.told later.told pieces) → BreaksAt (upcoming old) (upcoming new) later.gives end → BreaksTrunk old.told new.told out.told later.told events pieces end
 breaks_trunk old new out later events pieces answer.WriteFault no_part whole once = no_part once
 breaks_trunk old new out later events pieces answer.ReadFault no_part whole once = whole once
+breaks_trunk old new out later events pieces answer.FileFault no_part whole once = (no_part once.0, whole once.1)
 breaks_trunk old new out later events pieces answer.Memory no_part whole (inl known) = inl (no_part known)
 breaks_trunk old new out later events pieces answer.Memory no_part whole (inr gives) = inr (whole gives)
 breaks_trunk old new out later events pieces _ no_part whole once = tt
 
 -- a session over a link that was made
-pub serves : (rules : Rules) (image : Image) (old new : Intake) (out later : Output) (began : Told) (end : Answer) (choices : List Choice) (taken steps first last counted : ℕ) → IsFresh old.phases → old.took ≡ 0 → out.wrote ≡ 0
+pub serves : (rules : Rules) (image : Image) (old new : Intake) (out later : Output) (began : Told) (end : Answer) (noted_before noted_now : Noted) (recorded : ℕ) (tail : List Choice) (taken steps first last counted : ℕ) → IsFresh old.phases → old.took ≡ 0 → out.wrote ≡ 0
     → old.takes ≡ true → out.gives ≡ true → Countable new.told → Short later.told → began ≡ told_nothing old.told out.told → TakesOn old.takes old new → GivesOn out.gives out later
     → TakesAtEnd new.takes end → (IsEnd end → later.gives ≡ true) → (IsEnd end → StaysKnown (upcoming old) (upcoming new)) → BreaksAt (upcoming old) (upcoming new) later.gives end
-    → HasRecovered rules image began (trunk_told (told_events new.told new.took new.phases new.takes) (told_pieces later.told later.wrote later.gives)) (upcoming new) new.takes end choices taken steps first last → last ≡ first + counted
-    → ServesTrunk rules image old.told new.told out.told later.told end choices taken steps counted
-serves rules image old new out later began end choices taken steps first last counted is_fresh none nothing takes gives few short start taken_on given_on still gives_still known once recovered count =
+    → HasRecovered rules image began (trunk_told (told_events new.told new.took new.phases new.takes) (told_pieces later.told later.wrote later.gives)) (upcoming new) new.takes end noted_before noted_now recorded tail taken steps first last → last ≡ first + counted
+    → ServesTrunk rules image old.told new.told out.told later.told end noted_before noted_now recorded tail taken steps counted
+serves rules image old new out later began end noted_before noted_now recorded tail taken steps first last counted is_fresh none nothing takes gives few short start taken_on given_on still gives_still known once recovered count =
     let served = recovered.served in
     let went : TookFrames old new = subst (λ b. TakesOn b old new) takes taken_on in
     let wrote : WroteFrames out later = subst (λ b. GivesOn b out later) gives given_on in
@@ -161,13 +164,14 @@ serves rules image old new out later began end choices taken steps first last co
       recoveries = recovered.recoveries;
       recovered = recovered.recovered;
       trials = recovered.trials;
+      last = recovered.last;
       tried = recovered.tried;
       gave_up = recovered.gave_up;
       all_counted = λ others. let all = recovered.counted others in omega (arith, all, count);
       comes = served.comes;
       ends = served.ends;
       pieces = served.pieces;
-      choices_are = served.choices_are;
+      notes = subst (λ (cs : List Choice). HasNoted noted_before noted_now end cs (map episode_of recovered.recoveries ++ recovered.last) recorded tail) (sym served.choices_are) recovered.notes;
       taken_is = served.taken_is;
       steps_are = served.steps_are;
       took = takes_trunk old new (events_in (journal_of served.session)) (WasAsked rules served.session) served.asked is_fresh none few went events;
@@ -184,6 +188,7 @@ serves rules image old new out later began end choices taken steps first last co
 pub of_session : (rules : Rules) (coming : Option Coming) (session : Session) (end : Answer) → EndsBy rules coming session end → IsOfSession end
 of_session rules coming session answer.ReadFault ends = tt
 of_session rules coming session answer.WriteFault ends = tt
+of_session rules coming session answer.FileFault ends = tt
 of_session rules coming session answer.Memory ends = tt
 of_session rules coming session answer.Finished ends = tt
 of_session rules coming session (answer.Exited code) ends = tt

@@ -121,7 +121,7 @@ pub stops_at : (rules : Rules) (session : Session) (new : Intake) (before : Stre
     → (IsEnd end → IsSome (told_coming new.told new.took new.phases new.takes new.refused)) → EndsBy rules (told_coming new.told new.took new.phases new.takes new.refused) session end → StopsAt (Some before) new.told list end
 stops_at rules session new before list answer.Finished few taken takes known ends =
     (took_whole new before list taken (takes tt), drained new.told new.took new.phases new.takes new.refused (takes tt) ends.0.2)
-stops_at rules session new before list (answer.InputRefused kind offset) few taken takes known ends = took_refused new before list kind offset few taken takes (known tt) ends.0.1
+stops_at rules session new before list (answer.InputRefused kind offset) few taken takes known ends = took_refused new before list kind offset few taken takes (known tt) ends.0.2
 stops_at rules session new before list _ few taken takes known ends = λ is. took_whole new before list taken (takes is)
 
 refusal_of : (told : Option Stream) (took : ℕ) (phases : Phases) (takes : Bool) (refused : Option Refusal) → takes ≡ false → IsSome (told_coming told took phases takes refused)

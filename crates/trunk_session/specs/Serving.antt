@@ -1,5 +1,5 @@
 -- What a session leaves that served a trunk.
-use Rattle.std.specs.Prelude.{◌≡◌, ◌≢◌, ℕ, ◌+◌, ◌-◌, List, [], Bool, true, Option}
+use Rattle.std.specs.Prelude.{◌≡◌, ◌≢◌, ℕ, ◌+◌, ◌-◌, List, [], ◌++◌, map, Bool, true, Option}
 use Rattle.block_book.specs.declared.choice.Choice.{Choice}
 use Rattle.rx_io.specs.Links.{Coming, events_in, pieces_in}
 use Rattle.rx_io.specs.Outside.{Stream}
@@ -12,24 +12,27 @@ use Rattle.session_history.specs.Giving.{AreGiven}
 use Rattle.session_history.specs.Lawful.{Rules}
 use Rattle.session_history.specs.Serving.{first_survivor}
 use Rattle.trial_history.specs.Tables.{Trial}
-use Rattle.trial_history.specs.Episodes.{Recovery, AreRecovered}
+use Rattle.episodes.specs.declared.episode.Episode.{Episode}
+use Rattle.notes.specs.Noting.{Noted}
+use Rattle.trial_history.specs.Episodes.{Recovery, episode_of, AreRecovered}
 use Rattle.trial_plan.specs.Trying.{steps_of}
-use Rattle.rx_engine.specs.Recovered.{spent, AreLastTrials, GivesUpBy}
+use Rattle.rx_engine.specs.Recovered.{spent, AreLastTrials, GivesUpBy, HasNoted}
 use Rattle.trunk_session.specs.Trunk.{TakesTrunk, StopsTrunk, WritesTrunk, WritesWhole, BreaksTrunk, Carries}
 
--- an answer of a session: one of its ends, a fault of reading or writing, or want of memory
+-- an answer of a session: one of its ends, a fault of reading, of writing or of its notes, or want of memory
 abbrev pub IsOfSession : Answer → Type 0
 IsOfSession answer.ReadFault = Unit {0}
 IsOfSession answer.WriteFault = Unit {0}
+IsOfSession answer.FileFault = Unit {0}
 IsOfSession answer.Memory = Unit {0}
 IsOfSession end = IsEnd end
 
 -- What a session leaves that served a trunk over a source and a sink: one account of it, told by survivors of which each later one
--- was adopted behind a failure, what stands behind its answer, and its counts: all instructions were counted, those of trials too. The bytes that the source lost are the frames of the account's events, and at an end no more than its answer
--- says; a part of a frame behind them was asked for. Those that the sink gained are the frames of its pieces, of which a last one may be
+-- was adopted behind a failure, what stands behind its answer, what its notes tell, and its counts: all instructions were counted, those of
+-- trials too. The bytes that the source lost are the frames of the account's events, and at an end no more than its answer says; a part of a frame behind them was asked for. Those that the sink gained are the frames of its pieces, of which a last one may be
 -- cut, but not at an end; and for each connection they carry what the account says was passed to it. A frame was broken off on one
 -- side at most.
-pub record ServesTrunk (rules : Rules) (image : Image) (source source_later : Option Stream) (sink sink_later : Option (List ℕ)) (end : Answer) (choices : List Choice) (taken steps counted : ℕ) : Type 0 where
+pub record ServesTrunk (rules : Rules) (image : Image) (source source_later : Option Stream) (sink sink_later : Option (List ℕ)) (end : Answer) (noted_before noted_now : Noted) (recorded : ℕ) (tail : List Choice) (taken steps counted : ℕ) : Type 0 where
   pub session : Session
   pub at_end : Bool
   pub coming : Option Coming
@@ -37,13 +40,14 @@ pub record ServesTrunk (rules : Rules) (image : Image) (source source_later : Op
   pub recoveries : List Recovery
   pub recovered : AreRecovered rules image [] (first_survivor image) session.earlier recoveries session.survivor
   pub trials : List Trial
-  pub tried : AreLastTrials rules image (before_end session) session.survivor trials
+  pub last : List Episode
+  pub tried : AreLastTrials rules image (before_end session) session.survivor trials last
   pub gave_up : GivesUpBy rules image (before_end session) session.survivor trials end
   pub all_counted : end ≢ answer.Memory → counted ≡ spent recoveries + (session.survivor.now.steps - session.survivor.begun.steps) + steps_of trials
   pub comes : at_end ≡ true → HasCome rules coming session
   pub ends : EndsBy rules coming session end
   pub pieces : AreGiven session.ending
-  pub choices_are : session.survivor.now.choices ≡ choices
+  pub notes : HasNoted noted_before noted_now end session.survivor.now.choices (map episode_of recoveries ++ last) recorded tail
   pub taken_is : session.survivor.now.state.machine.taken ≡ taken
   pub steps_are : session.survivor.now.steps ≡ steps
   pub took : TakesTrunk source source_later (events_in (journal_of session)) coming (WasAsked rules session)

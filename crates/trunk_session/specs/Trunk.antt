@@ -103,10 +103,11 @@ TakesNoPart None new events = Unit {0}
 TakesNoPart (Some old) new events = TookNoPart (Some old) new events
 
 -- Where a session was broken off: at a fault of writing no part of a frame was taken, at a fault of reading no part of one was
--- written, and at want of memory not both.
+-- written, at one of the notes neither, and at want of memory not both.
 abbrev pub BreaksTrunk : Option Stream → Option Stream → Option (List ℕ) → Option (List ℕ) → List LinkEvent → List Piece → Answer → Type 0
 BreaksTrunk source source_later sink sink_later events pieces answer.WriteFault = TakesNoPart source source_later events
 BreaksTrunk source source_later sink sink_later events pieces answer.ReadFault = WritesWhole sink sink_later pieces
+BreaksTrunk source source_later sink sink_later events pieces answer.FileFault = TakesNoPart source source_later events × WritesWhole sink sink_later pieces
 BreaksTrunk source source_later sink sink_later events pieces answer.Memory = TakesNoPart source source_later events ⊎ WritesWhole sink sink_later pieces
 BreaksTrunk source source_later sink sink_later events pieces _ = Unit {0}
 

@@ -13,10 +13,10 @@ returns-in-None-clause-recovers g c failure begun under has =
     record {
       trials = w.trials;
       episode_is =
-          episode_tells c.args.point c.args.cause c.args.pc failure begun c.args.cpu.now c.walk.new.cpu c.args.ring.now c.args.choices.now.items c.walk.new.choices.items c.args.items.now c.args.replies.now c.walk.new.replies c.args.steps.now c.walk.new.steps
+          episode_tells c.args.point c.args.cause c.args.pc failure begun c.args.cpu.now c.walk.new.cpu c.args.ring.now c.args.recorded c.args.choices.now.items c.walk.new.choices.items c.args.items.now c.args.replies.now c.walk.new.replies c.args.steps.now c.walk.new.steps
           c.in-Ok.episode has c.in-Ok.ensures.episode w;
       recovers =
-          recovers c.args.point c.args.cause c.args.pc failure begun c.args.cpu.now c.walk.new.cpu c.args.ring.now c.args.choices.now.items c.walk.new.choices.items c.args.items.now c.args.replies.now c.walk.new.replies c.args.steps.now c.walk.new.steps
+          recovers c.args.point c.args.cause c.args.pc failure begun c.args.cpu.now c.walk.new.cpu c.args.ring.now c.args.recorded c.args.choices.now.items c.walk.new.choices.items c.args.items.now c.args.replies.now c.walk.new.replies c.args.steps.now c.walk.new.steps
           c.in-Ok.episode.tries has w;
       counted = w.counted;
       leaves = (none.0, refl, refl, none.1);
@@ -28,7 +28,7 @@ index_of-index-requires g c =
     let w = c.in-Ok.ensures.walks can.failure can.under can.has.failed in
     let last = last_survived c.args.point can.failure c.walk.new.cpu c.walk.new.choices.items c.args.replies.now c.walk.new.replies c.args.steps.now c.walk.new.steps c.in-Ok.episode.tries c.in-Some.adopted w
     (ap adopted_in (sym c.as_slice.ensures) ∙ sym c.in-Some.ensures) in
-    let could = can_adopt c.args.point c.args.cause c.args.pc can.failure c.args.cpu.now c.walk.new.cpu c.args.ring.now c.args.choices.now.items c.walk.new.choices.items c.args.items.now c.args.replies.now c.walk.new.replies (length c.in-Ok.episode.tries) w.trials can.has last in
+    let could = can_adopt c.args.point c.args.cause c.args.pc can.failure c.args.cpu.now c.walk.new.cpu c.args.ring.now c.args.recorded c.args.choices.now.items c.walk.new.choices.items c.args.items.now c.args.replies.now c.walk.new.replies (length c.in-Ok.episode.tries) w.trials can.has last in
     subst (λ n. (n - 1) / 5 < length c.args.ring.now.standing) (sym (ap length c.as_slice-number.ensures)) could.within
 
 pub adopt-requires-clause-within : goal.adopt-requires-clause-within
@@ -37,7 +37,7 @@ adopt-requires-clause-within g c =
     let w = c.in-Ok.ensures.walks can.failure can.under can.has.failed in
     let last = last_survived c.args.point can.failure c.walk.new.cpu c.walk.new.choices.items c.args.replies.now c.walk.new.replies c.args.steps.now c.walk.new.steps c.in-Ok.episode.tries c.in-Some.adopted w
     (ap adopted_in (sym c.as_slice.ensures) ∙ sym c.in-Some.ensures) in
-    let could = can_adopt c.args.point c.args.cause c.args.pc can.failure c.args.cpu.now c.walk.new.cpu c.args.ring.now c.args.choices.now.items c.walk.new.choices.items c.args.items.now c.args.replies.now c.walk.new.replies (length c.in-Ok.episode.tries) w.trials can.has last in
+    let could = can_adopt c.args.point c.args.cause c.args.pc can.failure c.args.cpu.now c.walk.new.cpu c.args.ring.now c.args.recorded c.args.choices.now.items c.walk.new.choices.items c.args.items.now c.args.replies.now c.walk.new.replies (length c.in-Ok.episode.tries) w.trials can.has last in
     subst (λ n. n < length c.args.ring.now.standing) (sym (c.index_of-index.ensures ∙ ap (λ n. (n - 1) / 5) (ap length c.as_slice-number.ensures))) could.within
 
 pub adopt-requires-clause-base : goal.adopt-requires-clause-base
@@ -46,7 +46,7 @@ adopt-requires-clause-base g c =
     let w = c.in-Ok.ensures.walks can.failure can.under can.has.failed in
     let last = last_survived c.args.point can.failure c.walk.new.cpu c.walk.new.choices.items c.args.replies.now c.walk.new.replies c.args.steps.now c.walk.new.steps c.in-Ok.episode.tries c.in-Some.adopted w
     (ap adopted_in (sym c.as_slice.ensures) ∙ sym c.in-Some.ensures) in
-    let could = can_adopt c.args.point c.args.cause c.args.pc can.failure c.args.cpu.now c.walk.new.cpu c.args.ring.now c.args.choices.now.items c.walk.new.choices.items c.args.items.now c.args.replies.now c.walk.new.replies (length c.in-Ok.episode.tries) w.trials can.has last in
+    let could = can_adopt c.args.point c.args.cause c.args.pc can.failure c.args.cpu.now c.walk.new.cpu c.args.ring.now c.args.recorded c.args.choices.now.items c.walk.new.choices.items c.args.items.now c.args.replies.now c.walk.new.replies (length c.in-Ok.episode.tries) w.trials can.has last in
     subst (λ n. c.walk.new.cpu.slots.base ≡ from_newest (slot_numbers c.walk.new.cpu.slots.saved) n) (sym (c.index_of-index.ensures ∙ ap (λ n. (n - 1) / 5) (ap length c.as_slice-number.ensures))) could.base
 
 pub adopt-requires-clause-own : goal.adopt-requires-clause-own
@@ -55,8 +55,8 @@ adopt-requires-clause-own g c =
     let w = c.in-Ok.ensures.walks can.failure can.under can.has.failed in
     let last = last_survived c.args.point can.failure c.walk.new.cpu c.walk.new.choices.items c.args.replies.now c.walk.new.replies c.args.steps.now c.walk.new.steps c.in-Ok.episode.tries c.in-Some.adopted w
     (ap adopted_in (sym c.as_slice.ensures) ∙ sym c.in-Some.ensures) in
-    let could = can_adopt c.args.point c.args.cause c.args.pc can.failure c.args.cpu.now c.walk.new.cpu c.args.ring.now c.args.choices.now.items c.walk.new.choices.items c.args.items.now c.args.replies.now c.walk.new.replies (length c.in-Ok.episode.tries) w.trials can.has last in
-    subst (λ (own : List Choice). length own ≤ c.walk.new.cpu.slots.live.guest.machine.allocations) (sym c.as_slice-in-Some.ensures.value) could.few
+    let could = can_adopt c.args.point c.args.cause c.args.pc can.failure c.args.cpu.now c.walk.new.cpu c.args.ring.now c.args.recorded c.args.choices.now.items c.walk.new.choices.items c.args.items.now c.args.replies.now c.walk.new.replies (length c.in-Ok.episode.tries) w.trials can.has last in
+    subst (λ (own : List Choice). c.args.recorded + length own ≤ c.walk.new.cpu.slots.live.guest.machine.allocations) (sym c.as_slice-in-Some.ensures.value) could.few
 
 pub adopt-requires-clause-first : goal.adopt-requires-clause-first
 adopt-requires-clause-first g c =
@@ -64,8 +64,8 @@ adopt-requires-clause-first g c =
     let w = c.in-Ok.ensures.walks can.failure can.under can.has.failed in
     let last = last_survived c.args.point can.failure c.walk.new.cpu c.walk.new.choices.items c.args.replies.now c.walk.new.replies c.args.steps.now c.walk.new.steps c.in-Ok.episode.tries c.in-Some.adopted w
     (ap adopted_in (sym c.as_slice.ensures) ∙ sym c.in-Some.ensures) in
-    let could = can_adopt c.args.point c.args.cause c.args.pc can.failure c.args.cpu.now c.walk.new.cpu c.args.ring.now c.args.choices.now.items c.walk.new.choices.items c.args.items.now c.args.replies.now c.walk.new.replies (length c.in-Ok.episode.tries) w.trials can.has last in
-    subst (λ (own : List Choice). c.walk.new.cpu.slots.live.guest.machine.allocations ≤ length c.args.choices.now.items + length own) (sym c.as_slice-in-Some.ensures.value) could.first
+    let could = can_adopt c.args.point c.args.cause c.args.pc can.failure c.args.cpu.now c.walk.new.cpu c.args.ring.now c.args.recorded c.args.choices.now.items c.walk.new.choices.items c.args.items.now c.args.replies.now c.walk.new.replies (length c.in-Ok.episode.tries) w.trials can.has last in
+    subst (λ (own : List Choice). c.walk.new.cpu.slots.live.guest.machine.allocations ≤ c.args.recorded + length c.args.choices.now.items + length own) (sym c.as_slice-in-Some.ensures.value) could.first
 
 pub returns-in-Ok-adopt-clause-recovers : goal.returns-in-Ok-adopt-clause-recovers
 returns-in-Ok-adopt-clause-recovers g c failure begun under has =
@@ -73,21 +73,21 @@ returns-in-Ok-adopt-clause-recovers g c failure begun under has =
     let is = ap adopted_in (sym c.as_slice.ensures) ∙ sym c.in-Some.ensures in
     let last = last_survived c.args.point failure c.walk.new.cpu c.walk.new.choices.items c.args.replies.now c.walk.new.replies c.args.steps.now c.walk.new.steps c.in-Ok.episode.tries c.in-Some.adopted w is in
     let by_number = c.index_of-index.ensures ∙ ap (λ n. (n - 1) / 5) (ap length c.as_slice-number.ensures) in
-    let adopts = subst (λ n. Adopts n c.walk.new.choices.items c.walk.new.cpu c.adopt.new.cpu c.args.ring.now c.adopt.new.ring c.args.choices.now.items c.adopt.new.choices.items) by_number
-    (subst (λ (own : List Choice). Adopts c.index_of-index.result own c.walk.new.cpu c.adopt.new.cpu c.args.ring.now c.adopt.new.ring c.args.choices.now.items c.adopt.new.choices.items) c.as_slice-in-Some.ensures.value c.in-Ok-adopt.ensures.adopts) in
+    let adopts = subst (λ n. Adopts n c.args.recorded c.walk.new.choices.items c.walk.new.cpu c.adopt.new.cpu c.args.ring.now c.adopt.new.ring c.args.choices.now.items c.adopt.new.choices.items) by_number
+    (subst (λ (own : List Choice). Adopts c.index_of-index.result c.args.recorded own c.walk.new.cpu c.adopt.new.cpu c.args.ring.now c.adopt.new.ring c.args.choices.now.items c.adopt.new.choices.items) c.as_slice-in-Some.ensures.value c.in-Ok-adopt.ensures.adopts) in
     record {
       trials = w.trials;
       episode_is =
-          episode_tells c.args.point c.args.cause c.args.pc failure begun c.args.cpu.now c.walk.new.cpu c.args.ring.now c.args.choices.now.items c.walk.new.choices.items c.args.items.now c.args.replies.now c.walk.new.replies c.args.steps.now c.walk.new.steps
+          episode_tells c.args.point c.args.cause c.args.pc failure begun c.args.cpu.now c.walk.new.cpu c.args.ring.now c.args.recorded c.args.choices.now.items c.walk.new.choices.items c.args.items.now c.args.replies.now c.walk.new.replies c.args.steps.now c.walk.new.steps
           c.in-Ok.episode has c.in-Ok.ensures.episode w;
       recovers =
-          recovers c.args.point c.args.cause c.args.pc failure begun c.args.cpu.now c.walk.new.cpu c.args.ring.now c.args.choices.now.items c.walk.new.choices.items c.args.items.now c.args.replies.now c.walk.new.replies c.args.steps.now c.walk.new.steps
+          recovers c.args.point c.args.cause c.args.pc failure begun c.args.cpu.now c.walk.new.cpu c.args.ring.now c.args.recorded c.args.choices.now.items c.walk.new.choices.items c.args.items.now c.args.replies.now c.walk.new.replies c.args.steps.now c.walk.new.steps
           c.in-Ok.episode.tries has w;
       counted = w.counted;
       leaves = (
         last.trial,
         last.survivor,
-        adopts_run c.args.point c.args.cause c.args.pc failure begun c.args.cpu.now c.walk.new.cpu c.adopt.new.cpu c.args.ring.now c.adopt.new.ring c.args.choices.now.items c.walk.new.choices.items c.adopt.new.choices.items c.args.items.now
+        adopts_run c.args.point c.args.cause c.args.pc failure begun c.args.cpu.now c.walk.new.cpu c.adopt.new.cpu c.args.ring.now c.adopt.new.ring c.args.recorded c.args.choices.now.items c.walk.new.choices.items c.adopt.new.choices.items c.args.items.now
             c.args.replies.now c.walk.new.replies (length c.in-Ok.episode.tries) c.in-Some.adopted c.in-Ok.episode.tries w.trials has c.in-Ok.ensures.saved c.in-Ok.ensures.ledger last w.tries_are is adopts,
       );
     }

@@ -1,8 +1,6 @@
 use Rattle.std.proofs.Common.{ℕ, ◌*◌, ◌%◌, ◌≤◌, ◌<◌, sym, subst, arith}
 use Rattle.std.proofs.Math.Nat.{mod-eq_of_lt, mul-mod_left}
 use Rattle.elf_image.specs.Layout.{IsWindow}
-use Rattle.command_line.specs.Commands.{run_shown}
-use Rattle.command_line.proofs.Ranges.{numbers_of}
 use Rattle.rx.proofs.telling.window_bytes.Goals as goal
 
 -- so many MiB are a window
@@ -16,5 +14,5 @@ window_shifted n least most =
 
 pub returns : goal.returns
 returns c =
-    let numbers = numbers_of (run_shown c.args.run.now) c.requires in
-    window_shifted c.args.run.now.window numbers.window_least numbers.window_most
+    let window = c.requires.0 in
+    window_shifted c.args.run.now.window window.0 window.1

@@ -1,4 +1,7 @@
-use Rattle.std.proofs.Common.{rules, ◌-◌, arith}
+use Rattle.std.proofs.Common.{◌≡◌, rules, ◌-◌, arith, Some}
+use Rattle.command_line.specs.Commands.{command_of, run, run_shown}
+use Rattle.command_line.specs.Parts.{texts_of}
+use Rattle.rx_serve.proofs.NamesLemmas.{names_differ}
 use Rattle.rx_serve.proofs.run.run_rx.Goals as goal
 
 pub returns-in-Ok-Some-Run-clause-bad_words : goal.returns-in-Ok-Some-Run-clause-bad_words
@@ -6,3 +9,9 @@ returns-in-Ok-Some-Run-clause-bad_words g c =
     let least = c.run_program.ensures.counted_at_least in
     let ends = c.run_program.ensures.ends (c.run_program.new.steps - c.args.steps.now) (omega (arith, least)) in
     search (rules, ends)
+
+pub run_program-requires-clause-two : goal.run_program-requires-clause-two
+run_program-requires-clause-two g c =
+    let read = c.in-Ok-Some-Run.ensures.read in
+    let asked : command_of (texts_of c.args.words.now) ≡ Some (run (run_shown c.in-Ok-Some-Run.run')) = search (rules, read) in
+    names_differ (texts_of c.args.words.now) (run_shown c.in-Ok-Some-Run.run') asked

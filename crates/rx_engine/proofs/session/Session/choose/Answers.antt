@@ -8,7 +8,7 @@ use Rattle.rx_engine.proofs.session.Session.choose.Goals as goal
 
 pub returns-in-Err-clause-turns : goal.returns-in-Err-clause-turns
 returns-in-Err-clause-turns g c image began now phases coming h = (
-  run_breaks _ image began now phases coming _ c.args.self.now _ h (c.in-Err.ensures.items ∙ ap (λ (s : SessionState _). s.choices) c.self.view_is) (ap (λ (s : SessionState _). s.taken) c.self.view_is)
+  run_breaks _ image began now phases coming _ c.args.self.now _ h (ap (λ (s : SessionState _). s.recorded) c.self.view_is) (c.in-Err.ensures.items ∙ ap (λ (s : SessionState _). s.choices) c.self.view_is) (ap (λ (s : SessionState _). s.taken) c.self.view_is)
       (ap (λ (s : SessionState _). s.steps) c.self.view_is),
   λ none. still_takes true _ refl none,
 )

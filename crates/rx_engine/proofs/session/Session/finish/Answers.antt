@@ -1,12 +1,15 @@
-use Rattle.std.proofs.Common.{◌≡◌, ◌+◌, false, ◌≤◌, sym, ◌∙◌, subst, arith}
+use Rattle.std.proofs.Common.{◌≡◌, ◌+◌, false, ◌≤◌, length, refl, sym, ◌∙◌, subst, arith}
 use Rattle.rx_engine.specs.Options.{rules_of}
+use Rattle.rx_engine.specs.Recovered.{HasRecovered}
 use Rattle.rx_engine.specs.Sessions.{SessionState}
-use Rattle.rx_engine.specs.Standing.{sends, IsAsking, IsEnding}
-use Rattle.rx_engine.specs.Serving.{CanPass, TakesAtEnd}
+use Rattle.rx_engine.specs.Standing.{Since, sends, IsAsking, IsEnding}
+use Rattle.notes.specs.Noting.{noted}
+use Rattle.rx_engine.specs.Serving.{CanPass}
 use Rattle.rx_engine.proofs.EndLemmas.{end_of}
 use Rattle.rx_engine.proofs.PassLemmas.{stamped_by, sendable_kept}
-use Rattle.rx_engine.proofs.PassingLemmas.{ending_can, ending_ready, finish_ok, finish_fault}
-use Rattle.rx_engine.proofs.KnownLemmas.{fault_no_end, takes_no_end, once_passing, once_ended}
+use Rattle.rx_engine.proofs.ChoiceLemmas.{ending_few}
+use Rattle.rx_engine.proofs.PassingLemmas.{ending_can, ending_ready, finish_ok, finish_fault, finish_unnoted}
+use Rattle.rx_engine.proofs.KnownLemmas.{fault_no_end, takes_no_end, once_passing}
 use Rattle.rx_engine.proofs.session.Session.finish.Goals as goal
 
 pub pass_until-requires-clause-stamped : goal.pass_until-requires-clause-stamped
@@ -21,25 +24,16 @@ pass_until-requires-clause-sendable g c =
     sendable_kept can.sends _ c.self.inside.replies can.replies.shows can.replies.sendable
 
 pub returns-in-Err-clause-served : goal.returns-in-Err-clause-served
-returns-in-Err-clause-served g c image began ends asked first last all =
+returns-in-Err-clause-served g c image since ends asked first last all =
     let rules = rules_of c.args.self.now.options (g.R.AccessRule.rule c.args.self.now.cpu.rule) in
+    let here = noted (g.N.Notes.told_choices c.args.notes.now) (g.N.Notes.told_episodes c.args.notes.now) in
+    let began : Since = record since { noted = here } in
     let both = subst (λ (s : SessionState _). (ending : IsEnding rules image began (g.K.Link.told c.args.link.now) (g.K.Link.coming c.args.link.now) s c.args.answer) × (g.K.Link.takes c.pass_until.new.link ≡ false → IsAsking rules ending.story)) (sym c.self.view_is)
     (ends, λ none. asked (sym c.pass_until.ensures.takes ∙ none)) in
     let counts = subst (λ (s : SessionState _). last ≡ first + (began.lost + s.steps)) (sym c.self.view_is) all in
     let e = both.0 in
     finish_fault rules image began _ (g.K.Link.told c.pass_until.new.link) _ (g.K.Link.coming c.pass_until.new.link) (g.K.Link.takes c.pass_until.new.link) _ c.args.answer 18446744073709551615 c.pass_until.new.replies c.in-Err.fault c.answer_to.result e c.in-Err.ensures.coming c.answer_to.ensures
-    (c.in-Err.ensures.passes rules (sends e.story) (end_of e.story) (sym e.received_are ∙ sym c.received-stamp.ensures.count) (ending_ready rules image began _ _ _ c.args.answer 18446744073709551615 e)) both.1 first last counts
-
-pub returns-clause-served : goal.returns-clause-served
-returns-clause-served g c image began ends asked first last all =
-    let rules = rules_of c.args.self.now.options (g.R.AccessRule.rule c.args.self.now.cpu.rule) in
-    let both = subst (λ (s : SessionState _). (ending : IsEnding rules image began (g.K.Link.told c.args.link.now) (g.K.Link.coming c.args.link.now) s c.args.answer) × (g.K.Link.takes c.pass_until.new.link ≡ false → IsAsking rules ending.story)) (sym c.self.view_is)
-    (ends, λ none. asked (sym c.pass_until.ensures.takes ∙ none)) in
-    let counts = subst (λ (s : SessionState _). last ≡ first + (began.lost + s.steps)) (sym c.self.view_is) all in
-    let e = both.0 in
-    let low : c.self.inside.taken ≤ 18446744073709551615 = omega (arith, c.self.ranges) in
-    finish_ok rules image began _ (g.K.Link.told c.pass_until.new.link) _ (g.K.Link.coming c.pass_until.new.link) (g.K.Link.takes c.pass_until.new.link) _ c.args.answer 18446744073709551615 c.pass_until.new.replies c.in_default.field-0 e c.in_default.ensures.coming low
-    (c.in_default.ensures.passes rules (sends e.story) (end_of e.story) (sym e.received_are ∙ sym c.received-stamp.ensures.count) (ending_ready rules image began _ _ _ c.args.answer 18446744073709551615 e)) both.1 first last counts
+    (c.in-Err.ensures.passes rules (sends e.story) (end_of e.story) (sym e.received_are ∙ sym c.received-stamp.ensures.count) (ending_ready rules image began _ _ _ c.args.answer 18446744073709551615 e)) both.1 here refl refl first last counts
 
 pub returns-in-Err-clause-gives : goal.returns-in-Err-clause-gives
 returns-in-Err-clause-gives g c is = absurd (fault_no_end c.in-Err.fault c.answer_to.result c.answer_to.ensures is)
@@ -47,11 +41,41 @@ returns-in-Err-clause-gives g c is = absurd (fault_no_end c.in-Err.fault c.answe
 pub returns-in-Err-clause-takes : goal.returns-in-Err-clause-takes
 returns-in-Err-clause-takes g c still = takes_no_end (g.K.Link.takes c.pass_until.new.link) c.answer_to.result (fault_no_end c.in-Err.fault c.answer_to.result c.answer_to.ensures)
 
-pub returns-clause-takes : goal.returns-clause-takes
-returns-clause-takes g c still = subst (λ b. TakesAtEnd b c.args.answer) (sym c.pass_until.ensures.takes) still
-
 pub returns-in-Err-clause-once : goal.returns-in-Err-clause-once
 returns-in-Err-clause-once g c = once_passing (g.K.Link.coming c.args.link.now) (g.K.Link.coming c.pass_until.new.link) (g.K.Link.gives c.pass_until.new.link) c.in-Err.fault c.answer_to.result c.in-Err.ensures.coming c.answer_to.ensures
 
-pub returns-clause-once : goal.returns-clause-once
-returns-clause-once g c = once_ended (g.K.Link.coming c.args.link.now) (g.K.Link.coming c.pass_until.new.link) (g.K.Link.gives c.pass_until.new.link) c.args.answer c.requires.ends.is.is_end
+pub note_rest-requires : goal.note_rest-requires
+note_rest-requires g c =
+    let few = subst (λ (s : SessionState _). s.recorded + length s.choices ≤ s.steps) (sym c.self.view_is) (ending_few _ _ _ _ _ _ _ c.requires.ends.is) in
+    omega (arith, few, c.self.ranges)
+
+pub returns-in-Err-note_rest-clause-served : goal.returns-in-Err-note_rest-clause-served
+returns-in-Err-note_rest-clause-served g c image since ends asked first last all =
+    let rules = rules_of c.args.self.now.options (g.R.AccessRule.rule c.args.self.now.cpu.rule) in
+    let here = noted (g.N.Notes.told_choices c.args.notes.now) (g.N.Notes.told_episodes c.args.notes.now) in
+    let told = noted (g.N.Notes.told_choices c.note_rest.new.notes) (g.N.Notes.told_episodes c.note_rest.new.notes) in
+    let began : Since = record since { noted = here } in
+    let both = subst (λ (s : SessionState _). (ending : IsEnding rules image began (g.K.Link.told c.args.link.now) (g.K.Link.coming c.args.link.now) s c.args.answer) × (g.K.Link.takes c.pass_until.new.link ≡ false → IsAsking rules ending.story)) (sym c.self.view_is)
+    (ends, λ none. asked (sym c.pass_until.ensures.takes ∙ none)) in
+    let counts = subst (λ (s : SessionState _). last ≡ first + (began.lost + s.steps)) (sym c.self.view_is) all in
+    let e = both.0 in
+    let passes = c.in_default.ensures.passes rules (sends e.story) (end_of e.story) (sym e.received_are ∙ sym c.received-stamp.ensures.count) (ending_ready rules image began _ _ _ c.args.answer 18446744073709551615 e) in
+    subst (λ (s : SessionState _). HasRecovered rules image began.told (g.K.Link.told c.pass_until.new.link) (g.K.Link.coming c.pass_until.new.link) (g.K.Link.takes c.pass_until.new.link) c.in-Err-note_rest.fault began.noted_before told s.recorded s.choices s.taken s.steps first last) (sym c.in-Err-note_rest.ensures.noted.1)
+    (finish_unnoted rules image began _ (g.K.Link.told c.pass_until.new.link) _ (g.K.Link.coming c.pass_until.new.link) (g.K.Link.takes c.pass_until.new.link) _ c.args.answer c.in-Err-note_rest.fault 18446744073709551615 c.pass_until.new.replies c.in_default.field-0 e c.in_default.ensures.coming
+    passes both.1 c.in-Err-note_rest.ensures.noted.2 told c.in-Err-note_rest.ensures.noted.0 c.in-Err-note_rest.ensures.episodes first last counts)
+
+pub returns-clause-served : goal.returns-clause-served
+returns-clause-served g c image since ends asked first last all =
+    let rules = rules_of c.args.self.now.options (g.R.AccessRule.rule c.args.self.now.cpu.rule) in
+    let here = noted (g.N.Notes.told_choices c.args.notes.now) (g.N.Notes.told_episodes c.args.notes.now) in
+    let told = noted (g.N.Notes.told_choices c.note_rest.new.notes) (g.N.Notes.told_episodes c.note_rest.new.notes) in
+    let began : Since = record since { noted = here } in
+    let both = subst (λ (s : SessionState _). (ending : IsEnding rules image began (g.K.Link.told c.args.link.now) (g.K.Link.coming c.args.link.now) s c.args.answer) × (g.K.Link.takes c.pass_until.new.link ≡ false → IsAsking rules ending.story)) (sym c.self.view_is)
+    (ends, λ none. asked (sym c.pass_until.ensures.takes ∙ none)) in
+    let counts = subst (λ (s : SessionState _). last ≡ first + (began.lost + s.steps)) (sym c.self.view_is) all in
+    let e = both.0 in
+    let passes = c.in_default.ensures.passes rules (sends e.story) (end_of e.story) (sym e.received_are ∙ sym c.received-stamp.ensures.count) (ending_ready rules image began _ _ _ c.args.answer 18446744073709551615 e) in
+    let low : c.self.inside.taken ≤ 18446744073709551615 = omega (arith, c.self.ranges) in
+    subst (λ (s : SessionState _). HasRecovered rules image began.told (g.K.Link.told c.pass_until.new.link) (g.K.Link.coming c.pass_until.new.link) (g.K.Link.takes c.pass_until.new.link) c.args.answer began.noted_before told s.recorded s.choices s.taken s.steps first last) (sym c.in_default-note_rest.ensures.noted.1)
+    (finish_ok rules image began _ (g.K.Link.told c.pass_until.new.link) _ (g.K.Link.coming c.pass_until.new.link) (g.K.Link.takes c.pass_until.new.link) _ c.args.answer 18446744073709551615 c.pass_until.new.replies c.in_default.field-0 e c.in_default.ensures.coming low
+    passes both.1 told c.in_default-note_rest.ensures.noted.0 c.in_default-note_rest.ensures.episodes first last counts)

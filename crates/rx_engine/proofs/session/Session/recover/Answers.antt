@@ -1,38 +1,81 @@
-use Rattle.std.proofs.Common.{◌≡◌, ℕ, ◌+◌, sym, ◌∙◌, ap}
+use Rattle.std.proofs.Common.{◌≡◌, ℕ, ◌+◌, None, Some, Err, refl, sym, ◌∙◌, ap}
 use Rattle.rx_engine.specs.declared.options.Options.{Options}
+use Rattle.notes.specs.Noting.{noted}
+use Rattle.rx_engine.specs.declared.stop.Stop.TheVariants as stop
 use Rattle.rx_engine.specs.Options.{rules_of}
 use Rattle.rx_engine.specs.Sessions.{SessionState}
 use Rattle.rx_engine.specs.Standing.{Since, entries}
+use Rattle.rx_engine.specs.Serving.{end_of}
 use Rattle.rx_engine.proofs.GuestLemmas.{received_is}
 use Rattle.rx_engine.proofs.NeedLemmas.{going_can}
 use Rattle.rx_engine.proofs.DueLemmas.{comes_between}
+use Rattle.rx_engine.proofs.FaultLemmas.{note_answered}
 use Rattle.rx_engine.proofs.StartLemmas.{lost_then, lost_counts}
-use Rattle.rx_engine.proofs.RecoverLemmas.{stops_adopted, comes_lost, lost_behind}
+use Rattle.rx_engine.proofs.StoryLemmas.{still_takes}
+use Rattle.rx_engine.proofs.RecoverLemmas.{broken_told, ends_adopted, goes_adopted, comes_lost, lost_behind, noted_episode, one_more}
 use Rattle.rx_engine.proofs.session.Session.recover.Goals as goal
 
 pub returns-in-Err-clause-turns : goal.returns-in-Err-clause-turns
 returns-in-Err-clause-turns g c image began lost fails counts =
+    let before : Since = record began { noted = noted (g.N.Notes.told_choices c.args.notes.now) (g.N.Notes.told_episodes c.args.notes.now) } in
+    (c.in-Err.ensures.adopts image before (g.K.Link.told c.args.link.now) (g.K.Link.phases c.args.link.now) (g.K.Link.coming c.args.link.now) lost fails tt, λ none. still_takes (g.K.Link.takes c.args.link.now) _ c.requires.takes none)
+
+pub returns-in-Err-episode-clause-turns : goal.returns-in-Err-episode-clause-turns
+returns-in-Err-episode-clause-turns g c image began lost fails counts =
     let rules = rules_of c.args.self.now.options (g.R.AccessRule.rule c.args.self.now.cpu.rule) in
-    stops_adopted rules image (record began { lost = lost }) (g.K.Link.told c.args.link.now) (g.K.Link.phases c.args.link.now) (g.K.Link.coming c.args.link.now) (g.K.Link.takes c.args.link.now) c.adopt.new.self c.in-Err.stop c.requires.takes
-    (c.in-Err.ensures.adopts image began (g.K.Link.told c.args.link.now) (g.K.Link.phases c.args.link.now) (g.K.Link.coming c.args.link.now) lost fails counts)
+    let before : Since = record began { noted = noted (g.N.Notes.told_choices c.args.notes.now) (g.N.Notes.told_episodes c.args.notes.now) } in
+    let more : ℕ = lost_then began.lost c.args.self.now.steps c.adopt.new.self.steps c.args.steps.now c.adopt.new.steps in
+    let all = lost_counts began.lost c.args.self.now.steps c.adopt.new.self.steps c.args.steps.now c.adopt.new.steps c.in-Ok.ensures.least in
+    let adopting = c.in-Ok.ensures.adopts image before (g.K.Link.told c.args.link.now) (g.K.Link.phases c.args.link.now) (g.K.Link.coming c.args.link.now) more fails all in
+    let told = noted (g.N.Notes.told_choices c.episode.new.self) (g.N.Notes.told_episodes c.episode.new.self) in
+    let later : Since = record began { lost = more; noted = told } in
+    let off = broken_told rules image (record began { lost = more }) (g.K.Link.told c.args.link.now) (g.K.Link.coming c.args.link.now) (g.N.Notes.told_choices c.args.notes.now) (g.N.Notes.told_choices c.episode.new.self) (g.N.Notes.told_episodes c.args.notes.now)
+    (g.N.Notes.told_episodes c.episode.new.self) c.adopt.new.self c.note_answer.result c.in-Err-episode.ensures.choices c.in-Err-episode.ensures.noted
+    (adopting.breaks c.note_answer.result (note_answered c.in-Err-episode.fault c.note_answer.result c.note_answer.ensures)) in
+    comes_lost rules image later (g.K.Link.told c.args.link.now) (g.K.Link.phases c.args.link.now) (g.K.Link.coming c.args.link.now) (g.K.Link.takes c.args.link.now) c.adopt.new.self (Err (stop.Breaks c.note_answer.result)) lost
+    (λ others. lost_behind lost more (began.lost + c.args.self.now.steps + c.adopt.new.steps) c.adopt.new.self.steps c.adopt.new.self.steps c.args.steps.now (counts others) all refl)
+    (off, λ none. still_takes (g.K.Link.takes c.args.link.now) _ c.requires.takes none)
+
+pub returns-in-Some-clause-turns : goal.returns-in-Some-clause-turns
+returns-in-Some-clause-turns g c image began lost fails counts =
+    let rules = rules_of c.args.self.now.options (g.R.AccessRule.rule c.args.self.now.cpu.rule) in
+    let before : Since = record began { noted = noted (g.N.Notes.told_choices c.args.notes.now) (g.N.Notes.told_episodes c.args.notes.now) } in
+    let more : ℕ = lost_then began.lost c.args.self.now.steps c.adopt.new.self.steps c.args.steps.now c.adopt.new.steps in
+    let all = lost_counts began.lost c.args.self.now.steps c.adopt.new.self.steps c.args.steps.now c.adopt.new.steps c.in-Ok.ensures.least in
+    let adopting = c.in-Ok.ensures.adopts image before (g.K.Link.told c.args.link.now) (g.K.Link.phases c.args.link.now) (g.K.Link.coming c.args.link.now) more fails all in
+    let told = noted (g.N.Notes.told_choices c.episode.new.self) (g.N.Notes.told_episodes c.episode.new.self) in
+    let later : Since = record began { lost = more; noted = told } in
+    let with_episode = noted_episode (g.N.Notes.told_choices c.args.notes.now) (g.N.Notes.told_choices c.episode.new.self) (g.N.Notes.told_episodes c.args.notes.now) (g.N.Notes.told_episodes c.episode.new.self) c.in-Ok.recovered.episode c.in_default.ensures.choices c.in_default.ensures.noted in
+    let found : end_of c.args.self.now.taken c.args.cause c.in-Ok.recovered.adopted ≡ Some c.in-Some.end = ap (λ n. end_of n c.args.cause c.in-Ok.recovered.adopted) (sym (ap (λ (s : SessionState _). s.taken) c.self.view_is)) ∙ (sym c.end_of.ensures ∙ c.in-Some.is) in
+    comes_lost rules image later (g.K.Link.told c.args.link.now) (g.K.Link.phases c.args.link.now) (g.K.Link.coming c.args.link.now) (g.K.Link.takes c.args.link.now) c.adopt.new.self (Err (stop.Ends c.in-Some.end)) lost
+    (λ others. lost_behind lost more (began.lost + c.args.self.now.steps + c.adopt.new.steps) c.adopt.new.self.steps c.adopt.new.self.steps c.args.steps.now (counts others) all refl)
+    (ends_adopted rules image later (g.K.Link.told c.args.link.now) (g.K.Link.phases c.args.link.now) (g.K.Link.coming c.args.link.now) (g.K.Link.takes c.args.link.now) c.adopt.new.self _ c.in-Some.end c.requires.takes found (adopting.goes told with_episode))
 
 pub pass_due-requires-clause-can : goal.pass_due-requires-clause-can
 pass_due-requires-clause-can g c =
     let rules = rules_of c.args.self.now.options (g.R.AccessRule.rule c.args.self.now.cpu.rule) in
     let f = c.requires.fails in
     let lost : ℕ = lost_then f.began.lost c.args.self.now.steps c.adopt.new.self.steps c.args.steps.now c.adopt.new.steps in
-    let counts = lost_counts f.began.lost c.args.self.now.steps c.adopt.new.self.steps c.args.steps.now c.adopt.new.steps c.in_default.ensures.least in
-    going_can rules f.image (record { told = f.began.told; lost = lost }) (g.K.Link.told c.args.link.now) (g.K.Link.phases c.args.link.now) c.adopt.new.self
-    (c.in_default.ensures.adopts f.image f.began (g.K.Link.told c.args.link.now) (g.K.Link.phases c.args.link.now) (g.K.Link.coming c.args.link.now) lost f.is (λ others. counts))
+    let counts = lost_counts f.began.lost c.args.self.now.steps c.adopt.new.self.steps c.args.steps.now c.adopt.new.steps c.in-Ok.ensures.least in
+    let adopting = c.in-Ok.ensures.adopts f.image f.began (g.K.Link.told c.args.link.now) (g.K.Link.phases c.args.link.now) (g.K.Link.coming c.args.link.now) lost f.is counts in
+    let none : end_of c.args.self.now.taken c.args.cause c.in-Ok.recovered.adopted ≡ None = ap (λ n. end_of n c.args.cause c.in-Ok.recovered.adopted) (sym (ap (λ (s : SessionState _). s.taken) c.self.view_is)) ∙ (sym c.end_of.ensures ∙ c.in_default-end_of.is) in
+    let then = one_more f.began c.in-Ok.recovered.episode in
+    going_can rules f.image (record f.began { lost = lost; noted = then.0 }) (g.K.Link.told c.args.link.now) (g.K.Link.phases c.args.link.now) c.adopt.new.self
+    (goes_adopted rules f.image (record f.began { lost = lost; noted = then.0 }) (g.K.Link.told c.args.link.now) (g.K.Link.phases c.args.link.now) (g.K.Link.coming c.args.link.now) c.adopt.new.self _ none (adopting.goes then.0 then.1))
 
 pub returns-clause-turns : goal.returns-clause-turns
 returns-clause-turns g c image began lost fails counts =
     let rules = rules_of c.args.self.now.options (g.R.AccessRule.rule c.args.self.now.cpu.rule) in
+    let before : Since = record began { noted = noted (g.N.Notes.told_choices c.args.notes.now) (g.N.Notes.told_episodes c.args.notes.now) } in
     let more : ℕ = lost_then began.lost c.args.self.now.steps c.adopt.new.self.steps c.args.steps.now c.adopt.new.steps in
-    let all = lost_counts began.lost c.args.self.now.steps c.adopt.new.self.steps c.args.steps.now c.adopt.new.steps c.in_default.ensures.least in
-    let later : Since = record { told = began.told; lost = more } in
-    let going = c.in_default.ensures.adopts image began (g.K.Link.told c.args.link.now) (g.K.Link.phases c.args.link.now) (g.K.Link.coming c.args.link.now) more fails (λ others. all) in
-    let hold = sym (ap (λ (o : Options). o.hold) c.in_default.ensures.frame.options) in
+    let all = lost_counts began.lost c.args.self.now.steps c.adopt.new.self.steps c.args.steps.now c.adopt.new.steps c.in-Ok.ensures.least in
+    let adopting = c.in-Ok.ensures.adopts image before (g.K.Link.told c.args.link.now) (g.K.Link.phases c.args.link.now) (g.K.Link.coming c.args.link.now) more fails all in
+    let told = noted (g.N.Notes.told_choices c.episode.new.self) (g.N.Notes.told_episodes c.episode.new.self) in
+    let later : Since = record began { lost = more; noted = told } in
+    let with_episode = noted_episode (g.N.Notes.told_choices c.args.notes.now) (g.N.Notes.told_choices c.episode.new.self) (g.N.Notes.told_episodes c.args.notes.now) (g.N.Notes.told_episodes c.episode.new.self) c.in-Ok.recovered.episode c.in_default.ensures.choices c.in_default.ensures.noted in
+    let none : end_of c.args.self.now.taken c.args.cause c.in-Ok.recovered.adopted ≡ None = ap (λ n. end_of n c.args.cause c.in-Ok.recovered.adopted) (sym (ap (λ (s : SessionState _). s.taken) c.self.view_is)) ∙ (sym c.end_of.ensures ∙ c.in_default-end_of.is) in
+    let going = goes_adopted rules image later (g.K.Link.told c.args.link.now) (g.K.Link.phases c.args.link.now) (g.K.Link.coming c.args.link.now) c.adopt.new.self _ none (adopting.goes told with_episode) in
+    let hold = sym (ap (λ (o : Options). o.hold) c.in-Ok.ensures.frame.options) in
     let steps : c.pass_due.new.self.steps ≡ c.adopt.new.self.steps = ap (λ (s : SessionState _). s.steps) c.pass_due.ensures.same in
     comes_lost rules image later (g.K.Link.told c.pass_due.new.link) (g.K.Link.phases c.pass_due.new.link) (g.K.Link.coming c.pass_due.new.link) (g.K.Link.takes c.pass_due.new.link) c.pass_due.new.self c.pass_due.result lost
     (λ others. lost_behind lost more (began.lost + c.args.self.now.steps + c.adopt.new.steps) c.pass_due.new.self.steps c.adopt.new.self.steps c.args.steps.now (counts others) all steps)

@@ -16,7 +16,7 @@ sent-requires-clause-later g c =
 
 pub returns-in-Err-clause-turns : goal.returns-in-Err-clause-turns
 returns-in-Err-clause-turns g c image began h =
-    (run_breaks _ image began _ _ _ _ c.args.self.now _ h (ap (λ (s : SessionState _). s.choices) c.self.view_is) (ap (λ (s : SessionState _). s.taken) c.self.view_is) (ap (λ (s : SessionState _). s.steps) c.self.view_is), λ none. still_takes true _ refl none)
+    (run_breaks _ image began _ _ _ _ c.args.self.now _ h (ap (λ (s : SessionState _). s.recorded) c.self.view_is) (ap (λ (s : SessionState _). s.choices) c.self.view_is) (ap (λ (s : SessionState _). s.taken) c.self.view_is) (ap (λ (s : SessionState _). s.steps) c.self.view_is), λ none. still_takes true _ refl none)
 
 pub pass_due-requires-clause-can : goal.pass_due-requires-clause-can
 pass_due-requires-clause-can g c =

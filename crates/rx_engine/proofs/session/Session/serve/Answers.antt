@@ -4,7 +4,8 @@ use Rattle.rx_engine.specs.Recovered.{HasRecovered}
 use Rattle.rx_engine.specs.Options.{rules_of}
 use Rattle.rx_engine.specs.declared.stop.Stop.TheVariants.{Breaks, Ends}
 use Rattle.rx_engine.specs.Sessions.{SessionState}
-use Rattle.rx_engine.specs.Standing.{Since, IsBrokenOff}
+use Rattle.rx_engine.specs.Standing.{Since, told_since, IsBrokenOff}
+use Rattle.notes.specs.Noting.{noted}
 use Rattle.reply_ledger.specs.Ledger.{Ledger}
 use Rattle.rx_engine.specs.Serving.{CanGive, StopsBy, IsCounted}
 use Rattle.rx_engine.proofs.EndLemmas.{served_off}
@@ -21,7 +22,7 @@ turns-init g c =
     let none : c.save_start.new.self.cpu.slots.live.steps ≡ 0 = sym marked.steps ∙ (ap (λ (s : SessionState _). s.steps) c.save_start.ensures.same ∙ begun.no_steps) in
     record {
       stands = λ image is.
-          starts_between g.R.AccessRule.rule image (g.K.Link.told c.args.link.now) (g.K.Link.phases c.args.link.now) c.args.self.now c.save_start.new.self is c.requires.fresh (λ rules. c.save_start.ensures.keeps rules image is) c.save_start.ensures.same
+          starts_between g.R.AccessRule.rule image (g.K.Link.told c.args.link.now) (noted (g.N.Notes.told_choices c.args.notes.now) (g.N.Notes.told_episodes c.args.notes.now)) (g.K.Link.phases c.args.link.now) c.args.self.now c.save_start.new.self is c.requires.fresh (λ rules. c.save_start.ensures.keeps rules image is) c.save_start.ensures.same
           c.save_start.ensures.live;
       frame = record { options = ap (λ (s : SessionState _). s.options) c.save_start.ensures.same; rule = c.save_start.ensures.rule };
       known = known_same _ _ refl;
@@ -34,6 +35,9 @@ turns-init g c =
       counted = omega (arith, none);
       no_takes_fell = omega arith;
       no_gives_fell = omega arith;
+      no_faults_fell = omega arith;
+      fixed = refl;
+      works = refl;
       went = g.met.K.Link.went_same c.args.link.now;
     }
 
@@ -42,7 +46,7 @@ turn-requires-clause-stands g c =
     let rules : Rules = rules_of c.args.self.now.options (g.R.AccessRule.rule c.args.self.now.cpu.rule) in
     let here : Rules = rules_of c.turns.self.options (g.R.AccessRule.rule c.turns.self.cpu.rule) in
     let same = same_rules g.R.AccessRule.rule c.args.self.now c.turns.self c.turns.invariant.frame in
-    record { image = c.requires.begun.image; began = record { told = g.K.Link.told c.args.link.now; lost = c.turns.invariant.lost }; is = between_under rules here (sym same) (c.turns.invariant.stands c.requires.begun.image c.requires.begun.begun) }
+    record { image = c.requires.begun.image; began = told_since (g.K.Link.told c.args.link.now) (noted (g.N.Notes.told_choices c.args.notes.now) (g.N.Notes.told_episodes c.args.notes.now)) (noted (g.N.Notes.told_choices c.turns.notes) (g.N.Notes.told_episodes c.turns.notes)) c.turns.invariant.lost; is = between_under rules here (sym same) (c.turns.invariant.stands c.requires.begun.image c.requires.begun.begun) }
 
 pub turns-preserved : goal.turns-preserved
 turns-preserved g c =
@@ -54,7 +58,7 @@ turns-preserved g c =
     let all : c.turn.new.steps ≡ c.args.steps.now + ((lost_then c.turns.invariant.lost c.turns.self.cpu.slots.live.steps c.turn.new.self.steps c.turns.steps c.turn.new.steps) + c.turn.new.self.steps) = (lost_all c.args.steps.now c.turns.invariant.lost c.turns.self.cpu.slots.live.steps c.turn.new.self.steps c.turns.steps c.turn.new.steps c.turns.invariant.counted c.in-Ok.ensures.least) in
     let steps = marked.steps in
     record {
-      stands = λ image is. between_under here rules same (c.in-Ok.ensures.turns image (record { told = g.K.Link.told c.args.link.now; lost = c.turns.invariant.lost }) (lost_then c.turns.invariant.lost c.turns.self.cpu.slots.live.steps c.turn.new.self.steps c.turns.steps c.turn.new.steps) (between_under rules here (sym same) (c.turns.invariant.stands image is)) (λ others. lost_counts c.turns.invariant.lost c.turns.self.cpu.slots.live.steps c.turn.new.self.steps c.turns.steps c.turn.new.steps c.in-Ok.ensures.least));
+      stands = λ image is. between_under here rules same (c.in-Ok.ensures.turns image (told_since (g.K.Link.told c.args.link.now) (noted (g.N.Notes.told_choices c.args.notes.now) (g.N.Notes.told_episodes c.args.notes.now)) (noted (g.N.Notes.told_choices c.turns.notes) (g.N.Notes.told_episodes c.turns.notes)) c.turns.invariant.lost) (lost_then c.turns.invariant.lost c.turns.self.cpu.slots.live.steps c.turn.new.self.steps c.turns.steps c.turn.new.steps) (between_under rules here (sym same) (c.turns.invariant.stands image is)) (λ others. lost_counts c.turns.invariant.lost c.turns.self.cpu.slots.live.steps c.turn.new.self.steps c.turns.steps c.turn.new.steps c.in-Ok.ensures.least));
       frame = frame_then c.args.self.now c.turns.self c.turn.new.self c.turns.invariant.frame c.in-Ok.ensures.frame;
       known = known_then (g.K.Link.coming c.args.link.now) (g.K.Link.coming c.turns.link) (g.K.Link.coming c.turn.new.link) c.turns.invariant.known c.in-Ok.ensures.coming;
       takes_still = c.in-Ok.ensures.takes;
@@ -64,6 +68,9 @@ turns-preserved g c =
       counted = omega (arith, all, steps);
       no_takes_fell = cause.takes;
       no_gives_fell = cause.gives;
+      no_faults_fell = let fell = c.turns.invariant.no_faults_fell in let more = c.in-Ok.ensures.noted.later in omega (arith, fell, more);
+      fixed = c.in-Ok.ensures.fixed ∙ c.turns.invariant.fixed;
+      works = c.in-Ok.ensures.works ∙ c.turns.invariant.works;
       went = g.met.K.Link.went_on c.args.link.now c.turns.link c.turn.new.link c.turns.invariant.went c.in-Ok.ensures.went;
     }
 
@@ -72,10 +79,10 @@ returns-in-Err-Breaks-clause-served g c image is =
     let rules : Rules = rules_of c.args.self.now.options (g.R.AccessRule.rule c.args.self.now.cpu.rule) in
     let here : Rules = rules_of c.turns.self.options (g.R.AccessRule.rule c.turns.self.cpu.rule) in
     let same = same_rules g.R.AccessRule.rule c.args.self.now c.turns.self c.turns.invariant.frame in
-    let off = stops_under image (record { told = g.K.Link.told c.args.link.now; lost = (lost_then c.turns.invariant.lost c.turns.self.cpu.slots.live.steps c.turn.new.self.steps c.turns.steps c.turn.new.steps) }) (g.K.Link.told c.turn.new.link) (g.K.Link.coming c.turn.new.link) (g.K.Link.takes c.turn.new.link) c.turn.new.self (Breaks c.in-Err-Breaks.answer) here rules same
-    (subst (λ why. StopsBy here image (record { told = g.K.Link.told c.args.link.now; lost = (lost_then c.turns.invariant.lost c.turns.self.cpu.slots.live.steps c.turn.new.self.steps c.turns.steps c.turn.new.steps) }) (g.K.Link.told c.turn.new.link) (g.K.Link.coming c.turn.new.link) (g.K.Link.takes c.turn.new.link) c.turn.new.self why) c.in-Err-Breaks.field-0-is
-    (c.in-Err-Breaks.ensures.turns image (record { told = g.K.Link.told c.args.link.now; lost = c.turns.invariant.lost }) (lost_then c.turns.invariant.lost c.turns.self.cpu.slots.live.steps c.turn.new.self.steps c.turns.steps c.turn.new.steps) (between_under rules here (sym same) (c.turns.invariant.stands image is)) (λ others. lost_counts c.turns.invariant.lost c.turns.self.cpu.slots.live.steps c.turn.new.self.steps c.turns.steps c.turn.new.steps c.in-Err-Breaks.ensures.least))) in
-    served_off rules image (record { told = g.K.Link.told c.args.link.now; lost = (lost_then c.turns.invariant.lost c.turns.self.cpu.slots.live.steps c.turn.new.self.steps c.turns.steps c.turn.new.steps) }) (g.K.Link.told c.turn.new.link) (g.K.Link.coming c.turn.new.link) (g.K.Link.takes c.turn.new.link) c.turn.new.self c.in-Err-Breaks.answer off.0 off.1 c.args.steps.now c.turn.new.steps (λ others. (lost_all c.args.steps.now c.turns.invariant.lost c.turns.self.cpu.slots.live.steps c.turn.new.self.steps c.turns.steps c.turn.new.steps c.turns.invariant.counted c.in-Err-Breaks.ensures.least))
+    let off = stops_under image (told_since (g.K.Link.told c.args.link.now) (noted (g.N.Notes.told_choices c.args.notes.now) (g.N.Notes.told_episodes c.args.notes.now)) (noted (g.N.Notes.told_choices c.turn.new.notes) (g.N.Notes.told_episodes c.turn.new.notes)) (lost_then c.turns.invariant.lost c.turns.self.cpu.slots.live.steps c.turn.new.self.steps c.turns.steps c.turn.new.steps)) (g.K.Link.told c.turn.new.link) (g.K.Link.coming c.turn.new.link) (g.K.Link.takes c.turn.new.link) c.turn.new.self (Breaks c.in-Err-Breaks.answer) here rules same
+    (subst (λ why. StopsBy here image (told_since (g.K.Link.told c.args.link.now) (noted (g.N.Notes.told_choices c.args.notes.now) (g.N.Notes.told_episodes c.args.notes.now)) (noted (g.N.Notes.told_choices c.turn.new.notes) (g.N.Notes.told_episodes c.turn.new.notes)) (lost_then c.turns.invariant.lost c.turns.self.cpu.slots.live.steps c.turn.new.self.steps c.turns.steps c.turn.new.steps)) (g.K.Link.told c.turn.new.link) (g.K.Link.coming c.turn.new.link) (g.K.Link.takes c.turn.new.link) c.turn.new.self why) c.in-Err-Breaks.field-0-is
+    (c.in-Err-Breaks.ensures.turns image (told_since (g.K.Link.told c.args.link.now) (noted (g.N.Notes.told_choices c.args.notes.now) (g.N.Notes.told_episodes c.args.notes.now)) (noted (g.N.Notes.told_choices c.turns.notes) (g.N.Notes.told_episodes c.turns.notes)) c.turns.invariant.lost) (lost_then c.turns.invariant.lost c.turns.self.cpu.slots.live.steps c.turn.new.self.steps c.turns.steps c.turn.new.steps) (between_under rules here (sym same) (c.turns.invariant.stands image is)) (λ others. lost_counts c.turns.invariant.lost c.turns.self.cpu.slots.live.steps c.turn.new.self.steps c.turns.steps c.turn.new.steps c.in-Err-Breaks.ensures.least))) in
+    served_off rules image (told_since (g.K.Link.told c.args.link.now) (noted (g.N.Notes.told_choices c.args.notes.now) (g.N.Notes.told_episodes c.args.notes.now)) (noted (g.N.Notes.told_choices c.turn.new.notes) (g.N.Notes.told_episodes c.turn.new.notes)) (lost_then c.turns.invariant.lost c.turns.self.cpu.slots.live.steps c.turn.new.self.steps c.turns.steps c.turn.new.steps)) (g.K.Link.told c.turn.new.link) (g.K.Link.coming c.turn.new.link) (g.K.Link.takes c.turn.new.link) c.turn.new.self c.in-Err-Breaks.answer off.0 off.1 c.args.steps.now c.turn.new.steps (λ others. (lost_all c.args.steps.now c.turns.invariant.lost c.turns.self.cpu.slots.live.steps c.turn.new.self.steps c.turns.steps c.turn.new.steps c.turns.invariant.counted c.in-Err-Breaks.ensures.least))
 
 pub finish-requires-clause-ends : goal.finish-requires-clause-ends
 finish-requires-clause-ends g c =
@@ -85,13 +92,13 @@ finish-requires-clause-ends g c =
     let same = same_rules g.R.AccessRule.rule c.args.self.now c.turns.self c.turns.invariant.frame in
     let then = same_rules g.R.AccessRule.rule c.turns.self c.turn.new.self c.in-Err-Ends.ensures.frame in
     let image = c.requires.begun.image in
-    let began : Since = record { told = g.K.Link.told c.args.link.now; lost = (lost_then c.turns.invariant.lost c.turns.self.cpu.slots.live.steps c.turn.new.self.steps c.turns.steps c.turn.new.steps) } in
+    let began : Since = told_since (g.K.Link.told c.args.link.now) (noted (g.N.Notes.told_choices c.args.notes.now) (g.N.Notes.told_episodes c.args.notes.now)) (noted (g.N.Notes.told_choices c.turn.new.notes) (g.N.Notes.told_episodes c.turn.new.notes)) (lost_then c.turns.invariant.lost c.turns.self.cpu.slots.live.steps c.turn.new.self.steps c.turns.steps c.turn.new.steps) in
     record {
       image = image;
       began = began;
       is = (stops_under image began (g.K.Link.told c.turn.new.link) (g.K.Link.coming c.turn.new.link) (g.K.Link.takes c.turn.new.link) c.turn.new.self (Ends c.in-Err-Ends.answer) here later (sym then)
           (subst (λ why. StopsBy here image began (g.K.Link.told c.turn.new.link) (g.K.Link.coming c.turn.new.link) (g.K.Link.takes c.turn.new.link) c.turn.new.self why) c.in-Err-Ends.field-0-is
-          (c.in-Err-Ends.ensures.turns image (record { told = g.K.Link.told c.args.link.now; lost = c.turns.invariant.lost }) (lost_then c.turns.invariant.lost c.turns.self.cpu.slots.live.steps c.turn.new.self.steps c.turns.steps c.turn.new.steps) (between_under rules here (sym same) (c.turns.invariant.stands image c.requires.begun.begun)) (λ others. lost_counts c.turns.invariant.lost c.turns.self.cpu.slots.live.steps c.turn.new.self.steps c.turns.steps c.turn.new.steps c.in-Err-Ends.ensures.least)))).0;
+          (c.in-Err-Ends.ensures.turns image (told_since (g.K.Link.told c.args.link.now) (noted (g.N.Notes.told_choices c.args.notes.now) (g.N.Notes.told_episodes c.args.notes.now)) (noted (g.N.Notes.told_choices c.turns.notes) (g.N.Notes.told_episodes c.turns.notes)) c.turns.invariant.lost) (lost_then c.turns.invariant.lost c.turns.self.cpu.slots.live.steps c.turn.new.self.steps c.turns.steps c.turn.new.steps) (between_under rules here (sym same) (c.turns.invariant.stands image c.requires.begun.begun)) (λ others. lost_counts c.turns.invariant.lost c.turns.self.cpu.slots.live.steps c.turn.new.self.steps c.turns.steps c.turn.new.steps c.in-Err-Ends.ensures.least)))).0;
     }
 
 pub returns-in-Err-Ends-clause-served : goal.returns-in-Err-Ends-clause-served
@@ -101,12 +108,12 @@ returns-in-Err-Ends-clause-served g c image is =
     let later : Rules = rules_of c.turn.new.self.options (g.R.AccessRule.rule c.turn.new.self.cpu.rule) in
     let same = same_rules g.R.AccessRule.rule c.args.self.now c.turns.self c.turns.invariant.frame in
     let then = same_rules g.R.AccessRule.rule c.turns.self c.turn.new.self c.in-Err-Ends.ensures.frame in
-    let began : Since = record { told = g.K.Link.told c.args.link.now; lost = (lost_then c.turns.invariant.lost c.turns.self.cpu.slots.live.steps c.turn.new.self.steps c.turns.steps c.turn.new.steps) } in
+    let began : Since = told_since (g.K.Link.told c.args.link.now) (noted (g.N.Notes.told_choices c.args.notes.now) (g.N.Notes.told_episodes c.args.notes.now)) (noted (g.N.Notes.told_choices c.turn.new.notes) (g.N.Notes.told_episodes c.turn.new.notes)) (lost_then c.turns.invariant.lost c.turns.self.cpu.slots.live.steps c.turn.new.self.steps c.turns.steps c.turn.new.steps) in
     let stops = stops_under image began (g.K.Link.told c.turn.new.link) (g.K.Link.coming c.turn.new.link) (g.K.Link.takes c.turn.new.link) c.turn.new.self (Ends c.in-Err-Ends.answer) here later (sym then)
     (subst (λ why. StopsBy here image began (g.K.Link.told c.turn.new.link) (g.K.Link.coming c.turn.new.link) (g.K.Link.takes c.turn.new.link) c.turn.new.self why) c.in-Err-Ends.field-0-is
-    (c.in-Err-Ends.ensures.turns image (record { told = g.K.Link.told c.args.link.now; lost = c.turns.invariant.lost }) (lost_then c.turns.invariant.lost c.turns.self.cpu.slots.live.steps c.turn.new.self.steps c.turns.steps c.turn.new.steps) (between_under rules here (sym same) (c.turns.invariant.stands image is)) (λ others. lost_counts c.turns.invariant.lost c.turns.self.cpu.slots.live.steps c.turn.new.self.steps c.turns.steps c.turn.new.steps c.in-Err-Ends.ensures.least))) in
+    (c.in-Err-Ends.ensures.turns image (told_since (g.K.Link.told c.args.link.now) (noted (g.N.Notes.told_choices c.args.notes.now) (g.N.Notes.told_episodes c.args.notes.now)) (noted (g.N.Notes.told_choices c.turns.notes) (g.N.Notes.told_episodes c.turns.notes)) c.turns.invariant.lost) (lost_then c.turns.invariant.lost c.turns.self.cpu.slots.live.steps c.turn.new.self.steps c.turns.steps c.turn.new.steps) (between_under rules here (sym same) (c.turns.invariant.stands image is)) (λ others. lost_counts c.turns.invariant.lost c.turns.self.cpu.slots.live.steps c.turn.new.self.steps c.turns.steps c.turn.new.steps c.in-Err-Ends.ensures.least))) in
     subst
-    (λ (r : Rules). HasRecovered r image began.told (g.K.Link.told c.finish.new.link) (g.K.Link.coming c.finish.new.link) (g.K.Link.takes c.finish.new.link) c.finish.result c.finish.new.self.choices c.finish.new.self.taken c.finish.new.self.steps c.args.steps.now c.turn.new.steps)
+    (λ (r : Rules). HasRecovered r image began.told (g.K.Link.told c.finish.new.link) (g.K.Link.coming c.finish.new.link) (g.K.Link.takes c.finish.new.link) c.finish.result (noted (g.N.Notes.told_choices c.args.notes.now) (g.N.Notes.told_episodes c.args.notes.now)) (noted (g.N.Notes.told_choices c.finish.new.notes) (g.N.Notes.told_episodes c.finish.new.notes)) c.finish.new.self.recorded c.finish.new.self.choices c.finish.new.self.taken c.finish.new.self.steps c.args.steps.now c.turn.new.steps)
     (then ∙ same) (c.finish.ensures.served image began stops.0 stops.1 c.args.steps.now c.turn.new.steps (lost_all c.args.steps.now c.turns.invariant.lost c.turns.self.cpu.slots.live.steps c.turn.new.self.steps c.turns.steps c.turn.new.steps c.turns.invariant.counted c.in-Err-Ends.ensures.least))
 
 pub returns-in-Err-Ends-clause-went : goal.returns-in-Err-Ends-clause-went
@@ -118,9 +125,9 @@ returns-in-Err-Breaks-clause-gives g c is =
     let rules : Rules = rules_of c.args.self.now.options (g.R.AccessRule.rule c.args.self.now.cpu.rule) in
     let here : Rules = rules_of c.turns.self.options (g.R.AccessRule.rule c.turns.self.cpu.rule) in
     let same = same_rules g.R.AccessRule.rule c.args.self.now c.turns.self c.turns.invariant.frame in
-    let off : IsBrokenOff here c.requires.begun.image (record { told = g.K.Link.told c.args.link.now; lost = (lost_then c.turns.invariant.lost c.turns.self.cpu.slots.live.steps c.turn.new.self.steps c.turns.steps c.turn.new.steps) }) (g.K.Link.told c.turn.new.link) (g.K.Link.coming c.turn.new.link) c.turn.new.self c.in-Err-Breaks.answer =
-    (subst (λ why. StopsBy here c.requires.begun.image (record { told = g.K.Link.told c.args.link.now; lost = (lost_then c.turns.invariant.lost c.turns.self.cpu.slots.live.steps c.turn.new.self.steps c.turns.steps c.turn.new.steps) }) (g.K.Link.told c.turn.new.link) (g.K.Link.coming c.turn.new.link) (g.K.Link.takes c.turn.new.link) c.turn.new.self why) c.in-Err-Breaks.field-0-is
-    (c.in-Err-Breaks.ensures.turns c.requires.begun.image (record { told = g.K.Link.told c.args.link.now; lost = c.turns.invariant.lost }) (lost_then c.turns.invariant.lost c.turns.self.cpu.slots.live.steps c.turn.new.self.steps c.turns.steps c.turn.new.steps) (between_under rules here (sym same) (c.turns.invariant.stands c.requires.begun.image c.requires.begun.begun)) (λ others. lost_counts c.turns.invariant.lost c.turns.self.cpu.slots.live.steps c.turn.new.self.steps c.turns.steps c.turn.new.steps c.in-Err-Breaks.ensures.least))).0 in
+    let off : IsBrokenOff here c.requires.begun.image (told_since (g.K.Link.told c.args.link.now) (noted (g.N.Notes.told_choices c.args.notes.now) (g.N.Notes.told_episodes c.args.notes.now)) (noted (g.N.Notes.told_choices c.turn.new.notes) (g.N.Notes.told_episodes c.turn.new.notes)) (lost_then c.turns.invariant.lost c.turns.self.cpu.slots.live.steps c.turn.new.self.steps c.turns.steps c.turn.new.steps)) (g.K.Link.told c.turn.new.link) (g.K.Link.coming c.turn.new.link) c.turn.new.self c.in-Err-Breaks.answer =
+    (subst (λ why. StopsBy here c.requires.begun.image (told_since (g.K.Link.told c.args.link.now) (noted (g.N.Notes.told_choices c.args.notes.now) (g.N.Notes.told_episodes c.args.notes.now)) (noted (g.N.Notes.told_choices c.turn.new.notes) (g.N.Notes.told_episodes c.turn.new.notes)) (lost_then c.turns.invariant.lost c.turns.self.cpu.slots.live.steps c.turn.new.self.steps c.turns.steps c.turn.new.steps)) (g.K.Link.told c.turn.new.link) (g.K.Link.coming c.turn.new.link) (g.K.Link.takes c.turn.new.link) c.turn.new.self why) c.in-Err-Breaks.field-0-is
+    (c.in-Err-Breaks.ensures.turns c.requires.begun.image (told_since (g.K.Link.told c.args.link.now) (noted (g.N.Notes.told_choices c.args.notes.now) (g.N.Notes.told_episodes c.args.notes.now)) (noted (g.N.Notes.told_choices c.turns.notes) (g.N.Notes.told_episodes c.turns.notes)) c.turns.invariant.lost) (lost_then c.turns.invariant.lost c.turns.self.cpu.slots.live.steps c.turn.new.self.steps c.turns.steps c.turn.new.steps) (between_under rules here (sym same) (c.turns.invariant.stands c.requires.begun.image c.requires.begun.begun)) (λ others. lost_counts c.turns.invariant.lost c.turns.self.cpu.slots.live.steps c.turn.new.self.steps c.turns.steps c.turn.new.steps c.in-Err-Breaks.ensures.least))).0 in
     absurd (off.no_end is)
 
 pub returns-in-Err-Breaks-clause-coming : goal.returns-in-Err-Breaks-clause-coming
@@ -128,9 +135,9 @@ returns-in-Err-Breaks-clause-coming g c is =
     let rules : Rules = rules_of c.args.self.now.options (g.R.AccessRule.rule c.args.self.now.cpu.rule) in
     let here : Rules = rules_of c.turns.self.options (g.R.AccessRule.rule c.turns.self.cpu.rule) in
     let same = same_rules g.R.AccessRule.rule c.args.self.now c.turns.self c.turns.invariant.frame in
-    let off : IsBrokenOff here c.requires.begun.image (record { told = g.K.Link.told c.args.link.now; lost = (lost_then c.turns.invariant.lost c.turns.self.cpu.slots.live.steps c.turn.new.self.steps c.turns.steps c.turn.new.steps) }) (g.K.Link.told c.turn.new.link) (g.K.Link.coming c.turn.new.link) c.turn.new.self c.in-Err-Breaks.answer =
-    (subst (λ why. StopsBy here c.requires.begun.image (record { told = g.K.Link.told c.args.link.now; lost = (lost_then c.turns.invariant.lost c.turns.self.cpu.slots.live.steps c.turn.new.self.steps c.turns.steps c.turn.new.steps) }) (g.K.Link.told c.turn.new.link) (g.K.Link.coming c.turn.new.link) (g.K.Link.takes c.turn.new.link) c.turn.new.self why) c.in-Err-Breaks.field-0-is
-    (c.in-Err-Breaks.ensures.turns c.requires.begun.image (record { told = g.K.Link.told c.args.link.now; lost = c.turns.invariant.lost }) (lost_then c.turns.invariant.lost c.turns.self.cpu.slots.live.steps c.turn.new.self.steps c.turns.steps c.turn.new.steps) (between_under rules here (sym same) (c.turns.invariant.stands c.requires.begun.image c.requires.begun.begun)) (λ others. lost_counts c.turns.invariant.lost c.turns.self.cpu.slots.live.steps c.turn.new.self.steps c.turns.steps c.turn.new.steps c.in-Err-Breaks.ensures.least))).0 in
+    let off : IsBrokenOff here c.requires.begun.image (told_since (g.K.Link.told c.args.link.now) (noted (g.N.Notes.told_choices c.args.notes.now) (g.N.Notes.told_episodes c.args.notes.now)) (noted (g.N.Notes.told_choices c.turn.new.notes) (g.N.Notes.told_episodes c.turn.new.notes)) (lost_then c.turns.invariant.lost c.turns.self.cpu.slots.live.steps c.turn.new.self.steps c.turns.steps c.turn.new.steps)) (g.K.Link.told c.turn.new.link) (g.K.Link.coming c.turn.new.link) c.turn.new.self c.in-Err-Breaks.answer =
+    (subst (λ why. StopsBy here c.requires.begun.image (told_since (g.K.Link.told c.args.link.now) (noted (g.N.Notes.told_choices c.args.notes.now) (g.N.Notes.told_episodes c.args.notes.now)) (noted (g.N.Notes.told_choices c.turn.new.notes) (g.N.Notes.told_episodes c.turn.new.notes)) (lost_then c.turns.invariant.lost c.turns.self.cpu.slots.live.steps c.turn.new.self.steps c.turns.steps c.turn.new.steps)) (g.K.Link.told c.turn.new.link) (g.K.Link.coming c.turn.new.link) (g.K.Link.takes c.turn.new.link) c.turn.new.self why) c.in-Err-Breaks.field-0-is
+    (c.in-Err-Breaks.ensures.turns c.requires.begun.image (told_since (g.K.Link.told c.args.link.now) (noted (g.N.Notes.told_choices c.args.notes.now) (g.N.Notes.told_episodes c.args.notes.now)) (noted (g.N.Notes.told_choices c.turns.notes) (g.N.Notes.told_episodes c.turns.notes)) c.turns.invariant.lost) (lost_then c.turns.invariant.lost c.turns.self.cpu.slots.live.steps c.turn.new.self.steps c.turns.steps c.turn.new.steps) (between_under rules here (sym same) (c.turns.invariant.stands c.requires.begun.image c.requires.begun.begun)) (λ others. lost_counts c.turns.invariant.lost c.turns.self.cpu.slots.live.steps c.turn.new.self.steps c.turns.steps c.turn.new.steps c.in-Err-Breaks.ensures.least))).0 in
     absurd (off.no_end is)
 
 pub returns-in-Err-Breaks-clause-counted_at_least : goal.returns-in-Err-Breaks-clause-counted_at_least
@@ -159,9 +166,9 @@ returns-in-Err-Breaks-clause-takes g c =
     let rules : Rules = rules_of c.args.self.now.options (g.R.AccessRule.rule c.args.self.now.cpu.rule) in
     let here : Rules = rules_of c.turns.self.options (g.R.AccessRule.rule c.turns.self.cpu.rule) in
     let same = same_rules g.R.AccessRule.rule c.args.self.now c.turns.self c.turns.invariant.frame in
-    let off : IsBrokenOff here c.requires.begun.image (record { told = g.K.Link.told c.args.link.now; lost = (lost_then c.turns.invariant.lost c.turns.self.cpu.slots.live.steps c.turn.new.self.steps c.turns.steps c.turn.new.steps) }) (g.K.Link.told c.turn.new.link) (g.K.Link.coming c.turn.new.link) c.turn.new.self c.in-Err-Breaks.answer =
-    (subst (λ why. StopsBy here c.requires.begun.image (record { told = g.K.Link.told c.args.link.now; lost = (lost_then c.turns.invariant.lost c.turns.self.cpu.slots.live.steps c.turn.new.self.steps c.turns.steps c.turn.new.steps) }) (g.K.Link.told c.turn.new.link) (g.K.Link.coming c.turn.new.link) (g.K.Link.takes c.turn.new.link) c.turn.new.self why) c.in-Err-Breaks.field-0-is
-    (c.in-Err-Breaks.ensures.turns c.requires.begun.image (record { told = g.K.Link.told c.args.link.now; lost = c.turns.invariant.lost }) (lost_then c.turns.invariant.lost c.turns.self.cpu.slots.live.steps c.turn.new.self.steps c.turns.steps c.turn.new.steps) (between_under rules here (sym same) (c.turns.invariant.stands c.requires.begun.image c.requires.begun.begun)) (λ others. lost_counts c.turns.invariant.lost c.turns.self.cpu.slots.live.steps c.turn.new.self.steps c.turns.steps c.turn.new.steps c.in-Err-Breaks.ensures.least))).0 in
+    let off : IsBrokenOff here c.requires.begun.image (told_since (g.K.Link.told c.args.link.now) (noted (g.N.Notes.told_choices c.args.notes.now) (g.N.Notes.told_episodes c.args.notes.now)) (noted (g.N.Notes.told_choices c.turn.new.notes) (g.N.Notes.told_episodes c.turn.new.notes)) (lost_then c.turns.invariant.lost c.turns.self.cpu.slots.live.steps c.turn.new.self.steps c.turns.steps c.turn.new.steps)) (g.K.Link.told c.turn.new.link) (g.K.Link.coming c.turn.new.link) c.turn.new.self c.in-Err-Breaks.answer =
+    (subst (λ why. StopsBy here c.requires.begun.image (told_since (g.K.Link.told c.args.link.now) (noted (g.N.Notes.told_choices c.args.notes.now) (g.N.Notes.told_episodes c.args.notes.now)) (noted (g.N.Notes.told_choices c.turn.new.notes) (g.N.Notes.told_episodes c.turn.new.notes)) (lost_then c.turns.invariant.lost c.turns.self.cpu.slots.live.steps c.turn.new.self.steps c.turns.steps c.turn.new.steps)) (g.K.Link.told c.turn.new.link) (g.K.Link.coming c.turn.new.link) (g.K.Link.takes c.turn.new.link) c.turn.new.self why) c.in-Err-Breaks.field-0-is
+    (c.in-Err-Breaks.ensures.turns c.requires.begun.image (told_since (g.K.Link.told c.args.link.now) (noted (g.N.Notes.told_choices c.args.notes.now) (g.N.Notes.told_episodes c.args.notes.now)) (noted (g.N.Notes.told_choices c.turns.notes) (g.N.Notes.told_episodes c.turns.notes)) c.turns.invariant.lost) (lost_then c.turns.invariant.lost c.turns.self.cpu.slots.live.steps c.turn.new.self.steps c.turns.steps c.turn.new.steps) (between_under rules here (sym same) (c.turns.invariant.stands c.requires.begun.image c.requires.begun.begun)) (λ others. lost_counts c.turns.invariant.lost c.turns.self.cpu.slots.live.steps c.turn.new.self.steps c.turns.steps c.turn.new.steps c.in-Err-Breaks.ensures.least))).0 in
     takes_no_end (g.K.Link.takes c.turn.new.link) c.in-Err-Breaks.answer off.no_end
 
 pub returns-in-Err-Ends-clause-takes : goal.returns-in-Err-Ends-clause-takes

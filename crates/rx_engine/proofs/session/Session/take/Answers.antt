@@ -1,11 +1,15 @@
-use Rattle.std.proofs.Common.{◌≡◌, None, sym, ap, subst}
+use Rattle.std.proofs.Common.{◌≡◌, ◌≤◌, None, sym, ap, subst}
 use Rattle.item_log.specs.Log.{IsItemOf}
 use Rattle.guest_cpu.specs.Standing.{Live}
 use Rattle.run_history.specs.Machine.{Wants}
 use Rattle.run_history.specs.Run.{does}
 use Rattle.rx_engine.specs.Sessions.{SessionState}
 use Rattle.rx_engine.proofs.TakeLemmas.{waits_wants, waits_short, taken_going}
+use Rattle.rx_engine.proofs.ChoiceLemmas.{waits_kept}
 use Rattle.rx_engine.proofs.session.Session.take.Goals as goal
+
+pub item-requires-clause-kept : goal.item-requires-clause-kept
+item-requires-clause-kept g c = subst (λ (s : SessionState _). s.log.first ≤ s.taken) (sym c.self.view_is) (waits_kept _ _ _ _ _ c.args.self.now c.requires.waits.2.is)
 
 pub take_item-requires-clause-asks : goal.take_item-requires-clause-asks
 take_item-requires-clause-asks g c =

@@ -1,0 +1,6 @@
+use Rattle.std.proofs.Common.{◌≡◌, take}
+use Rattle.schedule_file.specs.Lines.{choice_lines}
+use Rattle.file_notes.proofs.adding.choice_bytes.Given as goal
+
+abbrev pub invariant-choices : goal.invariant-choices
+invariant-choices l = l.bytes.items ≡ choice_lines (take l.choice-index l.list)

@@ -1,0 +1,24 @@
+-- What stands in the two files at the end.
+use Rattle.std.specs.Prelude.{ℕ, List}
+use Rattle.block_book.specs.declared.choice.Choice.{Choice}
+use Rattle.episodes.specs.declared.episode.Episode.{Episode}
+use Rattle.msg_frame.specs.declared.framing.Framing.{Framing}
+use Rattle.rx_io.specs.Named.{Contents}
+use Rattle.run_report.specs.declared.form.Form.{Form}
+use Rattle.run_report.specs.Report as report
+use Rattle.schedule_file.specs.Lines as recorded
+use Rattle.file_notes.specs.Names.{Names}
+use Rattle.file_notes.specs.Left.{Nothing}
+use Rattle.file_notes.specs.Standing.{HasNotes}
+use Rattle.file_notes.specs.Texts.{report_text}
+use Rattle.file_notes.specs.Writing.{HasBoth, nothing_kept, all_kept}
+
+-- files that were started, in which all was noted and no call failed, and that were ended, have the text of the whole record
+-- and that of the whole report, whatever they had before
+abbrev pub WholeTexts : Type 0
+WholeTexts =
+    (names : Names) (window : ℕ) (frame : Framing) (form : Form) (before started noted now : Contents) (choices : List Choice) (episodes : List Episode) (status taken steps : ℕ) →
+    HasBoth nothing_kept names (recorded.head_line window frame) (report.head_text form) before started →
+    HasNotes names form started noted choices episodes Nothing →
+    HasBoth all_kept names (recorded.end_line steps taken) (report.end_text status taken steps form) noted now →
+    HasBoth nothing_kept names (recorded.record_text window frame choices steps taken) (report_text form episodes status taken steps) before now

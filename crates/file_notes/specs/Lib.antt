@@ -1,0 +1,10 @@
+pub mod Texts
+pub mod Names
+pub mod Left
+pub mod Standing
+pub mod Past
+pub mod Codes
+pub mod Invariant
+pub mod Notes
+pub mod Writing
+pub mod Laws

@@ -1,0 +1,45 @@
+-- What notes in two files have.
+use Rattle.std.specs.Prelude.{List, Option}
+use Rattle.block_book.specs.declared.choice.Choice.{Choice}
+use Rattle.episodes.specs.declared.episode.Episode.{Episode}
+use Rattle.rx_io.specs.Named.{Contents}
+use Rattle.rx_io.specs.declared.files.Files.{Ghosts}
+use Rattle.run_report.specs.declared.form.Form.{Form}
+use Rattle.file_notes.specs.declared.file_notes.FileNotes.{FileNotes}
+use Rattle.file_notes.specs.Names.{Names, names_in}
+use Rattle.file_notes.specs.Left.{Left}
+use Rattle.file_notes.specs.Past.{before_of}
+use Rattle.file_notes.specs.Standing.{Stands}
+
+module _ {F : Type 0} {g : Ghosts F} where
+  abbrev pub files_of : FileNotes F g → F
+  files_of notes = notes.files
+
+  abbrev pub names_of : FileNotes F g → Names
+  names_of notes = names_in notes.names
+
+  abbrev pub form_of : FileNotes F g → Form
+  form_of notes = notes.form
+
+  -- the answers of malloc and the episodes that were noted
+  abbrev pub choices_of : FileNotes F g → List Choice
+  choices_of notes = notes.past.was.choices
+
+  abbrev pub episodes_of : FileNotes F g → List Episode
+  episodes_of notes = notes.past.was.episodes
+
+  -- what a call that failed left
+  abbrev pub left_of : FileNotes F g → Left
+  left_of notes = notes.past.was.left
+
+  -- what the files told when the notes were made
+  abbrev pub told_before : FileNotes F g → Option Contents
+  told_before notes = before_of (names_in notes.names) notes.past.was.had (g.told notes.files)
+
+  -- what stands in the files, where they told it from the start
+  abbrev pub StandsIn : FileNotes F g → Type 0
+  StandsIn notes = Stands (names_of notes) notes.form (told_before notes) (g.told notes.files) (choices_of notes) (episodes_of notes) (left_of notes)
+
+  -- what no call changes: which files they are, the names, the form, and what the files told when the notes were made
+  abbrev pub notes_fixed : FileNotes F g → g.Fixed × (Names × (Form × Option Contents))
+  notes_fixed notes = (g.fixed notes.files, (names_of notes, (notes.form, told_before notes)))

@@ -1,0 +1,65 @@
+// Adding texts to files.
+ghost use Rattle.std.specs.Prelude.{◌≡◌, ◌+◌, ◌^◌, ◌<◌, IfOk};
+ghost use Rattle.rx_io.specs.Faults.{HasCause};
+ghost use Rattle.rx_io.specs.Named.{Adds};
+ghost use Rattle.run_report.specs.Report.{episode_text};
+ghost use Rattle.schedule_file.specs.Lines.{choice_lines};
+
+use block_book::Choice;
+use episodes::Episode;
+use run_report::{Form, episode_text};
+use rx_io::{Bytes, Files, IoFault};
+use schedule_file::choice_text;
+use std::alloc::{AllocError, Global};
+
+// The lines of some answers of malloc.
+fn choice_bytes(alloc: Global, list: &[Choice]) -> Result<Bytes, AllocError>
+    ensures { IfOk result (λ bytes. bytes ≡ choice_lines list.now) }
+{
+    let mut bytes = Vec::new(alloc);
+    'choices: for choice in list {
+        bytes.extend_from_slice(&choice_text(*choice))?;
+    }
+    Ok(Bytes::from_vec(bytes))
+}
+
+// Adds the lines of some answers of malloc to a file, by one call. Where memory runs out before it, nothing is added.
+pub(crate) fn add_choices<F: Files>(
+    alloc: Global,
+    files: &mut F,
+    name: &str,
+    list: &[Choice],
+) -> Result<(), IoFault>
+    ensures added { Adds (F.told files.old) (F.told files.new) name.now (choice_lines list.now) result }
+    ensures fixed { F.fixed files.new ≡ F.fixed files.old }
+    ensures cause { HasCause (F.faults files.old) (F.faults files.new) result }
+{
+    let Ok(bytes) = choice_bytes(alloc, list) else {
+        return Err(IoFault::Memory);
+    };
+    files.add(name, bytes.as_slice())
+}
+
+// Adds the text of an episode to a file, by one call. Where memory runs out before it, or no number is behind this one, nothing
+// is added.
+pub(crate) fn add_episode<F: Files>(
+    alloc: Global,
+    files: &mut F,
+    name: &str,
+    form: Form,
+    number: u64,
+    e: &Episode,
+) -> Result<(), IoFault>
+    ensures added { Adds (F.told files.old) (F.told files.new) name.now (episode_text number e.now form) result }
+    ensures number { IfOk result (λ done. number + 1 < 2 ^ 64) }
+    ensures fixed { F.fixed files.new ≡ F.fixed files.old }
+    ensures cause { HasCause (F.faults files.old) (F.faults files.new) result }
+{
+    if number == u64::MAX {
+        return Err(IoFault::Memory);
+    }
+    let Ok(bytes) = episode_text(alloc, number, e, form) else {
+        return Err(IoFault::Memory);
+    };
+    files.add(name, bytes.as_slice())
+}

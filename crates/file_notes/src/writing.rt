@@ -1,0 +1,67 @@
+// Writing texts into one file and into both.
+ghost use Rattle.std.specs.Prelude.{◌≡◌};
+ghost use Rattle.rx_io.specs.Faults.{HasCause};
+ghost use Rattle.file_notes.specs.Names.{AreTwo, names_in};
+ghost use Rattle.file_notes.specs.Writing.{Writes, StartsBoth, AddsBoth, nothing_kept, all_kept};
+
+use crate::file_names::FileNames;
+use rx_io::{Files, IoFault};
+
+// Starts a file, and adds a text to it.
+#[tactic(auto, using(crate::proofs::WritingLemmas::starts_one))]
+fn start_file<F: Files>(files: &mut F, name: &str, text: &[u8]) -> Result<(), IoFault>
+    ensures writes { Writes nothing_kept (F.told files.old) (F.told files.new) name.now text.now result }
+    ensures fixed { F.fixed files.new ≡ F.fixed files.old }
+    ensures cause { HasCause (F.faults files.old) (F.faults files.new) result }
+{
+    match files.start(name) {
+        Ok(()) => files.add(name, text),
+        Err(fault) => Err(fault),
+    }
+}
+
+// Adds a text to a file.
+#[tactic(auto, using(crate::proofs::WritingLemmas::adds_one))]
+fn add_to_file<F: Files>(files: &mut F, name: &str, text: &[u8]) -> Result<(), IoFault>
+    ensures writes { Writes all_kept (F.told files.old) (F.told files.new) name.now text.now result }
+    ensures fixed { F.fixed files.new ≡ F.fixed files.old }
+    ensures cause { HasCause (F.faults files.old) (F.faults files.new) result }
+{
+    files.add(name, text)
+}
+
+// Starts the record with a text, and then the report.
+pub(crate) fn start_both<F: Files>(
+    files: &mut F,
+    names: &FileNames<'_>,
+    of_record: &[u8],
+    of_report: &[u8],
+) -> Result<(), IoFault>
+    requires { AreTwo (names_in names.now) }
+    ensures writes { StartsBoth (names_in names.now) of_record.now of_report.now (F.told files.old) (F.told files.new) result }
+    ensures fixed { F.fixed files.new ≡ F.fixed files.old }
+    ensures cause { HasCause (F.faults files.old) (F.faults files.new) result }
+{
+    match start_file(files, names.record, of_record) {
+        Ok(()) => start_file(files, names.report, of_report),
+        Err(fault) => Err(fault),
+    }
+}
+
+// Adds a text to the record, and then one to the report.
+pub(crate) fn add_both<F: Files>(
+    files: &mut F,
+    names: &FileNames<'_>,
+    of_record: &[u8],
+    of_report: &[u8],
+) -> Result<(), IoFault>
+    requires { AreTwo (names_in names.now) }
+    ensures writes { AddsBoth (names_in names.now) of_record.now of_report.now (F.told files.old) (F.told files.new) result }
+    ensures fixed { F.fixed files.new ≡ F.fixed files.old }
+    ensures cause { HasCause (F.faults files.old) (F.faults files.new) result }
+{
+    match add_to_file(files, names.record, of_record) {
+        Ok(()) => add_to_file(files, names.report, of_report),
+        Err(fault) => Err(fault),
+    }
+}

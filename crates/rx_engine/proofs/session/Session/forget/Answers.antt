@@ -1,0 +1,17 @@
+use Rattle.std.proofs.Common.{sym}
+use Rattle.rx_engine.specs.Options.{rules_of}
+use Rattle.rx_engine.specs.Standing.{entries}
+use Rattle.rx_engine.proofs.HearingLemmas.{moved}
+use Rattle.rx_engine.proofs.ChoiceLemmas.{waits_forgets, waits_forgot}
+use Rattle.rx_engine.proofs.session.Session.forget.Goals as goal
+
+pub forget-requires : goal.forget-requires
+forget-requires g c = record { can = waits_forgets _ _ _ _ _ _ (moved (sym c.self.view_is) c.requires.waits.2.is) }
+
+pub returns-clause-waits : goal.returns-clause-waits
+returns-clause-waits g c image began now phases waits =
+    let rules = rules_of c.args.self.now.options (g.R.AccessRule.rule c.args.self.now.cpu.rule) in
+    let w = moved (sym c.self.view_is) waits in
+    let story = w.hearing.story in
+    waits_forgot rules image began now phases _ c.forget.new.log c.forget.new.replies w
+    (c.forget.ensures.forgets rules image (entries story) story.survivor.plan story.survivor.now w.hearing.saved.paths c.self.inside.ring w.hearing.saved.ring w.hearing.goes.items w.hearing.passed.replies) c.forget.ensures.trial

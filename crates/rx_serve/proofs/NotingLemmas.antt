@@ -1,0 +1,155 @@
+-- What stands in a session's files at its end, and that the counts of it fit into a record.
+use Rattle.std.proofs.Common.{◌≡◌, ℕ, ◌+◌, ◌*◌, ◌^◌, ◌<◌, ◌≤◌, List, [], ◌++◌, length, Bool, true, true≢false, refl, Option, None, Some, Result, Ok, Err, unwrap_or, inl, inr, sym, ◌∙◌, ap, subst, append_assoc, append-nil, arith}
+use Rattle.std.proofs.lemmas.Nat.{mul-le}
+use Rattle.block_book.specs.Heap.{Heap}
+use Rattle.block_book.specs.declared.choice.Choice.{Choice}
+use Rattle.command_line.specs.Commands.{RunValue}
+use Rattle.elf_image.specs.declared.image.Image.{Image}
+use Rattle.episodes.specs.declared.episode.Episode.{Episode}
+use Rattle.file_notes.specs.Left.{Left, Nothing, InRecord, InReport, is_whole}
+use Rattle.file_notes.specs.Names.{Names}
+use Rattle.file_notes.specs.Standing.{Stands}
+use Rattle.notes.specs.Noting.{noted}
+use Rattle.run_report.specs.declared.form.Form.{Form}
+use Rattle.session_history.specs.Lawful.{Rules}
+use Rattle.trunk_session.specs.Serving.{ServesTrunk}
+use Rattle.rx_engine.specs.Options.{AreInRange, rules_of}
+use Rattle.rx_engine.specs.Serving.{IsNoteAnswer, UnlessNoteFault}
+use Rattle.rx_engine.specs.declared.options.Options.{Options}
+use Rattle.rx_io.specs.Named.{Contents}
+use Rattle.rx_io.specs.Outside.{Stream}
+use Rattle.rx_io.specs.declared.fault.IoFault.{IoFault}
+use Rattle.rx_io.specs.declared.fault.IoFault.TheVariants as fault
+use Rattle.run_history.specs.declared.answer.Answer.{Answer}
+use Rattle.run_history.specs.declared.answer.Answer.TheVariants as answer
+use Rattle.schedule_file.specs.declared.recorded.TheConstants.{MAX_TAKEN}
+use Rattle.session_history.specs.Account.{journal_of}
+use Rattle.session_history.specs.Ends.{IsEnd}
+use Rattle.rx_serve.specs.Noting.{StartsFiles, EndsFiles, HaveTexts, ServesNoted, ClosesFiles, names_of, report_form}
+use Rattle.rx_serve.proofs.FewItems.{few_items}
+use Rattle.rx_serve.proofs.FewSteps.{few_steps}
+
+-- ---- the texts
+
+-- first a file was started, then it grew, and last it was ended
+whole_of : (first middle last : List ℕ) (started noted now : Option (List ℕ)) → started ≡ Some first → unwrap_or noted [] ≡ unwrap_or started [] ++ (middle ++ []) → now ≡ Some (unwrap_or noted [] ++ last)
+    → now ≡ Some (first ++ (middle ++ last))
+whole_of first middle last started noted now start grew ended =
+    ended ∙ ap (λ text. Some (text ++ last)) (grew ∙ ap (λ file. unwrap_or file [] ++ (middle ++ [])) start ∙ ap (λ more. first ++ more) (append-nil middle)) ∙ ap Some (append_assoc first middle last)
+
+texts_known : (value : RunValue) (choices : List Choice) (episodes : List Episode) (ended : Answer) (taken steps : ℕ) (before started noted now : Contents)
+    → StartsFiles value (Some before) (Some started) (Ok tt) → Stands (names_of value) (report_form value.form) (Some started) (Some noted) choices episodes Nothing → EndsFiles value ended taken steps (Some noted) (Some now) (Ok tt)
+    → HaveTexts value choices episodes ended taken steps (Some before) (Some now)
+texts_known value choices episodes ended taken steps before started noted now starts stands ends = record {
+  record_has = whole_of _ _ _ (started value.recording) (noted value.recording) (now value.recording) starts.record_has stands.record_has ends.record_has;
+  report_has = whole_of _ _ _ (started value.report) (noted value.report) (now value.report) starts.report_has stands.report_has ends.report_has;
+  others = λ other a b. ends.others other a b ∙ stands.others other a b ∙ starts.others other a b;
+}
+
+texts : (value : RunValue) (choices : List Choice) (episodes : List Episode) (ended : Answer) (taken steps : ℕ) (before started noted now : Option Contents)
+    → StartsFiles value before started (Ok tt) → Stands (names_of value) (report_form value.form) started noted choices episodes Nothing → EndsFiles value ended taken steps noted now (Ok tt)
+    → HaveTexts value choices episodes ended taken steps before now
+texts value choices episodes ended taken steps None started noted now starts stands ends = tt
+texts value choices episodes ended taken steps (Some before) None noted now starts stands ends = absurd starts
+texts value choices episodes ended taken steps (Some before) (Some started) None now starts stands ends = absurd stands
+texts value choices episodes ended taken steps (Some before) (Some started) (Some noted) None starts stands ends = absurd ends
+texts value choices episodes ended taken steps (Some before) (Some started) (Some noted) (Some now) starts stands ends = texts_known value choices episodes ended taken steps before started noted now starts stands ends
+
+-- ---- the ends
+
+-- a fault of the notes is no end
+note_is_no_end : (why : IoFault) (end : Answer) → IsNoteAnswer why end → IsEnd end → ⊥
+note_is_no_end fault.Failed end note is = subst IsEnd note is
+note_is_no_end fault.Memory end note is = subst IsEnd note is
+
+pub at_end : {P : Type 0} (end : Answer) → IsEnd end → UnlessNoteFault end P → P
+at_end answer.Finished is holds = holds
+at_end (answer.Exited code) is holds = holds
+at_end (answer.GaveUp point cause) is holds = holds
+at_end (answer.InputRefused kind offset) is holds = holds
+at_end (answer.MessageTooLong conn) is holds = holds
+at_end answer.LimitItems is holds = holds
+at_end answer.LimitEvents is holds = holds
+at_end _ is holds = absurd is
+
+-- at an end it is the session's own
+pub closes_same : (value : RunValue) (taken steps : ℕ) (files files_later : Option Contents) (ended end : Answer) → ClosesFiles value taken steps files files_later ended end → IsEnd end → end ≡ ended
+closes_same value taken steps files files_later ended end (inl (is_end, (same, ends))) is = same
+closes_same value taken steps files files_later ended end (inr (inl (is_end, (why, (note, ends))))) is = absurd (note_is_no_end why end note is)
+closes_same value taken steps files files_later ended end (inr (inr (none, (same, left)))) is = same
+
+-- and both files have their whole texts
+pub closes_whole : (value : RunValue) (choices : List Choice) (episodes : List Episode) (left : Left) (taken steps : ℕ) (before started noted now : Option Contents) (ended end : Answer)
+    → StartsFiles value before started (Ok tt) → Stands (names_of value) (report_form value.form) started noted choices episodes left → UnlessNoteFault ended (left ≡ Nothing)
+    → ClosesFiles value taken steps noted now ended end → IsEnd end → HaveTexts value choices episodes end taken steps before now
+closes_whole value choices episodes left taken steps before started noted now ended end starts stands whole (inl (is_end, (same, ends))) is =
+    subst (λ a. HaveTexts value choices episodes a taken steps before now) (sym same)
+    (texts value choices episodes ended taken steps before started noted now starts
+    (subst (λ l. Stands (names_of value) (report_form value.form) started noted choices episodes l) (at_end ended is_end whole) stands) ends)
+closes_whole value choices episodes left taken steps before started noted now ended end starts stands whole (inr (inl (is_end, (why, (note, ends))))) is = absurd (note_is_no_end why end note is)
+closes_whole value choices episodes left taken steps before started noted now ended end starts stands whole (inr (inr (none, (same, kept)))) is = absurd (none (subst IsEnd same is))
+
+-- ---- the notes
+
+nothing_left : (left : Left) → is_whole left ≡ true → left ≡ Nothing
+nothing_left Nothing is = refl
+nothing_left (InRecord choices count) is = absurd (true≢false (sym is))
+nothing_left (InReport e count) is = absurd (true≢false (sym is))
+
+pub unless_whole : (end : Answer) (left : Left) → UnlessNoteFault end (is_whole left ≡ true) → UnlessNoteFault end (left ≡ Nothing)
+unless_whole answer.FileFault left is = tt
+unless_whole answer.Memory left is = tt
+unless_whole answer.Finished left is = nothing_left left is
+unless_whole (answer.Exited code) left is = nothing_left left is
+unless_whole answer.BadWords left is = nothing_left left is
+unless_whole (answer.ElfRefused kind) left is = nothing_left left is
+unless_whole (answer.AsmRefused kind line) left is = nothing_left left is
+unless_whole (answer.RecordRefused line) left is = nothing_left left is
+unless_whole (answer.CountsRefused line) left is = nothing_left left is
+unless_whole (answer.Short conn) left is = nothing_left left is
+unless_whole (answer.Mismatch step) left is = nothing_left left is
+unless_whole answer.TooLarge left is = nothing_left left is
+unless_whole (answer.InputRefused kind offset) left is = nothing_left left is
+unless_whole (answer.MessageTooLong conn) left is = nothing_left left is
+unless_whole (answer.GaveUp point cause) left is = nothing_left left is
+unless_whole answer.LimitItems left is = nothing_left left is
+unless_whole answer.LimitEvents left is = nothing_left left is
+unless_whole answer.ReadFault left is = nothing_left left is
+unless_whole answer.WriteFault left is = nothing_left left is
+
+-- a session served with notes that were new, and that stand in its files
+pub serves_noted : (rules : Rules) (image : Image) (value : RunValue) (files files_later : Option Contents) (source source_later : Option Stream) (sink sink_later : Option (List ℕ)) (ended : Answer) (recorded : ℕ) (tail : List Choice) (taken steps counted : ℕ)
+    → (names : Names) (wanted : Form) (told : Option Contents) (choices_before choices : List Choice) (episodes_before episodes : List Episode) (left_before left : Left)
+    → choices_before ≡ [] → episodes_before ≡ [] → left_before ≡ Nothing
+    → ServesTrunk rules image source source_later sink sink_later ended (noted (Some choices_before) (Some episodes_before)) (noted (Some choices) (Some episodes)) recorded tail taken steps counted
+    → names ≡ names_of value → wanted ≡ report_form value.form → told ≡ files → Stands names wanted told files_later choices episodes left → UnlessNoteFault ended (is_whole left ≡ is_whole left_before)
+    → ServesNoted rules image value files files_later source source_later sink sink_later ended recorded tail taken steps counted
+serves_noted rules image value files files_later source source_later sink sink_later ended recorded tail taken steps counted names wanted told choices_before choices episodes_before episodes left_before left none none_told none_left serves names_are form_is told_is stands works = record {
+  choices = choices;
+  episodes = episodes;
+  left = left;
+  serves =
+      subst (λ list. ServesTrunk rules image source source_later sink sink_later ended (noted (Some []) (Some list)) (noted (Some choices) (Some episodes)) recorded tail taken steps counted) none_told
+      (subst (λ list. ServesTrunk rules image source source_later sink sink_later ended (noted (Some list) (Some episodes_before)) (noted (Some choices) (Some episodes)) recorded tail taken steps counted) none serves);
+  stands =
+      subst (λ before. Stands (names_of value) (report_form value.form) before files_later choices episodes left) told_is
+      (subst (λ f. Stands (names_of value) f told files_later choices episodes left) form_is (subst (λ n. Stands n wanted told files_later choices episodes left) names_are stands));
+  whole = unless_whole ended left (subst (λ before. UnlessNoteFault ended (is_whole left ≡ is_whole before)) none_left works);
+}
+
+-- ---- the counts
+
+-- an account of a session within its bounds: few items were taken, and few instructions done
+pub few_counts : (options : Options) → AreInRange options → (permits : Heap → ℕ → ℕ → Bool) (image : Image) (value : RunValue) (files files_later : Option Contents) (source source_later : Option Stream) (sink sink_later : Option (List ℕ)) (ended : Answer) (recorded : ℕ) (tail : List Choice) (taken steps counted : ℕ)
+    → ServesNoted (rules_of options permits) image value files files_later source source_later sink sink_later ended recorded tail taken steps counted → (taken ≤ MAX_TAKEN) × (steps < 2 ^ 63)
+few_counts options ranges permits image value files files_later source source_later sink sink_later ended recorded tail taken steps counted noted =
+    let s = noted.serves in
+    let few : s.session.survivor.now.state.machine.taken ≤ 2 ^ 20 =
+    let account = s.account.taken in
+    let items = few_items (rules_of options permits).bounds (journal_of s.session) in
+    let most = ranges.few_items in
+    omega (arith, account, items, most) in
+    let budget = ranges.few_budget in
+    let product : s.session.survivor.now.state.machine.taken * (options.budget + 1) ≤ 2 ^ 20 * (2 ^ 24 + 1) = mul-le s.session.survivor.now.state.machine.taken (options.budget + 1) (2 ^ 20) (2 ^ 24 + 1) few (omega (arith, budget)) in
+    let done = few_steps (rules_of options permits).limits _ s.session.survivor.plan image s.session.survivor.now s.account.served in
+    (subst (λ n. n ≤ MAX_TAKEN) s.taken_is few, subst (λ n. n < 2 ^ 63) s.steps_are (omega (arith, product, done, budget)))

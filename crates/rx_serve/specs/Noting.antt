@@ -1,0 +1,66 @@
+-- The two files of a session: its record and its report.
+use Rattle.std.specs.Prelude.{◌≡◌, ◌⊎◌, ℕ, List, [], Option, Some, Result, Ok, Err}
+use Rattle.block_book.specs.declared.choice.Choice.{Choice}
+use Rattle.command_line.specs.Commands.{RunValue}
+use Rattle.command_line.specs.declared.run_words.Form.{Form as Wanted}
+use Rattle.command_line.specs.declared.run_words.Form.TheVariants as wanted
+use Rattle.episodes.specs.declared.episode.Episode.{Episode}
+use Rattle.elf_image.specs.declared.image.Image.{Image}
+use Rattle.file_notes.specs.Names.{Names}
+use Rattle.file_notes.specs.Left.{Left, Nothing}
+use Rattle.file_notes.specs.Standing.{Stands}
+use Rattle.file_notes.specs.Texts.{report_text}
+use Rattle.file_notes.specs.Writing.{StartsBoth, AddsBoth}
+use Rattle.notes.specs.Noting.{noted}
+use Rattle.run_history.specs.declared.answer.Answer.{Answer}
+use Rattle.run_report.specs.declared.form.Form.{Form}
+use Rattle.run_report.specs.declared.form.Form.TheVariants as form
+use Rattle.run_report.specs.Report as report
+use Rattle.rx_engine.specs.Serving.{IsNoteAnswer, UnlessNoteFault}
+use Rattle.rx_io.specs.Named.{Contents}
+use Rattle.rx_io.specs.Outside.{Stream}
+use Rattle.rx_io.specs.declared.fault.IoFault.{IoFault}
+use Rattle.schedule_file.specs.Lines as recording
+use Rattle.session_history.specs.Ends.{IsEnd}
+use Rattle.session_history.specs.Lawful.{Rules}
+use Rattle.trunk_session.specs.Serving.{ServesTrunk}
+use Rattle.rx_serve.specs.Status.{status_of}
+
+-- the names of the two files
+abbrev pub names_of : RunValue → Names
+names_of value = record { record_name = value.recording; report_name = value.report }
+
+abbrev pub report_form : Wanted → Form
+report_form wanted.Text = form.Text
+report_form wanted.Json = form.Json
+
+-- both files are started, each with its first line; after a fault or want of memory, partly
+abbrev pub StartsFiles : RunValue → Option Contents → Option Contents → Result (Unit {0}) IoFault → Type 0
+StartsFiles value = StartsBoth (names_of value) (recording.head_line value.window value.frame) (report.head_text (report_form value.form))
+
+-- both files are ended, each with its last line, which tell how many items were taken and instructions done
+abbrev pub EndsFiles : RunValue → Answer → ℕ → ℕ → Option Contents → Option Contents → Result (Unit {0}) IoFault → Type 0
+EndsFiles value ended taken steps = AddsBoth (names_of value) (recording.end_line steps taken) (report.end_text (status_of ended) taken steps (report_form value.form))
+
+-- both files have their whole texts, whatever they had: the record every answer of malloc, the report every episode
+abbrev pub HaveTexts : RunValue → List Choice → List Episode → Answer → ℕ → ℕ → Option Contents → Option Contents → Type 0
+HaveTexts value choices episodes ended taken steps files files_later =
+    StartsBoth (names_of value) (recording.record_text value.window value.frame choices steps taken) (report_text (report_form value.form) episodes (status_of ended) taken steps) files files_later (Ok tt)
+
+-- A session served a trunk, and what it noted stands in its two files behind their first lines: a line of each answer of malloc that can't be rolled
+-- back, and the text of each episode. Where it wasn't broken off by its notes, no part of a text stands there.
+pub record ServesNoted (rules : Rules) (image : Image) (value : RunValue) (files files_later : Option Contents) (source source_later : Option Stream) (sink sink_later : Option (List ℕ)) (ended : Answer) (recorded : ℕ) (tail : List Choice) (taken steps counted : ℕ) : Type 0 where
+  pub choices : List Choice
+  pub episodes : List Episode
+  pub left : Left
+  pub serves : ServesTrunk rules image source source_later sink sink_later ended (noted (Some []) (Some [])) (noted (Some choices) (Some episodes)) recorded tail taken steps counted
+  pub stands : Stands (names_of value) (report_form value.form) files files_later choices episodes left
+  pub whole : UnlessNoteFault ended (left ≡ Nothing)
+
+-- What a session that came to this end leaves behind its notes. At an end of its own the last lines were written; where that failed, the answer
+-- says it in place of the end. Where it was broken off, its files are left as they are.
+abbrev pub ClosesFiles : RunValue → ℕ → ℕ → Option Contents → Option Contents → Answer → Answer → Type 0
+ClosesFiles value taken steps files files_later ended end =
+    (IsEnd ended × ((end ≡ ended) × EndsFiles value ended taken steps files files_later (Ok tt)))
+    ⊎ ((IsEnd ended × ((fault : IoFault) × (IsNoteAnswer fault end × EndsFiles value ended taken steps files files_later (Err fault))))
+    ⊎ ((IsEnd ended → ⊥) × ((end ≡ ended) × (files_later ≡ files))))
