@@ -1,0 +1,327 @@
+-- The next event of a link comes into the log, while the guest asks for an item.
+use Rattle.std.proofs.Common.{◌≡◌, ℕ, zero, suc, ◌+◌, ◌<◌, ◌≤◌, ◌^◌, Bool, true, false, cond, List, [], ◌∷◌, ◌++◌, length, drop, map, Option, Some, None, refl, sym, ◌∙◌, ap, subst, arith, length-append}
+use Rattle.std.specs.Prelude.{Result, Ok, Err, slice_get, unwrap_or, ◌==◌, if◌then◌else◌}
+use Rattle.std.proofs.Math.Seq.{drop-append_seam}
+use Rattle.std.proofs.Math.ListN.{drop_of_length-le}
+use Rattle.std.proofs.lemmas.Bool.{eqb-true, eqb-false, eq-eqb, both_ways, true≢false}
+use Rattle.std.proofs.lemmas.Option.{same_Some}
+use Rattle.rx_io.specs.declared.bytes.Item.{Item}
+use Rattle.rx_io.specs.declared.journal.Entry.{Entry}
+use Rattle.rx_io.specs.declared.journal.Entry.TheVariants as entry
+use Rattle.rx_io.specs.declared.journal.LinkEvent.{LinkEvent}
+use Rattle.rx_io.specs.declared.journal.LinkEvent.TheVariants as event
+use Rattle.rx_io.specs.declared.journal.LinkFault.{LinkFault}
+use Rattle.rx_io.specs.declared.journal.LinkFault.TheVariants as fault
+use Rattle.rx_io.specs.Links.{Told, Tells, Phases, Coming, Open, Closed, IsInOrder, phases_after, GoesBy, StillComes, events_in, pieces_in}
+use Rattle.elf_image.specs.declared.image.Image.{Image}
+use Rattle.msg_frame.specs.declared.framing.Framing.{Framing}
+use Rattle.msg_frame.specs.Messages.{Parts, cut}
+use Rattle.item_log.specs.declared.kinds.TheConstants.{OPENED, CLOSED}
+use Rattle.item_log.specs.Connections.{rest_of, in_order}
+use Rattle.item_log.specs.Heard.{bare_item, message_item, hear_parts, brought, hear, items_by, items_of}
+use Rattle.item_log.specs.Log.{Log, logged, Fits}
+use Rattle.item_log.specs.Log as logs
+use Rattle.run_history.specs.declared.answer.Answer.{Answer}
+use Rattle.run_history.specs.declared.answer.Answer.TheVariants as answer
+use Rattle.run_history.specs.Call.{connections_after}
+use Rattle.run_history.proofs.Connections.{closed_may, others_may}
+use Rattle.session_history.specs.Heeding.{Bounds, Unheeded, refusal, heeded, items_in, received}
+use Rattle.session_history.specs.Heeding as unheeded
+use Rattle.session_history.specs.Keeping.{KeepsItems, phase_after}
+use Rattle.session_history.specs.Ends.{IsLastRefused}
+use Rattle.event_gate.proofs.Phasing.{phases_behind}
+use Rattle.event_gate.proofs.Ordering.{in_order_shown}
+use Rattle.event_gate.proofs.Refusing.{IsEvent, events_behind, items_behind, logged_keeps, limit_events, too_long, limit_items, is_heeded, heeded_with, keeps_items, heeded_without, events_ended}
+use Rattle.event_gate.proofs.ItemLemmas.{received_is}
+use Rattle.schedule_file.specs.declared.recorded.Recorded.{Recorded}
+use Rattle.replay.specs.Giving.{found_gone, AreGiven}
+use Rattle.replay.specs.Giving as giving
+use Rattle.replay.specs.Replaying.{IsReplay, IsAsking, AreAsked, Starved, bounds_of}
+use Rattle.replay.specs.Hearing.{answer_of, LogsEvent, HeedsEvent}
+use Rattle.replay.specs.Playing.{Stage, has, AreOpen, AreOpenThen, IsWaiting, WaitsBy, IsEnd, replay_of}
+use Rattle.replay.proofs.ReplayLemmas.{replay_more, replay_same}
+use Rattle.replay.proofs.JournalLemmas.{asked_took, tells_on, tells_still, last_taken-took, pieces_in-took}
+use Rattle.replay.proofs.OpenLemmas.{messages_open, item_opens, stays_then}
+
+-- items with messages change no connection
+messages_after : (conn : ℕ) (messages : List (List ℕ)) (connections : List Bool) (k : ℕ) (item : Item) → slice_get (map (message_item conn) messages) k ≡ Some item → connections_after item connections ≡ connections
+messages_after conn [] connections k item here = absurd (cc)
+messages_after conn (bytes ∷ messages) connections zero item here =
+    subst (λ (i : Item). connections_after i connections ≡ connections) (same_Some (message_item conn bytes) item here) refl
+messages_after conn (bytes ∷ messages) connections (suc k) item here = messages_after conn messages connections k item here
+
+-- an event of the journal isn't Ends
+not_end : (found : LinkEvent) → IsEvent found → found ≡ event.Ends → ⊥
+not_end found one is = let never : [] ≡ event.Ends ∷ [] = subst IsEvent is one in absurd (cc)
+
+module _ (phases after : Phases) (connections : List Bool) where
+  -- where each open connection is open still
+  opened_after : (event : LinkEvent) → AreOpen phases connections → ((conn : ℕ) → after conn ≡ phases_after event phases conn) → ((conn : ℕ) → phases conn ≡ Open → phases_after event phases conn ≡ Open) → AreOpen after connections
+  opened_after event opened enters stays conn may_be = enters conn ∙ stays conn (opened conn may_be)
+
+  opens_event : (place : ℕ) → AreOpen phases connections → ((conn : ℕ) → after conn ≡ phases_after (event.Opens place) phases conn) → AreOpen after (connections_after (bare_item OPENED place) connections)
+  opens_event place opened enters =
+      item_opens after (bare_item OPENED place) connections
+      (opened_after (event.Opens place) opened enters (λ conn was. stays (conn == place) conn was))
+      (λ _. enters place ∙ ap (λ (b : Bool). if b then Open else phases place) (eq-eqb place place refl))
+    where
+      stays : (b : Bool) (conn : ℕ) → phases conn ≡ Open → (if b then Open else phases conn) ≡ Open
+      stays true conn was = refl
+      stays false conn was = was
+
+  closes_event : (place : ℕ) → AreOpen phases connections → ((conn : ℕ) → after conn ≡ phases_after (event.Closes place) phases conn) → AreOpen after (connections_after (bare_item CLOSED place) connections)
+  closes_event place opened enters conn may_be = by (conn == place) refl
+    where
+      by : (b : Bool) → conn == place ≡ b → after conn ≡ Open
+      by true is =
+          absurd (both_ways (has (connections_after (bare_item CLOSED place) connections) place) (closed_may (bare_item CLOSED place) connections refl)
+          (ap (has (connections_after (bare_item CLOSED place) connections)) (sym (eqb-true conn place is)) ∙ may_be))
+      by false is =
+          enters conn ∙ ap (λ (b : Bool). if b then Closed else phases conn) is
+          ∙ opened conn (sym (others_may (bare_item CLOSED place) connections conn (eqb-false conn place is)) ∙ may_be)
+
+  parts_event : (conn : ℕ) (rests : List (Option (List ℕ))) (parts : Option Parts) → AreOpen after connections → AreOpenThen after (items_by (hear_parts rests conn parts)) connections
+  parts_event conn rests None opened = opened
+  parts_event conn rests (Some parts) opened =
+      stays_then after (map (message_item conn) parts.messages) connections
+      (messages_open after (map (message_item conn) parts.messages) connections (messages_after conn parts.messages connections) opened)
+
+  brought_event : (framing : Framing) (rests : List (Option (List ℕ))) (event : LinkEvent) → AreOpen phases connections → ((conn : ℕ) → after conn ≡ phases_after event phases conn)
+      → AreOpenThen after (items_by (brought framing rests event)) connections
+  brought_event framing rests (event.Opens place) opened enters = opens_event place opened enters
+  brought_event framing rests (event.Piece place piece) opened enters =
+      parts_event place rests (cut framing (unwrap_or (rest_of rests place) []) piece) (opened_after (event.Piece place piece) opened enters (λ conn was. was))
+  brought_event framing rests (event.Closes place) opened enters = closes_event place opened enters
+  brought_event framing rests event.Settles opened enters = opened_after event.Settles opened enters (λ conn was. was)
+  brought_event framing rests event.Ends opened enters = opened_after event.Ends opened enters (λ conn was. was)
+
+  -- behind an event in order its items leave each connection open that may be sent to
+  pub event_open : (framing : Framing) (rests : List (Option (List ℕ))) (event : LinkEvent) → in_order rests event ≡ true → AreOpen phases connections → ((conn : ℕ) → after conn ≡ phases_after event phases conn)
+      → AreOpenThen after (items_by (hear framing rests event)) connections
+  event_open framing rests event order opened enters =
+      subst (λ (b : Bool). AreOpenThen after (items_by (cond b (brought framing rests event) None)) connections) (sym order) (brought_event framing rests event opened enters)
+
+-- one more event brings its items
+brings_more : (bounds : Bounds) (entries : List Entry) (event : LinkEvent) (log : Log) → IsEvent event → KeepsItems bounds entries log → refusal bounds (events_in entries) event ≡ None
+    → items_in bounds (entries ++ entry.Took event ∷ []) ≡ items_in bounds entries ++ items_by (hear bounds.framing log.rests event)
+brings_more bounds entries event log one keeps fine =
+    ap (items_of bounds.framing) (heeded_with bounds entries event one keeps.all_heeded fine)
+    ∙ items_behind bounds.framing (events_in entries) event log keeps.shows
+    ∙ ap (λ events. items_of bounds.framing events ++ items_by (hear bounds.framing log.rests event)) (sym keeps.all_heeded)
+
+no_end : (last : LinkEvent) → IsEvent last → Some last ≡ Some event.Ends → ⊥
+no_end last one is =
+    let same : last ≡ event.Ends = same_Some last event.Ends is in
+    let none : [] ≡ last ∷ [] = ap (λ (e : LinkEvent). events_in (entry.Took e ∷ [])) (sym same) ∙ one in
+    absurd (cc)
+
+module _ (image : Image) (recording : Recorded) (began now later : Told) (phases after : Phases) (stage : Stage) (waiting : IsWaiting image recording began now phases stage) (none_left : logs.received stage.log ≤ stage.live.guest.machine.taken) where
+  -- all that was received is taken
+  all_taken : stage.live.guest.machine.taken ≡ received (bounds_of recording) waiting.playing.entries
+  all_taken =
+      let count = received_is (bounds_of recording) waiting.playing.entries stage.log waiting.playing.base.items in
+      omega (arith, none_left, count, waiting.playing.base.taken)
+
+  asking : IsAsking image recording waiting.playing.entries (replay_of waiting.playing.sends stage.live)
+  asking = record {
+    is = waiting.playing.base.is;
+    shorter = waiting.shorter;
+    lives = waiting.lives;
+    asks = waiting.asks;
+    taken = all_taken;
+    given = waiting.playing.given;
+    heeds = waiting.playing.base.items.all_heeded;
+    goes_on = waiting.playing.base.goes_on;
+  }
+
+  took : (event : LinkEvent) → AreAsked image recording (waiting.playing.entries ++ entry.Took event ∷ [])
+  took event = asked_took image recording waiting.playing.entries event (record { replay = replay_of waiting.playing.sends stage.live; asks = asking }) waiting.playing.base.asked
+
+  -- each connection that may be sent to is open
+  opened_now : AreOpen phases stage.live.guest.machine.connections
+  opened_now =
+      let none : drop stage.live.guest.machine.taken (items_in (bounds_of recording) waiting.playing.entries) ≡ [] =
+      drop_of_length-le (items_in (bounds_of recording) waiting.playing.entries) {i = stage.live.guest.machine.taken} (omega (arith, all_taken)) in
+      subst (λ items. AreOpenThen phases items stage.live.guest.machine.connections) none waiting.playing.base.connected
+
+  given_still : (event : LinkEvent) → AreGiven waiting.playing.sends (pieces_in (waiting.playing.entries ++ entry.Took event ∷ []))
+  given_still event = subst (AreGiven waiting.playing.sends) (sym (pieces_in-took waiting.playing.entries event)) waiting.playing.given
+
+  in_order_now : (event : LinkEvent) → IsInOrder phases event → in_order stage.log.rests event ≡ true
+  in_order_now event order = in_order_shown recording.frame (events_in waiting.playing.entries) stage.log phases event waiting.playing.base.items.shows waiting.playing.base.phases_are order
+
+  -- an event is logged
+  logs_event : (event : LinkEvent) (new : Log) → IsEvent event → IsInOrder phases event → ((conn : ℕ) → after conn ≡ phases_after event phases conn) → Tells now later (entry.Took event ∷ []) → stage.events < 2 ^ 32 → logged stage.log event ≡ Some new
+      → Fits stage.log.max_items (logged stage.log event) → IsWaiting image recording began later after (record stage { log = new; events = stage.events + 1 })
+  logs_event event new one order enters tells few is fits =
+      let entries = waiting.playing.entries in
+      let base = waiting.playing.base in
+      let bounds = bounds_of recording in
+      let heeds = is_heeded bounds entries event stage.log one base.items (omega (arith, few, base.events)) fits in
+      let more = items_by (hear recording.frame stage.log.rests event) in
+      let brings : items_in bounds (entries ++ entry.Took event ∷ []) ≡ items_in bounds entries ++ more = brings_more bounds entries event stage.log one base.items heeds.allowed in
+      let events : events_in (entries ++ entry.Took event ∷ []) ≡ events_in entries ++ event ∷ [] = events_behind entries event one in
+      let count : length (events_in (entries ++ entry.Took event ∷ [])) ≡ length (events_in entries) + 1 = ap length events ∙ length-append (events_in entries) (event ∷ []) in
+      let items_count : length (items_in bounds (entries ++ entry.Took event ∷ [])) ≡ length (items_in bounds entries) + length more = ap length brings ∙ length-append (items_in bounds entries) more in
+      let left : drop stage.live.guest.machine.taken (items_in bounds (entries ++ entry.Took event ∷ [])) ≡ more =
+      ap (drop stage.live.guest.machine.taken) brings ∙ ap (λ (n : ℕ). drop n (items_in bounds entries ++ more)) all_taken ∙ drop-append_seam (items_in bounds entries) more in
+      record {
+        playing = record {
+          entries = entries ++ entry.Took event ∷ [];
+          sends = waiting.playing.sends;
+          base = record {
+            tells = tells_on began now later entries (entry.Took event ∷ []) base.tells tells;
+            asked = took event;
+            is = replay_more image recording entries (entries ++ entry.Took event ∷ []) more (replay_of waiting.playing.sends stage.live) brings base.is;
+            items = keeps_items bounds entries event stage.log new one base.items heeds.allowed is;
+            goes_on = λ ended. no_end event one (sym (last_taken-took entries event) ∙ ended);
+            first = (logged_keeps stage.log new event is).0 ∙ base.first;
+            events = omega (arith, base.events, count);
+            phases_are = λ conn. enters conn ∙ phases_behind phases (events_in entries) event base.phases_are order conn ∙ ap (phase_after conn) (sym events);
+            gone = λ conn. base.gone conn ∙ ap (found_gone conn) (sym (pieces_in-took entries event));
+            places = base.places;
+            taken = omega (arith, base.taken, items_count);
+            connected = subst (λ items. AreOpenThen after items stage.live.guest.machine.connections) (sym left)
+                (event_open phases after stage.live.guest.machine.connections recording.frame stage.log.rests event (in_order_now event order) opened_now enters);
+            bare = base.bare;
+          };
+          given = given_still event;
+        };
+        lives = waiting.lives;
+        shorter = waiting.shorter;
+        asks = waiting.asks;
+      }
+
+  -- an event is refused
+  refused_last : (event : LinkEvent) (cause : Unheeded) → IsEvent event → refusal (bounds_of recording) (events_in waiting.playing.entries) event ≡ Some cause → IsLastRefused (bounds_of recording) (waiting.playing.entries ++ entry.Took event ∷ []) cause
+  refused_last event cause one refused = record { before = waiting.playing.entries; event = event; last = refl; no_end = not_end event one; refused = refused }
+
+  refused_replay : (event : LinkEvent) (cause : Unheeded) → IsEvent event → refusal (bounds_of recording) (events_in waiting.playing.entries) event ≡ Some cause
+      → IsReplay image recording (waiting.playing.entries ++ entry.Took event ∷ []) (replay_of waiting.playing.sends stage.live)
+  refused_replay event cause one refused =
+      replay_same image recording waiting.playing.entries (waiting.playing.entries ++ entry.Took event ∷ []) (replay_of waiting.playing.sends stage.live)
+      (ap (items_of recording.frame) (heeded_without (bounds_of recording) waiting.playing.entries event cause one waiting.playing.base.items.all_heeded refused)) waiting.playing.base.is
+
+  tells_took : (event : LinkEvent) → Tells now later (entry.Took event ∷ []) → Tells began later (waiting.playing.entries ++ entry.Took event ∷ [])
+  tells_took event tells = tells_on began now later waiting.playing.entries (entry.Took event ∷ []) waiting.playing.base.tells tells
+
+  -- an event comes in, by the answer
+  notes_event : (coming : Option Coming) (event : LinkEvent) (new : Stage) (result : Result (Unit {0}) Answer) → IsEvent event → IsInOrder phases event → ((conn : ℕ) → after conn ≡ phases_after event phases conn)
+      → Tells now later (entry.Took event ∷ []) → LogsEvent event stage new result → WaitsBy image recording began later after coming true new result
+  notes_event coming event new (Ok done) one order enters tells did =
+      subst (IsWaiting image recording began later after) (sym did.3) (logs_event event new.log one order enters tells did.0 did.1 did.2)
+  notes_event coming event new (Err answer.LimitEvents) one order enters tells did =
+      let refused = limit_events (bounds_of recording) (events_in waiting.playing.entries) event (omega (arith, did.0, waiting.playing.base.events)) in
+      subst (λ (s : Stage). IsEnd image recording began later coming true s answer.LimitEvents) (sym did.1) (record {
+        entries = waiting.playing.entries ++ entry.Took event ∷ [];
+        sends = waiting.playing.sends;
+        tells = tells_took event tells;
+        asked = took event;
+        is = refused_replay event unheeded.LimitEvents one refused;
+        ends = (refused_last event unheeded.LimitEvents one refused, given_still event);
+        failed = λ no. absurd (true≢false no);
+      })
+  notes_event coming event new (Err (answer.MessageTooLong conn)) one order enters tells did =
+      let refused = too_long (bounds_of recording) (events_in waiting.playing.entries) event stage.log waiting.playing.base.items.shows (omega (arith, did.0, waiting.playing.base.events)) did.1 in
+      subst (λ (s : Stage). IsEnd image recording began later coming true s (answer.MessageTooLong conn)) (sym did.3) (record {
+        entries = waiting.playing.entries ++ entry.Took event ∷ [];
+        sends = waiting.playing.sends;
+        tells = tells_took event tells;
+        asked = took event;
+        is = refused_replay event unheeded.TooLong one refused;
+        ends = (record { refused = record { before = waiting.playing.entries; event = event; last = refl; no_end = not_end event one; refused = refused }; piece = did.2 }, given_still event);
+        failed = λ no. absurd (true≢false no);
+      })
+  notes_event coming event new (Err answer.LimitItems) one order enters tells did =
+      let refused = limit_items (bounds_of recording) (events_in waiting.playing.entries) event stage.log waiting.playing.base.items.shows waiting.playing.base.items.most (omega (arith, did.0, waiting.playing.base.events)) did.1 in
+      subst (λ (s : Stage). IsEnd image recording began later coming true s answer.LimitItems) (sym did.2) (record {
+        entries = waiting.playing.entries ++ entry.Took event ∷ [];
+        sends = waiting.playing.sends;
+        tells = tells_took event tells;
+        asked = took event;
+        is = refused_replay event unheeded.LimitItems one refused;
+        ends = (refused_last event unheeded.LimitItems one refused, given_still event);
+        failed = λ no. absurd (true≢false no);
+      })
+  notes_event coming event new (Err answer.Memory) one order enters tells did =
+      let heeds = is_heeded (bounds_of recording) waiting.playing.entries event stage.log one waiting.playing.base.items (omega (arith, did.0, waiting.playing.base.events)) did.1 in
+      subst (λ (s : Stage). IsEnd image recording began later coming true s answer.Memory) (sym did.2) (record {
+        entries = waiting.playing.entries ++ entry.Took event ∷ [];
+        sends = waiting.playing.sends;
+        tells = tells_took event tells;
+        asked = took event;
+        is = replay_more image recording waiting.playing.entries (waiting.playing.entries ++ entry.Took event ∷ []) heeds.more (replay_of waiting.playing.sends stage.live) heeds.brings waiting.playing.base.is;
+        ends = giving.All waiting.playing.sends (pieces_in (waiting.playing.entries ++ entry.Took event ∷ [])) (given_still event);
+        failed = λ no. absurd (true≢false no);
+      })
+  notes_event coming event new (Err answer.Finished) one order enters tells did = absurd did
+  notes_event coming event new (Err (answer.Exited code)) one order enters tells did = absurd did
+  notes_event coming event new (Err answer.BadWords) one order enters tells did = absurd did
+  notes_event coming event new (Err (answer.ElfRefused number)) one order enters tells did = absurd did
+  notes_event coming event new (Err (answer.AsmRefused kind line)) one order enters tells did = absurd did
+  notes_event coming event new (Err (answer.RecordRefused line)) one order enters tells did = absurd did
+  notes_event coming event new (Err (answer.CountsRefused line)) one order enters tells did = absurd did
+  notes_event coming event new (Err (answer.Short conn)) one order enters tells did = absurd did
+  notes_event coming event new (Err (answer.Mismatch step)) one order enters tells did = absurd did
+  notes_event coming event new (Err answer.TooLarge) one order enters tells did = absurd did
+  notes_event coming event new (Err (answer.InputRefused kind offset)) one order enters tells did = absurd did
+  notes_event coming event new (Err (answer.GaveUp point cause)) one order enters tells did = absurd did
+  notes_event coming event new (Err answer.ReadFault) one order enters tells did = absurd did
+  notes_event coming event new (Err answer.WriteFault) one order enters tells did = absurd did
+  notes_event coming event new (Err answer.FileFault) one order enters tells did = absurd did
+
+  -- the link has ended
+  ends_link : (coming : Option Coming) → Tells now later (entry.Took event.Ends ∷ []) → IsEnd image recording began later coming true stage (answer.Mismatch stage.live.steps)
+  ends_link coming tells =
+      let entries = waiting.playing.entries in
+      let still : items_in (bounds_of recording) (entries ++ entry.Took event.Ends ∷ []) ≡ items_in (bounds_of recording) entries = ap (λ events. items_of recording.frame (heeded (bounds_of recording) events)) (events_ended entries) in
+      record {
+        entries = entries ++ entry.Took event.Ends ∷ [];
+        sends = waiting.playing.sends;
+        tells = tells_took event.Ends tells;
+        asked = took event.Ends;
+        is = replay_same image recording entries (entries ++ entry.Took event.Ends ∷ []) (replay_of waiting.playing.sends stage.live) still waiting.playing.base.is;
+        ends = (refl, Starved waiting.shorter waiting.lives waiting.asks (all_taken ∙ ap length (sym still)) (last_taken-took entries event.Ends), given_still event.Ends);
+        failed = λ no. absurd (true≢false no);
+      }
+
+  pub heeds_event : (coming : Option Coming) (event : LinkEvent) (new : Stage) (result : Result (Unit {0}) Answer) → IsInOrder phases event → ((conn : ℕ) → after conn ≡ phases_after event phases conn)
+      → Tells now later (entry.Took event ∷ []) → HeedsEvent event stage new result → WaitsBy image recording began later after coming true new result
+  heeds_event coming (event.Opens conn) new result order enters tells did = notes_event coming (event.Opens conn) new result refl order enters tells did
+  heeds_event coming (event.Piece conn bytes) new result order enters tells did = notes_event coming (event.Piece conn bytes) new result refl order enters tells did
+  heeds_event coming (event.Closes conn) new result order enters tells did = notes_event coming (event.Closes conn) new result refl order enters tells did
+  heeds_event coming event.Settles new result order enters tells did = notes_event coming event.Settles new result refl order enters tells did
+  heeds_event coming event.Ends new result order enters tells did =
+      subst (WaitsBy image recording began later after coming true new) (sym did.0)
+      (subst (λ (s : Stage). IsEnd image recording began later coming true s (answer.Mismatch stage.live.steps)) (sym did.1) (ends_link coming tells))
+
+  -- no event was taken
+  pub takes_none : (coming before : Option Coming) (takes : Bool) (why : LinkFault) → Tells now later [] → GoesBy before (Err why) → StillComes coming (Err why) → IsEnd image recording began later coming takes stage (answer_of why)
+  takes_none coming before takes (fault.Refused kind offset) tells goes last = record {
+    entries = waiting.playing.entries;
+    sends = waiting.playing.sends;
+    tells = tells_still began now later waiting.playing.entries waiting.playing.base.tells tells;
+    asked = waiting.playing.base.asked;
+    is = waiting.playing.base.is;
+    ends = (asking, last);
+    failed = λ _. asking;
+  }
+  takes_none coming before takes fault.ReadFault tells goes last = record {
+    entries = waiting.playing.entries;
+    sends = waiting.playing.sends;
+    tells = tells_still began now later waiting.playing.entries waiting.playing.base.tells tells;
+    asked = waiting.playing.base.asked;
+    is = waiting.playing.base.is;
+    ends = asking;
+    failed = λ _. asking;
+  }
+  takes_none coming before takes fault.WriteFault tells goes last = absurd goes
+  takes_none coming before takes fault.Memory tells goes last = record {
+    entries = waiting.playing.entries;
+    sends = waiting.playing.sends;
+    tells = tells_still began now later waiting.playing.entries waiting.playing.base.tells tells;
+    asked = waiting.playing.base.asked;
+    is = waiting.playing.base.is;
+    ends = giving.All waiting.playing.sends (pieces_in waiting.playing.entries) waiting.playing.given;
+    failed = λ _. asking;
+  }

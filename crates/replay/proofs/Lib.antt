@@ -1,0 +1,12 @@
+pub mod TurnLemmas
+pub mod RunLemmas
+pub mod ReplayLemmas
+pub mod JournalLemmas
+pub mod OpenLemmas
+pub mod ChooseLemmas
+pub mod GivingLemmas
+pub mod HearLemmas
+pub mod LoopLemmas
+pub mod TakeLemmas
+pub mod QuestionLemmas
+pub mod StartLemmas

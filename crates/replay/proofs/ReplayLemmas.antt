@@ -1,0 +1,150 @@
+-- What each instruction, each answer of malloc and each item makes of a replay.
+use Rattle.std.proofs.Common.{◌≡◌, ℕ, ◌+◌, ◌<◌, true, List, [], ◌∷◌, ◌++◌, length, take, Option, Some, None, refl, sym, ◌∙◌, ap, subst, arith, append-nil, length-append, add-one}
+use Rattle.std.specs.Prelude.{slice_get}
+use Rattle.std.proofs.Math.Seq.{take-suc}
+use Rattle.std.proofs.lemmas.Option.{slice_get_within, get_or_from_slice_get}
+use Rattle.rx_io.specs.declared.bytes.Item.{Item}
+use Rattle.rx_io.specs.declared.journal.Entry.{Entry}
+use Rattle.rx_io.specs.Sends.{Send}
+use Rattle.block_book.specs.declared.choice.Choice.{Choice}
+use Rattle.block_book.specs.Answer.{is_allowed}
+use Rattle.elf_image.specs.declared.image.Image.{Image}
+use Rattle.run_history.specs.Machine.{Machine, register, start, start_machine, Goes, Wants, Chooses}
+use Rattle.run_history.specs.Call.{takes, received, chooses, allocated}
+use Rattle.run_history.specs.Run.{does, after, run}
+use Rattle.run_history.proofs.Shapes.{Alone, Shape, Same, Takes, Picks, does_shape}
+use Rattle.run_history.proofs.Runs.{run_more, run_one, run_join, run_chosen, next_after, received_keeps, allocated_keeps, element_behind}
+use Rattle.guest_cpu.specs.Standing.{Standing}
+use Rattle.guest_cpu.specs.Cpus.{start_standing}
+use Rattle.guest_cpu.specs.Receiving.{taken_standing}
+use Rattle.guest_cpu.specs.Recording.{chosen_standing}
+use Rattle.session_history.specs.Heeding.{items_in}
+use Rattle.schedule_file.specs.declared.recorded.Recorded.{Recorded}
+use Rattle.replay.specs.Replaying.{Replay, IsReplay, bounds_of}
+use Rattle.replay.specs.Playing.{state_of, replay_of}
+use Rattle.replay.proofs.RunLemmas.{Ran}
+
+-- a guest at its start is a replay of no instruction
+pub replay_start : (image : Image) (recording : Recorded) (entries : List Entry) → IsReplay image recording entries (replay_of [] (start_standing image))
+unfolding start start_machine
+replay_start image recording entries = record { ran = record { ran = refl; used = refl }; used = omega arith; steps = omega arith }
+
+-- one that goes on is one still
+pub replay_ran : (image : Image) (recording : Recorded) (entries : List Entry) (sends : List Send) (old new : Standing) (before after : List Send → List Send) → Ran recording.steps old new before after
+    → IsReplay image recording entries (replay_of (before sends) old) → IsReplay image recording entries (replay_of (after sends) new)
+replay_ran image recording entries sends old new before after ran is =
+    let items = items_in (bounds_of recording) entries in
+    let choices = take old.guest.machine.allocations recording.choices in
+    let joined : run items choices (start image) (old.steps + ran.count) ≡ Some (state_of (after sends) new) =
+    run_join items choices (start image) (state_of (before sends) old) (state_of (after sends) new) old.steps ran.count is.ran.ran
+    (run_more [] items [] choices (state_of (before sends) old) (state_of (after sends) new) ran.count (ran.ran sends)) in
+    record {
+      ran = record {
+        ran = subst (λ (n : ℕ). run items (take n recording.choices) (start image) new.steps ≡ Some (state_of (after sends) new)) (sym ran.allocations)
+            (subst (λ (n : ℕ). run items choices (start image) n ≡ Some (state_of (after sends) new)) (sym ran.steps) joined);
+        used = ran.allocations ∙ is.ran.used ∙ ap (λ (n : ℕ). length (take n recording.choices)) (sym ran.allocations);
+      };
+      used = omega (arith, ran.allocations, is.used);
+      steps = ran.within is.steps;
+    }
+
+-- on a journal that brings more items too
+pub replay_more : (image : Image) (recording : Recorded) (entries later : List Entry) (more : List Item) (replay : Replay) → items_in (bounds_of recording) later ≡ items_in (bounds_of recording) entries ++ more
+    → IsReplay image recording entries replay → IsReplay image recording later replay
+replay_more image recording entries later more replay brings is =
+    let choices = take replay.used recording.choices in
+    let ran : run (items_in (bounds_of recording) entries ++ more) (choices ++ []) (start image) replay.steps ≡ Some replay.state =
+    run_more (items_in (bounds_of recording) entries) more choices [] (start image) replay.state replay.steps is.ran.ran in
+    record {
+      ran = record {
+        ran = subst (λ (items : List Item). run items choices (start image) replay.steps ≡ Some replay.state) (sym brings)
+            (subst (λ (all : List Choice). run (items_in (bounds_of recording) entries ++ more) all (start image) replay.steps ≡ Some replay.state) (append-nil choices) ran);
+        used = is.ran.used;
+      };
+      used = is.used;
+      steps = is.steps;
+    }
+
+-- a journal that brings the same items
+pub replay_same : (image : Image) (recording : Recorded) (entries later : List Entry) (replay : Replay) → items_in (bounds_of recording) later ≡ items_in (bounds_of recording) entries
+    → IsReplay image recording entries replay → IsReplay image recording later replay
+replay_same image recording entries later replay same is = replay_more image recording entries later [] replay (same ∙ sym (append-nil (items_in (bounds_of recording) entries))) is
+
+-- an instruction that wants an item takes it
+wants_takes : (m : Machine) → does None None m ≡ Wants → (item : Option Item) (choice : Option Choice) → does item choice m ≡ takes m item
+wants_takes m wants item choice = of_shape (does_shape m)
+  where
+    of_shape : Shape m (λ item choice. does item choice m) → does item choice m ≡ takes m item
+    of_shape (Same e alone is) = absurd (subst (Alone m) (sym (is None None) ∙ wants) alone)
+    of_shape (Takes may is) = is item choice
+    of_shape (Picks is) = let no : Chooses (register m 10) ≡ Wants = sym (is None None) ∙ wants in absurd (cc)
+
+-- an instruction that wants an answer of malloc does with it what malloc does
+pub wants_chooses : (m : Machine) (size : ℕ) → does None None m ≡ Chooses size → (item : Option Item) (choice : Option Choice) → does item choice m ≡ chooses (register m 10) m choice
+wants_chooses m size wants item choice = of_shape (does_shape m)
+  where
+    of_shape : Shape m (λ item choice. does item choice m) → does item choice m ≡ chooses (register m 10) m choice
+    of_shape (Same e alone is) = absurd (subst (Alone m) (sym (is None None) ∙ wants) alone)
+    of_shape (Takes may is) = let no : Wants ≡ Chooses size = sym (is None None) ∙ wants in absurd (cc)
+    of_shape (Picks is) = is item choice
+
+-- and its block has the size that stands in x10
+pub asked_size : (m : Machine) (size : ℕ) → does None None m ≡ Chooses size → does None None m ≡ Chooses (register m 10)
+asked_size m size wants = wants_chooses m size wants None None
+
+-- a replay takes the item that is next
+pub replay_takes : (image : Image) (recording : Recorded) (entries : List Entry) (sends : List Send) (s : Standing) (item : Item) → s.ended ≡ None → s.steps < recording.steps → does None None s.guest.machine ≡ Wants
+    → slice_get (items_in (bounds_of recording) entries) s.guest.machine.taken ≡ Some item
+    → IsReplay image recording entries (replay_of sends s) → IsReplay image recording entries (replay_of sends (taken_standing item s))
+replay_takes image recording entries sends s item lives low wants here is =
+    let items = items_in (bounds_of recording) entries in
+    let choices = take s.guest.machine.allocations recording.choices in
+    let keeps = received_keeps item s.guest.machine in
+    let acts : does (slice_get items s.guest.machine.taken) (slice_get choices s.guest.machine.allocations) s.guest.machine ≡ Goes (received item s.guest.machine) =
+    wants_takes s.guest.machine wants (slice_get items s.guest.machine.taken) (slice_get choices s.guest.machine.allocations) ∙ ap (takes s.guest.machine) here in
+    let one = run_one items choices (start image) (state_of sends s) (state_of sends (taken_standing item s)) s.steps is.ran.ran
+    (next_after items choices (state_of sends s) (Goes (received item s.guest.machine)) lives acts) in
+    record {
+      ran = record {
+        ran = subst (λ (n : ℕ). run items (take n recording.choices) (start image) (s.steps + 1) ≡ Some (state_of sends (taken_standing item s))) (sym keeps.allocations) one;
+        used = keeps.allocations ∙ is.ran.used ∙ ap (λ (n : ℕ). length (take n recording.choices)) (sym keeps.allocations);
+      };
+      used = omega (arith, keeps.allocations, is.used);
+      steps = omega (arith, low);
+    }
+
+-- the first answers of a record, with one more
+take_more : (choices : List Choice) (n : ℕ) (choice : Choice) → slice_get choices n ≡ Some choice → take (n + 1) choices ≡ take n choices ++ choice ∷ []
+take_more choices n choice here =
+    ap (λ (k : ℕ). take k choices) (add-one n)
+    ∙ take-suc choices n choice (slice_get_within choices n choice here)
+    ∙ ap (λ (c : Choice). take n choices ++ c ∷ []) (get_or_from_slice_get choices n choice choice here)
+
+-- a replay uses the answer of malloc that its record has next, where C allows it
+pub replay_chooses : (image : Image) (recording : Recorded) (entries : List Entry) (sends : List Send) (s : Standing) (size : ℕ) (choice : Choice) → s.ended ≡ None → s.steps < recording.steps
+    → does None None s.guest.machine ≡ Chooses size → slice_get recording.choices s.guest.machine.allocations ≡ Some choice
+    → is_allowed s.guest.machine.heap_start s.guest.machine.heap_end s.guest.machine.blocks (register s.guest.machine 10) choice ≡ true
+    → IsReplay image recording entries (replay_of sends s) → IsReplay image recording entries (replay_of sends (chosen_standing choice s))
+replay_chooses image recording entries sends s size choice lives low wants here allowed is =
+    let items = items_in (bounds_of recording) entries in
+    let n = s.guest.machine.allocations in
+    let front = take n recording.choices in
+    let later : Machine = allocated (register s.guest.machine 10) choice s.guest.machine in
+    let keeps = allocated_keeps (register s.guest.machine 10) choice s.guest.machine in
+    let longer : take later.allocations recording.choices ≡ front ++ choice ∷ [] = ap (λ (k : ℕ). take k recording.choices) keeps.allocations ∙ take_more recording.choices n choice here in
+    let next_is : slice_get (front ++ choice ∷ []) n ≡ Some choice = element_behind front choice n (sym is.ran.used) in
+    let acts : does (slice_get items s.guest.machine.taken) (slice_get (front ++ choice ∷ []) n) s.guest.machine ≡ Goes later =
+    wants_chooses s.guest.machine size wants (slice_get items s.guest.machine.taken) (slice_get (front ++ choice ∷ []) n)
+    ∙ ap (chooses (register s.guest.machine 10) s.guest.machine) next_is ∙ rw allowed refl in
+    let one = run_one items (front ++ choice ∷ []) (start image) (state_of sends s) (state_of sends (chosen_standing choice s)) s.steps
+    (run_chosen items front (choice ∷ []) (start image) (state_of sends s) s.steps is.ran.ran)
+    (next_after items (front ++ choice ∷ []) (state_of sends s) (Goes later) lives acts) in
+    let within = slice_get_within recording.choices n choice here in
+    record {
+      ran = record {
+        ran = subst (λ (all : List Choice). run items all (start image) (s.steps + 1) ≡ Some (state_of sends (chosen_standing choice s))) (sym longer) one;
+        used = keeps.allocations ∙ ap (λ (k : ℕ). k + 1) is.ran.used ∙ sym (length-append front (choice ∷ [])) ∙ ap length (sym longer);
+      };
+      used = omega (arith, keeps.allocations, within);
+      steps = omega (arith, low);
+    }

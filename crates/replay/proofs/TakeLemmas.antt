@@ -1,0 +1,69 @@
+-- The guest takes the item that it asks for.
+use Rattle.std.proofs.Common.{◌≡◌, ℕ, ◌+◌, ◌<◌, ◌^◌, Bool, List, length, drop, Some, sym, ◌∙◌, ap, subst, arith}
+use Rattle.std.specs.Prelude.{slice_get}
+use Rattle.std.proofs.lemmas.Option.{slice_get_within}
+use Rattle.rx_io.specs.declared.bytes.Item.{Item}
+use Rattle.rx_io.specs.Links.{Told, Phases, events_in}
+use Rattle.block_book.specs.Heap.{is_bare}
+use Rattle.elf_image.specs.declared.image.Image.{Image}
+use Rattle.item_log.specs.Log.{IsItemOf}
+use Rattle.run_history.specs.Call.{connections_after}
+use Rattle.run_history.proofs.Runs.{received_keeps}
+use Rattle.guest_cpu.specs.Standing.{Standing}
+use Rattle.guest_cpu.specs.Receiving.{taken_standing}
+use Rattle.session_history.specs.Heeding.{items_in}
+use Rattle.event_gate.proofs.ItemLemmas.{item_is, item_fits}
+use Rattle.schedule_file.specs.declared.recorded.Recorded.{Recorded}
+use Rattle.replay.specs.Replaying.{IsReplay, bounds_of}
+use Rattle.replay.specs.Playing.{Stage, StayOpen, IsBetween, IsWaiting, replay_of}
+use Rattle.replay.proofs.ReplayLemmas.{replay_takes}
+use Rattle.replay.proofs.OpenLemmas.{takes_open, stays_then, stays_now}
+
+module _ (image : Image) (recording : Recorded) (began now : Told) (phases : Phases) (stage : Stage) (waiting : IsWaiting image recording began now phases stage) where
+  -- the item of a log is that of the journal, and no longer than a guest can be told
+  item_here : (item : Item) → IsItemOf stage.log stage.live.guest.machine.taken item → slice_get (items_in (bounds_of recording) waiting.playing.entries) stage.live.guest.machine.taken ≡ Some item
+  item_here item is = item_is (bounds_of recording) waiting.playing.entries stage.log stage.live.guest.machine.taken item waiting.playing.base.items is
+
+  pub item_short : (item : Item) → IsItemOf stage.log stage.live.guest.machine.taken item → length item.bytes < 2 ^ 32
+  item_short item is =
+      item_fits recording.frame (events_in waiting.playing.entries) stage.live.guest.machine.taken item (is recording.frame (events_in waiting.playing.entries) waiting.playing.base.items.shows)
+
+  pub takes_item : (item : Item) (later : Standing) → IsItemOf stage.log stage.live.guest.machine.taken item → later ≡ taken_standing item stage.live → IsBetween image recording began now phases (record stage { live = later })
+  takes_item item later is left =
+      let base = waiting.playing.base in
+      let items = items_in (bounds_of recording) waiting.playing.entries in
+      let n = stage.live.guest.machine.taken in
+      let here = item_here item is in
+      let keeps = received_keeps item stage.live.guest.machine in
+      let taken : later.guest.machine.taken ≡ n + 1 = ap (λ (s : Standing). s.guest.machine.taken) left ∙ keeps.taken in
+      let connections : later.guest.machine.connections ≡ connections_after item stage.live.guest.machine.connections = ap (λ (s : Standing). s.guest.machine.connections) left ∙ keeps.connections in
+      let within = slice_get_within items n item here in
+      let opened : StayOpen phases (drop (n + 1) items) (connections_after item stage.live.guest.machine.connections) = takes_open phases items n item stage.live.guest.machine.connections here base.connected in
+      let stays : StayOpen phases (drop later.guest.machine.taken items) later.guest.machine.connections =
+      subst (λ (k : ℕ). StayOpen phases (drop k items) later.guest.machine.connections) (sym taken)
+      (subst (λ (connections : List Bool). StayOpen phases (drop (n + 1) items) connections) (sym connections) opened) in
+      record {
+        playing = record {
+          entries = waiting.playing.entries;
+          sends = waiting.playing.sends;
+          base = record {
+            tells = base.tells;
+            asked = base.asked;
+            is = subst (λ (s : Standing). IsReplay image recording waiting.playing.entries (replay_of waiting.playing.sends s)) (sym left)
+                (replay_takes image recording waiting.playing.entries waiting.playing.sends stage.live item waiting.lives waiting.shorter waiting.asks here base.is);
+            items = base.items;
+            goes_on = base.goes_on;
+            first = base.first;
+            events = base.events;
+            phases_are = base.phases_are;
+            gone = base.gone;
+            places = base.places;
+            taken = omega (arith, taken, within);
+            connected = stays_then phases (drop later.guest.machine.taken items) later.guest.machine.connections stays;
+            bare = ap (λ (s : Standing). is_bare s.guest.heap) left ∙ base.bare;
+          };
+          given = waiting.playing.given;
+        };
+        opened = stays_now phases (drop later.guest.machine.taken items) later.guest.machine.connections stays;
+        lives = ap (λ (s : Standing). s.ended) left ∙ waiting.lives;
+      }

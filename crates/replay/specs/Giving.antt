@@ -1,0 +1,30 @@
+-- The pieces that a replay gives, beside the sends of its run.
+use Rattle.std.specs.Prelude.{◌≡◌, ℕ, List, [], ◌∷◌, ◌++◌, Bool, true, false, ◌&&◌, ◌||◌, ◌==◌}
+use Rattle.rx_io.specs.Prefix.{Prefix}
+use Rattle.rx_io.specs.Sends.{Send}
+use Rattle.rx_io.specs.Links.{Piece}
+
+-- whether one of some pieces found its connection gone
+abbrev pub found_gone : ℕ → List Piece → Bool
+found_gone conn [] = false
+found_gone conn (piece ∷ pieces) = ((piece.conn == conn) && piece.gone) || found_gone conn pieces
+
+abbrev pub piece_of : ℕ → List ℕ → Bool → Piece
+piece_of conn bytes gone = record { conn = conn; bytes = bytes; gone = gone }
+
+-- All sends are given, one after another: each is one whole piece; or some first bytes of it went out before its connection was
+-- found gone; or it was found gone before, and nothing is given.
+pub data AreGiven : List Send → List Piece → Type 0 where
+  Nothing : AreGiven [] []
+  Whole : (sends : List Send) (pieces : List Piece) (send : Send) → AreGiven sends pieces → found_gone send.conn pieces ≡ false
+      → AreGiven (sends ++ send ∷ []) (pieces ++ piece_of send.conn send.bytes false ∷ [])
+  Cut : (sends : List Send) (pieces : List Piece) (send : Send) (front : List ℕ) → AreGiven sends pieces → found_gone send.conn pieces ≡ false → Prefix front send.bytes
+      → AreGiven (sends ++ send ∷ []) (pieces ++ piece_of send.conn front true ∷ [])
+  Gone : (sends : List Send) (pieces : List Piece) (send : Send) → AreGiven sends pieces → found_gone send.conn pieces ≡ true → AreGiven (sends ++ send ∷ []) pieces
+
+-- The last one of some sends may be given in part: some first bytes of it went out, or none.
+pub data AreGivenInPart : List Send → List Piece → Type 0 where
+  All : (sends : List Send) (pieces : List Piece) → AreGiven sends pieces → AreGivenInPart sends pieces
+  Unbegun : (sends : List Send) (pieces : List Piece) (send : Send) → AreGiven sends pieces → AreGivenInPart (sends ++ send ∷ []) pieces
+  Begun : (sends : List Send) (pieces : List Piece) (send : Send) (front : List ℕ) → AreGiven sends pieces → found_gone send.conn pieces ≡ false → Prefix front send.bytes
+      → AreGivenInPart (sends ++ send ∷ []) (pieces ++ piece_of send.conn front false ∷ [])

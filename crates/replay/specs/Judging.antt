@@ -1,0 +1,14 @@
+-- What a replay is at its end.
+use Rattle.std.specs.Prelude.{length, ◌==◌, if◌then◌else◌}
+use Rattle.run_history.specs.declared.answer.Answer.{Answer}
+use Rattle.run_history.specs.declared.answer.Answer.TheVariants as answer
+use Rattle.guest_cpu.specs.Standing.{Standing}
+use Rattle.schedule_file.specs.declared.recorded.Recorded.{Recorded}
+
+-- all was as recorded, or the run doesn't go on as recorded
+abbrev pub judged : Recorded → Standing → Answer
+judged recorded s =
+    if s.steps == recorded.steps
+    then if s.guest.machine.allocations == length recorded.choices
+    then if s.guest.machine.taken == recorded.taken
+    then answer.Finished else answer.Mismatch s.steps else answer.Mismatch s.steps else answer.Mismatch s.steps

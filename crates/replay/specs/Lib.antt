@@ -1,0 +1,6 @@
+pub mod Giving
+pub mod Replaying
+pub mod Playing
+pub mod Making
+pub mod Hearing
+pub mod Judging

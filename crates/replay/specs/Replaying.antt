@@ -1,0 +1,110 @@
+-- What a replay of a record is: the run that the record tells of, over the events of a link, and its sends given again.
+use Rattle.std.specs.Prelude.{◌≡◌, ◌≢◌, ℕ, ◌+◌, ◌<◌, ◌≤◌, ◌^◌, List, ◌∷◌, ◌++◌, length, take, slice_get, false, None, Some, Option, IsSome, IfSome, ◌⊎◌, Bool}
+use Rattle.rx_io.specs.declared.journal.Entry.{Entry}
+use Rattle.rx_io.specs.declared.journal.Entry.TheVariants as entry
+use Rattle.rx_io.specs.declared.journal.LinkEvent.{LinkEvent}
+use Rattle.rx_io.specs.Faults.{Rose}
+use Rattle.rx_io.specs.Links.{Told, Tells, Coming, Refuses, Counts, events_in, pieces_in, HasEnded}
+use Rattle.block_book.specs.declared.choice.Choice.{Choice}
+use Rattle.block_book.specs.Answer.{is_allowed}
+use Rattle.block_book.specs.Heap.{most_blocks}
+use Rattle.elf_image.specs.declared.image.Image.{Image}
+use Rattle.run_history.specs.declared.answer.Answer.{Answer}
+use Rattle.run_history.specs.declared.answer.Answer.TheVariants as answer
+use Rattle.run_history.specs.declared.answer.Cause.{Cause}
+use Rattle.run_history.specs.Machine.{Machine, State, Wants, Chooses, Fails}
+use Rattle.run_history.specs.Run.{does, Run}
+use Rattle.session_history.specs.Heeding.{Bounds, heeded, items_in, received}
+use Rattle.session_history.specs.Heeding as unheeded
+use Rattle.session_history.specs.Ends.{IsLastRefused, IsLastTooLong}
+use Rattle.schedule_file.specs.declared.recorded.Recorded.{Recorded}
+use Rattle.replay.specs.Giving.{AreGiven, AreGivenInPart}
+
+-- what a record allows a link: its own framing, and the most items and events that any session may have
+abbrev pub bounds_of : Recorded → Bounds
+bounds_of recorded = record { framing = recorded.frame; max_items = 2 ^ 20; max_events = 2 ^ 32 }
+
+-- a replay so far: how many instructions were executed, how many of the record's answers of malloc they used, where the run stands
+pub record Replay : Type 0 where
+  pub steps : ℕ
+  pub used : ℕ
+  pub state : State
+
+-- it is a run of the image on the items received, with the first answers of the record, and no longer than the record's
+pub record IsReplay (image : Image) (recorded : Recorded) (entries : List Entry) (replay : Replay) : Type 0 where
+  pub ran : Run image (items_in (bounds_of recorded) entries) (take replay.used recorded.choices) replay.steps replay.state
+  pub used : replay.used ≤ length recorded.choices
+  pub steps : replay.steps ≤ recorded.steps
+
+-- A replay asks for an item that a journal hasn't brought: it is shorter than the record's run, it lives, and has taken all that was
+-- received. All its sends are given, every event is heeded, and the link hasn't ended.
+pub record IsAsking (image : Image) (recorded : Recorded) (before : List Entry) (replay : Replay) : Type 0 where
+  pub is : IsReplay image recorded before replay
+  pub shorter : replay.steps < recorded.steps
+  pub lives : replay.state.ended ≡ None
+  pub asks : does None None replay.state.machine ≡ Wants
+  pub taken : replay.state.machine.taken ≡ received (bounds_of recorded) before
+  pub given : AreGiven replay.state.sends (pieces_in before)
+  pub heeds : heeded (bounds_of recorded) (events_in before) ≡ events_in before
+  pub goes_on : HasEnded before → ⊥
+
+-- so an event was asked for behind a journal
+pub record WasAsked (image : Image) (recorded : Recorded) (before : List Entry) : Type 0 where
+  pub replay : Replay
+  pub asks : IsAsking image recorded before replay
+
+-- and no event was taken that wasn't
+abbrev pub AreAsked : Image → Recorded → List Entry → Type 0
+AreAsked image recorded entries = (before after : List Entry) (event : LinkEvent) → entries ≡ before ++ entry.Took event ∷ after → WasAsked image recorded before
+
+-- the answer of malloc that a record has next can't be used: C doesn't allow it, or it is a block, and as many stand as may
+abbrev pub IsUnusable : Machine → ℕ → Option Choice → Type 0
+IsUnusable m size None = Unit {0}
+IsUnusable m size (Some choice) =
+    (is_allowed m.heap_start m.heap_end m.blocks size choice ≡ false) ⊎ ((choice.at ≢ 0) × (most_blocks ≤ length m.blocks))
+
+-- Why a run isn't the recorded one. Before the record's end it has ended itself; or it fails; or it wants an answer of malloc, and the
+-- record has none, or none that can be used; or it asks for an item, and the link has ended. Or at the record's end not all answers
+-- were used, or not as many items taken.
+pub data Differs (recorded : Recorded) (entries : List Entry) (replay : Replay) : Type 0 where
+  Ended : replay.steps < recorded.steps → IsSome replay.state.ended → Differs recorded entries replay
+  Failed : (cause : Cause) → replay.steps < recorded.steps → replay.state.ended ≡ None → does None None replay.state.machine ≡ Fails cause → Differs recorded entries replay
+  Unanswered : (size : ℕ) → replay.steps < recorded.steps → replay.state.ended ≡ None → does None None replay.state.machine ≡ Chooses size
+      → IsUnusable replay.state.machine size (slice_get recorded.choices replay.used) → Differs recorded entries replay
+  Starved : replay.steps < recorded.steps → replay.state.ended ≡ None → does None None replay.state.machine ≡ Wants
+      → replay.state.machine.taken ≡ received (bounds_of recorded) entries → HasEnded entries → Differs recorded entries replay
+  Unused : replay.steps ≡ recorded.steps → replay.used < length recorded.choices → Differs recorded entries replay
+  Untaken : replay.steps ≡ recorded.steps → replay.state.machine.taken ≢ recorded.taken → Differs recorded entries replay
+
+-- What stands behind each answer. Everywhere but at a fault of writing and want of memory all sends are given.
+abbrev pub EndsBy : Image → Recorded → List Entry → Option Coming → Replay → Answer → Type 0
+EndsBy image recorded entries coming replay answer.Finished =
+    (replay.steps ≡ recorded.steps) × (replay.used ≡ length recorded.choices) × (replay.state.machine.taken ≡ recorded.taken) × AreGiven replay.state.sends (pieces_in entries)
+EndsBy image recorded entries coming replay (answer.Mismatch step) = (step ≡ replay.steps) × Differs recorded entries replay × AreGiven replay.state.sends (pieces_in entries)
+EndsBy image recorded entries coming replay (answer.InputRefused kind offset) = IsAsking image recorded entries replay × IfSome coming (λ next. next ≡ Refuses kind offset)
+EndsBy image recorded entries coming replay (answer.MessageTooLong conn) = IsLastTooLong (bounds_of recorded) entries conn × AreGiven replay.state.sends (pieces_in entries)
+EndsBy image recorded entries coming replay answer.LimitItems = IsLastRefused (bounds_of recorded) entries unheeded.LimitItems × AreGiven replay.state.sends (pieces_in entries)
+EndsBy image recorded entries coming replay answer.LimitEvents = IsLastRefused (bounds_of recorded) entries unheeded.LimitEvents × AreGiven replay.state.sends (pieces_in entries)
+EndsBy image recorded entries coming replay answer.ReadFault = IsAsking image recorded entries replay
+EndsBy image recorded entries coming replay answer.WriteFault = AreGivenInPart replay.state.sends (pieces_in entries)
+EndsBy image recorded entries coming replay answer.Memory = AreGivenInPart replay.state.sends (pieces_in entries)
+EndsBy image recorded entries coming replay _ = ⊥
+
+-- What a replay leaves at each answer, by what its link told before and after, what comes next there, whether events may still be taken,
+-- and the counter of steps. Where none may be taken any more, the take that failed was asked for.
+pub record HasReplayed (image : Image) (recorded : Recorded) (began now : Told) (coming : Option Coming) (takes : Bool) (end : Answer) (before after : ℕ) : Type 0 where
+  pub entries : List Entry
+  pub replay : Replay
+  pub tells : Tells began now entries
+  pub asked : AreAsked image recorded entries
+  pub is : IsReplay image recorded entries replay
+  pub ends : EndsBy image recorded entries coming replay end
+  pub failed : takes ≡ false → IsAsking image recorded entries replay
+  pub counted : after ≡ before + replay.steps
+
+-- no count of failed calls of a link falls, and a fault is answered only where its own rose
+pub record HasAnswerCause (before now : Counts) (end : Answer) : Type 0 where
+  pub takes : before.takes ≤ now.takes
+  pub gives : before.gives ≤ now.gives
+  pub read_fault : end ≡ answer.ReadFault → Rose before.takes now.takes
+  pub write_fault : end ≡ answer.WriteFault → Rose before.gives now.gives

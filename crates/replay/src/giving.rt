@@ -1,0 +1,44 @@
+// A send of the guest is given to its connection.
+ghost use Rattle.std.specs.Prelude.{◌≡◌, true, IfOk};
+ghost use Rattle.rx_io.specs.Links.{Told};
+ghost use Rattle.elf_image.specs.declared.image.Image.{Image};
+ghost use Rattle.schedule_file.specs.declared.recorded.Recorded.{Recorded};
+ghost use Rattle.replay.specs.Playing.{stage_of, IsSending, GoesOnBy, Stands, HasCause};
+
+use crate::hearing::answer_to;
+use crate::player::Player;
+use run_history::Answer;
+use rx_io::{Bytes, Given, Link};
+
+impl Player {
+    // Gives what the guest has just sent, as one piece. Nothing is given to a connection that was found gone.
+    pub(crate) fn send<K: Link>(
+        &mut self,
+        link: &mut K,
+        conn: u16,
+        bytes: &Bytes,
+    ) -> Result<(), Answer>
+        requires sends { (recorded : Recorded) × Stands (λ image began. IsSending image recorded began (K.told link.old) (K.phases link.old) conn bytes.now (stage_of self.old)) }
+        requires takes { K.takes link.old ≡ true }
+        requires gives { K.gives link.old ≡ true }
+        ensures sends { (image : Image) (recorded : Recorded) (began : Told) → IsSending image recorded began (K.told link.old) (K.phases link.old) conn bytes.now (stage_of self.old)
+            → GoesOnBy image recorded began (K.told link.new) (K.phases link.new) (K.coming link.new) (K.takes link.new) (stage_of self.new) result }
+        ensures cpu { self.new.cpu ≡ self.old.cpu }
+        ensures takes { K.takes link.new ≡ K.takes link.old }
+        ensures gives { IfOk result (λ _. K.gives link.new ≡ true) }
+        ensures cause { HasCause (K.counts link.old) (K.counts link.new) result }
+        ensures went { K.Went link.old link.new }
+    {
+        if self.gone.has(u32::from(conn)) {
+            return Ok(());
+        }
+        match link.give(conn, bytes.as_slice()) {
+            Ok(Given::All) => Ok(()),
+            Ok(Given::Gone(_)) => {
+                self.gone.add(u32::from(conn));
+                Ok(())
+            }
+            Err(fault) => Err(answer_to(fault)),
+        }
+    }
+}

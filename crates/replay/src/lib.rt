@@ -1,0 +1,10 @@
+//! A record is replayed: the run that it tells of is executed again over the same events, and its sends are given again.
+#![tactic(auto)]
+
+mod giving;
+mod hearing;
+mod player;
+mod playing;
+mod replaying;
+
+pub use replaying::replay;

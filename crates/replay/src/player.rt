@@ -1,0 +1,53 @@
+// Who replays a record.
+ghost use Rattle.std.specs.Prelude.{◌≡◌, IfOk};
+ghost use Rattle.run_history.specs.declared.answer.Answer.TheVariants as answer;
+ghost use Rattle.replay.specs.Making.{IsMade};
+
+use call_gate::ConnSet;
+use elf_image::Image;
+use guest_cpu::Cpu;
+use guest_space::AllMapped;
+use item_log::ItemLog;
+use msg_frame::Framing;
+use run_history::Answer;
+use std::alloc::{AllocError, Global};
+
+const PAGE: u32 = 4096;
+
+// The most items that a session may receive.
+const MAX_ITEMS: u64 = 1 << 20;
+
+/// Who replays a record: the guest, the items received, how many events came, and the connections that were found gone.
+#[derive(Drop)]
+pub struct Player {
+    pub alloc: Global,
+    pub cpu: Cpu<AllMapped>,
+    pub log: ItemLog,
+    pub events: u64,
+    pub gone: ConnSet,
+}
+
+impl Player {
+    /// A player at the start of a program. Its guest has one slot for checkpoints, which stays empty.
+    pub fn make(alloc: Global, image: &Image, framing: Framing) -> Result<Player, AllocError>
+        ensures { IfOk result (IsMade image.now framing) }
+    {
+        let frames = 2 * (image.window / PAGE);
+        Ok(Player {
+            alloc,
+            cpu: Cpu::make(alloc, image, 1, frames, AllMapped)?,
+            log: ItemLog::make(alloc, framing, MAX_ITEMS)?,
+            events: 0,
+            gone: ConnSet::make(alloc)?,
+        })
+    }
+
+    /// The guest doesn't go on as recorded.
+    pub fn mismatch(&self) -> Answer
+        ensures { result ≡ answer.Mismatch self.now.cpu.slots.live.steps }
+    {
+        Answer::Mismatch {
+            step: self.cpu.marks().steps,
+        }
+    }
+}

@@ -1,0 +1,118 @@
+// A turn of a replay.
+ghost use Rattle.std.specs.Prelude.{◌≡◌, ◌+◌, ◌-◌, ◌<◌, ◌^◌, true, None, Option, slice_get, IfOk};
+ghost use Rattle.rx_io.specs.Links.{Told, Phases, Coming};
+ghost use Rattle.block_book.specs.Heap.{is_bare};
+ghost use Rattle.run_history.specs.Machine.{Chooses, register};
+ghost use Rattle.run_history.specs.Run.{does};
+ghost use Rattle.elf_image.specs.declared.image.Image.{Image};
+ghost use Rattle.replay.specs.Playing.{stage_of, IsBetween, IsWaiting, IsWanting, GoesOnBy, Stands, HasCause, HasNoFault};
+ghost use Rattle.replay.specs.Judging.{judged};
+
+use crate::player::Player;
+use block_book::Choice;
+use guest_cpu::Question;
+use run_history::Answer;
+use rx_io::{Link, Steps};
+use schedule_file::Recorded;
+use std::sync::ledger::Ledger;
+
+// The record's answer of malloc of a number, if there is one.
+fn choice_at(recorded: &Recorded, number: u64) -> Option<Choice>
+    ensures { result ≡ slice_get recorded.now.choices number }
+{
+    recorded.choices.as_slice().get(number as usize).copied()
+}
+
+impl Player {
+    // Runs the guest to its next question, and does what it asks for.
+    pub(crate) fn turn<K: Link, L: Ledger>(
+        &mut self,
+        recorded: &Recorded,
+        link: &mut K,
+        steps: &mut Steps<L>,
+    ) -> Result<(), Answer>
+        requires stands { Stands (λ image began. IsBetween image recorded.now began (K.told link.old) (K.phases link.old) (stage_of self.old)) }
+        requires short { recorded.now.steps < 2 ^ 63 }
+        requires takes { K.takes link.old ≡ true }
+        requires gives { K.gives link.old ≡ true }
+        ensures turns { (image : Image) (began : Told) → IsBetween image recorded.now began (K.told link.old) (K.phases link.old) (stage_of self.old)
+            → GoesOnBy image recorded.now began (K.told link.new) (K.phases link.new) (K.coming link.new) (K.takes link.new) (stage_of self.new) result }
+        ensures later { IfOk result (λ _. self.old.cpu.slots.live.steps < self.new.cpu.slots.live.steps) }
+        ensures counted { steps.new + self.old.cpu.slots.live.steps ≡ steps.old + self.new.cpu.slots.live.steps }
+        ensures takes { IfOk result (λ _. K.takes link.new ≡ true) }
+        ensures gives { IfOk result (λ _. K.gives link.new ≡ true) }
+        ensures cause { HasCause (K.counts link.old) (K.counts link.new) result }
+        ensures went { K.Went link.old link.new }
+    {
+        match self.cpu.run_recorded(self.alloc, recorded.steps, steps) {
+            Ok(Question::Reached) => Err(self.judge(recorded)),
+            Ok(Question::Asks) => self.ask(recorded, link, steps),
+            Ok(Question::Emits(conn, bytes)) => self.send(link, conn, &bytes),
+            Ok(Question::Wants(_)) => self.choose(recorded, steps),
+            Ok(Question::Exits(_)) => Err(self.judge(recorded)),
+            Ok(Question::Failed(_)) => Err(self.mismatch()),
+            Err(_) => Err(Answer::Memory),
+        }
+    }
+
+    // The guest asks for an item: it comes, and is taken.
+    fn ask<K: Link, L: Ledger>(
+        &mut self,
+        recorded: &Recorded,
+        link: &mut K,
+        steps: &mut Steps<L>,
+    ) -> Result<(), Answer>
+        requires waits { Stands (λ image began. IsWaiting image recorded.now began (K.told link.old) (K.phases link.old) (stage_of self.old)) }
+        requires short { recorded.now.steps < 2 ^ 63 }
+        requires takes { K.takes link.old ≡ true }
+        ensures turns { (image : Image) (began : Told) → IsWaiting image recorded.now began (K.told link.old) (K.phases link.old) (stage_of self.old)
+            → GoesOnBy image recorded.now began (K.told link.new) (K.phases link.new) (K.coming link.new) (K.takes link.new) (stage_of self.new) result }
+        ensures later { IfOk result (λ _. self.old.cpu.slots.live.steps < self.new.cpu.slots.live.steps) }
+        ensures counted { steps.new + self.old.cpu.slots.live.steps ≡ steps.old + self.new.cpu.slots.live.steps }
+        ensures takes { IfOk result (λ _. K.takes link.new ≡ true) }
+        ensures gives { K.gives link.new ≡ K.gives link.old }
+        ensures cause { HasCause (K.counts link.old) (K.counts link.new) result }
+        ensures went { K.Went link.old link.new }
+    {
+        if let Err(answer) = self.await_item(link) {
+            return Err(answer);
+        }
+        let taken = self.cpu.marks().taken;
+        self.cpu.take_item(self.log.item(taken), steps);
+        Ok(())
+    }
+
+    // The guest wants an answer of malloc: the record's next one is used, if there is one and it can be.
+    fn choose<L: Ledger>(&mut self, recorded: &Recorded, steps: &mut Steps<L>) -> Result<(), Answer>
+        requires wants { does None None self.old.cpu.slots.live.guest.machine ≡ Chooses (register self.old.cpu.slots.live.guest.machine 10) }
+        requires bare { is_bare self.old.cpu.slots.live.guest.heap ≡ true }
+        requires room { self.old.cpu.slots.live.steps < 2 ^ 64 - 1 }
+        ensures turns { (image : Image) (began now : Told) (phases : Phases) (coming : Option Coming) → IsWanting image recorded.now began now phases (stage_of self.old)
+            → GoesOnBy image recorded.now began now phases coming true (stage_of self.new) result }
+        ensures later { IfOk result (λ _. self.old.cpu.slots.live.steps < self.new.cpu.slots.live.steps) }
+        ensures counted { steps.new + self.old.cpu.slots.live.steps ≡ steps.old + self.new.cpu.slots.live.steps }
+        ensures no_fault { HasNoFault result }
+    {
+        self.cpu.sound();
+        let number = self.cpu.marks().choices;
+        let Some(choice) = choice_at(recorded, number) else {
+            return Err(self.mismatch());
+        };
+        if !self.cpu.use_choice(choice, steps) {
+            return Err(self.mismatch());
+        }
+        Ok(())
+    }
+
+    // The guest has come to its end, or to the record's: all was as recorded, or it wasn't.
+    fn judge(&self, recorded: &Recorded) -> Answer
+        ensures { result ≡ judged recorded.now self.now.cpu.slots.live }
+    {
+        let marks = self.cpu.marks();
+        let used = recorded.choices.as_slice().len() as u64;
+        if marks.steps != recorded.steps || marks.choices != used || marks.taken != recorded.taken {
+            return self.mismatch();
+        }
+        Answer::Finished
+    }
+}

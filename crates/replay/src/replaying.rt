@@ -1,0 +1,44 @@
+// A record is replayed.
+ghost use Rattle.std.specs.Prelude.{◌≡◌, ◌*◌, ◌<◌, ◌^◌, true};
+ghost use Rattle.rx_io.specs.Links.{IsFresh};
+ghost use Rattle.replay.specs.Replaying.{HasReplayed, HasAnswerCause};
+
+use crate::player::Player;
+use elf_image::Image;
+use run_history::Answer;
+use rx_io::{Link, Steps};
+use schedule_file::Recorded;
+use std::alloc::{AllocError, Global};
+use std::sync::ledger::Ledger;
+
+/// Replays a record over a link to which no connection was opened yet: the program runs as recorded, each send is given as one piece,
+/// and an event is taken only where the run asks for an item that wasn't received.
+///
+/// `Finished` exactly where the run went as recorded to the record's end, and used all of the record's answers of malloc and as many
+/// items; `Mismatch` with the number of instructions after which it doesn't go on as recorded.
+pub fn replay<K: Link, L: Ledger>(
+    alloc: Global,
+    image: &Image,
+    recorded: &Recorded,
+    link: &mut K,
+    steps: &mut Steps<L>,
+) -> Answer
+    requires window { image.now.window ≡ recorded.now.window * 1048576 }
+    requires short { recorded.now.steps < 2 ^ 63 }
+    requires fresh { IsFresh (K.phases link.old) }
+    requires takes { K.takes link.old ≡ true }
+    requires gives { K.gives link.old ≡ true }
+    ensures replayed { HasReplayed image.now recorded.now (K.told link.old) (K.told link.new) (K.coming link.new) (K.takes link.new) result steps.old steps.new }
+    ensures cause { HasAnswerCause (K.counts link.old) (K.counts link.new) result }
+    ensures went { K.Went link.old link.new }
+{
+    let mut player = match Player::make(alloc, image, recorded.frame) {
+        Ok(player) => player,
+        Err(AllocError) => return Answer::Memory,
+    };
+    'turns: loop {
+        if let Err(answer) = player.turn(recorded, link, steps) {
+            return answer;
+        }
+    }
+}
