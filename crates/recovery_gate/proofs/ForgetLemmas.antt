@@ -63,12 +63,12 @@ before_served limits items plan first second served =
     repeated_keeps (planned_next limits items plan) IsBefore before_same before_on (λ a b goes. before_next limits items (env_at plan a.state.machine.taken) a b goes) served.more first second served.ran
 
 -- nor than each of some others
-abbrev AreAfter : Path → List Path → Type 0
+abbrev pub AreAfter : Path → List Path → Type 0
 AreAfter oldest [] = Unit {0}
 AreAfter oldest (newest ∷ older) = IsBefore oldest newest × AreAfter oldest older
 
 -- The oldest checkpoint of a ring has come no further than the newer ones, and than the run that goes on from the newest.
-after_oldest : (limits : Limits) (items : List Item) (plan : List Override) (image : Image) (later : Path) (ring : List Path) (oldest : Path) → AreChained limits items plan image later ring → slice_get ring (length ring - 1) ≡ Some oldest
+pub after_oldest : (limits : Limits) (items : List Item) (plan : List Override) (image : Image) (later : Path) (ring : List Path) (oldest : Path) → AreChained limits items plan image later ring → slice_get ring (length ring - 1) ≡ Some oldest
     → IsBefore oldest later × AreAfter oldest ring
 after_oldest limits items plan image later [] oldest chain last = absurd (none-some oldest last)
 after_oldest limits items plan image later (only ∷ []) oldest chain last =
@@ -116,7 +116,7 @@ pub record HasOldest (ring : List Path) (saved : List (Saved Standing)) : Type 0
   pub first : slice_get saved 0 ≡ Some slot
   pub stands : slot.state ≡ standing_of oldest
 
-has_oldest : (ring : List Path) (saved : List (Saved Standing)) → 0 < length ring → length saved ≡ length ring
+pub has_oldest : (ring : List Path) (saved : List (Saved Standing)) → 0 < length ring → length saved ≡ length ring
     → ((index : ℕ) → index < length ring → option_map (λ one. one.state) (from_newest saved index) ≡ option_map standing_of (slice_get ring index)) → HasOldest ring saved
 has_oldest ring saved some many each =
     let last = last_of ring some in

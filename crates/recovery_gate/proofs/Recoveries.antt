@@ -6,8 +6,9 @@ use Rattle.block_book.specs.declared.choice.Choice.{Choice}
 use Rattle.item_log.specs.Log.{Log}
 use Rattle.reply_ledger.specs.Ledger.{Ledger}
 use Rattle.reply_ledger.specs.Trials.{discarded}
-use Rattle.ckpt_ring.specs.Rings.{Checkpoints, from_newest}
-use Rattle.ckpt_ring.specs.Slots.{Slots, slot_numbers, without_newer_slots}
+use Rattle.ckpt_ring.specs.declared.checkpoint.Checkpoint.{Checkpoint}
+use Rattle.ckpt_ring.specs.Rings.{Checkpoints, checkpoint_of, checkpoints_of, from_newest, without_newer}
+use Rattle.ckpt_ring.specs.Slots.{Saved, Slots, slot_numbers, without_newer_slots}
 use Rattle.run_history.specs.declared.answer.Cause.{Cause}
 use Rattle.run_history.specs.Served.{Path, Served, AsksFor}
 use Rattle.guest_cpu.specs.Standing.{Standing}
@@ -20,7 +21,7 @@ use Rattle.trial_history.specs.Tables.{Trial, try_of, table, WalksOver, survivor
 use Rattle.trial_history.specs.Episodes.{episode_of, IsRecovery}
 use Rattle.trial_history.proofs.Chained.{chained_at}
 use Rattle.trial_history.proofs.Going.{steps_later}
-use Rattle.trial_plan.specs.Sessions.{Failure, items_of, pieces_of}
+use Rattle.trial_plan.specs.Sessions.{Failure, items_of, pieces_of, taken_in}
 use Rattle.trial_plan.specs.Trying.{KeepsSaved, steps_of, HasWalked}
 use Rattle.trial_plan.specs.Walking.{IsEpisode, HasSameBytes}
 use Rattle.recovery_gate.specs.declared.recovering.Adopted.{Adopted}
@@ -144,3 +145,10 @@ module _ {R : Type 0} where
         goes = last.has.goes;
         enough = omega (arith, low, least);
       }
+
+  -- behind an adoption the slots stand up to one of them
+  pub adopted_slots : (index : ℕ) (old walked new : CpuState R) (standing : List Checkpoint) → standing ≡ checkpoints_of taken_in old.slots.saved → index < length standing → walked.slots.saved ≡ old.slots.saved
+      → new.slots.saved ≡ take (length walked.slots.saved - index) walked.slots.saved → (place : ℕ) × (place < length old.slots.saved) × (new.slots.saved ≡ without_newer place old.slots.saved)
+  adopted_slots index old walked new standing same within kept cut =
+      let many : length standing ≡ length old.slots.saved = ap length same ∙ length-map {A = Saved Standing} {B = Checkpoint} old.slots.saved (checkpoint_of taken_in) in
+      (index, omega (arith, many, within), cut ∙ ap (λ (all : List (Saved Standing)). take (length all - index) all) kept)

@@ -1,5 +1,5 @@
 -- What a recovery makes of a session whose program failed.
-use Rattle.std.specs.Prelude.{◌≡◌, ℕ, ◌+◌, ◌-◌, ◌≤◌, Bool, List, [], ◌++◌, length, take, drop, Option, None, Some, Result, Ok, Err, option_and_then, slice_get}
+use Rattle.std.specs.Prelude.{◌≡◌, ℕ, ◌+◌, ◌-◌, ◌<◌, ◌≤◌, Bool, List, [], ◌++◌, length, take, drop, Option, None, Some, Result, Ok, Err, option_and_then, slice_get}
 use Rattle.std.specs.declared.alloc.AllocError.{AllocError}
 use Rattle.block_book.specs.declared.choice.Choice.{Choice}
 use Rattle.block_book.specs.Heap.{Heap}
@@ -7,7 +7,7 @@ use Rattle.item_log.specs.Log.{Log}
 use Rattle.reply_ledger.specs.Ledger.{Ledger}
 use Rattle.reply_ledger.specs.Trials.{discarded}
 use Rattle.ckpt_ring.specs.Slots.{newest_slot, without_newer_slots}
-use Rattle.ckpt_ring.specs.Rings.{Checkpoints, checkpoints_of}
+use Rattle.ckpt_ring.specs.Rings.{Checkpoints, checkpoints_of, without_newer}
 use Rattle.run_history.specs.declared.answer.Cause.{Cause}
 use Rattle.run_history.specs.Served.{Path, FailsBy, AsksFor}
 use Rattle.guest_cpu.specs.Cpus.{CpuState}
@@ -104,6 +104,12 @@ module _ {R : Type 0} where
   abbrev pub AdoptsBy : ℕ → ℕ → List Choice → CpuState R → CpuState R → Checkpoints → Checkpoints → List Choice → List Choice → Result (Unit {0}) AllocError → Type 0
   AdoptsBy index recorded own old new before after chose choices (Ok done) = Adopts index recorded own old new before after chose choices
   AdoptsBy index recorded own old new before after chose choices (Err fault) = (after ≡ before) × (choices ≡ chose)
+
+module _ {R : Type 0} where
+  -- Of the saved slots all stand behind a walk of which nothing was adopted; and behind an adoption those up to one of them.
+  abbrev pub KeepsSlots : Option Adopted → CpuState R → CpuState R → Type 0
+  KeepsSlots None old new = new.slots.saved ≡ old.slots.saved
+  KeepsSlots (Some adopted) old new = (index : ℕ) × (index < length old.slots.saved) × (new.slots.saved ≡ without_newer index old.slots.saved)
 
 -- after want of memory the checkpoints and the answers of malloc are as they were
 abbrev pub KeepsAtFault : Checkpoints → Checkpoints → List Choice → List Choice → Result Recovered AllocError → Type 0

@@ -6,7 +6,7 @@ ghost use Rattle.run_history.specs.Served.{Path};
 ghost use Rattle.trial_plan.specs.Sessions.{Failure, IsUnder, taken_in};
 ghost use Rattle.trial_plan.specs.Trying.{StandsOn};
 ghost use Rattle.trial_plan.specs.Walking.{HasSameBytes};
-ghost use Rattle.recovery_gate.specs.Recovering.{adopted_in, HasToRecover, CanRecover, RecoversBy, KeepsAtFault, AdoptsBy};
+ghost use Rattle.recovery_gate.specs.Recovering.{adopted_in, HasToRecover, CanRecover, RecoversBy, KeepsAtFault, KeepsSlots, AdoptsBy};
 
 use alloc_env::Env;
 use block_book::Choice;
@@ -137,6 +137,7 @@ pub fn recover<R: AccessRule, L: Ledger>(
     ensures recovers { (failure : Failure) (begun : Path) → IsUnder failure budget (R.rule cpu.old.rule) → HasToRecover point cause pc failure cpu.old ring.old recorded choices.old.items items.now replies.old
         → RecoversBy failure begun cause cpu.new ring.old ring.new recorded choices.old.items choices.new.items items.now replies.old replies.new steps.old steps.new result }
     ensures fault { KeepsAtFault ring.old ring.new choices.old.items choices.new.items result }
+    ensures slots { IfOk result (λ recovered. KeepsSlots recovered.adopted cpu.old cpu.new) }
     ensures rule { cpu.new.rule ≡ cpu.old.rule }
     ensures ledger { IfOk result (λ _. HasSameBytes replies.old replies.new) }
     ensures least { steps.old ≤ steps.new }

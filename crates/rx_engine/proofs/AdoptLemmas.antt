@@ -38,7 +38,9 @@ use Rattle.trial_plan.specs.Trying.{steps_of}
 use Rattle.trial_plan.specs.Walking.{HasSameBytes}
 use Rattle.recovery_gate.specs.declared.recovering.Adopted.{Adopted}
 use Rattle.recovery_gate.specs.Rings.{KeepsRing, AreBehind, IsInForce}
-use Rattle.recovery_gate.specs.Recovering.{recovery_of, HasToRecover, HasAdoptedRun, LeavesRun, HasRecovery}
+use Rattle.recovery_gate.specs.Recovering.{recovery_of, HasToRecover, HasAdoptedRun, LeavesRun, HasRecovery, KeepsSlots}
+use Rattle.trial_history.specs.Chains.{AreChained}
+use Rattle.rx_engine.proofs.HeldLemmas.{held_by, held_of}
 use Rattle.recovery_gate.specs.declared.recovering.Recovered.{Recovered}
 use Rattle.recovery_gate.proofs.RingLemmas.{ring_fails}
 use Rattle.rx_engine.specs.Recovered.{spent, told_of, HasGivenUp, IsNoteFault}
@@ -176,10 +178,10 @@ module _ {R : Type 0} where
 
   -- no trial survived
   pub gives_up : (rules : Rules) (image : Image) (began : Since) (now : Told) (phases : Phases) (coming : Option Coming) (cause : Cause) (old : SessionState R) (cpu : CpuState R) (ring : Checkpoints) (replies : Ledger) (choices : List Choice)
-      (f : IsFailing rules image began now phases cause old) (trials : List Trial) (lost before after : ℕ) (noted : Noted) → IsRecovery rules image (entries f.going.story) (recovery_of (failure_of rules image f.going.story f.going.saved.paths) f.going.story.survivor.begun cause trials)
+      (f : IsFailing rules image began now phases cause old) (trials : List Trial) (lost before after : ℕ) (noted : Noted) → cpu.slots.saved ≡ old.cpu.slots.saved → IsRecovery rules image (entries f.going.story) (recovery_of (failure_of rules image f.going.story f.going.saved.paths) f.going.story.survivor.begun cause trials)
       → survivor_in trials ≡ None → replies ≡ discarded old.replies → choices ≡ old.choices → after ≡ before + steps_of trials → lost + old.steps + before ≡ began.lost + old.steps + after
       → HasNotedMore began.noted noted [] (told_of f.going.story.survivor cause trials ∷ []) → IsEnding rules image (record began { lost = lost; noted = noted }) now coming (walked old cpu ring replies choices) (answer.GaveUp old.taken cause)
-  gives_up rules image began now phases coming cause old cpu ring replies choices f trials lost before after noted was none ledger chose counted counts more =
+  gives_up rules image began now phases coming cause old cpu ring replies choices f trials lost before after noted slots was none ledger chose counted counts more =
       let g = f.going in
       let story : Story = g.story in
       let same : replies ≡ old.replies = ledger ∙ discards_none old.replies g.passed.no_trial in
@@ -198,6 +200,8 @@ module _ {R : Type 0} where
         replies = subst (λ (l : Ledger). KeepsReplies rules.bounds (entries story) None (sends story) l) (sym same) g.passed.replies;
         no_trial = ap (λ (l : Ledger). l.trial) same ∙ g.passed.no_trial;
         closed = λ send stands closing owed. g.passed.done send stands owed;
+        holds = held_by rules image (entries story) story.survivor old (walked old cpu ring replies choices) slots (held_of rules image story old g.saved);
+        live = tt;
         is_end = tt;
         stands = (f.fails, sym g.answers.taken);
         tried = inr (cause, given_up, refl);
@@ -283,6 +287,15 @@ module _ {R : Type 0} where
         replies = subst (λ es. KeepsReplies rules.bounds es None trial.path.state.sends replies) (sym same) run.replies;
         no_trial = bytes.no_trial;
         closed = λ send stands closing owed. absurd owed;
+        holds = record {
+          paths = drop run.index g.saved.paths;
+          some = run.ring.some;
+          chained = subst (λ es. AreChained rules.limits (items_in rules.bounds es) (adopted_by recovery trial).plan image trial.path (drop run.index g.saved.paths)) (sym same) run.ring.chained;
+          are = run.ring.are;
+          as_many = run.ring.as_many;
+          saved = run.ring.saved;
+        };
+        live = run.stands;
         is_end = tt;
         stands = sym run.code_is ∙ exits;
         tried = inl (refl, refl);
@@ -300,7 +313,7 @@ module _ {R : Type 0} where
       (record { serving = told.serving; way = told.way; tells = told.tells; counted = told.counted; recovered = told.recovered; episodes = tt }) is was found counts tt in
       (broken_noting (λ account. Unit {0}) rules image (record began { lost = lost }) nobody nobody now coming session next fault then
       (notes_here (record began { lost = lost }) next session fault (map episode_of story.recoveries) (episode_of recovery ∷ []) told.episodes answers (map-append episode_of story.recoveries (recovery ∷ [])) (omega arith) (λ some. note)
-      (note_no_end fault note)) answers.taken answers.steps (note_ends rules coming (account_of next) fault note) (note_no_end fault note) tt).0
+      (note_no_end fault note)) answers.taken answers.steps (note_ends rules coming (account_of next) fault note) (note_no_end fault note) (λ never. absurd (never note)) tt).0
 
   -- what is counted otherwise at want of memory isn't counted at all
   abbrev pub off_lost : (rules : Rules) (image : Image) (began : Since) (now : Told) (coming : Option Coming) (session : SessionState R) (end : Answer) (lost : ℕ) → (end ≢ answer.Memory → lost ≡ began.lost) → IsBrokenOff rules image began now coming session end
@@ -312,6 +325,7 @@ module _ {R : Type 0} where
     ends = off.ends;
     pieces = off.pieces;
     no_end = off.no_end;
+    holds = off.holds;
     recoveries = off.recoveries;
     recovered = off.recovered;
     trials = off.trials;
@@ -330,7 +344,7 @@ module _ {R : Type 0} where
   adopt_breaks rules image began now phases coming cause old cpu ring replies choices lost f chose =
       off_lost rules image began now coming (walked old cpu ring replies choices) answer.Memory lost (λ others. absurd (others refl))
       (broken_off rules image began now coming (walked old cpu ring replies choices) f.going.story answer.Memory f.going.told
-      (answers_as began f.going.story old (walked old cpu ring replies choices) refl chose refl refl f.going.answers) tt (λ is. is))
+      (answers_as began f.going.story old (walked old cpu ring replies choices) refl chose refl refl f.going.answers) tt (λ is. is) (λ never. absurd (never tt)))
 
   -- behind a failure the number is higher, up to which an environment is in force
   pub adopted_later : (rules : Rules) (image : Image) (began : Since) (now : Told) (phases : Phases) (cause : Cause) (old : SessionState R) → IsFailing rules image began now phases cause old → (old.until < old.taken + 4) × (old.taken ≤ rules.bounds.max_items)
@@ -371,6 +385,7 @@ module _ {R : Type 0} where
         ends = note_ends rules coming (account_of story) fault note;
         pieces = tt;
         no_end = note_no_end fault note;
+        holds = λ never. absurd (never note);
         recoveries = story.recoveries;
         recovered = told.recovered;
         trials = trials;
@@ -384,12 +399,13 @@ module _ {R : Type 0} where
       }
 
   pub adopt_none : (rules : Rules) (image : Image) (began : Since) (now : Told) (phases : Phases) (coming : Option Coming) (cause : Cause) (old : SessionState R) (cpu : CpuState R) (ring : Checkpoints) (replies : Ledger) (choices : List Choice) (recovered : Recovered)
-      (lost before after : ℕ) (f : IsFailing rules image began now phases cause old) → Left rules image began now phases cause old f recovered cpu ring replies choices before after → recovered.adopted ≡ None → lost + old.steps + before ≡ began.lost + old.steps + after
+      (lost before after : ℕ) (f : IsFailing rules image began now phases cause old) → Left rules image began now phases cause old f recovered cpu ring replies choices before after → KeepsSlots recovered.adopted old.cpu cpu → recovered.adopted ≡ None → lost + old.steps + before ≡ began.lost + old.steps + after
       → Adopting rules image (record began { lost = lost }) now phases coming old.taken cause (walked old cpu ring replies choices) recovered
-  adopt_none rules image began now phases coming cause old cpu ring replies choices recovered lost before after f h is counts =
+  adopt_none rules image began now phases coming cause old cpu ring replies choices recovered lost before after f h slots is counts =
       let g = f.going in
       let story : Story = g.story in
       let failure : Failure = failure_of rules image story g.saved.paths in
+      let stay : cpu.slots.saved ≡ old.cpu.slots.saved = subst (λ (a : Option Adopted). KeepsSlots a old.cpu cpu) is slots in
       let leaves = subst (λ a. LeavesRun failure (recovery_of failure story.survivor.begun cause h.trials) cpu old.ring ring old.recorded old.choices choices old.log old.replies replies a) is h.leaves in
       let end : end_of old.taken cause recovered.adopted ≡ Some (answer.GaveUp old.taken cause) = ap (end_of old.taken cause) is in
       let counted = h.counted in
@@ -397,7 +413,7 @@ module _ {R : Type 0} where
       record {
         goes = λ noted more.
             subst (AdoptsTo rules image (record began { lost = lost; noted = noted }) now phases coming (walked old cpu ring replies choices)) (sym end)
-            (gives_up rules image began now phases coming cause old cpu ring replies choices f h.trials lost before after noted h.recovers leaves.0 leaves.3 leaves.2 h.counted counts
+            (gives_up rules image began now phases coming cause old cpu ring replies choices f h.trials lost before after noted stay h.recovers leaves.0 leaves.3 leaves.2 h.counted counts
             (subst (λ (e : Episode). HasNotedMore began.noted noted [] (e ∷ [])) h.episode_is more));
         breaks = λ fault note.
             gave_up_unnoted rules image began now coming cause story g.saved.paths h.trials lost (walked old cpu ring replies choices) fault g.told given_up (omega (arith, counted, counts))

@@ -105,7 +105,7 @@ module _ {R : Type 0} where
       → WaitsBy rules image began now phases coming true session (Err (stop.Breaks end))
   waits_unnoted rules image began now phases coming session end w note =
       let h = w.hearing in
-      (broken_off rules image began now coming session h.story end h.told h.answers (note_ends rules coming (account_of h.story) end note) (note_no_end end note), λ none. still_takes true _ refl none)
+      (broken_off rules image began now coming session h.story end h.told h.answers (note_ends rules coming (account_of h.story) end note) (note_no_end end note) (λ never. absurd (never note)), λ none. still_takes true _ refl none)
 
   -- the answers of malloc up to a number are noted
   pub waits_noted : (rules : Rules) (image : Image) (began : Since) (now : Told) (phases : Phases) (choices later : Option (List Choice)) (episodes others : Option (List Episode)) (old : SessionState R) (safe : ℕ) (left : List Choice)

@@ -27,6 +27,8 @@ use Rattle.trial_history.proofs.Going.{steps_later}
 use Rattle.trial_plan.specs.Trying.{steps_of}
 use Rattle.rx_engine.specs.Recovered.{HasRecovered, HasNoted, GivesUpBy, spent}
 use Rattle.rx_engine.proofs.GuestLemmas.{notes_here}
+use Rattle.rx_engine.specs.Leaving.{HoldsCheckpoints}
+use Rattle.rx_engine.proofs.HeldLemmas.{held_given}
 use Rattle.rx_engine.proofs.NoteLemmas.{notes_fault}
 use Rattle.block_book.specs.declared.choice.Choice.{Choice}
 use Rattle.notes.specs.Noting.{Noted}
@@ -158,110 +160,119 @@ module _ {R : Type 0} where
       subst (Tells began.told now) (append_assoc (entries_of story.earlier) story.since (more ++ broken)) (tells_on began.told before now (entries story) (more ++ broken) e.told.tells tells)
 
   -- all was passed
-  pub served_end : (rules : Rules) (image : Image) (began : Since) (before now : Told) (coming later : Option Coming) (takes : Bool) (session : SessionState R) (end : Answer) (e : IsEnding rules image began before coming session end) (more : List Entry)
+  pub served_end : (P : Session → Type 0) (rules : Rules) (image : Image) (began : Since) (before now : Told) (coming later : Option Coming) (takes : Bool) (session : SessionState R) (end : Answer) (e : IsEnding rules image began before coming session end) (more : List Entry)
       → later ≡ coming → AreDuePieces rules (sends e.story) (end_of e.story) more → Tells before now more → OwesNothing rules.bounds rules.hold (then_entries (end_of e.story) more) (sends e.story)
       → (takes ≡ false → IsAsking rules e.story) → (noted : Noted) (recorded : ℕ) (tail : List Choice) → HasNoted began.noted_before noted end e.story.survivor.now.choices (map episode_of e.story.recoveries ++ e.last) recorded tail
-      → (first last : ℕ) → last ≡ first + (began.lost + session.steps) → HasRecovered rules image began.told now later takes end began.noted_before noted recorded tail session.taken session.steps first last
-  served_end rules image began before now coming later takes session end e more same due tells owes asked noted recorded tail notes first last all =
+      → (first last : ℕ) → last ≡ first + (began.lost + session.steps) → P (ended_account e.story more [])
+      → (recovered : HasRecovered rules image began.told now later takes end began.noted_before noted recorded tail session.taken session.steps first last) × P recovered.served.session
+  served_end P rules image began before now coming later takes session end e more same due tells owes asked noted recorded tail notes first last all holds =
       let story : Story = e.story in
-      let stands : StandsAt rules (entries story) later story.survivor end = subst (λ (c : Option Coming). StandsAt rules (entries story) c story.survivor end) (sym same) e.stands in
-      record {
-        choices = story.survivor.now.choices;
-        served = record {
-          session = ended_account story more [];
-          at_end = true;
-          tells = told_end rules image began before now coming session end e more [] (subst (Tells before now) (sym (append-nil more)) tells);
-          account = ending_account rules image story.earlier story.survivor story.since more true (stood_pieces rules image began before coming session end e more due).at;
-          comes = λ is. record { end = end; is_end = e.is_end; stands = stands };
-          ends = ends_end rules later (ended_account story more []) end e.is_end stands owes refl;
-          pieces = are_given rules (sends story) (end_of story) more due;
-          asked = asked;
-          choices_are = refl;
-          taken_is = sym e.answers.taken;
-          steps_are = sym e.answers.steps;
-        };
-        recoveries = e.story.recoveries;
-        recovered = e.told.recovered;
-        trials = e.trials;
-        last = e.last;
-        tried = e.tried;
-        notes = notes;
-        gave_up = e.gave_up;
-        counted = λ others.
-            count_all first last began.lost e.lost (spent story.recoveries) session.steps story.survivor.now.steps story.survivor.begun.steps (steps_of e.trials) all e.lost_is e.told.counted e.answers.steps
-            (steps_later rules.limits (items_in rules.bounds (entries story)) story.survivor.plan story.survivor.begun story.survivor.now e.told.way);
-      }
+      let stands : StandsAt rules (entries story) later story.survivor end = subst (λ (c : Option Coming). StandsAt rules (entries story) c story.survivor end) (sym same) e.stands in (
+        record {
+          choices = story.survivor.now.choices;
+          served = record {
+            session = ended_account story more [];
+            at_end = true;
+            tells = told_end rules image began before now coming session end e more [] (subst (Tells before now) (sym (append-nil more)) tells);
+            account = ending_account rules image story.earlier story.survivor story.since more true (stood_pieces rules image began before coming session end e more due).at;
+            comes = λ is. record { end = end; is_end = e.is_end; stands = stands };
+            ends = ends_end rules later (ended_account story more []) end e.is_end stands owes refl;
+            pieces = are_given rules (sends story) (end_of story) more due;
+            asked = asked;
+            choices_are = refl;
+            taken_is = sym e.answers.taken;
+            steps_are = sym e.answers.steps;
+          };
+          recoveries = e.story.recoveries;
+          recovered = e.told.recovered;
+          trials = e.trials;
+          last = e.last;
+          tried = e.tried;
+          notes = notes;
+          gave_up = e.gave_up;
+          counted = λ others.
+              count_all first last began.lost e.lost (spent story.recoveries) session.steps story.survivor.now.steps story.survivor.begun.steps (steps_of e.trials) all e.lost_is e.told.counted e.answers.steps
+              (steps_later rules.limits (items_in rules.bounds (entries story)) story.survivor.plan story.survivor.begun story.survivor.now e.told.way);
+        },
+        holds,
+      )
 
   -- a fault came while it was passed
-  pub served_broken : (rules : Rules) (image : Image) (began : Since) (before now : Told) (coming later : Option Coming) (takes : Bool) (session : SessionState R) (end fault : Answer) (e : IsEnding rules image began before coming session end) (more broken : List Entry)
+  pub served_broken : (P : Session → Type 0) (rules : Rules) (image : Image) (began : Since) (before now : Told) (coming later : Option Coming) (takes : Bool) (session : SessionState R) (end fault : Answer) (e : IsEnding rules image began before coming session end) (more broken : List Entry)
       → later ≡ coming → AreDuePieces rules (sends e.story) (end_of e.story) more → IsBroken rules (sends e.story) (then_entries (end_of e.story) more) broken → Tells before now (more ++ broken)
       → EndsBy rules later (ended_account e.story more broken) fault → (IsEnd fault → ⊥) → (takes ≡ false → IsAsking rules e.story)
-      → (noted : Noted) → noted.choices ≡ began.noted.choices → noted.episodes ≡ began.noted.episodes → (first last : ℕ) → last ≡ first + (began.lost + session.steps)
-      → HasRecovered rules image began.told now later takes fault began.noted_before noted session.recorded session.choices session.taken session.steps first last
-  served_broken rules image began before now coming later takes session end fault e more broken same due part tells ends no_end asked noted same_choices same_episodes first last all =
+      → (noted : Noted) → noted.choices ≡ began.noted.choices → noted.episodes ≡ began.noted.episodes → (first last : ℕ) → last ≡ first + (began.lost + session.steps) → P (ended_account e.story more broken)
+      → (recovered : HasRecovered rules image began.told now later takes fault began.noted_before noted session.recorded session.choices session.taken session.steps first last) × P recovered.served.session
+  served_broken P rules image began before now coming later takes session end fault e more broken same due part tells ends no_end asked noted same_choices same_episodes first last all holds =
       let story : Story = e.story in
-      let stands : StandsAt rules (entries story) later story.survivor end = subst (λ (c : Option Coming). StandsAt rules (entries story) c story.survivor end) (sym same) e.stands in
-      record {
-        choices = story.survivor.now.choices;
-        served = record {
-          session = ended_account story more broken;
-          at_end = true;
-          tells = told_end rules image began before now coming session end e more broken tells;
-          account = account_broken rules image story more broken (stood_pieces rules image began before coming session end e more due) part;
-          comes = λ is. record { end = end; is_end = e.is_end; stands = stands };
-          ends = ends;
-          pieces = are_given rules (sends story) (end_of story) more due;
-          asked = asked;
-          choices_are = refl;
-          taken_is = sym e.answers.taken;
-          steps_are = sym e.answers.steps;
-        };
-        recoveries = e.story.recoveries;
-        recovered = e.told.recovered;
-        trials = e.trials;
-        last = e.last;
-        tried = e.tried;
-        notes = notes_fault rules image began before coming session end fault noted e no_end same_choices same_episodes;
-        gave_up = gives_no_end rules image (entries story) story.survivor e.trials fault no_end;
-        counted = λ others.
-            count_all first last began.lost e.lost (spent story.recoveries) session.steps story.survivor.now.steps story.survivor.begun.steps (steps_of e.trials) all e.lost_is e.told.counted e.answers.steps
-            (steps_later rules.limits (items_in rules.bounds (entries story)) story.survivor.plan story.survivor.begun story.survivor.now e.told.way);
-      }
+      let stands : StandsAt rules (entries story) later story.survivor end = subst (λ (c : Option Coming). StandsAt rules (entries story) c story.survivor end) (sym same) e.stands in (
+        record {
+          choices = story.survivor.now.choices;
+          served = record {
+            session = ended_account story more broken;
+            at_end = true;
+            tells = told_end rules image began before now coming session end e more broken tells;
+            account = account_broken rules image story more broken (stood_pieces rules image began before coming session end e more due) part;
+            comes = λ is. record { end = end; is_end = e.is_end; stands = stands };
+            ends = ends;
+            pieces = are_given rules (sends story) (end_of story) more due;
+            asked = asked;
+            choices_are = refl;
+            taken_is = sym e.answers.taken;
+            steps_are = sym e.answers.steps;
+          };
+          recoveries = e.story.recoveries;
+          recovered = e.told.recovered;
+          trials = e.trials;
+          last = e.last;
+          tried = e.tried;
+          notes = notes_fault rules image began before coming session end fault noted e no_end same_choices same_episodes;
+          gave_up = gives_no_end rules image (entries story) story.survivor e.trials fault no_end;
+          counted = λ others.
+              count_all first last began.lost e.lost (spent story.recoveries) session.steps story.survivor.now.steps story.survivor.begun.steps (steps_of e.trials) all e.lost_is e.told.counted e.answers.steps
+              (steps_later rules.limits (items_in rules.bounds (entries story)) story.survivor.plan story.survivor.begun story.survivor.now e.told.way);
+        },
+        holds,
+      )
 
   -- a session that was broken off has served
-  pub served_off : (rules : Rules) (image : Image) (began : Since) (now : Told) (coming : Option Coming) (takes : Bool) (session : SessionState R) (end : Answer) → (off : IsBrokenOff rules image began now coming session end) → (takes ≡ false → WasAsked rules off.account) → (first last : ℕ)
-      → (end ≢ answer.Memory → last ≡ first + (began.lost + session.steps)) → HasRecovered rules image began.told now coming takes end began.noted_before began.noted session.recorded session.choices session.taken session.steps first last
-  served_off rules image began now coming takes session end off asked first last all = record {
-    choices = off.account.survivor.now.choices;
-    served = record {
-      session = off.account;
-      at_end = false;
-      tells = off.tells;
-      account = off.is_account;
-      comes = λ is. absurd (let no : ⊥ = cc in no);
-      ends = off.ends;
-      pieces = off.pieces;
-      asked = asked;
-      choices_are = refl;
-      taken_is = sym off.taken;
-      steps_are = sym off.steps;
-    };
-    recoveries = off.recoveries;
-    recovered = off.recovered;
-    trials = off.trials;
-    last = off.last;
-    tried = off.tried;
-    notes = off.notes;
-    gave_up = gives_no_end rules image (before_end off.account) off.account.survivor off.trials end off.no_end;
-    counted = λ others.
-        count_off first last began.lost (spent off.recoveries) session.steps off.account.survivor.now.steps off.account.survivor.begun.steps (steps_of off.trials) (all others) (off.counted others) off.steps off.later;
-  }
+  pub served_off : (P : Session → Type 0) (rules : Rules) (image : Image) (began : Since) (now : Told) (coming : Option Coming) (takes : Bool) (session : SessionState R) (end : Answer) → (off : IsBrokenOff rules image began now coming session end) → (takes ≡ false → WasAsked rules off.account) → (first last : ℕ)
+      → (end ≢ answer.Memory → last ≡ first + (began.lost + session.steps)) → P off.account
+      → (recovered : HasRecovered rules image began.told now coming takes end began.noted_before began.noted session.recorded session.choices session.taken session.steps first last) × P recovered.served.session
+  served_off P rules image began now coming takes session end off asked first last all holds = (
+    record {
+      choices = off.account.survivor.now.choices;
+      served = record {
+        session = off.account;
+        at_end = false;
+        tells = off.tells;
+        account = off.is_account;
+        comes = λ is. absurd (let no : ⊥ = cc in no);
+        ends = off.ends;
+        pieces = off.pieces;
+        asked = asked;
+        choices_are = refl;
+        taken_is = sym off.taken;
+        steps_are = sym off.steps;
+      };
+      recoveries = off.recoveries;
+      recovered = off.recovered;
+      trials = off.trials;
+      last = off.last;
+      tried = off.tried;
+      notes = off.notes;
+      gave_up = gives_no_end rules image (before_end off.account) off.account.survivor off.trials end off.no_end;
+      counted = λ others.
+          count_off first last began.lost (spent off.recoveries) session.steps off.account.survivor.now.steps off.account.survivor.begun.steps (steps_of off.trials) (all others) (off.counted others) off.steps off.later;
+    },
+    holds,
+  )
 
   -- a fault came while what is due was passed
   pub off_pieces : (rules : Rules) (image : Image) (began : Since) (before now : Told) (coming : Option Coming) (story : Story) (session : SessionState R) (fault : Answer) (more broken : List Entry) → IsTold rules image began before story → AnswersFor began story session
       → AreDuePieces rules (sends story) (moment story) more → IsBroken rules (sends story) (then_entries (moment story) more) broken → Tells before now (more ++ broken)
-      → EndsBy rules coming (off_account story more broken) fault → (IsEnd fault → ⊥) → IsBrokenOff rules image began now coming session fault
-  off_pieces rules image began before now coming story session fault more broken told answers due part tells ends no_end =
+      → EndsBy rules coming (off_account story more broken) fault → (IsEnd fault → ⊥) → HoldsCheckpoints rules image (entries story) story.survivor session → IsBrokenOff rules image began now coming session fault
+  off_pieces rules image began before now coming story session fault more broken told answers due part tells ends no_end held =
       let stood = pieces rules image story.earlier story.survivor story.since more (record { serving = told.serving; way = told.way }) due in
       record {
         account = off_account story more broken;
@@ -272,6 +283,7 @@ module _ {R : Type 0} where
         ends = ends;
         pieces = tt;
         no_end = no_end;
+        holds = λ never. held_given rules image story session more (are_given rules (sends story) (moment story) more due) held;
         recoveries = story.recoveries;
         recovered = told.recovered;
         trials = [];

@@ -42,7 +42,9 @@ use Rattle.rx_engine.specs.Recovered.{GivesUpBy, HasNoted, IsNoteFault}
 use Rattle.episodes.specs.declared.episode.Episode.{Episode}
 use Rattle.notes.specs.Noting.{Noted}
 use Rattle.trial_history.specs.Episodes.{episode_of}
+use Rattle.rx_engine.specs.Leaving.{HoldsCheckpoints}
 use Rattle.rx_engine.proofs.CheckpointLemmas.{HasSameSide, saved_on}
+use Rattle.rx_engine.proofs.HeldLemmas.{held_of, unless_gave_up}
 
 -- without trials nothing was counted for them
 pub none_lost : (lost : ℕ) → lost ≡ lost + steps_of []
@@ -223,6 +225,8 @@ module _ {R : Type 0} where
         replies = passed.replies;
         no_trial = passed.no_trial;
         closed = λ send stands closing owed. passed.done send stands owed;
+        holds = held_of rules image (on_story g.story to) new (saved_on rules image g.story old new to same.side (ap (λ (ledger : Ledger). ledger.first) same.replies) goes.served (let still = goes.taken in omega (arith, still)) g.saved);
+        live = unless_gave_up end (new.cpu.slots.live ≡ standing_of to) stands;
         is_end = is_end;
         stands = cause;
         tried = inl (refl, refl);
@@ -268,8 +272,8 @@ module _ {R : Type 0} where
   pub broken_noting : (P : Session → Type 0) (rules : Rules) (image : Image) (began : Since) (before noted : Noted) (now : Told) (coming : Option Coming) (session : SessionState R) (story : Story) (end : Answer)
       → IsTold rules image (record began { noted_before = before; noted = noted }) now story
       → HasNoted began.noted_before began.noted end story.survivor.now.choices (map episode_of story.recoveries) session.recorded session.choices → session.taken ≡ story.survivor.now.state.machine.taken → session.steps ≡ story.survivor.now.steps
-      → EndsBy rules coming (account_of story) end → (IsEnd end → ⊥) → P (account_of story) → (off : IsBrokenOff rules image began now coming session end) × P off.account
-  broken_noting P rules image began before noted now coming session story end told notes taken steps ends no_end holds = (
+      → EndsBy rules coming (account_of story) end → (IsEnd end → ⊥) → ((IsNoteFault end → ⊥) → HoldsCheckpoints rules image (entries story) story.survivor session) → P (account_of story) → (off : IsBrokenOff rules image began now coming session end) × P off.account
+  broken_noting P rules image began before noted now coming session story end told notes taken steps ends no_end held holds = (
     record {
       account = account_of story;
       tells = subst (Tells began.told now) (sym (journal_of_story story)) told.tells;
@@ -277,6 +281,7 @@ module _ {R : Type 0} where
       ends = ends;
       pieces = tt;
       no_end = no_end;
+      holds = held;
       recoveries = story.recoveries;
       recovered = told.recovered;
       trials = [];
@@ -292,11 +297,11 @@ module _ {R : Type 0} where
   )
 
   pub broken_with : (P : Session → Type 0) (rules : Rules) (image : Image) (began : Since) (now : Told) (coming : Option Coming) (session : SessionState R) (story : Story) (end : Answer) → IsTold rules image began now story → AnswersFor began story session
-      → EndsBy rules coming (account_of story) end → (IsEnd end → ⊥) → P (account_of story) → (off : IsBrokenOff rules image began now coming session end) × P off.account
-  broken_with P rules image began now coming session story end told answers ends no_end holds =
+      → EndsBy rules coming (account_of story) end → (IsEnd end → ⊥) → ((IsNoteFault end → ⊥) → HoldsCheckpoints rules image (entries story) story.survivor session) → P (account_of story) → (off : IsBrokenOff rules image began now coming session end) × P off.account
+  broken_with P rules image began now coming session story end told answers ends no_end held holds =
       broken_noting P rules image began began.noted_before began.noted now coming session story end told
-      (notes_here began story session end (map episode_of story.recoveries) [] told.episodes answers (sym (append-nil (map episode_of story.recoveries))) (omega arith) (λ some. absurd (omega (arith, some))) no_end) answers.taken answers.steps ends no_end holds
+      (notes_here began story session end (map episode_of story.recoveries) [] told.episodes answers (sym (append-nil (map episode_of story.recoveries))) (omega arith) (λ some. absurd (omega (arith, some))) no_end) answers.taken answers.steps ends no_end held holds
 
   pub broken_off : (rules : Rules) (image : Image) (began : Since) (now : Told) (coming : Option Coming) (session : SessionState R) (story : Story) (end : Answer) → IsTold rules image began now story → AnswersFor began story session
-      → EndsBy rules coming (account_of story) end → (IsEnd end → ⊥) → IsBrokenOff rules image began now coming session end
-  broken_off rules image began now coming session story end told answers ends no_end = (broken_with (λ account. Unit {0}) rules image began now coming session story end told answers ends no_end tt).0
+      → EndsBy rules coming (account_of story) end → (IsEnd end → ⊥) → ((IsNoteFault end → ⊥) → HoldsCheckpoints rules image (entries story) story.survivor session) → IsBrokenOff rules image began now coming session end
+  broken_off rules image began now coming session story end told answers ends no_end held = (broken_with (λ account. Unit {0}) rules image began now coming session story end told answers ends no_end held tt).0

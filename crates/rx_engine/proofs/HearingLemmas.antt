@@ -458,6 +458,8 @@ module _ {R : Type 0} where
     taken = second.taken ∙ first.taken;
     steps = second.steps ∙ first.steps;
     until = second.until ∙ first.until;
+    first = second.first ∙ first.first;
+    sends = second.sends ∙ first.sends;
   }
 
   -- the same guest has the same rules

@@ -1,4 +1,6 @@
 pub mod StoryLemmas
+pub mod HeldLemmas
+pub mod LeavingLemmas
 pub mod CheckpointLemmas
 pub mod GuestLemmas
 pub mod TellLemmas

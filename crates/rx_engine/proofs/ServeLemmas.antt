@@ -33,7 +33,7 @@ module _ {R : Type 0} where
       let going = h.between.going in
       broken_off rules image began now coming after going.story answer.Memory going.told
       (answers_as began going.story h.before after (recorded ∙ ap (λ (s : SessionState R). s.recorded) h.same) (choices ∙ ap (λ (s : SessionState R). s.choices) h.same) (taken ∙ ap (λ (s : SessionState R). s.taken) h.same)
-      (steps ∙ ap (λ (s : SessionState R). s.steps) h.same) going.answers) tt (λ is. is)
+      (steps ∙ ap (λ (s : SessionState R). s.steps) h.same) going.answers) tt (λ is. is) (λ never. absurd (never tt))
 
   -- all but the replies, the answers of malloc and the counts is the same
   abbrev pub IsSameBut : SessionState R → SessionState R → Type 0

@@ -1,5 +1,5 @@
 -- Where a session stands at its begin, and after each turn.
-use Rattle.std.proofs.Common.{inl, ◌-◌, ◌≡◌, ℕ, zero, suc, ◌+◌, ◌≤◌, Bool, true, false, List, [], ◌∷◌, ◌++◌, take, drop, Option, None, refl, sym, ◌∙◌, ap, subst, arith}
+use Rattle.std.proofs.Common.{inl, ◌-◌, ◌≡◌, ℕ, zero, suc, ◌+◌, ◌≤◌, Bool, true, false, List, [], ◌∷◌, ◌++◌, length, take, drop, Option, None, refl, sym, ◌∙◌, ap, subst, arith}
 use Rattle.block_book.specs.Heap.{Heap}
 use Rattle.rx_io.specs.Links.{Phases, Told, Grew, Coming, IsFresh, Counts}
 use Rattle.elf_image.specs.declared.image.Image.{Image}
@@ -38,6 +38,8 @@ use Rattle.rx_engine.proofs.GuestLemmas.{none_noted}
 use Rattle.rx_engine.specs.Standing.{Since, Story, IsBetween, told_since}
 use Rattle.rx_engine.proofs.CheckpointLemmas.{in_force_by}
 use Rattle.rx_engine.proofs.TellLemmas.{tells_same}
+use Rattle.rx_engine.specs.Leaving.{IsTrimmed}
+use Rattle.rx_engine.proofs.LeavingLemmas.{start_trimmed}
 use Rattle.rx_engine.specs.Serving.{CanGive, StaysKnown, IsCounted, HasSameFrame}
 
 -- the story of no event
@@ -148,6 +150,7 @@ module _ {R : Type 0} where
     pub takes_still : takes ≡ true
     pub can_give : CanGive gives gives_to new.replies
     pub marked : IsCounted new
+    pub trimmed : IsTrimmed new
     pub counted : last ≡ first + (lost + new.cpu.slots.live.steps)
     pub no_takes_fell : from.takes ≤ to.takes
     pub no_gives_fell : from.gives ≤ to.gives
@@ -163,6 +166,21 @@ module _ {R : Type 0} where
     gives_still = still;
     connected = λ conn is. absurd (let none : ledgers.is_open session.replies.connections conn ≡ false = ap (λ (ledger : Ledger). ledgers.is_open ledger.connections conn) begun.replies in let no : ⊥ = cc in no);
   }
+
+  -- nothing lies before its first checkpoint
+  pub starts_trimmed : (rules : Rules) (image : Image) (session after : SessionState R) → IsBegun image session.options session.cpu.rule session
+      → KeepsRing rules image [] [] (origin image) (origin image ∷ []) after.cpu after.ring session.log session.replies → after ≡ record session { cpu = after.cpu; ring = after.ring } → IsTrimmed after
+  unfolding M.start M.start_machine
+  starts_trimmed rules image session after begun keeps same =
+      let log : after.log ≡ session.log = ap (λ (s : SessionState R). s.log) same in
+      let replies : after.replies ≡ session.replies = ap (λ (s : SessionState R). s.replies) same in
+      let first : after.log.first ≡ 0 = ap (λ (l : logs.Log). l.first) (log ∙ begun.log) in
+      let recorded : after.recorded ≡ 0 = ap (λ (s : SessionState R). s.recorded) same ∙ begun.none_recorded in
+      let sends : after.replies.first ≡ 0 = ap (λ (l : Ledger). l.first) (replies ∙ begun.replies) in
+      start_trimmed rules image [] [] (origin image) (origin image ∷ []) after
+      (subst (λ (l : logs.Log). KeepsRing rules image [] [] (origin image) (origin image ∷ []) after.cpu after.ring l after.replies) (sym log)
+      (subst (λ (l : Ledger). KeepsRing rules image [] [] (origin image) (origin image ∷ []) after.cpu after.ring session.log l) (sym replies) keeps))
+      (origin image) (ap (slice_get (origin image ∷ [])) (let none : length (origin image ∷ []) - 1 ≡ 0 = omega arith in none)) first recorded (omega (arith, sends))
 
   pub starts_counted : (image : Image) (session after : SessionState R) → IsBegun image session.options session.cpu.rule session → after ≡ record session { cpu = after.cpu; ring = after.ring } → after.cpu.slots.live ≡ session.cpu.slots.live → IsCounted after
   unfolding M.start M.start_machine

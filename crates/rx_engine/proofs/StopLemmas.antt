@@ -36,6 +36,10 @@ use Rattle.rx_engine.proofs.StoryLemmas.{still_takes}
 use Rattle.rx_engine.proofs.TellLemmas.{tells_on}
 use Rattle.rx_engine.proofs.GuestLemmas.{received_is, answers_as, none_noted, broken_off, broken_with, none_lost}
 use Rattle.rx_engine.specs.Recovered.{GivesUpBy}
+use Rattle.guest_cpu.specs.Cpus.{CpuState}
+use Rattle.guest_cpu.specs.Serving.{standing_of}
+use Rattle.rx_engine.specs.Leaving.{HoldsCheckpoints}
+use Rattle.rx_engine.proofs.HeldLemmas.{held_by, held_as, held_of, unless_gave_up}
 use Rattle.rx_engine.proofs.EventLemmas.{IsNoEnd, owes_nothing, told_event, latest-took, latest-ended}
 use Rattle.rx_engine.proofs.HearLemmas.{HasSameRun, answers_still, more_entries}
 
@@ -139,6 +143,16 @@ module _ {R : Type 0} where
       let exact : story.survivor.now.state.machine.taken ≡ received rules.bounds (entries story) = omega (arith, low, all) in
       subst (AsksFor rules.limits story.survivor.plan story.survivor.now) exact w.hearing.asks
 
+  -- its guest is as it was, with its checkpoints
+  held_here : (rules : Rules) (image : Image) (began : Since) (before : Told) (phases : Phases) (old new : SessionState R) (w : IsWaitingFor rules image began before phases old) → HasSameRun old new
+      → HoldsCheckpoints rules image (entries w.hearing.story) w.hearing.story.survivor new
+  held_here rules image began before phases old new w same =
+      held_by rules image (entries w.hearing.story) w.hearing.story.survivor old new (ap (λ (cpu : CpuState R). cpu.slots.saved) same.cpu) (held_of rules image w.hearing.story old w.hearing.saved)
+
+  lives_here : (rules : Rules) (image : Image) (began : Since) (before : Told) (phases : Phases) (old new : SessionState R) (w : IsWaitingFor rules image began before phases old) → HasSameRun old new
+      → new.cpu.slots.live ≡ standing_of w.hearing.story.survivor.now
+  lives_here rules image began before phases old new w same = ap (λ (cpu : CpuState R). cpu.slots.live) same.cpu ∙ w.hearing.goes.guest
+
   answers_here : (began : Since) (story : Story) (old new : SessionState R) → HasSameRun old new → AnswersFor began story old → AnswersFor began story new
   answers_here began story old new same answers = answers_as began story old new same.recorded same.choices same.taken same.steps answers
 
@@ -170,6 +184,8 @@ module _ {R : Type 0} where
         replies = subst (λ (all : List Entry). KeepsReplies rules.bounds all None (sends story) new.replies) es u.replies;
         no_trial = no_trial;
         closed = λ send stands closing owed. absurd (refused_closes rules.bounds story e no_end heeds u.first_close send.conn closing);
+        holds = held_as rules image (entries story) (entries (then_story story (entry.Took e ∷ []))) story.survivor new none (held_here rules image began before phases old new w same);
+        live = unless_gave_up end (new.cpu.slots.live ≡ standing_of story.survivor.now) (lives_here rules image began before phases old new w same);
         is_end = is_end;
         stands = stands waits (record { before = entries story; event = e; last = sym es; no_end = u.no_end; refused = u.refused });
         tried = inl (refl, refl);
@@ -198,6 +214,8 @@ module _ {R : Type 0} where
         replies = subst (λ (all : List Entry). KeepsReplies rules.bounds all None (sends story) new.replies) es heard.replies;
         no_trial = no_trial;
         closed = λ send stands closing owed. done_ended rules story w.hearing.passed.done send stands owed;
+        holds = held_as rules image (entries story) (entries (then_story story (entry.Took event.Ends ∷ []))) story.survivor new (ap (items_in rules.bounds) (sym es) ∙ none) (held_here rules image began before phases old new w same);
+        live = lives_here rules image began before phases old new w same;
         is_end = tt;
         stands = (waits_still rules image began before phases old w (entry.Took event.Ends ∷ []) all none, subst HasEnded es (last_taken-took (entries story) event.Ends), last);
         tried = inl (refl, refl);
@@ -226,6 +244,8 @@ module _ {R : Type 0} where
           replies = subst (λ (ledger : Ledger). KeepsReplies rules.bounds (entries story) None (sends story) ledger) (sym replies) w.hearing.passed.replies;
           no_trial = ap (λ (ledger : Ledger). ledger.trial) replies ∙ w.hearing.passed.no_trial;
           closed = λ send stands closing owed. w.hearing.passed.done send stands owed;
+          holds = held_here rules image began before phases old new w same;
+          live = lives_here rules image began before phases old new w same;
           is_end = tt;
           stands = (waits, w.hearing.goes.items.all_heeded, stops);
           tried = inl (refl, refl);
@@ -241,6 +261,7 @@ module _ {R : Type 0} where
       let story : Story = w.hearing.story in
       broken_off rules image began now coming new story answer.ReadFault (told_nothing rules image began before now story w.hearing.told tells) (answers_here began story old new same w.hearing.answers)
       ((waits_here rules image began before phases old w all, owes_nothing rules story all w.due w.hearing.passed.done, w.hearing.goes.items.all_heeded), (refl, refl)) (λ is. is)
+      (λ never. held_here rules image began before phases old new w same)
 
   -- memory ran out, before an event was taken or behind one that is heeded
   pub off_memory : (rules : Rules) (image : Image) (began : Since) (before now : Told) (phases : Phases) (coming : Option Coming) (takes : Bool) (old new : SessionState R) (w : IsWaitingFor rules image began before phases old)
@@ -249,12 +270,12 @@ module _ {R : Type 0} where
       → (off : IsBrokenOff rules image began now coming new answer.Memory) × (takes ≡ false → WasAsked rules off.account)
   off_memory rules image began before now phases coming takes old new w all same (inl tells) took =
       let story : Story = w.hearing.story in
-      broken_with (λ account. takes ≡ false → WasAsked rules account) rules image began now coming new story answer.Memory (told_nothing rules image began before now story w.hearing.told tells) (answers_here began story old new same w.hearing.answers) tt (λ is. is)
+      broken_with (λ account. takes ≡ false → WasAsked rules account) rules image began now coming new story answer.Memory (told_nothing rules image began before now story w.hearing.told tells) (answers_here began story old new same w.hearing.answers) tt (λ is. is) (λ never. absurd (never tt))
       (λ none. (waits_here rules image began before phases old w all, owes_nothing rules story all w.due w.hearing.passed.done, w.hearing.goes.items.all_heeded))
   off_memory rules image began before now phases coming takes old new w all same (inr still) (inl tells) =
-      broken_with (λ account. takes ≡ false → WasAsked rules account) rules image began now coming new w.hearing.story answer.Memory (told_nothing rules image began before now w.hearing.story w.hearing.told tells) (answers_here began w.hearing.story old new same w.hearing.answers) tt (λ is. is)
+      broken_with (λ account. takes ≡ false → WasAsked rules account) rules image began now coming new w.hearing.story answer.Memory (told_nothing rules image began before now w.hearing.story w.hearing.told tells) (answers_here began w.hearing.story old new same w.hearing.answers) tt (λ is. is) (λ never. absurd (never tt))
       (λ none. still_takes takes _ still none)
   off_memory rules image began before now phases coming takes old new w all same (inr still) (inr took) =
       broken_with (λ account. takes ≡ false → WasAsked rules account) rules image began now coming new (then_story w.hearing.story (entry.Took took.0 ∷ [])) answer.Memory
-      (waits_took rules image began before now phases old w took.0 all took.1 took.2.more took.2.brings) (answers_still began w.hearing.story old new (entry.Took took.0 ∷ []) same w.hearing.answers) tt (λ is. is)
+      (waits_took rules image began before now phases old w took.0 all took.1 took.2.more took.2.brings) (answers_still began w.hearing.story old new (entry.Took took.0 ∷ []) same w.hearing.answers) tt (λ is. is) (λ never. absurd (never tt))
       (λ none. still_takes takes _ still none)

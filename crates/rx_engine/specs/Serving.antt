@@ -223,7 +223,7 @@ module _ {R : Type 0} where
   ComesBetween rules image began now phases coming takes session (Ok done) = IsBetween rules image began now phases session
   ComesBetween rules image began now phases coming takes session (Err why) = StopsBy rules image began now coming takes session why
 
-  -- its guest is where it was, and so are the answers of malloc, and what it answers for
+  -- its guest is where it was, and so are the answers of malloc, and what it answers for; and nothing more was given up
   pub record HasSameGuest (old new : SessionState R) : Type 0 where
     pub options : new.options ≡ old.options
     pub cpu : new.cpu ≡ old.cpu
@@ -232,6 +232,8 @@ module _ {R : Type 0} where
     pub taken : new.taken ≡ old.taken
     pub steps : new.steps ≡ old.steps
     pub until : new.until ≡ old.until
+    pub first : new.log.first ≡ old.log.first
+    pub sends : new.replies.first ≡ old.replies.first
 
   -- its guest ran from where the session stood between two events to this event
   pub record HasRun (rules : Rules) (image : Image) (began : Since) (now : Told) (phases : Phases) (happened : Event) (session : SessionState R) : Type 0 where

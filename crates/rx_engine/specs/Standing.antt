@@ -24,7 +24,8 @@ use Rattle.session_history.specs.Giving.{AreGiven}
 use Rattle.session_history.specs.Ends.{IsEnd, IsWaiting, StandsAt, EndsBy, before_end}
 use Rattle.trial_history.specs.Tables.{Trial}
 use Rattle.trial_plan.specs.Trying.{steps_of}
-use Rattle.rx_engine.specs.Recovered.{spent, GivesUpBy, AreLastTrials, HasNoted}
+use Rattle.rx_engine.specs.Recovered.{spent, GivesUpBy, AreLastTrials, HasNoted, IsNoteFault}
+use Rattle.rx_engine.specs.Leaving.{HoldsCheckpoints, UnlessGaveUp}
 use Rattle.trial_history.specs.Episodes.{Recovery, episode_of, AreRecovered}
 use Rattle.recovery_gate.specs.Rings.{KeepsRing, AreBehind, IsInForce}
 use Rattle.block_book.specs.declared.choice.Choice.{Choice}
@@ -186,6 +187,8 @@ module _ {R : Type 0} where
     pub replies : KeepsReplies rules.bounds (entries story) None (sends story) session.replies
     pub no_trial : session.replies.trial ≡ None
     pub closed : IsCloseDone rules (moment story) (sends story)
+    pub holds : HoldsCheckpoints rules image (entries story) story.survivor session
+    pub live : UnlessGaveUp end (session.cpu.slots.live ≡ standing_of story.survivor.now)
     pub is_end : IsEnd end
     pub stands : StandsAt rules (entries story) coming story.survivor end
     pub tried : AreLastTrials rules image (entries story) story.survivor trials last
@@ -199,6 +202,7 @@ module _ {R : Type 0} where
     pub ends : EndsBy rules coming account end
     pub pieces : AreGiven account.ending
     pub no_end : IsEnd end → ⊥
+    pub holds : (IsNoteFault end → ⊥) → HoldsCheckpoints rules image (before_end account) account.survivor session
     pub recoveries : List Recovery
     pub recovered : AreRecovered rules image [] (first_survivor image) account.earlier recoveries account.survivor
     pub trials : List Trial

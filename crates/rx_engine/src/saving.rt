@@ -1,7 +1,8 @@
 // The checkpoints of a session.
-ghost use Rattle.std.specs.Prelude.{◌≡◌, ◌<◌, ◌≤◌, ◌+◌, ◌^◌, ℕ, [], ◌∷◌, length, drop, true, Option, IfOk};
+ghost use Rattle.std.specs.Prelude.{◌≡◌, ◌<◌, ◌≤◌, ◌+◌, ◌^◌, ℕ, [], ◌∷◌, length, drop, true, Option, IfOk, IfSome, slice_get};
 ghost use Rattle.rx_io.specs.Links.{Told, Phases, Coming};
 ghost use Rattle.reply_ledger.specs.Ledger.{is_open};
+ghost use Rattle.reply_ledger.specs.Trimming.{trimmed};
 ghost use Rattle.notes.specs.Noting.{noted};
 ghost use Rattle.elf_image.specs.declared.image.Image.{Image};
 ghost use Rattle.run_history.specs.Served.{origin};
@@ -10,6 +11,7 @@ ghost use Rattle.recovery_gate.specs.Rings.{KeepsRing, SavesIf, is_due};
 ghost use Rattle.rx_engine.specs.Options.{rules_of};
 ghost use Rattle.rx_engine.specs.Sessions.{IsBegun};
 ghost use Rattle.rx_engine.specs.Standing.{Since, IsWaitingFor};
+ghost use Rattle.rx_engine.specs.Leaving.{IsRecorded, IsTrimmed, CanForgetSends};
 ghost use Rattle.rx_engine.specs.Serving.{IsReadyToServe, StandsWaiting, WaitsBy, BreaksNoting, HasNoteStop, NotesRest, HasNoteRest, UnlessNoteStop};
 
 use crate::Session;
@@ -58,6 +60,7 @@ impl<R: AccessRule> Session<R> {
         ensures waits { (image : Image) (began : Since) (now : Told) (phases : Phases) (coming : Option Coming) → IsWaitingFor (rules_of self.old.options (R.rule self.old.cpu.rule)) image (record began { noted = noted (N.told_choices notes.old) (N.told_episodes notes.old) }) now phases self.old
             → WaitsBy (rules_of self.old.options (R.rule self.old.cpu.rule)) image (record began { noted = noted (N.told_choices notes.new) (N.told_episodes notes.new) }) now phases coming true self.new result }
         ensures same { self.new ≡ record self.old { recorded = self.new.recorded; choices = self.new.choices } }
+        ensures recorded { IfOk result (λ _. IsRecorded self.new) }
         ensures broken { BreaksNoting result }
         ensures noted { HasNoteStop (N.faults notes.old) (N.faults notes.new) result }
         ensures works { UnlessNoteStop result (N.works notes.new ≡ N.works notes.old) }
@@ -82,9 +85,20 @@ impl<R: AccessRule> Session<R> {
         ensures waits { (image : Image) (began : Since) (now : Told) (phases : Phases) → IsWaitingFor (rules_of self.old.options (R.rule self.old.cpu.rule)) image began now phases self.old
             → IsWaitingFor (rules_of self.old.options (R.rule self.old.cpu.rule)) image began now phases self.new }
         ensures same { self.new ≡ record self.old { log = self.new.log; replies = self.new.replies } }
+        ensures trimmed { IsRecorded self.old → IsTrimmed self.new }
         ensures open { (conn : ℕ) → is_open self.new.replies.connections conn ≡ is_open self.old.replies.connections conn }
     {
         forget(&self.cpu, &mut self.log, &mut self.replies);
+    }
+
+    /// At an end: gives up the replies from before the oldest checkpoint.
+    pub(crate) fn forget_sends(&mut self)
+        requires can { CanForgetSends self.old }
+        ensures same { self.new ≡ record self.old { replies = self.new.replies } }
+        ensures trimmed { IfSome (slice_get self.old.cpu.slots.saved 0) (λ oldest. self.new.replies ≡ trimmed self.old.replies oldest.state.sends) }
+    {
+        let oldest = self.cpu.oldest_marks();
+        self.replies.trim(oldest.sends);
     }
 
     /// At an end: notes the answers of malloc that aren't noted yet.

@@ -11,6 +11,7 @@ ghost use Rattle.rx_engine.specs.Options.{rules_of};
 ghost use Rattle.rx_engine.specs.Sessions.{IsBegun};
 ghost use Rattle.rx_engine.specs.Standing.{Since, IsGoing, IsBetween, IsAsking, IsWaitingFor, IsEnding};
 ghost use Rattle.rx_engine.specs.Recovered.{HasRecovered};
+ghost use Rattle.rx_engine.specs.Leaving.{IsTrimmed, KeepsOldest, HasLeft};
 ghost use Rattle.rx_engine.specs.Serving.{CanGive, HasStopCause, HasNoteStop, HasAnswerCause, HasNoteCause, UnlessBroken, UnlessMemory, TakesAtEnd, TakesBy, BreaksPassing, BreaksAt, BreaksOnce, StaysKnown, IsCounted, IsOkOrMemory, HasSameFrame, HasRun, GoesFurther, StandsBetween, StandsWaiting, StandsEmitting, StandsEnding, ComesBetween, IsReadyToServe, IsUnnoted, UnlessNoteStop, UnlessNoteFault};
 
 use crate::Session;
@@ -40,7 +41,8 @@ impl<R: AccessRule> Session<R> {
         requires takes { K.takes link.old ≡ true }
         requires gives { K.gives link.old ≡ true }
         ensures served { (image : Image) → IsBegun image self.old.options self.old.cpu.rule self.old
-            → HasRecovered (rules_of self.old.options (R.rule self.old.cpu.rule)) image (K.told link.old) (K.told link.new) (K.coming link.new) (K.takes link.new) result (noted (N.told_choices notes.old) (N.told_episodes notes.old)) (noted (N.told_choices notes.new) (N.told_episodes notes.new)) self.new.recorded self.new.choices self.new.taken self.new.steps steps.old steps.new }
+            → (recovered : HasRecovered (rules_of self.old.options (R.rule self.old.cpu.rule)) image (K.told link.old) (K.told link.new) (K.coming link.new) (K.takes link.new) result (noted (N.told_choices notes.old) (N.told_episodes notes.old)) (noted (N.told_choices notes.new) (N.told_episodes notes.new)) self.new.recorded self.new.choices self.new.taken self.new.steps steps.old steps.new)
+            × UnlessNoteFault result (HasLeft (rules_of self.old.options (R.rule self.old.cpu.rule)) image recovered.served.session self.new result) }
         ensures cause { HasAnswerCause (K.counts link.old) (K.counts link.new) result }
         ensures noted { HasNoteCause (N.faults notes.old) (N.faults notes.new) result }
         ensures works { UnlessNoteFault result (N.works notes.new ≡ N.works notes.old) }
@@ -62,13 +64,15 @@ impl<R: AccessRule> Session<R> {
         }
     }
 
-    // At an end: passes what is held back, and notes the rest of the answers of malloc.
+    // At an end: passes what is held back, notes the rest of the answers of malloc, and gives up the sends that no trial needs.
     fn finish<K: Link, N: Notes>(&mut self, link: &mut K, notes: &mut N, answer: Answer) -> Answer
         requires ends { StandsEnding (rules_of self.old.options (R.rule self.old.cpu.rule)) (K.told link.old) (K.coming link.old) answer self.old }
         requires gives { CanGive (K.gives link.old) (K.gives_to link.old) self.old.replies }
         ensures served { (image : Image) (began : Since) (ending : IsEnding (rules_of self.old.options (R.rule self.old.cpu.rule)) image (record began { noted = noted (N.told_choices notes.old) (N.told_episodes notes.old) }) (K.told link.old) (K.coming link.old) self.old answer)
             → (K.takes link.old ≡ false → IsAsking (rules_of self.old.options (R.rule self.old.cpu.rule)) ending.story) → (before after : ℕ) → after ≡ before + (began.lost + self.old.steps)
-            → HasRecovered (rules_of self.old.options (R.rule self.old.cpu.rule)) image began.told (K.told link.new) (K.coming link.new) (K.takes link.new) result began.noted_before (noted (N.told_choices notes.new) (N.told_episodes notes.new)) self.new.recorded self.new.choices self.new.taken self.new.steps before after }
+            → IsTrimmed self.old
+            → (recovered : HasRecovered (rules_of self.old.options (R.rule self.old.cpu.rule)) image began.told (K.told link.new) (K.coming link.new) (K.takes link.new) result began.noted_before (noted (N.told_choices notes.new) (N.told_episodes notes.new)) self.new.recorded self.new.choices self.new.taken self.new.steps before after)
+            × UnlessNoteFault result (HasLeft (rules_of self.old.options (R.rule self.old.cpu.rule)) image recovered.served.session self.new result) }
         ensures cause { HasAnswerCause (K.counts link.old) (K.counts link.new) result }
         ensures noted { HasNoteCause (N.faults notes.old) (N.faults notes.new) result }
         ensures works { UnlessNoteFault result (N.works notes.new ≡ N.works notes.old) }
@@ -87,6 +91,7 @@ impl<R: AccessRule> Session<R> {
         if let Err(fault) = self.note_rest(notes) {
             return fault;
         }
+        self.forget_sends();
         answer
     }
 
@@ -104,6 +109,7 @@ impl<R: AccessRule> Session<R> {
             → UnlessMemory result (lost + self.new.steps + steps.old ≡ began.lost + self.old.cpu.slots.live.steps + steps.new)
             → ComesBetween (rules_of self.old.options (R.rule self.old.cpu.rule)) image (record began { lost = lost; noted = noted (N.told_choices notes.new) (N.told_episodes notes.new) }) (K.told link.new) (K.phases link.new) (K.coming link.new) (K.takes link.new) self.new result }
         ensures frame { HasSameFrame self.old self.new }
+        ensures trimmed { IsTrimmed self.old → UnlessNoteStop result (IsTrimmed self.new) }
         ensures takes { TakesBy (K.takes link.new) result }
         ensures gives { UnlessBroken result (CanGive (K.gives link.new) (K.gives_to link.new) self.new.replies) }
         ensures coming { UnlessBroken result (StaysKnown (K.coming link.old) (K.coming link.new)) }
@@ -156,6 +162,7 @@ impl<R: AccessRule> Session<R> {
             → ComesBetween (rules_of self.old.options (R.rule self.old.cpu.rule)) image (record began { noted = noted (N.told_choices notes.new) (N.told_episodes notes.new) }) (K.told link.new) (K.phases link.new) (K.coming link.new) (K.takes link.new) self.new result }
         ensures until { self.new.until ≡ self.old.until }
         ensures frame { HasSameFrame self.old self.new }
+        ensures trimmed { UnlessNoteStop result (IsTrimmed self.new) }
         ensures takes { TakesBy (K.takes link.new) result }
         ensures gives { UnlessBroken result (CanGive (K.gives link.new) (K.gives_to link.new) self.new.replies) }
         ensures coming { UnlessBroken result (StaysKnown (K.coming link.old) (K.coming link.new)) }
@@ -191,6 +198,7 @@ impl<R: AccessRule> Session<R> {
             → ComesBetween (rules_of self.old.options (R.rule self.old.cpu.rule)) image began (K.told link.new) (K.phases link.new) (K.coming link.new) (K.takes link.new) self.new result }
         ensures until { self.new.until ≡ self.old.until }
         ensures frame { HasSameFrame self.old self.new }
+        ensures oldest { KeepsOldest self.old self.new }
         ensures takes { TakesBy (K.takes link.new) result }
         ensures gives { UnlessBroken result (CanGive (K.gives link.new) (K.gives_to link.new) self.new.replies) }
         ensures coming { UnlessBroken result (StaysKnown (K.coming link.old) (K.coming link.new)) }
@@ -217,6 +225,7 @@ impl<R: AccessRule> Session<R> {
             → IsGoing (rules_of self.old.options (R.rule self.old.cpu.rule)) image began now phases self.new }
         ensures until { self.new.until ≡ self.old.until }
         ensures frame { HasSameFrame self.old self.new }
+        ensures oldest { KeepsOldest self.old self.new }
         ensures replies { self.new.replies ≡ self.old.replies }
         ensures marked { IsCounted self.new }
         ensures one { self.new.cpu.slots.live.steps ≡ self.old.cpu.slots.live.steps + 1 }
@@ -235,6 +244,7 @@ impl<R: AccessRule> Session<R> {
         ensures until { self.new.until ≡ self.old.until }
         ensures options { self.new.options ≡ self.old.options }
         ensures cpu { self.new.cpu ≡ self.old.cpu }
+        ensures oldest { UnlessNoteStop result (KeepsOldest self.old self.new) }
         ensures takes { K.takes link.new ≡ K.takes link.old }
         ensures coming { K.coming link.new ≡ K.coming link.old }
         ensures broken { BreaksPassing result }
@@ -258,6 +268,7 @@ impl<R: AccessRule> Session<R> {
         ensures until { self.new.until ≡ self.old.until }
         ensures options { self.new.options ≡ self.old.options }
         ensures cpu { self.new.cpu ≡ self.old.cpu }
+        ensures oldest { KeepsOldest self.old self.new }
         ensures replies { self.new.replies ≡ self.old.replies }
         ensures marked { UnlessMemory result (IsCounted self.new) }
         ensures low { self.old.steps ≤ self.old.cpu.slots.live.steps → self.new.steps ≤ self.new.cpu.slots.live.steps }

@@ -1,9 +1,10 @@
-use Rattle.std.proofs.Common.{◌≡◌, ◌+◌, ◌-◌, ◌/◌, ◌<◌, ◌≤◌, List, length, refl, sym, ◌∙◌, ap, subst}
+use Rattle.std.proofs.Common.{◌≡◌, ℕ, ◌+◌, ◌-◌, ◌/◌, ◌<◌, ◌≤◌, List, length, refl, sym, ◌∙◌, ap, subst}
 use Rattle.block_book.specs.declared.choice.Choice.{Choice}
 use Rattle.ckpt_ring.specs.Rings.{from_newest}
-use Rattle.ckpt_ring.specs.Slots.{slot_numbers}
+use Rattle.ckpt_ring.specs.Slots.{Slots, slot_numbers}
+use Rattle.guest_cpu.specs.Standing.{Standing}
 use Rattle.recovery_gate.specs.Recovering.{adopted_in, Adopts}
-use Rattle.recovery_gate.proofs.Recoveries.{recovers, episode_tells, none_survived, last_survived, can_adopt, adopts_run}
+use Rattle.recovery_gate.proofs.Recoveries.{recovers, episode_tells, none_survived, last_survived, can_adopt, adopts_run, adopted_slots}
 use Rattle.recovery_gate.proofs.recovering.recover.Goals as goal
 
 pub returns-in-None-clause-recovers : goal.returns-in-None-clause-recovers
@@ -91,3 +92,17 @@ returns-in-Ok-adopt-clause-recovers g c failure begun under has =
             c.args.replies.now c.walk.new.replies (length c.in-Ok.episode.tries) c.in-Some.adopted c.in-Ok.episode.tries w.trials has c.in-Ok.ensures.saved c.in-Ok.ensures.ledger last w.tries_are is adopts,
       );
     }
+
+pub returns-in-None-clause-slots : goal.returns-in-None-clause-slots
+returns-in-None-clause-slots g c = c.in-Ok.ensures.saved.saved
+
+pub returns-in-Ok-adopt-clause-slots : goal.returns-in-Ok-adopt-clause-slots
+returns-in-Ok-adopt-clause-slots g c =
+    let can = c.requires.can in
+    let w = c.in-Ok.ensures.walks can.failure can.under can.has.failed in
+    let last = last_survived c.args.point can.failure c.walk.new.cpu c.walk.new.choices.items c.args.replies.now c.walk.new.replies c.args.steps.now c.walk.new.steps c.in-Ok.episode.tries c.in-Some.adopted w
+    (ap adopted_in (sym c.as_slice.ensures) ∙ sym c.in-Some.ensures) in
+    let could = can_adopt c.args.point c.args.cause c.args.pc can.failure c.args.cpu.now c.walk.new.cpu c.args.ring.now c.args.recorded c.args.choices.now.items c.walk.new.choices.items c.args.items.now c.args.replies.now c.walk.new.replies (length c.in-Ok.episode.tries) w.trials can.has last in
+    let index : ℕ = c.index_of-index.result in
+    let within : index < length c.args.ring.now.standing = subst (λ n. n < length c.args.ring.now.standing) (sym (c.index_of-index.ensures ∙ ap (λ n. (n - 1) / 5) (ap length c.as_slice-number.ensures))) could.within in
+    adopted_slots index c.args.cpu.now c.walk.new.cpu c.adopt.new.cpu c.args.ring.now.standing can.has.ring.standing within c.in-Ok.ensures.saved.saved (ap (λ (slots : Slots Standing). slots.saved) c.in-Ok-adopt.ensures.adopts.slots)

@@ -19,12 +19,12 @@ returns-clause-served g c =
     λ image begun counted count.
     serves _ image (intake_of (λ s. g.S.Source.told s.now) c.make-link.result) (intake_of (λ s. g.S.Source.told s.now) c.serve.new.link) (output_of (λ s. g.K.Sink.told s.now) c.make-link.result)
     (output_of (λ s. g.K.Sink.told s.now) c.serve.new.link) _ c.serve.result _ _ _ _ _ _ c.args.steps.now c.serve.new.steps counted made.phases made.took made.wrote made.takes made.gives (g.met.S.Source.countable c.serve.new.link.source.now)
-    (g.met.K.Sink.countable c.serve.new.link.sink.now) (made.told ∙ (λ i. told_nothing (g.S.Source.told ((sym made.source) i).now) (g.K.Sink.told ((sym made.sink) i).now))) went.taken went.given c.serve.ensures.takes c.serve.ensures.gives c.serve.ensures.coming c.serve.ensures.once (c.serve.ensures.served image begun) count in
+    (g.met.K.Sink.countable c.serve.new.link.sink.now) (made.told ∙ (λ i. told_nothing (g.S.Source.told ((sym made.source) i).now) (g.K.Sink.told ((sym made.sink) i).now))) went.taken went.given c.serve.ensures.takes c.serve.ensures.gives c.serve.ensures.coming c.serve.ensures.once (c.serve.ensures.served image begun).0 count in
     search (rules, served)
 
 pub returns-clause-only : goal.returns-clause-only
 returns-clause-only g c =
-    let served = c.serve.ensures.served c.requires.begun.image c.requires.begun.begun in
+    let served = (c.serve.ensures.served c.requires.begun.image c.requires.begun.begun).0 in
     of_session _ _ served.served.session c.serve.result served.served.ends
 
 pub returns-clause-counted_at_least : goal.returns-clause-counted_at_least

@@ -45,7 +45,7 @@ returns-in-None-clause-adopts g c image began now phases coming lost fails count
     (to_recover rules image began now phases c.args.cause _ f budget items) in
     let h = c.in-Ok.ensures.recovers (failure_of rules image f.going.story f.going.saved.paths) f.going.story.survivor.begun under has in
     adopting_at (ap (λ (s : SessionState _). s.taken) c.self.view_is)
-    (adopt_none rules image began now phases coming c.args.cause _ c.recover.new.cpu c.recover.new.ring c.recover.new.replies c.recover.new.choices.items c.in-Ok.recovered lost c.args.steps.now c.recover.new.steps f h c.in-None.is
+    (adopt_none rules image began now phases coming c.args.cause _ c.recover.new.cpu c.recover.new.ring c.recover.new.replies c.recover.new.choices.items c.in-Ok.recovered lost c.args.steps.now c.recover.new.steps f h c.in-Ok.ensures.slots c.in-None.is
     (subst (λ n. lost + c.self.inside.steps + c.args.steps.now ≡ began.lost + n + c.recover.new.steps) (sym (ap (λ (s : SessionState _). s.steps) c.self.view_is)) counts))
 
 pub returns-in-Some-clause-least : goal.returns-in-Some-clause-least

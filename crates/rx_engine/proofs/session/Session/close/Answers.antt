@@ -8,6 +8,8 @@ use Rattle.rx_engine.specs.Standing.{Story, entries, moment, sends, then_story, 
 use Rattle.rx_engine.specs.Serving.{CanGive, CanPass, StandsClosing}
 use Rattle.rx_engine.proofs.PassLemmas.{stamped_by, sendable_kept, breaks_by, rest_ok}
 use Rattle.rx_engine.proofs.PassingLemmas.{closing_can, closed_can, gives_closed, rest_passed, received_given, due_behind}
+use Rattle.rx_engine.specs.Leaving.{HoldsCheckpoints}
+use Rattle.rx_engine.proofs.HeldLemmas.{held_by, held_given}
 use Rattle.rx_engine.proofs.KnownLemmas.{pass_answer}
 use Rattle.rx_engine.proofs.session.Session.close.Goals as goal
 
@@ -23,11 +25,12 @@ pass_rest-requires-clause-sendable g c =
     sendable_kept can.sends _ c.self.inside.replies can.replies.shows can.replies.sendable
 
 pub returns-in-Err-clause-passes : goal.returns-in-Err-clause-passes
-returns-in-Err-clause-passes g c rules image began story hold told answers count closing =
+returns-in-Err-clause-passes g c rules image began story hold told answers held count closing =
+    let stays = subst (λ (s : SessionState _). HoldsCheckpoints rules image (entries story) story.survivor s) (sym c.self.view_is) held in
     let mine = subst (λ (s : SessionState _). AnswersFor began story s) (sym c.self.view_is) answers in
     let stamp = sym (subst (λ (s : SessionState _). received s.log ≡ heeding.received rules.bounds (entries story)) (sym c.self.view_is) count) ∙ sym c.received-stamp.ensures.count in
     let here = subst (λ (s : SessionState _). IsClosing rules (sends story) (moment story) c.args.conn s.replies) (sym c.self.view_is) closing in
-    breaks_by rules image began _ _ _ story _ c.in-Err.fault c.answer_to.result told (record { low = mine.low; recorded = mine.recorded; choices = mine.choices; taken = mine.taken; steps = mine.steps }) c.answer_to.ensures
+    breaks_by rules image began _ _ _ story _ c.in-Err.fault c.answer_to.result told (record { low = mine.low; recorded = mine.recorded; choices = mine.choices; taken = mine.taken; steps = mine.steps }) c.answer_to.ensures (held_by rules image (entries story) story.survivor _ _ refl stays)
     (c.in-Err.ensures.passes rules (sends story) (moment story) stamp here)
 
 pub pass_due-requires-clause-can : goal.pass_due-requires-clause-can
@@ -43,7 +46,8 @@ pass_due-requires-clause-gives g c =
     (gives_closed _ _ c.pass_rest.new.replies c.args.conn c.in_default.ensures.gives c.in_default.ensures.connected)
 
 pub returns-clause-passes : goal.returns-clause-passes
-returns-clause-passes g c rules image began story hold told answers count closing =
+returns-clause-passes g c rules image began story hold told answers held count closing =
+    let stays = subst (λ (s : SessionState _). HoldsCheckpoints rules image (entries story) story.survivor s) (sym c.self.view_is) held in
     let stands = subst (λ (s : SessionState _). StandsClosing (g.K.Link.told c.args.link.now) c.args.conn s) (sym c.self.view_is) c.requires.stands in
     let low : rules.hold ≡ c.self.inside.options.hold = subst (λ (s : SessionState _). rules.hold ≡ s.options.hold) (sym c.self.view_is) hold in
     let mine = subst (λ (s : SessionState _). AnswersFor began story s) (sym c.self.view_is) answers in
@@ -57,7 +61,7 @@ returns-clause-passes g c rules image began story hold told answers count closin
     subst (HasPassed rules after) (sym c.closes.ensures)
     (rest_passed rules image began (g.K.Link.told c.pass_rest.new.link) story rest.0 c.args.conn c.self.inside.replies c.pass_rest.new.replies here (c.in_default.ensures.sends.trial ∙ stands.no_trial) rest.1 rest.2 rest.3 rest.4) in
     due_behind rules image began (g.K.Link.told c.pass_due.new.link) (g.K.Link.coming c.pass_due.new.link) story rest.0 c.pass_due.new.self c.pass_due.result rest.1
-    (c.pass_due.ensures.passes rules image began after low rest.2 (record { low = mine.low; recorded = mine.recorded; choices = mine.choices; taken = mine.taken; steps = mine.steps }) (all ∙ sym (received_given rules.bounds story rest.0 rest.1)) passed)
+    (c.pass_due.ensures.passes rules image began after low rest.2 (record { low = mine.low; recorded = mine.recorded; choices = mine.choices; taken = mine.taken; steps = mine.steps }) (held_by rules image (entries after) story.survivor _ _ refl (held_given rules image story _ rest.0 rest.1 stays)) (all ∙ sym (received_given rules.bounds story rest.0 rest.1)) passed)
 
 pub returns-in-Err-clause-broken : goal.returns-in-Err-clause-broken
 returns-in-Err-clause-broken g c = pass_answer c.in-Err.fault c.answer_to.result c.answer_to.ensures

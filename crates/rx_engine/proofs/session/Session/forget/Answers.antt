@@ -1,4 +1,7 @@
-use Rattle.std.proofs.Common.{sym}
+use Rattle.std.proofs.Common.{sym, subst}
+use Rattle.rx_engine.specs.Sessions.{SessionState}
+use Rattle.rx_engine.specs.Leaving.{IsRecorded}
+use Rattle.rx_engine.proofs.LeavingLemmas.{forgot_up}
 use Rattle.rx_engine.specs.Options.{rules_of}
 use Rattle.rx_engine.specs.Standing.{entries}
 use Rattle.rx_engine.proofs.HearingLemmas.{moved}
@@ -15,3 +18,13 @@ returns-clause-waits g c image began now phases waits =
     let story = w.hearing.story in
     waits_forgot rules image began now phases _ c.forget.new.log c.forget.new.replies w
     (c.forget.ensures.forgets rules image (entries story) story.survivor.plan story.survivor.now w.hearing.saved.paths c.self.inside.ring w.hearing.saved.ring w.hearing.goes.items w.hearing.passed.replies) c.forget.ensures.trial
+
+pub returns-clause-trimmed : goal.returns-clause-trimmed
+returns-clause-trimmed g c recorded =
+    let w = moved (sym c.self.view_is) c.requires.waits.2.is in
+    let story = w.hearing.story in
+    let k = w.hearing.saved in
+    let old : SessionState _ = record c.args.self.now { cpu = c.self.inside.cpu; ring = c.self.inside.ring; log = c.self.inside.log; replies = c.self.inside.replies; recorded = c.self.inside.recorded } in
+    let up = forgot_up _ c.requires.waits.2.image (entries story) story.survivor.plan story.survivor.now k.paths old c.forget.new.log c.forget.new.replies k.ring c.forget.ensures.first c.forget.ensures.first_send
+    (subst (λ (s : SessionState _). IsRecorded s) (sym c.self.view_is) recorded) in
+    record { items = up.items; recorded = up.recorded; sends = up.sends }

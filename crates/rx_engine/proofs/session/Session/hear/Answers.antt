@@ -11,6 +11,7 @@ use Rattle.rx_engine.specs.Options.{rules_of}
 use Rattle.rx_engine.specs.Standing.{Story, entries, sends, then_story}
 use Rattle.rx_engine.proofs.GuestLemmas.{received_is}
 use Rattle.rx_engine.proofs.HearingLemmas.{moved, items_heard, close_heard, settle_heard, end_heard, heard_can, heard_opened, heard_closing, heard_settled, heard_last, heard_saved, story_heard, items_hearing, waits_due, waits_closed, waits_settled, due_unless, story_unless, if_ok, all_taken, one_counted, quiet_event, stops_by, ends_by}
+use Rattle.rx_engine.proofs.HeldLemmas.{held_of}
 use Rattle.rx_engine.proofs.StoryLemmas.{still_takes}
 use Rattle.rx_engine.proofs.KnownLemmas.{known_heard, known_stopped, takes_given, takes_stopped, once_heard, once_stopped}
 use Rattle.rx_engine.proofs.session.Session.hear.Goals as goal
@@ -35,7 +36,7 @@ returns-in-Ok-Items-clause-hears g c image began waits =
     let h = c.in-Ok-Items.ensures.hears rules.bounds (entries w.hearing.story) (sends w.hearing.story) limit w.hearing.goes.events w.hearing.goes.items w.hearing.passed.replies w.hearing.goes.phases_are in
     let e = items_heard rules.bounds _ _ (g.K.Link.told c.args.link.now) (g.K.Link.told c.hear.new.link) (g.K.Link.phases c.hear.new.link) (g.K.Link.coming c.args.link.now) c.hear.new.log c.hear.new.replies c.hear.new.events _ h c.in-Ok-Items.field-0-is in
     let hearing = items_hearing rules image began (g.K.Link.told c.args.link.now) (g.K.Link.told c.hear.new.link) (g.K.Link.phases c.args.link.now) (g.K.Link.phases c.hear.new.link) _ c.hear.new.log c.hear.new.replies c.hear.new.events e.0 w none_left c.in-Ok-Items.ensures.first c.in-Ok-Items.ensures.replies.first c.in-Ok-Items.ensures.replies.trial e.1 e.2 in
-    let passes = c.pass_due.ensures.passes rules image began hearing.story (ap (λ (s : SessionState _). s.options.hold) (sym c.self.view_is)) hearing.told hearing.answers (received_is rules.bounds (entries hearing.story) c.hear.new.log hearing.goes.items) hearing.passed in
+    let passes = c.pass_due.ensures.passes rules image began hearing.story (ap (λ (s : SessionState _). s.options.hold) (sym c.self.view_is)) hearing.told hearing.answers (held_of rules image hearing.story _ hearing.saved) (received_is rules.bounds (entries hearing.story) c.hear.new.log hearing.goes.items) hearing.passed in
     waits_due rules image began (g.K.Link.told c.hear.new.link) (g.K.Link.told c.pass_due.new.link) (g.K.Link.phases c.hear.new.link) (g.K.Link.phases c.pass_due.new.link) (g.K.Link.coming c.pass_due.new.link) (g.K.Link.takes c.pass_due.new.link) _ c.pass_due.new.self hearing c.pass_due.result c.pass_due.ensures.same c.pass_due.ensures.first c.pass_due.ensures.only.phases
     (c.pass_due.ensures.only.takes_still ∙ c.in-Ok-Items.ensures.takes) passes
 
@@ -49,7 +50,7 @@ returns-in-Ok-Items-clause-gives g c =
     let h = c.in-Ok-Items.ensures.hears rules.bounds (entries w.hearing.story) (sends w.hearing.story) limit w.hearing.goes.events w.hearing.goes.items w.hearing.passed.replies w.hearing.goes.phases_are in
     let e = items_heard rules.bounds _ _ (g.K.Link.told c.args.link.now) (g.K.Link.told c.hear.new.link) (g.K.Link.phases c.hear.new.link) (g.K.Link.coming c.args.link.now) c.hear.new.log c.hear.new.replies c.hear.new.events _ h c.in-Ok-Items.field-0-is in
     let hearing = items_hearing rules k.image k.began (g.K.Link.told c.args.link.now) (g.K.Link.told c.hear.new.link) (g.K.Link.phases c.args.link.now) (g.K.Link.phases c.hear.new.link) _ c.hear.new.log c.hear.new.replies c.hear.new.events e.0 w none_left c.in-Ok-Items.ensures.first c.in-Ok-Items.ensures.replies.first c.in-Ok-Items.ensures.replies.trial e.1 e.2 in
-    let passes = c.pass_due.ensures.passes rules k.image k.began hearing.story (ap (λ (s : SessionState _). s.options.hold) (sym c.self.view_is)) hearing.told hearing.answers (received_is rules.bounds (entries hearing.story) c.hear.new.log hearing.goes.items) hearing.passed in
+    let passes = c.pass_due.ensures.passes rules k.image k.began hearing.story (ap (λ (s : SessionState _). s.options.hold) (sym c.self.view_is)) hearing.told hearing.answers (held_of rules k.image hearing.story _ hearing.saved) (received_is rules.bounds (entries hearing.story) c.hear.new.log hearing.goes.items) hearing.passed in
     due_unless rules k.image k.began (g.K.Link.told c.pass_due.new.link) (g.K.Link.coming c.pass_due.new.link) hearing.story c.pass_due.new.self c.pass_due.result _ passes c.pass_due.ensures.gives
 
 pub returns-in-Ok-Items-clause-later : goal.returns-in-Ok-Items-clause-later
@@ -106,7 +107,7 @@ returns-in-Ok-Closes-clause-hears g c image began waits =
     let after : Story = then_story w.hearing.story (entry.Took (event.Closes c.in-Ok-Closes.conn) ∷ []) in
     let known = story_heard rules image began (g.K.Link.told c.args.link.now) (g.K.Link.told c.hear.new.link) (g.K.Link.phases c.args.link.now) (g.K.Link.phases c.hear.new.link) _ c.hear.new.log c.hear.new.replies c.hear.new.events (event.Closes c.in-Ok-Closes.conn) w none_left c.in-Ok-Closes.ensures.first e in
     let closing = heard_closing rules image began (g.K.Link.told c.args.link.now) (g.K.Link.told c.hear.new.link) (g.K.Link.phases c.args.link.now) (g.K.Link.phases c.hear.new.link) _ c.hear.new.log c.hear.new.replies c.hear.new.events c.in-Ok-Closes.conn w none_left c.in-Ok-Closes.ensures.first e in
-    let passes = c.close.ensures.passes rules image began after (ap (λ (s : SessionState _). s.options.hold) (sym c.self.view_is)) known.told known.answers (received_is rules.bounds (entries after) c.hear.new.log known.goes.items) closing in
+    let passes = c.close.ensures.passes rules image began after (ap (λ (s : SessionState _). s.options.hold) (sym c.self.view_is)) known.told known.answers (held_of rules image after _ (heard_saved rules image began (g.K.Link.told c.args.link.now) (g.K.Link.told c.hear.new.link) (g.K.Link.phases c.args.link.now) (g.K.Link.phases c.hear.new.link) _ c.hear.new.log c.hear.new.replies c.hear.new.events (event.Closes c.in-Ok-Closes.conn) w c.in-Ok-Closes.ensures.first c.in-Ok-Closes.ensures.replies.first e)) (received_is rules.bounds (entries after) c.hear.new.log known.goes.items) closing in
     waits_closed rules image began (g.K.Link.told c.hear.new.link) (g.K.Link.told c.close.new.link) (g.K.Link.phases c.hear.new.link) (g.K.Link.phases c.close.new.link) (g.K.Link.coming c.close.new.link) (g.K.Link.takes c.close.new.link) after _ c.close.new.self known c.close.result
     (heard_saved rules image began (g.K.Link.told c.args.link.now) (g.K.Link.told c.hear.new.link) (g.K.Link.phases c.args.link.now) (g.K.Link.phases c.hear.new.link) _ c.hear.new.log c.hear.new.replies c.hear.new.events (event.Closes c.in-Ok-Closes.conn) w c.in-Ok-Closes.ensures.first c.in-Ok-Closes.ensures.replies.first e)
     (heard_last rules image began (g.K.Link.told c.args.link.now) (g.K.Link.phases c.args.link.now) _ (event.Closes c.in-Ok-Closes.conn) w none_left tt) c.close.ensures.same c.close.ensures.first c.close.ensures.only.phases (c.close.ensures.only.takes_still ∙ c.in-Ok-Closes.ensures.takes) passes
@@ -123,7 +124,7 @@ returns-in-Ok-Closes-clause-gives g c =
     let after : Story = then_story w.hearing.story (entry.Took (event.Closes c.in-Ok-Closes.conn) ∷ []) in
     let known = story_heard rules k.image k.began (g.K.Link.told c.args.link.now) (g.K.Link.told c.hear.new.link) (g.K.Link.phases c.args.link.now) (g.K.Link.phases c.hear.new.link) _ c.hear.new.log c.hear.new.replies c.hear.new.events (event.Closes c.in-Ok-Closes.conn) w none_left c.in-Ok-Closes.ensures.first e in
     let closing = heard_closing rules k.image k.began (g.K.Link.told c.args.link.now) (g.K.Link.told c.hear.new.link) (g.K.Link.phases c.args.link.now) (g.K.Link.phases c.hear.new.link) _ c.hear.new.log c.hear.new.replies c.hear.new.events c.in-Ok-Closes.conn w none_left c.in-Ok-Closes.ensures.first e in
-    let passes = c.close.ensures.passes rules k.image k.began after (ap (λ (s : SessionState _). s.options.hold) (sym c.self.view_is)) known.told known.answers (received_is rules.bounds (entries after) c.hear.new.log known.goes.items) closing in
+    let passes = c.close.ensures.passes rules k.image k.began after (ap (λ (s : SessionState _). s.options.hold) (sym c.self.view_is)) known.told known.answers (held_of rules k.image after _ (heard_saved rules k.image k.began (g.K.Link.told c.args.link.now) (g.K.Link.told c.hear.new.link) (g.K.Link.phases c.args.link.now) (g.K.Link.phases c.hear.new.link) _ c.hear.new.log c.hear.new.replies c.hear.new.events (event.Closes c.in-Ok-Closes.conn) w c.in-Ok-Closes.ensures.first c.in-Ok-Closes.ensures.replies.first e)) (received_is rules.bounds (entries after) c.hear.new.log known.goes.items) closing in
     due_unless rules k.image k.began (g.K.Link.told c.close.new.link) (g.K.Link.coming c.close.new.link) after c.close.new.self c.close.result _ passes c.close.ensures.gives
 
 pub returns-in-Ok-Closes-clause-later : goal.returns-in-Ok-Closes-clause-later
@@ -158,7 +159,7 @@ returns-in-Ok-Settles-clause-hears g c image began waits =
     let after : Story = then_story w.hearing.story (entry.Took event.Settles ∷ []) in
     let known = story_heard rules image began (g.K.Link.told c.args.link.now) (g.K.Link.told c.hear.new.link) (g.K.Link.phases c.args.link.now) (g.K.Link.phases c.hear.new.link) _ c.hear.new.log c.hear.new.replies c.hear.new.events event.Settles w none_left c.in-Ok-Settles.ensures.first e in
     let ready = heard_settled rules image began (g.K.Link.told c.args.link.now) (g.K.Link.told c.hear.new.link) (g.K.Link.phases c.args.link.now) (g.K.Link.phases c.hear.new.link) _ c.hear.new.log c.hear.new.replies c.hear.new.events 18446744073709551615 w none_left c.in-Ok-Settles.ensures.first e in
-    let passes = c.pass.ensures.passes rules image began after known.told known.answers (received_is rules.bounds (entries after) c.hear.new.log known.goes.items) ready in
+    let passes = c.pass.ensures.passes rules image began after known.told known.answers (held_of rules image after _ (heard_saved rules image began (g.K.Link.told c.args.link.now) (g.K.Link.told c.hear.new.link) (g.K.Link.phases c.args.link.now) (g.K.Link.phases c.hear.new.link) _ c.hear.new.log c.hear.new.replies c.hear.new.events event.Settles w c.in-Ok-Settles.ensures.first c.in-Ok-Settles.ensures.replies.first e)) (received_is rules.bounds (entries after) c.hear.new.log known.goes.items) ready in
     let few = w.hearing.goes.few in
     let most = c.self.invariant.few_items in
     let same = ap (λ (s : SessionState _). s.options.max_items) (sym c.self.view_is) in
@@ -178,7 +179,7 @@ returns-in-Ok-Settles-clause-gives g c =
     let after : Story = then_story w.hearing.story (entry.Took event.Settles ∷ []) in
     let known = story_heard rules k.image k.began (g.K.Link.told c.args.link.now) (g.K.Link.told c.hear.new.link) (g.K.Link.phases c.args.link.now) (g.K.Link.phases c.hear.new.link) _ c.hear.new.log c.hear.new.replies c.hear.new.events event.Settles w none_left c.in-Ok-Settles.ensures.first e in
     let ready = heard_settled rules k.image k.began (g.K.Link.told c.args.link.now) (g.K.Link.told c.hear.new.link) (g.K.Link.phases c.args.link.now) (g.K.Link.phases c.hear.new.link) _ c.hear.new.log c.hear.new.replies c.hear.new.events 18446744073709551615 w none_left c.in-Ok-Settles.ensures.first e in
-    let passes = c.pass.ensures.passes rules k.image k.began after known.told known.answers (received_is rules.bounds (entries after) c.hear.new.log known.goes.items) ready in
+    let passes = c.pass.ensures.passes rules k.image k.began after known.told known.answers (held_of rules k.image after _ (heard_saved rules k.image k.began (g.K.Link.told c.args.link.now) (g.K.Link.told c.hear.new.link) (g.K.Link.phases c.args.link.now) (g.K.Link.phases c.hear.new.link) _ c.hear.new.log c.hear.new.replies c.hear.new.events event.Settles w c.in-Ok-Settles.ensures.first c.in-Ok-Settles.ensures.replies.first e)) (received_is rules.bounds (entries after) c.hear.new.log known.goes.items) ready in
     story_unless rules k.image k.began (g.K.Link.told c.pass.new.link) (g.K.Link.coming c.pass.new.link) after 18446744073709551615 c.pass.new.self c.pass.result _ passes c.pass.ensures.gives
 
 pub returns-in-Ok-Settles-clause-later : goal.returns-in-Ok-Settles-clause-later

@@ -6,6 +6,9 @@ use Rattle.notes.specs.Noting.{noted}
 use Rattle.rx_engine.specs.Options.{rules_of}
 use Rattle.rx_engine.specs.Standing.{entries}
 use Rattle.recovery_gate.proofs.ForgetLemmas.{behind_marks}
+use Rattle.rx_engine.specs.Sessions.{SessionState}
+use Rattle.rx_engine.specs.Leaving.{IsRecorded}
+use Rattle.rx_engine.proofs.LeavingLemmas.{noted_up, noted_before}
 use Rattle.rx_engine.proofs.HearingLemmas.{moved}
 use Rattle.rx_engine.proofs.ChoiceLemmas.{waits_told, waits_unnoted, waits_noted, waits_left}
 use Rattle.rx_engine.proofs.FaultLemmas.{note_answered}
@@ -53,3 +56,16 @@ returns-clause-waits g c image began now phases coming waits =
     c.drop_front.new.choices.items w marks.0 marks.1 (omega arith)
     (subst (λ (cs : List Choice). Grew (g.N.Notes.told_choices c.args.notes.now) (g.N.Notes.told_choices c.choices.new.self) (take (safe - c.self.inside.recorded) cs)) c.deref.ensures.value c.in_default.ensures.noted) c.in_default.ensures.episodes
     c.drop_front.ensures
+
+pub returns-clause-recorded : goal.returns-clause-recorded
+returns-clause-recorded g c =
+    let w = moved (sym c.self.view_is) c.requires.waits.2.is in
+    let h = w.hearing in
+    noted_up _ c.requires.waits.2.image (entries h.story) h.story.survivor.plan h.story.survivor.now h.saved.paths _ _ _ _ c.oldest_marks-safe.result c.oldest_marks-safe.ensures h.saved.ring
+
+pub returns-then-safe-self-clause-recorded : goal.returns-then-safe-self-clause-recorded
+returns-then-safe-self-clause-recorded g c =
+    let w = moved (sym c.self.view_is) c.requires.waits.2.is in
+    let h = w.hearing in
+    subst (λ (s : SessionState _). IsRecorded s) c.self.view_is
+    (noted_before _ c.requires.waits.2.image (entries h.story) h.story.survivor.plan h.story.survivor.now h.saved.paths _ _ _ _ c.oldest_marks-safe.result c.self.inside.recorded c.oldest_marks-safe.ensures h.saved.ring h.saved.early (omega arith))

@@ -1,4 +1,4 @@
-use Rattle.std.proofs.Common.{◌≡◌, sym, ◌∙◌, subst}
+use Rattle.std.proofs.Common.{◌≡◌, refl, sym, ◌∙◌, subst}
 use Rattle.item_log.specs.Log.{received}
 use Rattle.session_history.specs.Heeding as heeding
 use Rattle.session_history.specs.Giving.{IsReady}
@@ -6,6 +6,8 @@ use Rattle.rx_engine.specs.Sessions.{SessionState}
 use Rattle.rx_engine.specs.Standing.{entries, moment, sends, AnswersFor}
 use Rattle.rx_engine.specs.Serving.{CanPass}
 use Rattle.rx_engine.proofs.PassLemmas.{stamped_by, sendable_kept, passes_ok, breaks_by}
+use Rattle.rx_engine.specs.Leaving.{HoldsCheckpoints}
+use Rattle.rx_engine.proofs.HeldLemmas.{held_by}
 use Rattle.rx_engine.proofs.KnownLemmas.{pass_answer}
 use Rattle.rx_engine.proofs.session.Session.pass.Goals as goal
 
@@ -21,15 +23,16 @@ pass_until-requires-clause-sendable g c =
     sendable_kept can.sends _ c.self.inside.replies can.replies.shows can.replies.sendable
 
 pub returns-in-Err-clause-passes : goal.returns-in-Err-clause-passes
-returns-in-Err-clause-passes g c rules image began story told answers count ready =
+returns-in-Err-clause-passes g c rules image began story told answers held count ready =
+    let stays = subst (λ (s : SessionState _). HoldsCheckpoints rules image (entries story) story.survivor s) (sym c.self.view_is) held in
     let mine = subst (λ (s : SessionState _). AnswersFor began story s) (sym c.self.view_is) answers in
     let stamp = sym (subst (λ (s : SessionState _). received s.log ≡ heeding.received rules.bounds (entries story)) (sym c.self.view_is) count) ∙ sym c.received-stamp.ensures.count in
     let here = subst (λ (s : SessionState _). IsReady rules (sends story) (moment story) c.args.until s.replies) (sym c.self.view_is) ready in
-    breaks_by rules image began _ _ _ story _ c.in-Err.fault c.answer_to.result told (record { low = mine.low; recorded = mine.recorded; choices = mine.choices; taken = mine.taken; steps = mine.steps }) c.answer_to.ensures
+    breaks_by rules image began _ _ _ story _ c.in-Err.fault c.answer_to.result told (record { low = mine.low; recorded = mine.recorded; choices = mine.choices; taken = mine.taken; steps = mine.steps }) c.answer_to.ensures (held_by rules image (entries story) story.survivor _ _ refl stays)
     (c.in-Err.ensures.passes rules (sends story) (moment story) stamp here)
 
 pub returns-clause-passes : goal.returns-clause-passes
-returns-clause-passes g c rules image began story told answers count ready =
+returns-clause-passes g c rules image began story told answers held count ready =
     let stamp = sym (subst (λ (s : SessionState _). received s.log ≡ heeding.received rules.bounds (entries story)) (sym c.self.view_is) count) ∙ sym c.received-stamp.ensures.count in
     let here = subst (λ (s : SessionState _). IsReady rules (sends story) (moment story) c.args.until s.replies) (sym c.self.view_is) ready in
     passes_ok rules image began _ _ story c.args.until c.pass_until.new.replies c.in_default.field-0 told (c.in_default.ensures.passes rules (sends story) (moment story) stamp here)

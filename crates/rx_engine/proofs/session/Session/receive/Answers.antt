@@ -4,6 +4,7 @@ use Rattle.rx_engine.specs.Options.{rules_of}
 use Rattle.rx_engine.specs.Standing.{IsGoing, IsWaitingFor, entries}
 use Rattle.rx_engine.proofs.GuestLemmas.{received_is}
 use Rattle.rx_engine.proofs.NeedLemmas.{going_can}
+use Rattle.rx_engine.proofs.HeldLemmas.{held_of}
 use Rattle.rx_engine.proofs.DueLemmas.{comes_between, unless_due}
 use Rattle.rx_engine.proofs.FrameLemmas.{guest_frame, same_rules}
 use Rattle.rx_engine.proofs.KnownLemmas.{known_on, counted_same, takes_given, once_given}
@@ -32,7 +33,7 @@ returns-clause-turns g c image began w =
     let hold = sym (ap (λ (o : Options). o.hold) (c.take.ensures.frame.options ∙ c.await_item.ensures.same.options)) in
     comes_between rules image began (g.K.Link.told c.await_item.new.link) (g.K.Link.told c.pass_due.new.link) (g.K.Link.phases c.await_item.new.link) (g.K.Link.phases c.pass_due.new.link) (g.K.Link.coming c.pass_due.new.link) (g.K.Link.takes c.pass_due.new.link)
     c.take.new.self c.pass_due.new.self going c.pass_due.result c.pass_due.ensures.same c.pass_due.ensures.first c.pass_due.ensures.only.phases (c.pass_due.ensures.only.takes_still ∙ c.in_default.ensures.takes)
-    (c.pass_due.ensures.passes rules image began going.story hold going.told going.answers (received_is rules.bounds (entries going.story) c.take.new.self.log going.goes.items) going.passed)
+    (c.pass_due.ensures.passes rules image began going.story hold going.told going.answers (held_of rules image going.story _ going.saved) (received_is rules.bounds (entries going.story) c.take.new.self.log going.goes.items) going.passed)
 
 pub returns-clause-gives : goal.returns-clause-gives
 returns-clause-gives g c =
@@ -44,7 +45,7 @@ returns-clause-gives g c =
     let going = subst (λ rules. IsGoing rules image began (g.K.Link.told c.await_item.new.link) (g.K.Link.phases c.await_item.new.link) c.take.new.self) same (c.take.ensures.going image began _ _ waits) in
     let hold = sym (ap (λ (o : Options). o.hold) (c.take.ensures.frame.options ∙ c.await_item.ensures.same.options)) in
     unless_due rules image began (g.K.Link.told c.pass_due.new.link) (g.K.Link.coming c.pass_due.new.link) going.story c.pass_due.new.self c.pass_due.result _
-    (c.pass_due.ensures.passes rules image began going.story hold going.told going.answers (received_is rules.bounds (entries going.story) c.take.new.self.log going.goes.items) going.passed) c.pass_due.ensures.gives
+    (c.pass_due.ensures.passes rules image began going.story hold going.told going.answers (held_of rules image going.story _ going.saved) (received_is rules.bounds (entries going.story) c.take.new.self.log going.goes.items) going.passed) c.pass_due.ensures.gives
 
 pub returns-clause-coming : goal.returns-clause-coming
 returns-clause-coming g c =

@@ -8,6 +8,7 @@ use Rattle.rx_engine.specs.Standing.{Since, entries}
 use Rattle.rx_engine.specs.Serving.{end_of}
 use Rattle.rx_engine.proofs.GuestLemmas.{received_is}
 use Rattle.rx_engine.proofs.NeedLemmas.{going_can}
+use Rattle.rx_engine.proofs.HeldLemmas.{held_of}
 use Rattle.rx_engine.proofs.DueLemmas.{comes_between}
 use Rattle.rx_engine.proofs.FaultLemmas.{note_answered}
 use Rattle.rx_engine.proofs.StartLemmas.{lost_then, lost_counts}
@@ -81,4 +82,4 @@ returns-clause-turns g c image began lost fails counts =
     (λ others. lost_behind lost more (began.lost + c.args.self.now.steps + c.adopt.new.steps) c.pass_due.new.self.steps c.adopt.new.self.steps c.args.steps.now (counts others) all steps)
     (comes_between rules image later (g.K.Link.told c.args.link.now) (g.K.Link.told c.pass_due.new.link) (g.K.Link.phases c.args.link.now) (g.K.Link.phases c.pass_due.new.link) (g.K.Link.coming c.pass_due.new.link) (g.K.Link.takes c.pass_due.new.link)
     c.adopt.new.self c.pass_due.new.self going c.pass_due.result c.pass_due.ensures.same c.pass_due.ensures.first c.pass_due.ensures.only.phases (c.pass_due.ensures.only.takes_still ∙ c.requires.takes)
-    (c.pass_due.ensures.passes rules image later going.story hold going.told going.answers (received_is rules.bounds (entries going.story) c.adopt.new.self.log going.goes.items) going.passed))
+    (c.pass_due.ensures.passes rules image later going.story hold going.told going.answers (held_of rules image going.story _ going.saved) (received_is rules.bounds (entries going.story) c.adopt.new.self.log going.goes.items) going.passed))

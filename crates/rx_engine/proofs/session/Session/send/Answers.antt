@@ -5,6 +5,7 @@ use Rattle.rx_engine.specs.Sessions.{SessionState}
 use Rattle.rx_engine.specs.Standing.{entries}
 use Rattle.rx_engine.proofs.GuestLemmas.{received_is}
 use Rattle.rx_engine.proofs.NeedLemmas.{emits_later, going_can, sent_going}
+use Rattle.rx_engine.proofs.HeldLemmas.{held_of}
 use Rattle.rx_engine.proofs.DueLemmas.{comes_between, unless_due}
 use Rattle.rx_engine.proofs.StoryLemmas.{still_takes}
 use Rattle.rx_engine.proofs.ServeLemmas.{run_breaks}
@@ -30,7 +31,7 @@ returns-clause-turns g c image began h =
     let going = sent_going rules image began (g.K.Link.told c.args.link.now) (g.K.Link.phases c.args.link.now) c.args.conn c.args.bytes c.args.self.now _ c.count_run.new.self c.sent.new.self h c.self.view_is c.in_default.ensures.ok c.count_run.ensures in
     let hold = sym (ap (λ (s : SessionState _). s.options.hold) c.count_run.ensures ∙ ap (λ (s : SessionState _). s.options.hold) c.self.view_is) in
     comes_between rules image began _ _ _ _ _ true c.count_run.new.self _ going _ c.pass_due.ensures.same c.pass_due.ensures.first c.pass_due.ensures.only.phases refl
-    (c.pass_due.ensures.passes rules image began going.story hold going.told going.answers (received_is rules.bounds (entries going.story) c.count_run.new.self.log going.goes.items) going.passed)
+    (c.pass_due.ensures.passes rules image began going.story hold going.told going.answers (held_of rules image going.story _ going.saved) (received_is rules.bounds (entries going.story) c.count_run.new.self.log going.goes.items) going.passed)
 
 pub returns-clause-gives : goal.returns-clause-gives
 returns-clause-gives g c =
@@ -38,4 +39,4 @@ returns-clause-gives g c =
     let going = sent_going rules c.requires.emits.image c.requires.emits.began (g.K.Link.told c.args.link.now) (g.K.Link.phases c.args.link.now) c.args.conn c.args.bytes c.args.self.now _ c.count_run.new.self c.sent.new.self c.requires.emits.is c.self.view_is c.in_default.ensures.ok c.count_run.ensures in
     let hold = sym (ap (λ (s : SessionState _). s.options.hold) c.count_run.ensures ∙ ap (λ (s : SessionState _). s.options.hold) c.self.view_is) in
     unless_due rules c.requires.emits.image c.requires.emits.began _ _ going.story c.pass_due.new.self c.pass_due.result _
-    (c.pass_due.ensures.passes rules c.requires.emits.image c.requires.emits.began going.story hold going.told going.answers (received_is rules.bounds (entries going.story) c.count_run.new.self.log going.goes.items) going.passed) c.pass_due.ensures.gives
+    (c.pass_due.ensures.passes rules c.requires.emits.image c.requires.emits.began going.story hold going.told going.answers (held_of rules c.requires.emits.image going.story _ going.saved) (received_is rules.bounds (entries going.story) c.count_run.new.self.log going.goes.items) going.passed) c.pass_due.ensures.gives

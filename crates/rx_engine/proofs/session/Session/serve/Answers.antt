@@ -1,4 +1,4 @@
-use Rattle.std.proofs.Common.{◌≡◌, ◌+◌, refl, sym, ◌∙◌, ap, subst, arith}
+use Rattle.std.proofs.Common.{◌≡◌, Err, ◌+◌, refl, sym, ◌∙◌, ap, subst, arith}
 use Rattle.session_history.specs.Lawful.{Rules}
 use Rattle.rx_engine.specs.Recovered.{HasRecovered}
 use Rattle.rx_engine.specs.Options.{rules_of}
@@ -7,11 +7,14 @@ use Rattle.rx_engine.specs.Sessions.{SessionState}
 use Rattle.rx_engine.specs.Standing.{Since, told_since, IsBrokenOff}
 use Rattle.notes.specs.Noting.{noted}
 use Rattle.reply_ledger.specs.Ledger.{Ledger}
-use Rattle.rx_engine.specs.Serving.{CanGive, StopsBy, IsCounted}
+use Rattle.rx_engine.specs.declared.stop.Stop.{Stop}
+use Rattle.rx_engine.specs.Serving.{CanGive, StopsBy, IsCounted, UnlessNoteFault, UnlessNoteStop}
 use Rattle.rx_engine.proofs.EndLemmas.{served_off}
 use Rattle.rx_engine.proofs.FrameLemmas.{same_rules}
 use Rattle.rx_engine.proofs.HearingLemmas.{cause_then, stops_under}
-use Rattle.rx_engine.proofs.StartLemmas.{starts_between, starts_counted, starts_giving, frame_then, between_under, lost_then, lost_counts, lost_all}
+use Rattle.rx_engine.specs.Leaving.{IsTrimmed, HasLeft}
+use Rattle.rx_engine.proofs.LeavingLemmas.{unless_note, trimmed_unless, left_off}
+use Rattle.rx_engine.proofs.StartLemmas.{starts_trimmed, starts_between, starts_counted, starts_giving, frame_then, between_under, lost_then, lost_counts, lost_all}
 use Rattle.rx_engine.proofs.KnownLemmas.{known_same, known_then, known_ended, takes_ended, takes_no_end, once_at, once_broke}
 use Rattle.rx_engine.proofs.session.Session.serve.Goals as goal
 
@@ -31,6 +34,7 @@ turns-init g c =
           subst (λ (ledger : Ledger). CanGive (g.K.Link.gives c.args.link.now) (g.K.Link.gives_to c.args.link.now) ledger) (sym (ap (λ (s : SessionState _). s.replies) c.save_start.ensures.same))
           (starts_giving c.requires.begun.image c.args.self.now _ _ begun c.requires.gives);
       marked = marked;
+      trimmed = starts_trimmed (rules_of c.args.self.now.options (g.R.AccessRule.rule c.args.self.now.cpu.rule)) c.requires.begun.image c.args.self.now c.save_start.new.self begun (c.save_start.ensures.keeps _ c.requires.begun.image begun) c.save_start.ensures.same;
       lost = 0;
       counted = omega (arith, none);
       no_takes_fell = omega arith;
@@ -64,6 +68,7 @@ turns-preserved g c =
       takes_still = c.in-Ok.ensures.takes;
       can_give = c.in-Ok.ensures.gives;
       marked = marked;
+      trimmed = c.in-Ok.ensures.trimmed c.turns.invariant.trimmed;
       lost = lost_then c.turns.invariant.lost c.turns.self.cpu.slots.live.steps c.turn.new.self.steps c.turns.steps c.turn.new.steps;
       counted = omega (arith, all, steps);
       no_takes_fell = cause.takes;
@@ -82,7 +87,10 @@ returns-in-Err-Breaks-clause-served g c image is =
     let off = stops_under image (told_since (g.K.Link.told c.args.link.now) (noted (g.N.Notes.told_choices c.args.notes.now) (g.N.Notes.told_episodes c.args.notes.now)) (noted (g.N.Notes.told_choices c.turn.new.notes) (g.N.Notes.told_episodes c.turn.new.notes)) (lost_then c.turns.invariant.lost c.turns.self.cpu.slots.live.steps c.turn.new.self.steps c.turns.steps c.turn.new.steps)) (g.K.Link.told c.turn.new.link) (g.K.Link.coming c.turn.new.link) (g.K.Link.takes c.turn.new.link) c.turn.new.self (Breaks c.in-Err-Breaks.answer) here rules same
     (subst (λ why. StopsBy here image (told_since (g.K.Link.told c.args.link.now) (noted (g.N.Notes.told_choices c.args.notes.now) (g.N.Notes.told_episodes c.args.notes.now)) (noted (g.N.Notes.told_choices c.turn.new.notes) (g.N.Notes.told_episodes c.turn.new.notes)) (lost_then c.turns.invariant.lost c.turns.self.cpu.slots.live.steps c.turn.new.self.steps c.turns.steps c.turn.new.steps)) (g.K.Link.told c.turn.new.link) (g.K.Link.coming c.turn.new.link) (g.K.Link.takes c.turn.new.link) c.turn.new.self why) c.in-Err-Breaks.field-0-is
     (c.in-Err-Breaks.ensures.turns image (told_since (g.K.Link.told c.args.link.now) (noted (g.N.Notes.told_choices c.args.notes.now) (g.N.Notes.told_episodes c.args.notes.now)) (noted (g.N.Notes.told_choices c.turns.notes) (g.N.Notes.told_episodes c.turns.notes)) c.turns.invariant.lost) (lost_then c.turns.invariant.lost c.turns.self.cpu.slots.live.steps c.turn.new.self.steps c.turns.steps c.turn.new.steps) (between_under rules here (sym same) (c.turns.invariant.stands image is)) (λ others. lost_counts c.turns.invariant.lost c.turns.self.cpu.slots.live.steps c.turn.new.self.steps c.turns.steps c.turn.new.steps c.in-Err-Breaks.ensures.least))) in
-    served_off rules image (told_since (g.K.Link.told c.args.link.now) (noted (g.N.Notes.told_choices c.args.notes.now) (g.N.Notes.told_episodes c.args.notes.now)) (noted (g.N.Notes.told_choices c.turn.new.notes) (g.N.Notes.told_episodes c.turn.new.notes)) (lost_then c.turns.invariant.lost c.turns.self.cpu.slots.live.steps c.turn.new.self.steps c.turns.steps c.turn.new.steps)) (g.K.Link.told c.turn.new.link) (g.K.Link.coming c.turn.new.link) (g.K.Link.takes c.turn.new.link) c.turn.new.self c.in-Err-Breaks.answer off.0 off.1 c.args.steps.now c.turn.new.steps (λ others. (lost_all c.args.steps.now c.turns.invariant.lost c.turns.self.cpu.slots.live.steps c.turn.new.self.steps c.turns.steps c.turn.new.steps c.turns.invariant.counted c.in-Err-Breaks.ensures.least))
+    served_off (λ account. UnlessNoteFault c.in-Err-Breaks.answer (HasLeft rules image account c.turn.new.self c.in-Err-Breaks.answer)) rules image (told_since (g.K.Link.told c.args.link.now) (noted (g.N.Notes.told_choices c.args.notes.now) (g.N.Notes.told_episodes c.args.notes.now)) (noted (g.N.Notes.told_choices c.turn.new.notes) (g.N.Notes.told_episodes c.turn.new.notes)) (lost_then c.turns.invariant.lost c.turns.self.cpu.slots.live.steps c.turn.new.self.steps c.turns.steps c.turn.new.steps)) (g.K.Link.told c.turn.new.link) (g.K.Link.coming c.turn.new.link) (g.K.Link.takes c.turn.new.link) c.turn.new.self c.in-Err-Breaks.answer off.0 off.1 c.args.steps.now c.turn.new.steps (λ others. (lost_all c.args.steps.now c.turns.invariant.lost c.turns.self.cpu.slots.live.steps c.turn.new.self.steps c.turns.steps c.turn.new.steps c.turns.invariant.counted c.in-Err-Breaks.ensures.least))
+    (unless_note c.in-Err-Breaks.answer _ (λ never.
+    left_off rules image off.0.account c.turn.new.self c.in-Err-Breaks.answer off.0.no_end
+    (trimmed_unless c.in-Err-Breaks.answer (IsTrimmed c.turn.new.self) never (subst (λ (why : Stop). UnlessNoteStop (Err why) (IsTrimmed c.turn.new.self)) c.in-Err-Breaks.field-0-is (c.in-Err-Breaks.ensures.trimmed c.turns.invariant.trimmed))) (off.0.holds never)))
 
 pub finish-requires-clause-ends : goal.finish-requires-clause-ends
 finish-requires-clause-ends g c =
@@ -113,8 +121,10 @@ returns-in-Err-Ends-clause-served g c image is =
     (subst (λ why. StopsBy here image began (g.K.Link.told c.turn.new.link) (g.K.Link.coming c.turn.new.link) (g.K.Link.takes c.turn.new.link) c.turn.new.self why) c.in-Err-Ends.field-0-is
     (c.in-Err-Ends.ensures.turns image (told_since (g.K.Link.told c.args.link.now) (noted (g.N.Notes.told_choices c.args.notes.now) (g.N.Notes.told_episodes c.args.notes.now)) (noted (g.N.Notes.told_choices c.turns.notes) (g.N.Notes.told_episodes c.turns.notes)) c.turns.invariant.lost) (lost_then c.turns.invariant.lost c.turns.self.cpu.slots.live.steps c.turn.new.self.steps c.turns.steps c.turn.new.steps) (between_under rules here (sym same) (c.turns.invariant.stands image is)) (λ others. lost_counts c.turns.invariant.lost c.turns.self.cpu.slots.live.steps c.turn.new.self.steps c.turns.steps c.turn.new.steps c.in-Err-Ends.ensures.least))) in
     subst
-    (λ (r : Rules). HasRecovered r image began.told (g.K.Link.told c.finish.new.link) (g.K.Link.coming c.finish.new.link) (g.K.Link.takes c.finish.new.link) c.finish.result (noted (g.N.Notes.told_choices c.args.notes.now) (g.N.Notes.told_episodes c.args.notes.now)) (noted (g.N.Notes.told_choices c.finish.new.notes) (g.N.Notes.told_episodes c.finish.new.notes)) c.finish.new.self.recorded c.finish.new.self.choices c.finish.new.self.taken c.finish.new.self.steps c.args.steps.now c.turn.new.steps)
-    (then ∙ same) (c.finish.ensures.served image began stops.0 stops.1 c.args.steps.now c.turn.new.steps (lost_all c.args.steps.now c.turns.invariant.lost c.turns.self.cpu.slots.live.steps c.turn.new.self.steps c.turns.steps c.turn.new.steps c.turns.invariant.counted c.in-Err-Ends.ensures.least))
+    (λ (r : Rules). (recovered : HasRecovered r image began.told (g.K.Link.told c.finish.new.link) (g.K.Link.coming c.finish.new.link) (g.K.Link.takes c.finish.new.link) c.finish.result (noted (g.N.Notes.told_choices c.args.notes.now) (g.N.Notes.told_episodes c.args.notes.now)) (noted (g.N.Notes.told_choices c.finish.new.notes) (g.N.Notes.told_episodes c.finish.new.notes)) c.finish.new.self.recorded c.finish.new.self.choices c.finish.new.self.taken c.finish.new.self.steps c.args.steps.now c.turn.new.steps)
+    × UnlessNoteFault c.finish.result (HasLeft r image recovered.served.session c.finish.new.self c.finish.result))
+    (then ∙ same) (c.finish.ensures.served image began stops.0 stops.1 c.args.steps.now c.turn.new.steps (lost_all c.args.steps.now c.turns.invariant.lost c.turns.self.cpu.slots.live.steps c.turn.new.self.steps c.turns.steps c.turn.new.steps c.turns.invariant.counted c.in-Err-Ends.ensures.least)
+    (subst (λ (why : Stop). UnlessNoteStop (Err why) (IsTrimmed c.turn.new.self)) c.in-Err-Ends.field-0-is (c.in-Err-Ends.ensures.trimmed c.turns.invariant.trimmed)))
 
 pub returns-in-Err-Ends-clause-went : goal.returns-in-Err-Ends-clause-went
 returns-in-Err-Ends-clause-went g c =
