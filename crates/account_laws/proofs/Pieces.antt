@@ -2,6 +2,7 @@
 use Rattle.std.proofs.Common.{◌≡◌, inl, inr, ℕ, ◌+◌, ◌≤◌, Bool, true, false, List, [], ◌∷◌, ◌++◌, length, map, Option, Some, None, refl, sym, ◌∙◌, ap, subst, arith, append-nil, append_assoc, length-append}
 use Rattle.std.specs.Prelude.{option_map, unwrap_or}
 use Rattle.std.proofs.lemmas.List.{append_cancel_left, map-append}
+use Rattle.std.proofs.lemmas.Bool.{both_ways}
 use Rattle.std.proofs.lemmas.Option.{none-some, same_Some}
 use Rattle.rx_io.specs.declared.bytes.Item.{Item}
 use Rattle.rx_io.specs.declared.journal.Entry.{Entry}
@@ -18,7 +19,7 @@ use Rattle.run_history.proofs.Outputs.{prefix_sent}
 use Rattle.session_history.specs.Heeding.{Bounds, heeded, items_in, received}
 use Rattle.session_history.specs.Opened.{closes, is_gone, is_open}
 use Rattle.session_history.specs.Passing.{passed_in, AreBetween, AreInOrder}
-use Rattle.session_history.specs.Owing.{Moment, Latest, behind, latest, IsDueBy, IsMadeDue, IsOwed, Stands, IsPassed}
+use Rattle.session_history.specs.Owing.{Place, Moment, moment_at, Latest, behind, latest, IsDueBy, IsMadeDue, IsOwed, Stands, IsPassed}
 use Rattle.session_history.specs.Lawful.{Rules, Survivor, IsDueEvent, is_closed_by, is_closing, IsDuePiece, IsWholePiece, IsDue}
 use Rattle.session_history.proofs.Heeding.{events_in-gave}
 use Rattle.session_history.proofs.Passing.{timed_on}
@@ -51,31 +52,55 @@ latest_front (entry.Took (event.Piece conn bytes) ∷ entries) last is = event_f
 latest_front (entry.Took (event.Closes conn) ∷ entries) last is = event_front (event.Closes conn) entries (latest entries) last (λ l h. latest_front entries l h) is
 latest_front (entry.Took event.Settles ∷ entries) last is = event_front event.Settles entries (latest entries) last (λ l h. latest_front entries l h) is
 
--- a session's journal seen from behind some entries
-abbrev pub moment_at : List Entry → Bool → Moment
-moment_at entries at_end = record { start = []; since = entries; at_end = at_end }
+-- the place of a session behind some entries, and where its survivor has taken so many items
+abbrev pub place_at : List Entry → Bool → Place
+place_at entries at_end = record { start = []; since = entries; at_end = at_end }
+
+abbrev pub seen_at : List Entry → Bool → ℕ → Moment
+seen_at entries at_end count = moment_at (place_at entries at_end) count
 
 -- what is owed to a connection that wasn't closed was sent in time
-made_due_taken : (bounds : Bounds) (entries : List Entry) (at_end : Bool) (conn taken : ℕ) (event : LinkEvent) (before : ℕ) → closes conn (heeded bounds (events_in entries)) ≡ false → IsMadeDue bounds (moment_at entries at_end) conn taken event before → taken ≤ before
-made_due_taken bounds entries at_end conn taken event.Settles before unclosed due = due.1
-made_due_taken bounds entries at_end conn taken (event.Closes closed) before unclosed due = due.3
-made_due_taken bounds entries at_end conn taken (event.Opens c) before unclosed due = absurd due
-made_due_taken bounds entries at_end conn taken (event.Piece c bytes) before unclosed due = absurd due
-made_due_taken bounds entries at_end conn taken event.Ends before unclosed due = absurd due
+made_due_taken : (bounds : Bounds) (entries : List Entry) (at_end : Bool) (count : ℕ) (conn taken : ℕ) (event : LinkEvent) (before : ℕ) → closes conn (heeded bounds (events_in entries)) ≡ false → IsMadeDue bounds (seen_at entries at_end count) conn taken event before → taken ≤ before
+made_due_taken bounds entries at_end count conn taken event.Settles before unclosed due = due.1
+made_due_taken bounds entries at_end count conn taken (event.Closes closed) before unclosed due = due.3
+made_due_taken bounds entries at_end count conn taken (event.Opens c) before unclosed due = absurd due
+made_due_taken bounds entries at_end count conn taken (event.Piece c bytes) before unclosed due = absurd due
+made_due_taken bounds entries at_end count conn taken event.Ends before unclosed due = absurd due
 
-due_taken : (bounds : Bounds) (entries : List Entry) (at_end : Bool) (conn taken : ℕ) (found : Option Latest) → latest entries ≡ found → closes conn (heeded bounds (events_in entries)) ≡ false → IsDueBy bounds (moment_at entries at_end) conn taken found → taken ≤ received bounds entries
-due_taken bounds entries at_end conn taken None is unclosed due = absurd due
-due_taken bounds entries at_end conn taken (Some last) is unclosed due =
+due_taken : (bounds : Bounds) (entries : List Entry) (at_end : Bool) (count : ℕ) (conn taken : ℕ) (found : Option Latest) → latest entries ≡ found → closes conn (heeded bounds (events_in entries)) ≡ false → IsDueBy bounds (seen_at entries at_end count) conn taken found → taken ≤ received bounds entries
+due_taken bounds entries at_end count conn taken None is unclosed due = absurd due
+due_taken bounds entries at_end count conn taken (Some last) is unclosed due =
     let front = latest_front entries last is in
-    let low = made_due_taken bounds entries at_end conn taken last.event (received bounds last.before) unclosed due in
+    let low = made_due_taken bounds entries at_end count conn taken last.event (received bounds last.before) unclosed due in
     let longer = received_longer bounds last.before front.0 in
     let same = ap (received bounds) front.1 in
     omega (arith, low, longer, same)
 
-owed_taken : (bounds : Bounds) (hold : ℕ) (entries : List Entry) (at_end : Bool) (send : Send) → closes send.conn (heeded bounds (events_in entries)) ≡ false → (at_end ≡ true → send.taken ≤ received bounds entries) → IsOwed bounds hold (moment_at entries at_end) send → send.taken ≤ received bounds entries
-owed_taken bounds hold entries at_end send unclosed all (inl (opened, inl early)) = omega (arith, early)
-owed_taken bounds hold entries at_end send unclosed all (inl (opened, inr ended)) = all ended
-owed_taken bounds hold entries at_end send unclosed all (inr due) = due_taken bounds entries at_end send.conn send.taken (latest entries) refl unclosed due
+owed_taken : (bounds : Bounds) (hold : ℕ) (entries : List Entry) (at_end : Bool) (count : ℕ) (send : Send) → closes send.conn (heeded bounds (events_in entries)) ≡ false → count ≤ received bounds entries → (at_end ≡ true → send.taken ≤ received bounds entries) → IsOwed bounds hold (seen_at entries at_end count) send → send.taken ≤ received bounds entries
+owed_taken bounds hold entries at_end count send unclosed low all (inl (opened, inl early)) = omega (arith, early, low)
+owed_taken bounds hold entries at_end count send unclosed low all (inl (opened, inr ended)) = all ended
+owed_taken bounds hold entries at_end count send unclosed low all (inr due) = due_taken bounds entries at_end count send.conn send.taken (latest entries) refl unclosed due
+
+-- where one send is owed to a connection that wasn't closed, so is each one to an open connection that was made with no more items taken
+made_due_too : (bounds : Bounds) (entries : List Entry) (at_end : Bool) (count conn taken other fewer : ℕ) (event : LinkEvent) (before : ℕ) → closes conn (heeded bounds (events_in entries)) ≡ false → is_open bounds entries other ≡ true → fewer ≤ taken
+    → IsMadeDue bounds (seen_at entries at_end count) conn taken event before → IsMadeDue bounds (seen_at entries at_end count) other fewer event before
+made_due_too bounds entries at_end count conn taken other fewer event.Settles before unclosed opened low due = (opened, omega (arith, low, due.1))
+made_due_too bounds entries at_end count conn taken other fewer (event.Closes closed) before unclosed opened low due = absurd (both_ways _ unclosed due.1)
+made_due_too bounds entries at_end count conn taken other fewer (event.Opens c) before unclosed opened low due = due
+made_due_too bounds entries at_end count conn taken other fewer (event.Piece c bytes) before unclosed opened low due = due
+made_due_too bounds entries at_end count conn taken other fewer event.Ends before unclosed opened low due = due
+
+due_too : (bounds : Bounds) (entries : List Entry) (at_end : Bool) (count conn taken other fewer : ℕ) (found : Option Latest) → closes conn (heeded bounds (events_in entries)) ≡ false → is_open bounds entries other ≡ true → fewer ≤ taken
+    → IsDueBy bounds (seen_at entries at_end count) conn taken found → IsDueBy bounds (seen_at entries at_end count) other fewer found
+due_too bounds entries at_end count conn taken other fewer None unclosed opened low due = due
+due_too bounds entries at_end count conn taken other fewer (Some last) unclosed opened low due = made_due_too bounds entries at_end count conn taken other fewer last.event (received bounds last.before) unclosed opened low due
+
+owed_too : (bounds : Bounds) (hold : ℕ) (entries : List Entry) (at_end : Bool) (count : ℕ) (send other : Send) → closes send.conn (heeded bounds (events_in entries)) ≡ false → is_open bounds entries other.conn ≡ true → other.taken ≤ send.taken
+    → IsOwed bounds hold (seen_at entries at_end count) send → IsOwed bounds hold (seen_at entries at_end count) other
+owed_too bounds hold entries at_end count send other unclosed opened low (inl (was, inl early)) = inl (opened, inl (omega (arith, early, low)))
+owed_too bounds hold entries at_end count send other unclosed opened low (inl (was, inr ended)) = inl (opened, inr ended)
+owed_too bounds hold entries at_end count send other unclosed opened low (inr due) =
+    inr (due_too bounds entries at_end count send.conn send.taken other.conn other.taken (latest entries) unclosed opened low due)
 
 -- what the walk over a session's entries knows: its whole journal, and the sends of its run
 pub record Knows (rules : Rules) (image : Image) (survivor : Survivor) (whole : List Entry) : Type 0 where
@@ -108,25 +133,26 @@ rest_sent : (rules : Rules) (image : Image) (survivor : Survivor) (entries whole
 rest_sent rules image survivor entries whole knows walked = are_sent-behind (items_in rules.bounds whole) walked.front walked.rest (subst (AreSent (items_in rules.bounds whole)) walked.split knows.sent)
 
 -- the next of them isn't owed where all that is owed was passed
-pub next_owed : (rules : Rules) (image : Image) (survivor : Survivor) (entries more : List Entry) (at_end : Bool) (sends : List Send) (other : Send) (mid later : List Send) → Knows rules image survivor (entries ++ more)
+pub next_owed : (rules : Rules) (image : Image) (survivor : Survivor) (entries more : List Entry) (at_end : Bool) (count : ℕ) (sends : List Send) (other : Send) (mid later : List Send) → Knows rules image survivor (entries ++ more)
     → (walked : Walked rules.bounds entries survivor.now.state.sends) → walked.rest ≡ other ∷ later → (split : sends ≡ walked.front ++ other ∷ mid) → other.taken ≤ received rules.bounds entries
-    → ((stands : Stands sends other) → stands.earlier ≡ walked.front → IsOwed rules.bounds rules.hold (moment_at entries at_end) other → IsPassed rules.bounds entries sends other stands) → ⊥
-next_owed rules image survivor entries more at_end sends other mid later knows walked is split early passed =
+    → (is_open rules.bounds entries other.conn ≡ true → IsOwed rules.bounds rules.hold (seen_at entries at_end count) other)
+    → ((stands : Stands sends other) → stands.earlier ≡ walked.front → IsOwed rules.bounds rules.hold (seen_at entries at_end count) other → IsPassed rules.bounds entries sends other stands) → ⊥
+next_owed rules image survivor entries more at_end count sends other mid later knows walked is split early owed passed =
     let sent = (subst (AreSent (items_in rules.bounds (entries ++ more))) is (rest_sent rules image survivor entries (entries ++ more) knows walked)).0 in
     let unclosed = (subst (AreUnclosed (heeded rules.bounds (events_in entries))) is walked.unclosed).0 in
     never_passed walked.front other (sent_to other.conn (passed_in rules.bounds entries)) (front_bytes rules.bounds entries walked.front other.conn walked.pieces) sent.some
     (passed (record { earlier = walked.front; later = mid; split = split }) refl
-    (inl (still_open rules image survivor entries more other knows sent unclosed early, inl (omega (arith, early, knows.holds_nothing)))))
+    (owed (still_open rules image survivor entries more other knows sent unclosed early)))
 
 -- an event
 pub step_event : (rules : Rules) (image : Image) (survivor : Survivor) (entries : List Entry) (event : LinkEvent) (more : List Entry) (at_end : Bool) → Knows rules image survivor (entries ++ entry.Took event ∷ more)
-    → IsDue rules (items_in rules.bounds (entries ++ entry.Took event ∷ more)) survivor (moment_at entries at_end) (entry.Took event) → Walked rules.bounds entries survivor.now.state.sends → Walked rules.bounds (entries ++ entry.Took event ∷ []) survivor.now.state.sends
+    → IsDue rules (items_in rules.bounds (entries ++ entry.Took event ∷ more)) survivor (place_at entries at_end) (entry.Took event) → Walked rules.bounds entries survivor.now.state.sends → Walked rules.bounds (entries ++ entry.Took event ∷ []) survivor.now.state.sends
 unfolding start start_machine
 step_event rules image survivor entries event more at_end knows due walked =
     let whole : List Entry = entries ++ entry.Took event ∷ more in
     let items : List Item = items_in rules.bounds whole in
     let path : Path = due.way.path in
-    let asked : IsDueEvent rules survivor.plan path (moment_at entries at_end) = due.due in
+    let asked : IsDueEvent rules survivor.plan path (seen_at entries at_end path.state.machine.taken) = due.due in
     let later = sends_later rules.limits items survivor.plan path survivor.now (received rules.bounds entries) asked.asks due.way.on in
     let from = served_on rules.limits items survivor.plan (origin image) survivor.begun path knows.begins due.way.from in
     let timed : AreBetween 0 path.state.machine.taken path.state.sends = timed_on (origin image).state path.state (served_grows rules.limits items survivor.plan (origin image) path from) tt in
@@ -144,7 +170,8 @@ step_event rules image survivor entries event more at_end knows due walked =
       | inr found ↦
           let low = between_here 0 path.state.machine.taken walked.front found.0 found.1 (subst (AreBetween 0 path.state.machine.taken) found.2 timed) in
           absurd
-          (next_owed rules image survivor entries (entry.Took event ∷ more) at_end path.state.sends found.0 found.1 (found.1 ++ later.more) knows walked found.3 found.2 (omega (arith, low.1, asked.asks.taken))
+          (next_owed rules image survivor entries (entry.Took event ∷ more) at_end path.state.machine.taken path.state.sends found.0 found.1 (found.1 ++ later.more) knows walked found.3 found.2 (omega (arith, low.1, asked.asks.taken))
+          (λ opened. inl (opened, inl (omega (arith, low.1, knows.holds_nothing))))
           (λ stands is owed. asked.owes_nothing found.0 stands owed))
     ]
 
@@ -156,12 +183,12 @@ first_same : (x y : Send) (xs ys : List Send) → x ∷ xs ≡ y ∷ ys → x �
 first_same x y xs ys same = cc
 
 -- a piece: it is the next send, whole
-module _ (rules : Rules) (image : Image) (survivor : Survivor) (entries : List Entry) (conn : ℕ) (bytes : List ℕ) (more : List Entry) (at_end : Bool) (sends beyond : List Send) where
+module _ (rules : Rules) (image : Image) (survivor : Survivor) (entries : List Entry) (conn : ℕ) (bytes : List ℕ) (more : List Entry) (at_end : Bool) (count : ℕ) (sends beyond : List Send) where
   -- a send that is passed before another one
-  not_between : Knows rules image survivor (entries ++ entry.Gave conn bytes false ∷ more) → (walked : Walked rules.bounds entries survivor.now.state.sends) (due : IsDuePiece rules sends (moment_at entries at_end) conn bytes)
-      → survivor.now.state.sends ≡ sends ++ beyond → (at_end ≡ true → received rules.bounds (entries ++ entry.Gave conn bytes false ∷ more) ≤ received rules.bounds entries)
+  not_between : Knows rules image survivor (entries ++ entry.Gave conn bytes false ∷ more) → (walked : Walked rules.bounds entries survivor.now.state.sends) (due : IsDuePiece rules sends (seen_at entries at_end count) conn bytes)
+      → count ≤ received rules.bounds entries → survivor.now.state.sends ≡ sends ++ beyond → (at_end ≡ true → received rules.bounds (entries ++ entry.Gave conn bytes false ∷ more) ≤ received rules.bounds entries)
       → (other : Send) (mid : List Send) → due.stands.earlier ≡ walked.front ++ other ∷ mid → walked.rest ≡ (other ∷ mid) ++ (due.send ∷ (due.stands.later ++ beyond)) → ⊥
-  not_between knows walked due grown all other mid earlier rest =
+  not_between knows walked due low grown all other mid earlier rest =
       let whole : List Entry = entries ++ entry.Gave conn bytes false ∷ more in
       let behind : List Send = due.send ∷ (due.stands.later ++ beyond) in
       let events : List LinkEvent = heeded rules.bounds (events_in entries) in
@@ -170,18 +197,19 @@ module _ (rules : Rules) (image : Image) (survivor : Survivor) (entries : List E
       let every : survivor.now.state.sends ≡ walked.front ++ other ∷ (mid ++ behind) = walked.split ∙ ap (λ sends. walked.front ++ sends) rest in
       let last = between_here 0 survivor.now.state.machine.taken (walked.front ++ other ∷ mid) due.send (due.stands.later ++ beyond)
       (subst (AreBetween 0 survivor.now.state.machine.taken) (every ∙ sym (append_assoc walked.front (other ∷ mid) behind)) knows.timed) in
-      let early = owed_taken rules.bounds rules.hold entries at_end due.send closed_not (λ ended. omega (arith, all ended, knows.taken, last.1)) due.owed in
+      let early = owed_taken rules.bounds rules.hold entries at_end count due.send closed_not low (λ ended. omega (arith, all ended, knows.taken, last.1)) due.owed in
       let order = later_taken survivor.now.state.machine.taken walked.front other mid due.send (due.stands.later ++ beyond) (subst (AreInOrder survivor.now.state.machine.taken) every knows.ordered) in
       let split : sends ≡ walked.front ++ other ∷ (mid ++ due.send ∷ due.stands.later) =
       due.stands.split ∙ ap (λ front. front ++ due.send ∷ due.stands.later) earlier ∙ append_assoc walked.front (other ∷ mid) (due.send ∷ due.stands.later) in
-      let other_not : is_closing rules.bounds (moment_at entries at_end) other.conn ≡ false = and_nothing (is_closed_by (latest entries) other.conn) (closes other.conn events) unclosed.0 in
-      let send_not : is_closing rules.bounds (moment_at entries at_end) due.send.conn ≡ false = and_nothing (is_closed_by (latest entries) due.send.conn) (closes due.send.conn events) closed_not in
-      let count : length due.stands.earlier ≡ length walked.front + length (other ∷ mid) = ap length earlier ∙ length-append walked.front (other ∷ mid) in
-      next_owed rules image survivor entries (entry.Gave conn bytes false ∷ more) at_end sends other (mid ++ due.send ∷ due.stands.later) (mid ++ behind) knows walked rest split (omega (arith, order, early))
-      (λ stands is owed. due.in_order other stands (inr (other_not ∙ sym send_not, omega (arith, count, ap length is))) owed)
+      let other_not : is_closing rules.bounds (seen_at entries at_end count) other.conn ≡ false = and_nothing (is_closed_by (latest entries) other.conn) (closes other.conn events) unclosed.0 in
+      let send_not : is_closing rules.bounds (seen_at entries at_end count) due.send.conn ≡ false = and_nothing (is_closed_by (latest entries) due.send.conn) (closes due.send.conn events) closed_not in
+      let long : length due.stands.earlier ≡ length walked.front + length (other ∷ mid) = ap length earlier ∙ length-append walked.front (other ∷ mid) in
+      next_owed rules image survivor entries (entry.Gave conn bytes false ∷ more) at_end count sends other (mid ++ due.send ∷ due.stands.later) (mid ++ behind) knows walked rest split (omega (arith, order, early))
+      (λ opened. owed_too rules.bounds rules.hold entries at_end count due.send other closed_not opened (omega (arith, order)) due.owed)
+      (λ stands is owed. due.in_order other stands (inr (other_not ∙ sym send_not, omega (arith, long, ap length is))) owed)
 
   -- a send that was passed
-  not_before : (walked : Walked rules.bounds entries survivor.now.state.sends) (piece : IsWholePiece rules sends (moment_at entries at_end) conn bytes)
+  not_before : (walked : Walked rules.bounds entries survivor.now.state.sends) (piece : IsWholePiece rules sends (seen_at entries at_end count) conn bytes)
       → (mid : List Send) → walked.front ≡ piece.due.stands.earlier ++ piece.due.send ∷ mid → ⊥
   not_before walked piece mid front =
       let due = piece.due in
@@ -190,9 +218,9 @@ module _ (rules : Rules) (image : Image) (survivor : Survivor) (entries : List E
       let begins : Prefix (sent_to conn done) (sent_to conn walked.front) = prefix_sent conn done walked.front (mid, append_assoc due.stands.earlier (due.send ∷ []) mid ∙ sym front) in
       let none : length bytes ≡ 0 =
       omega (arith, ap length piece.whole, length-append (sent_to conn (passed_in rules.bounds entries)) bytes, ap length bytes_are, ap length begins.1, length-append (sent_to conn done) begins.0) in
-      piece.some (empty_list bytes none)
+      due.left (sym (append-nil (sent_to conn (passed_in rules.bounds entries))) ∙ ap (λ l. sent_to conn (passed_in rules.bounds entries) ++ l) (sym (empty_list bytes none)) ∙ piece.whole)
 
-  next_whole : (walked : Walked rules.bounds entries survivor.now.state.sends) (piece : IsWholePiece rules sends (moment_at entries at_end) conn bytes) → survivor.now.state.sends ≡ sends ++ beyond
+  next_whole : (walked : Walked rules.bounds entries survivor.now.state.sends) (piece : IsWholePiece rules sends (seen_at entries at_end count) conn bytes) → survivor.now.state.sends ≡ sends ++ beyond
       → piece.due.stands.earlier ≡ walked.front → walked.rest ≡ piece.due.send ∷ (piece.due.stands.later ++ beyond) → Walked rules.bounds (entries ++ entry.Gave conn bytes false ∷ []) survivor.now.state.sends
   next_whole walked piece grown earlier rest =
       let due = piece.due in
@@ -214,7 +242,7 @@ module _ (rules : Rules) (image : Image) (survivor : Survivor) (entries : List E
         unclosed = subst (λ es. AreUnclosed (heeded rules.bounds es) (due.stands.later ++ beyond)) events (subst (AreUnclosed (heeded rules.bounds (events_in entries))) rest walked.unclosed).1;
       }
 
-  of_mid : (walked : Walked rules.bounds entries survivor.now.state.sends) (piece : IsWholePiece rules sends (moment_at entries at_end) conn bytes) (mid : List Send)
+  of_mid : (walked : Walked rules.bounds entries survivor.now.state.sends) (piece : IsWholePiece rules sends (seen_at entries at_end count) conn bytes) (mid : List Send)
       → piece.due.stands.earlier ≡ walked.front ++ mid → walked.rest ≡ mid ++ (piece.due.send ∷ (piece.due.stands.later ++ beyond))
       → (piece.due.stands.earlier ≡ walked.front → walked.rest ≡ piece.due.send ∷ (piece.due.stands.later ++ beyond) → Walked rules.bounds (entries ++ entry.Gave conn bytes false ∷ []) survivor.now.state.sends)
       → ((other : Send) (mid : List Send) → piece.due.stands.earlier ≡ walked.front ++ other ∷ mid → walked.rest ≡ (other ∷ mid) ++ (piece.due.send ∷ (piece.due.stands.later ++ beyond)) → ⊥)
@@ -222,17 +250,17 @@ module _ (rules : Rules) (image : Image) (survivor : Survivor) (entries : List E
   of_mid walked piece [] earlier rest next never = next (earlier ∙ append-nil walked.front) rest
   of_mid walked piece (other ∷ mid) earlier rest next never = absurd (never other mid earlier rest)
 
-  pub step_whole : Knows rules image survivor (entries ++ entry.Gave conn bytes false ∷ more) → (walked : Walked rules.bounds entries survivor.now.state.sends) (piece : IsWholePiece rules sends (moment_at entries at_end) conn bytes)
-      → survivor.now.state.sends ≡ sends ++ beyond → (at_end ≡ true → received rules.bounds (entries ++ entry.Gave conn bytes false ∷ more) ≤ received rules.bounds entries)
+  pub step_whole : Knows rules image survivor (entries ++ entry.Gave conn bytes false ∷ more) → (walked : Walked rules.bounds entries survivor.now.state.sends) (piece : IsWholePiece rules sends (seen_at entries at_end count) conn bytes)
+      → count ≤ received rules.bounds entries → survivor.now.state.sends ≡ sends ++ beyond → (at_end ≡ true → received rules.bounds (entries ++ entry.Gave conn bytes false ∷ more) ≤ received rules.bounds entries)
       → Walked rules.bounds (entries ++ entry.Gave conn bytes false ∷ []) survivor.now.state.sends
-  step_whole knows walked piece grown all =
+  step_whole knows walked piece low grown all =
       let due = piece.due in
       let split : survivor.now.state.sends ≡ due.stands.earlier ++ (due.send ∷ (due.stands.later ++ beyond)) =
       grown ∙ ap (λ sends. sends ++ beyond) due.stands.split ∙ append_assoc due.stands.earlier (due.send ∷ due.stands.later) beyond in
       elim (two_splits due.stands.earlier (due.send ∷ (due.stands.later ++ beyond)) walked.front walked.rest (sym split ∙ walked.split)) [
         | inl found ↦ of_mid walked piece found.0 found.1 found.2
             (λ earlier rest. next_whole walked piece grown earlier rest)
-            (λ other mid earlier rest. not_between knows walked due grown all other mid earlier rest)
+            (λ other mid earlier rest. not_between knows walked due low grown all other mid earlier rest)
         | inr found ↦
             let here : due.send ≡ found.0 = first_same due.send found.0 (due.stands.later ++ beyond) (found.1 ++ walked.rest) found.3 in
             absurd (not_before walked piece found.1 (found.2 ∙ ap (λ send. due.stands.earlier ++ send ∷ found.1) (sym here)))

@@ -1,5 +1,5 @@
 -- The walk over a session's entries, up to its end: what is sent is passed.
-use Rattle.std.proofs.Common.{◌≡◌, ◌≤◌, Bool, true, false, List, [], ◌∷◌, ◌++◌, length, map, Option, refl, sym, ◌∙◌, ap, subst, arith, append-nil, append_assoc}
+use Rattle.std.proofs.Common.{◌≡◌, ◌≤◌, Bool, true, false, List, [], ◌∷◌, ◌++◌, length, map, Option, refl, sym, ◌∙◌, ap, subst, inl, inr, arith, append-nil, append_assoc}
 use Rattle.std.proofs.lemmas.Bool.{both_ways}
 use Rattle.rx_io.specs.declared.bytes.Item.{Item}
 use Rattle.rx_io.specs.declared.journal.Entry.{Entry}
@@ -25,30 +25,30 @@ use Rattle.account_laws.proofs.Asked.{served_grows}
 use Rattle.account_laws.proofs.Connected.{run_connected}
 use Rattle.account_laws.proofs.Fronts.{between_here, gone_here}
 use Rattle.account_laws.proofs.Closing.{received_longer, unclosed_nothing}
-use Rattle.account_laws.proofs.Pieces.{moment_at, Knows, Walked, next_owed, step_event, step_whole}
+use Rattle.account_laws.proofs.Pieces.{place_at, seen_at, Knows, Walked, next_owed, step_event, step_whole}
 
 -- one more entry
 step : (rules : Rules) (image : Image) (survivor : Survivor) (entries : List Entry) (e : Entry) (more : List Entry) (at_end : Bool) → Knows rules image survivor (entries ++ e ∷ more)
     → (at_end ≡ true → received rules.bounds (entries ++ e ∷ more) ≤ received rules.bounds entries)
-    → IsDue rules (items_in rules.bounds (entries ++ e ∷ more)) survivor (moment_at entries at_end) e → Walked rules.bounds entries survivor.now.state.sends → Walked rules.bounds (entries ++ e ∷ []) survivor.now.state.sends
+    → IsDue rules (items_in rules.bounds (entries ++ e ∷ more)) survivor (place_at entries at_end) e → Walked rules.bounds entries survivor.now.state.sends → Walked rules.bounds (entries ++ e ∷ []) survivor.now.state.sends
 step rules image survivor entries (entry.Took event) more at_end knows all due walked = step_event rules image survivor entries event more at_end knows due walked
 step rules image survivor entries (entry.Gave conn bytes true) more at_end knows all due walked =
     absurd (both_ways _ (knows.none_gone conn) (gone_here conn bytes entries more))
 step rules image survivor entries (entry.Gave conn bytes false) more at_end knows all due walked =
     let grows = served_grows rules.limits (items_in rules.bounds (entries ++ entry.Gave conn bytes false ∷ more)) survivor.plan due.way.path survivor.now due.way.on in
-    let piece : IsWholePiece rules due.way.path.state.sends (moment_at entries at_end) conn bytes = due.due in
-    step_whole rules image survivor entries conn bytes more at_end due.way.path.state.sends grows.more knows walked piece grows.sends all
+    let piece : IsWholePiece rules due.way.path.state.sends (seen_at entries at_end due.way.path.state.machine.taken) conn bytes = due.due in
+    step_whole rules image survivor entries conn bytes more at_end due.way.path.state.machine.taken due.way.path.state.sends grows.more knows walked piece due.early grows.sends all
 
 -- some entries, one after another
 walk : (rules : Rules) (image : Image) (survivor : Survivor) (whole entries todo more : List Entry) (at_end : Bool) → Knows rules image survivor whole → whole ≡ entries ++ (todo ++ more)
     → (at_end ≡ true → received rules.bounds whole ≤ received rules.bounds entries)
-    → AreDue rules (items_in rules.bounds whole) survivor (moment_at entries at_end) todo → Walked rules.bounds entries survivor.now.state.sends → Walked rules.bounds (entries ++ todo) survivor.now.state.sends
+    → AreDue rules (items_in rules.bounds whole) survivor (place_at entries at_end) todo → Walked rules.bounds entries survivor.now.state.sends → Walked rules.bounds (entries ++ todo) survivor.now.state.sends
 walk rules image survivor whole entries [] more at_end knows is all due walked = subst (λ es. Walked rules.bounds es survivor.now.state.sends) (sym (append-nil entries)) walked
 walk rules image survivor whole entries (e ∷ todo) more at_end knows is all due walked =
     let next : Walked rules.bounds (entries ++ e ∷ []) survivor.now.state.sends =
     step rules image survivor entries e (todo ++ more) at_end (subst (Knows rules image survivor) is knows)
     (λ ended. subst (λ es. received rules.bounds es ≤ received rules.bounds entries) is (all ended))
-    (subst (λ es. IsDue rules (items_in rules.bounds es) survivor (moment_at entries at_end) e) is due.0) walked in
+    (subst (λ es. IsDue rules (items_in rules.bounds es) survivor (place_at entries at_end) e) is due.0) walked in
     subst (λ es. Walked rules.bounds es survivor.now.state.sends) (append_assoc entries (e ∷ []) todo)
     (walk rules image survivor whole (entries ++ e ∷ []) todo more at_end knows (is ∙ sym (append_assoc entries (e ∷ []) (todo ++ more)))
     (λ ended. let longer = received_longer rules.bounds entries (e ∷ []) in omega (arith, all ended, longer)) due.1 next)
@@ -77,14 +77,14 @@ knows_all rules image session has =
 
 -- at the end no send is left
 none_left : (rules : Rules) (image : Image) (survivor : Survivor) (entries : List Entry) → Knows rules image survivor (entries ++ []) → (walked : Walked rules.bounds entries survivor.now.state.sends)
-    → OwesNothing rules.bounds rules.hold (moment_at entries true) survivor.now.state.sends → (rest : List Send) → walked.rest ≡ rest → survivor.now.state.sends ≡ walked.front
+    → OwesNothing rules.bounds rules.hold (seen_at entries true survivor.now.state.machine.taken) survivor.now.state.sends → (rest : List Send) → walked.rest ≡ rest → survivor.now.state.sends ≡ walked.front
 none_left rules image survivor entries knows walked owes [] is = walked.split ∙ ap (λ rest. walked.front ++ rest) is ∙ append-nil walked.front
 none_left rules image survivor entries knows walked owes (other ∷ rest) is =
     let split : survivor.now.state.sends ≡ walked.front ++ other ∷ rest = walked.split ∙ ap (λ sends. walked.front ++ sends) is in
     let low = between_here 0 survivor.now.state.machine.taken walked.front other rest (subst (AreBetween 0 survivor.now.state.machine.taken) split knows.timed) in
     let same = ap (received rules.bounds) (append-nil entries) in
     absurd
-    (next_owed rules image survivor entries [] true survivor.now.state.sends other rest rest knows walked is split (omega (arith, low.1, knows.taken, same))
+    (next_owed rules image survivor entries [] true survivor.now.state.machine.taken survivor.now.state.sends other rest rest knows walked is split (omega (arith, low.1, knows.taken, same)) (λ opened. inl (opened, inr refl))
     (λ stands at_front owed. owes other stands owed))
 
 -- a session of one survivor, of which no piece was broken off

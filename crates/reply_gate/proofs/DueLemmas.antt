@@ -158,11 +158,13 @@ first_due rules sends moment closing ledger conn bytes keeps fronts may first ow
         to = first.to;
         owed = owed;
         behind = first_behind rules.bounds (journal moment) closing sends ledger conn bytes keeps fronts may first;
+        left = (λ same.
+            let none : length bytes ≡ 0 = omega (arith, ap length same, ap length whole, length-append (sent_to conn (passed_in rules.bounds (journal moment))) bytes) in
+            absurd (omega (arith, none, first_length ledger conn bytes first, first.past, first.short)));
         part = ([], append-nil (sent_to conn (passed_in rules.bounds (journal moment)) ++ bytes) ∙ whole);
         in_order = in_order;
       };
       whole = whole;
-      some = (λ none. absurd (omega (arith, ap length none, first_length ledger conn bytes first, first.past, first.short)));
     }
 
 -- some first bytes of a due piece are due
@@ -173,6 +175,7 @@ front_due rules sends moment conn bytes front begins due = record {
   to = due.to;
   owed = due.owed;
   behind = due.behind;
+  left = due.left;
   part =
       prefix_trans (sent_to conn (passed_in rules.bounds (journal moment)) ++ front) (sent_to conn (passed_in rules.bounds (journal moment)) ++ bytes) (sent_to conn (due.stands.earlier ++ due.send ∷ []))
       (begins.0, append_assoc (sent_to conn (passed_in rules.bounds (journal moment))) front begins.0 ∙ ap (λ (l : List ℕ). sent_to conn (passed_in rules.bounds (journal moment)) ++ l) begins.1) due.part;

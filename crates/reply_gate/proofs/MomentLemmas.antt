@@ -113,8 +113,8 @@ due_by bounds first second conn taken (Some last) start opened closed gone h = b
 
 owed_at : (bounds : Bounds) (hold : ℕ) (first second : Moment) (send : Send) → first.start ≡ second.start → first.at_end ≡ second.at_end → latest first.since ≡ latest second.since
     → is_open bounds (journal second) send.conn ≡ is_open bounds (journal first) send.conn → closes send.conn (heeded bounds (events_in (journal second))) ≡ closes send.conn (heeded bounds (events_in (journal first)))
-    → is_gone send.conn (journal second) ≡ false → received bounds (journal second) ≡ received bounds (journal first) → IsOwed bounds hold first send → IsOwed bounds hold second send
-owed_at bounds hold first second send start end last opened closed gone count (inl (is, inl enough)) = inl (opened ∙ is, inl (subst (λ (n : ℕ). send.taken + hold ≤ n) (sym count) enough))
+    → is_gone send.conn (journal second) ≡ false → first.taken ≡ second.taken → IsOwed bounds hold first send → IsOwed bounds hold second send
+owed_at bounds hold first second send start end last opened closed gone count (inl (is, inl enough)) = inl (opened ∙ is, inl (subst (λ (n : ℕ). send.taken + hold ≤ n) count enough))
 owed_at bounds hold first second send start end last opened closed gone count (inl (is, inr at_end)) = inl (opened ∙ is, inr (sym end ∙ at_end))
 owed_at bounds hold first second send start end last opened closed gone count (inr due) =
     inr (subst (IsDueBy bounds second send.conn send.taken) last (due_by bounds first second send.conn send.taken (latest first.since) start opened closed gone due))
@@ -128,7 +128,7 @@ owed_then bounds hold moment conn bytes gone send still owed =
     let here : is_gone send.conn (journal moment ++ e ∷ []) ≡ false = sym (ap (is_gone send.conn) same) ∙ still in
     owed_at bounds hold moment (then_entry moment e) send refl refl (sym (latest-gave moment.since conn bytes gone))
     (ap (λ (entries : List Entry). is_open bounds entries send.conn) same ∙ is_open-same bounds (journal moment) conn bytes gone send.conn here)
-    (ap (λ (entries : List Entry). closes send.conn (heeded bounds (events_in entries))) same ∙ closes-gave bounds (journal moment) conn bytes gone send.conn) still (received-gave bounds moment conn bytes gone) owed
+    (ap (λ (entries : List Entry). closes send.conn (heeded bounds (events_in entries))) same ∙ closes-gave bounds (journal moment) conn bytes gone send.conn) still refl owed
 
 -- nothing is owed to a connection that is gone
 pub due_not_gone : (bounds : Bounds) (moment : Moment) (conn taken : ℕ) (last : Option Latest) → IsDueBy bounds moment conn taken last → is_gone conn (journal moment) ≡ false
@@ -156,7 +156,7 @@ owed_before bounds hold moment conn bytes gone send owed =
     owed_at bounds hold (then_entry moment e) moment send refl refl (latest-gave moment.since conn bytes gone)
     (sym (ap (λ (entries : List Entry). is_open bounds entries send.conn) same ∙ is_open-same bounds (journal moment) conn bytes gone send.conn here))
     (sym (ap (λ (entries : List Entry). closes send.conn (heeded bounds (events_in entries))) same ∙ closes-gave bounds (journal moment) conn bytes gone send.conn))
-    (not_gone (journal moment) conn bytes gone send.conn here) (sym (received-gave bounds moment conn bytes gone)) owed
+    (not_gone (journal moment) conn bytes gone send.conn here) refl owed
 
 -- an owed send is to an open connection, or to one that closes
 pub due_open : (bounds : Bounds) (moment : Moment) (conn taken : ℕ) (last : Option Latest) → (is_closed_by last conn && closes conn (heeded bounds (events_in (journal moment)))) ≡ false → IsDueBy bounds moment conn taken last → is_open bounds (journal moment) conn ≡ true

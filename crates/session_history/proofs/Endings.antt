@@ -16,11 +16,11 @@ use Rattle.session_history.specs.Heeding.{Bounds, heeded, items_in}
 use Rattle.session_history.specs.Owing.{Moment, Stands, OwesNothing}
 use Rattle.session_history.specs.Passing.{passed_in}
 use Rattle.session_history.specs.Opened.{is_open}
-use Rattle.session_history.specs.Lawful.{Rules, Survivor, IsDue, AreDue, AreLawful, Chapter, entries_of, IsDuePiece}
+use Rattle.session_history.specs.Lawful.{Rules, Survivor, IsDue, AreDue, AreLawful, Chapter, entries_of, place_of, IsDuePiece}
 use Rattle.session_history.specs.Account.{Session, journal_of, IsBroken, IsAccount, HasPassedAll}
 use Rattle.session_history.specs.Giving.{AreGiven}
 use Rattle.session_history.specs.Ends.{before_end}
-use Rattle.session_history.specs.Serving.{Carries, moment_of, Serving, ending_at, Ending}
+use Rattle.session_history.specs.Serving.{Carries, Serving, ending_at, Ending}
 use Rattle.session_history.proofs.Paths.{served_same, served_on}
 use Rattle.session_history.proofs.Heeding.{events_in-gave, items_in-gave}
 use Rattle.session_history.proofs.Accounts.{carries_piece, carries_run}
@@ -35,13 +35,13 @@ ending_none rules image earlier survivor since at_end serving =
       carries = subst (λ es. Carries rules image es survivor.plan survivor.now) none serving.carries;
       begins = subst (λ its. Served rules.limits its survivor.plan (origin image) survivor.begun) items serving.begins;
       before = subst (λ its. AreLawful rules its [] earlier) items serving.before;
-      due = subst (λ its. AreDue rules its survivor (moment_of earlier []) since) items serving.due;
+      due = subst (λ its. AreDue rules its survivor (place_of earlier [] false) since) items serving.due;
       last = tt;
     }
 
 -- one more piece at the end
 pub ending_piece : (rules : Rules) (image : Image) (earlier : List Chapter) (survivor : Survivor) (since ending : List Entry) (at_end : Bool) (conn : ℕ) (bytes : List ℕ) (gone : Bool) → Ending rules image earlier survivor since ending at_end
-    → IsDue rules (items_in rules.bounds (entries_of earlier ++ (since ++ ending))) survivor (ending_at earlier (since ++ ending) at_end) (entry.Gave conn bytes gone)
+    → IsDue rules (items_in rules.bounds (entries_of earlier ++ (since ++ ending))) survivor (place_of earlier (since ++ ending) at_end) (entry.Gave conn bytes gone)
     → Ending rules image earlier survivor since (ending ++ entry.Gave conn bytes gone ∷ []) at_end
 ending_piece rules image earlier survivor since ending at_end conn bytes gone was due =
     let entries : List Entry = entries_of earlier ++ (since ++ ending) in
@@ -53,12 +53,12 @@ ending_piece rules image earlier survivor since ending at_end conn bytes gone wa
     record {
       carries =
           subst (λ es. Carries rules image es survivor.plan survivor.now) same
-          (carries_piece rules image (ending_at earlier (since ++ ending) at_end) conn bytes gone survivor.plan due.way.path survivor.now was.carries
-          (served_on rules.limits items survivor.plan (origin image) survivor.begun due.way.path was.begins due.way.from) due.way.on (piece_due rules items survivor (ending_at earlier (since ++ ending) at_end) conn bytes gone due));
+          (carries_piece rules image (ending_at earlier (since ++ ending) at_end due.way.path.state.machine.taken) conn bytes gone survivor.plan due.way.path survivor.now was.carries
+          (served_on rules.limits items survivor.plan (origin image) survivor.begun due.way.path was.begins due.way.from) due.way.on (piece_due rules items survivor (place_of earlier (since ++ ending) at_end) conn bytes gone due));
       begins = subst (λ its. Served rules.limits its survivor.plan (origin image) survivor.begun) kept was.begins;
       before = subst (λ its. AreLawful rules its [] earlier) kept was.before;
-      due = subst (λ its. AreDue rules its survivor (moment_of earlier []) since) kept was.due;
-      last = subst (λ its. AreDue rules its survivor (ending_at earlier since at_end) (ending ++ more)) kept (are_due_then rules items survivor (ending_at earlier since at_end) ending (entry.Gave conn bytes gone) was.last due);
+      due = subst (λ its. AreDue rules its survivor (place_of earlier [] false) since) kept was.due;
+      last = subst (λ its. AreDue rules its survivor (place_of earlier since at_end) (ending ++ more)) kept (are_due_then rules items survivor (place_of earlier since at_end) ending (entry.Gave conn bytes gone) was.last due);
     }
 
 -- the account of a session at its end
@@ -76,14 +76,14 @@ ending_account rules image earlier survivor since ending at_end was =
       passed = carries.covers;
       feasible = carries.feasible;
       earlier = subst (λ its. AreLawful rules its [] earlier) items was.before;
-      since = subst (λ its. AreDue rules its survivor (moment_of earlier []) since) items was.due;
-      ending = subst (λ its. AreDue rules its survivor (ending_at earlier since at_end) ending) items was.last;
+      since = subst (λ its. AreDue rules its survivor (place_of earlier [] false) since) items was.due;
+      ending = subst (λ its. AreDue rules its survivor (place_of earlier since at_end) ending) items was.last;
       broken = tt;
     }
 
 -- and of one whose last piece was broken off
 pub broken_account : (rules : Rules) (image : Image) (earlier : List Chapter) (survivor : Survivor) (since ending : List Entry) (at_end : Bool) (conn : ℕ) (bytes : List ℕ) → Ending rules image earlier survivor since ending at_end
-    → IsDuePiece rules survivor.now.state.sends (ending_at earlier (since ++ ending) at_end) conn bytes
+    → IsDuePiece rules survivor.now.state.sends (ending_at earlier (since ++ ending) at_end survivor.now.state.machine.taken) conn bytes
     → Served rules.limits (items_in rules.bounds (entries_of earlier ++ (since ++ ending))) survivor.plan survivor.begun survivor.now
     → IsAccount rules image (record { earlier = earlier; survivor = survivor; since = since; ending = ending; broken = entry.Gave conn bytes false ∷ [] }) at_end
 broken_account rules image earlier survivor since ending at_end conn bytes was due from =
@@ -95,7 +95,7 @@ broken_account rules image earlier survivor since ending at_end conn bytes was d
     let kept : items ≡ items_in rules.bounds (entries_of earlier ++ (since ++ (ending ++ more))) = sym (items_in-gave rules.bounds entries conn bytes false) ∙ ap (items_in rules.bounds) same in
     let carries : Carries rules image (entries_of earlier ++ (since ++ (ending ++ more))) survivor.plan survivor.now =
     subst (λ es. Carries rules image es survivor.plan survivor.now) same
-    (carries_piece rules image (ending_at earlier (since ++ ending) at_end) conn bytes false survivor.plan survivor.now survivor.now was.carries
+    (carries_piece rules image (ending_at earlier (since ++ ending) at_end survivor.now.state.machine.taken) conn bytes false survivor.plan survivor.now survivor.now was.carries
     (served_on rules.limits items survivor.plan (origin image) survivor.begun survivor.now was.begins from) (served_same rules.limits items survivor.plan survivor.now) due) in
     record {
       ran = carries_run rules image (entries_of earlier ++ (since ++ (ending ++ more))) survivor.plan survivor.now carries;
@@ -105,13 +105,13 @@ broken_account rules image earlier survivor since ending at_end conn bytes was d
       passed = carries.covers;
       feasible = carries.feasible;
       earlier = subst (λ its. AreLawful rules its [] earlier) kept was.before;
-      since = subst (λ its. AreDue rules its survivor (moment_of earlier []) since) kept was.due;
-      ending = subst (λ its. AreDue rules its survivor (ending_at earlier since at_end) ending) kept was.last;
+      since = subst (λ its. AreDue rules its survivor (place_of earlier [] false) since) kept was.due;
+      ending = subst (λ its. AreDue rules its survivor (place_of earlier since at_end) ending) kept was.last;
       broken = due;
     }
 
 -- two fronts of one another are one
-fronts_same : {X : Type 0} (xs ys : List X) → Prefix xs ys → Prefix ys xs → xs ≡ ys
+pub fronts_same : {X : Type 0} (xs ys : List X) → Prefix xs ys → Prefix ys xs → xs ≡ ys
 fronts_same xs ys one other = of one.0 one.1 (omega (arith, ap length one.1, ap length other.1, length-append xs one.0, length-append ys other.0))
   where
     of : (rest : List _) → xs ++ rest ≡ ys → length rest ≡ 0 → xs ≡ ys
@@ -131,7 +131,7 @@ all_passed conn sends front (send ∷ back) passed split each was =
 
 -- a session at its end that owes nothing has passed all that its connections still open are sent
 pub passed_all : (rules : Rules) (image : Image) (session : Session) → ((conn : ℕ) → Prefix (sent_to conn (passed_in rules.bounds (journal_of session))) (output session.survivor.now.state conn))
-    → OwesNothing rules.bounds rules.hold (record { start = entries_of session.earlier; since = session.since ++ (session.ending ++ session.broken); at_end = true }) session.survivor.now.state.sends → HasPassedAll rules session
+    → OwesNothing rules.bounds rules.hold (record { start = entries_of session.earlier; since = session.since ++ (session.ending ++ session.broken); at_end = true; taken = session.survivor.now.state.machine.taken }) session.survivor.now.state.sends → HasPassedAll rules session
 passed_all rules image session fronts owes conn is_opened =
     let sends : List Send = session.survivor.now.state.sends in
     let passed : List ℕ = sent_to conn (passed_in rules.bounds (journal_of session)) in

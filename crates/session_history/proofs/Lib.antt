@@ -1,5 +1,6 @@
 pub mod Paths
 pub mod Due
+pub mod Owing
 pub mod Heeding
 pub mod Examples
 pub mod Growing

@@ -12,8 +12,8 @@ use Rattle.session_history.specs.Heeding.{items_in, received}
 use Rattle.session_history.specs.Passing.{passed_in, Covers, IsFeasible}
 use Rattle.session_history.proofs.Passing.{timed_on}
 use Rattle.session_history.proofs.Accounts.{Went, went}
-use Rattle.session_history.specs.Owing.{Moment}
-use Rattle.session_history.specs.Lawful.{Rules, Survivor, IsDue, AreDue, AreLawful, Chapter, entries_of, IsDuePiece, IsWholePiece}
+use Rattle.session_history.specs.Owing.{Place, moment_at}
+use Rattle.session_history.specs.Lawful.{Rules, Survivor, IsDue, AreDue, AreLawful, LeavesNothing, Chapter, entries_of, place_of, IsDuePiece, IsWholePiece}
 use Rattle.session_history.specs.Account.{IsAccount}
 use Rattle.session_history.specs.Serving.{gone_on, Carries, moment_of, Serving, first_survivor}
 use Rattle.session_history.proofs.Paths.{served_same, served_on, served_with}
@@ -32,12 +32,12 @@ serving_on rules image earlier survivor since to serving on taken = record {
   carries = carries_on rules image (entries_of earlier ++ since) survivor.plan survivor.now to serving.carries on taken;
   begins = serving.begins;
   before = serving.before;
-  due = are_due_on rules (items_in rules.bounds (entries_of earlier ++ since)) survivor to (moment_of earlier []) since on serving.due;
+  due = are_due_on rules (items_in rules.bounds (entries_of earlier ++ since)) survivor to (place_of earlier [] false) since on serving.due;
 }
 
 -- an event that is due is taken: with the items that it brings, or none where it is refused
 pub serving_event : (rules : Rules) (image : Image) (earlier : List Chapter) (survivor : Survivor) (since : List Entry) (event : LinkEvent) (more : List Item) → Serving rules image earlier survivor since
-    → IsDue rules (items_in rules.bounds (entries_of earlier ++ since)) survivor (moment_of earlier since) (entry.Took event)
+    → IsDue rules (items_in rules.bounds (entries_of earlier ++ since)) survivor (place_of earlier since false) (entry.Took event)
     → items_in rules.bounds ((entries_of earlier ++ since) ++ entry.Took event ∷ []) ≡ items_in rules.bounds (entries_of earlier ++ since) ++ more
     → Serving rules image earlier survivor (since ++ entry.Took event ∷ [])
 serving_event rules image earlier survivor since event more serving due brings =
@@ -50,19 +50,20 @@ serving_event rules image earlier survivor since event more serving due brings =
       begins = subst (λ its. Served rules.limits its survivor.plan (origin image) survivor.begun) grown (served_with rules.limits items more survivor.plan (origin image) survivor.begun serving.begins);
       before = subst (λ its. AreLawful rules its [] earlier) grown (are_lawful_with rules items more [] earlier serving.before);
       due =
-          subst (λ its. AreDue rules its survivor (moment_of earlier []) (since ++ entry.Took event ∷ [])) grown
-          (are_due_then rules (items ++ more) survivor (moment_of earlier []) since (entry.Took event) (are_due_with rules items more survivor (moment_of earlier []) since serving.due)
-          (due_with rules items more survivor (moment_of earlier since) (entry.Took event) due));
+          subst (λ its. AreDue rules its survivor (place_of earlier [] false) (since ++ entry.Took event ∷ [])) grown
+          (are_due_then rules (items ++ more) survivor (place_of earlier [] false) since (entry.Took event) (are_due_with rules items more survivor (place_of earlier [] false) since serving.due)
+          (due_with rules items more survivor (place_of earlier since false) (entry.Took event) due));
     }
 
 -- a piece that is due is passed, whole, or in part to a connection that is gone
-pub piece_due : (rules : Rules) (items : List Item) (survivor : Survivor) (moment : Moment) (conn : ℕ) (bytes : List ℕ) (gone : Bool) (due : IsDue rules items survivor moment (entry.Gave conn bytes gone))
-    → IsDuePiece rules due.way.path.state.sends moment conn bytes
-piece_due rules items survivor moment conn bytes true due = due.due
-piece_due rules items survivor moment conn bytes false due = let whole : IsWholePiece rules due.way.path.state.sends moment conn bytes = due.due in whole.due
+pub piece_due : (rules : Rules) (items : List Item) (survivor : Survivor) (place : Place) (conn : ℕ) (bytes : List ℕ) (gone : Bool) (due : IsDue rules items survivor place (entry.Gave conn bytes gone))
+    → IsDuePiece rules due.way.path.state.sends (moment_at place due.way.path.state.machine.taken) conn bytes
+piece_due rules items survivor place conn bytes true due = due.due
+piece_due rules items survivor place conn bytes false due =
+    let whole : IsWholePiece rules due.way.path.state.sends (moment_at place due.way.path.state.machine.taken) conn bytes = due.due in whole.due
 
 pub serving_piece : (rules : Rules) (image : Image) (earlier : List Chapter) (survivor : Survivor) (since : List Entry) (conn : ℕ) (bytes : List ℕ) (gone : Bool) → Serving rules image earlier survivor since
-    → IsDue rules (items_in rules.bounds (entries_of earlier ++ since)) survivor (moment_of earlier since) (entry.Gave conn bytes gone)
+    → IsDue rules (items_in rules.bounds (entries_of earlier ++ since)) survivor (place_of earlier since false) (entry.Gave conn bytes gone)
     → Serving rules image earlier survivor (since ++ entry.Gave conn bytes gone ∷ [])
 serving_piece rules image earlier survivor since conn bytes gone serving due =
     let entries : List Entry = entries_of earlier ++ since in
@@ -72,13 +73,13 @@ serving_piece rules image earlier survivor since conn bytes gone serving due =
     record {
       carries =
           subst (λ es. Carries rules image es survivor.plan survivor.now) same
-          (carries_piece rules image (moment_of earlier since) conn bytes gone survivor.plan due.way.path survivor.now serving.carries
-          (served_on rules.limits items survivor.plan (origin image) survivor.begun due.way.path serving.begins due.way.from) due.way.on (piece_due rules items survivor (moment_of earlier since) conn bytes gone due));
+          (carries_piece rules image (moment_of earlier since due.way.path.state.machine.taken) conn bytes gone survivor.plan due.way.path survivor.now serving.carries
+          (served_on rules.limits items survivor.plan (origin image) survivor.begun due.way.path serving.begins due.way.from) due.way.on (piece_due rules items survivor (place_of earlier since false) conn bytes gone due));
       begins = subst (λ its. Served rules.limits its survivor.plan (origin image) survivor.begun) kept serving.begins;
       before = subst (λ its. AreLawful rules its [] earlier) kept serving.before;
       due =
-          subst (λ its. AreDue rules its survivor (moment_of earlier []) (since ++ entry.Gave conn bytes gone ∷ [])) kept
-          (are_due_then rules items survivor (moment_of earlier []) since (entry.Gave conn bytes gone) serving.due due);
+          subst (λ its. AreDue rules its survivor (place_of earlier [] false) (since ++ entry.Gave conn bytes gone ∷ [])) kept
+          (are_due_then rules items survivor (place_of earlier [] false) since (entry.Gave conn bytes gone) serving.due due);
     }
 
 -- a session that serves has an account
@@ -97,7 +98,7 @@ serving_account rules image earlier survivor since at_end serving =
       passed = carries.covers;
       feasible = carries.feasible;
       earlier = subst (λ its. AreLawful rules its [] earlier) items serving.before;
-      since = subst (λ its. AreDue rules its survivor (moment_of earlier []) since) items serving.due;
+      since = subst (λ its. AreDue rules its survivor (place_of earlier [] false) since) items serving.due;
       ending = tt;
       broken = tt;
     }
@@ -109,22 +110,29 @@ entries_of-then (first ∷ chapters) chapter = ap (λ es. first.entries ++ es) (
 
 -- one more chapter that is lawful behind those that are
 are_lawful_then : (rules : Rules) (items : List Item) (before : List Entry) (chapters : List Chapter) (chapter : Chapter) → AreLawful rules items before chapters
-    → AreDue rules items chapter.survivor (record { start = before ++ entries_of chapters; since = []; at_end = false }) chapter.entries → AreLawful rules items before (chapters ++ chapter ∷ [])
-are_lawful_then rules items before [] chapter are due =
-    (subst (λ start. AreDue rules items chapter.survivor (record { start = start; since = []; at_end = false }) chapter.entries) (append-nil before) due, tt)
-are_lawful_then rules items before (first ∷ chapters) chapter are due = (
-  are.0,
-  are_lawful_then rules items (before ++ first.entries) chapters chapter are.1
-      (subst (λ start. AreDue rules items chapter.survivor (record { start = start; since = []; at_end = false }) chapter.entries) (sym (append_assoc before first.entries (entries_of chapters))) due),
+    → AreDue rules items chapter.survivor (record { start = before ++ entries_of chapters; since = []; at_end = false }) chapter.entries → LeavesNothing rules (before ++ entries_of chapters) chapter.entries chapter.survivor
+    → AreLawful rules items before (chapters ++ chapter ∷ [])
+are_lawful_then rules items before [] chapter are due leaves = (
+  subst (λ start. AreDue rules items chapter.survivor (record { start = start; since = []; at_end = false }) chapter.entries) (append-nil before) due,
+  subst (λ start. LeavesNothing rules start chapter.entries chapter.survivor) (append-nil before) leaves,
+  tt,
 )
+are_lawful_then rules items before (first ∷ chapters) chapter are due leaves =
+    let same : before ++ (first.entries ++ entries_of chapters) ≡ (before ++ first.entries) ++ entries_of chapters = sym (append_assoc before first.entries (entries_of chapters)) in (
+      are.0,
+      are.1,
+      are_lawful_then rules items (before ++ first.entries) chapters chapter are.2
+          (subst (λ start. AreDue rules items chapter.survivor (record { start = start; since = []; at_end = false }) chapter.entries) same due)
+          (subst (λ start. LeavesNothing rules start chapter.entries chapter.survivor) same leaves),
+    )
 
--- another survivor is adopted: a run from the start under its plan, which emits what was passed, and in time
-pub serving_adopts : (rules : Rules) (image : Image) (earlier : List Chapter) (survivor : Survivor) (since : List Entry) (plan : List Override) (to : Path) → Serving rules image earlier survivor since
+-- another survivor is adopted where this one owes nothing: a run from the start under its plan, which emits what was passed, and in time
+pub serving_adopts : (rules : Rules) (image : Image) (earlier : List Chapter) (survivor : Survivor) (since : List Entry) (plan : List Override) (to : Path) → Serving rules image earlier survivor since → LeavesNothing rules (entries_of earlier) since survivor
     → Served rules.limits (items_in rules.bounds (entries_of earlier ++ since)) plan (origin image) to → to.state.machine.taken ≤ received rules.bounds (entries_of earlier ++ since)
     → Covers (passed_in rules.bounds (entries_of earlier ++ since)) to.state → IsFeasible (passed_in rules.bounds (entries_of earlier ++ since)) to.state
     → Serving rules image (earlier ++ record { survivor = survivor; entries = since } ∷ []) (record { plan = plan; begun = to; now = to }) []
 unfolding start start_machine
-serving_adopts rules image earlier survivor since plan to serving ran taken covers feasible =
+serving_adopts rules image earlier survivor since plan to serving leaves ran taken covers feasible =
     let entries : List Entry = entries_of earlier ++ since in
     let items : List Item = items_in rules.bounds entries in
     let chapter : Chapter = record { survivor = survivor; entries = since } in
@@ -141,6 +149,6 @@ serving_adopts rules image earlier survivor since plan to serving ran taken cove
     record {
       carries = subst (λ es. Carries rules image es plan to) same carries;
       begins = subst (λ es. Served rules.limits (items_in rules.bounds es) plan (origin image) to) same ran;
-      before = subst (λ es. AreLawful rules (items_in rules.bounds es) [] (earlier ++ chapter ∷ [])) same (are_lawful_then rules items [] earlier chapter serving.before serving.due);
+      before = subst (λ es. AreLawful rules (items_in rules.bounds es) [] (earlier ++ chapter ∷ [])) same (are_lawful_then rules items [] earlier chapter serving.before serving.due leaves);
       due = tt;
     }

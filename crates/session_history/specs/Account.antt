@@ -10,8 +10,8 @@ use Rattle.run_history.specs.Served.{Served, origin}
 use Rattle.session_history.specs.Heeding.{items_in}
 use Rattle.session_history.specs.Opened.{is_open}
 use Rattle.session_history.specs.Passing.{passed_in, IsFeasible}
-use Rattle.session_history.specs.Owing.{Moment}
-use Rattle.session_history.specs.Lawful.{Rules, Survivor, Chapter, entries_of, AreDue, AreLawful, IsDuePiece}
+use Rattle.session_history.specs.Owing.{Moment, moment_at}
+use Rattle.session_history.specs.Lawful.{Rules, Survivor, Chapter, entries_of, place_of, AreDue, AreLawful, IsDuePiece}
 
 -- A session as data: the chapters of earlier survivors, oldest first; the survivor, with the entries since it was adopted; the
 -- pieces that were passed when the session had come to its end; and the piece that a fault broke off, if one did.
@@ -32,12 +32,12 @@ IsBroken rules sends moment [] = Unit {0}
 IsBroken rules sends moment (entry.Gave conn bytes false ∷ []) = IsDuePiece rules sends moment conn bytes
 IsBroken rules sends moment _ = ⊥
 
--- the moment behind the entries since the survivor was adopted, and behind those of the end
+-- the moment behind the entries since the survivor was adopted, and behind those of the end, where it stands now
 abbrev pub after_since : Session → Bool → Moment
-after_since session at_end = record { start = entries_of session.earlier; since = session.since; at_end = at_end }
+after_since session at_end = moment_at (place_of session.earlier session.since at_end) session.survivor.now.state.machine.taken
 
 abbrev pub after_ending : Session → Bool → Moment
-after_ending session at_end = record { start = entries_of session.earlier; since = session.since ++ session.ending; at_end = at_end }
+after_ending session at_end = moment_at (place_of session.earlier (session.since ++ session.ending) at_end) session.survivor.now.state.machine.taken
 
 -- The account of a session of an image: there is one run, on the items received, of which each answer of malloc is one that C
 -- allows; each connection was passed a prefix of what it sends there, and nothing that it sends later; and the journal is lawful.
@@ -49,8 +49,8 @@ pub record IsAccount (rules : Rules) (image : Image) (session : Session) (at_end
   pub passed : (conn : ℕ) → Prefix (sent_to conn (passed_in rules.bounds (journal_of session))) (output session.survivor.now.state conn)
   pub feasible : IsFeasible (passed_in rules.bounds (journal_of session)) session.survivor.now.state
   pub earlier : AreLawful rules (items_in rules.bounds (journal_of session)) [] session.earlier
-  pub since : AreDue rules (items_in rules.bounds (journal_of session)) session.survivor (after_since (record session { since = [] }) false) session.since
-  pub ending : AreDue rules (items_in rules.bounds (journal_of session)) session.survivor (after_since session at_end) session.ending
+  pub since : AreDue rules (items_in rules.bounds (journal_of session)) session.survivor (place_of session.earlier [] false) session.since
+  pub ending : AreDue rules (items_in rules.bounds (journal_of session)) session.survivor (place_of session.earlier session.since at_end) session.ending
   pub broken : IsBroken rules session.survivor.now.state.sends (after_ending session at_end) session.broken
 
 -- the session has passed all that its connections still open are owed

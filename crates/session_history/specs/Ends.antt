@@ -84,13 +84,15 @@ WasAsked rules session = IsWaiting rules (before_end session) session.survivor �
 abbrev pub HasNoEnding : Session → Type 0
 HasNoEnding session = (session.ending ≡ []) × (session.broken ≡ [])
 
--- What stands behind each answer of a session. At an end its cause holds, and all was passed. At a fault of reading an event was
--- asked for.
+-- What stands behind each answer of a session. At an end its cause holds, and all was passed; where the program failed, what was
+-- owed then was passed before. At a fault of reading an event was asked for.
 abbrev pub EndsBy : Rules → Option Coming → Session → Answer → Type 0
 EndsBy rules coming session answer.ReadFault = WasAsked rules session × HasNoEnding session
 EndsBy rules coming session answer.WriteFault = Unit {0}
 EndsBy rules coming session answer.FileFault = Unit {0}
 EndsBy rules coming session answer.Memory = Unit {0}
+EndsBy rules coming session (answer.GaveUp point cause) =
+    StandsAt rules (before_end session) coming session.survivor (answer.GaveUp point cause) × OwesNothingAtEnd rules session × (session.broken ≡ []) × OwesNothingBefore rules session
 EndsBy rules coming session end = StandsAt rules (before_end session) coming session.survivor end × OwesNothingAtEnd rules session × (session.broken ≡ [])
 
 -- What a session leaves at each answer, by what its link told before and after, by whether events may still be taken there, and by its

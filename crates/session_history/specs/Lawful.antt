@@ -1,6 +1,6 @@
 -- The journal of a session is lawful where each reply comes when it is owed, and no event comes before it is asked for. It is
 -- told in chapters, one for each survivor: a chapter has the entries of its survivor's time.
-use Rattle.std.specs.Prelude.{◌≡◌, ◌≢◌, ℕ, ◌<◌, List, [], ◌∷◌, ◌++◌, length, Bool, true, false, Option, None, Some, ◌⊎◌, ◌==◌, ◌&&◌}
+use Rattle.std.specs.Prelude.{◌≡◌, ◌≢◌, ℕ, ◌<◌, ◌≤◌, List, [], ◌∷◌, ◌++◌, length, Bool, true, false, Option, None, Some, ◌⊎◌, ◌==◌, ◌&&◌}
 use Rattle.rx_io.specs.declared.bytes.Item.{Item}
 use Rattle.rx_io.specs.declared.journal.Entry.{Entry}
 use Rattle.rx_io.specs.declared.journal.Entry.TheVariants as entry
@@ -13,7 +13,7 @@ use Rattle.rx_io.specs.Links.{events_in}
 use Rattle.session_history.specs.Heeding.{Bounds, heeded, received, AreHeeded}
 use Rattle.session_history.specs.Opened.{closes}
 use Rattle.session_history.specs.Passing.{passed_in}
-use Rattle.session_history.specs.Owing.{Moment, journal, Latest, latest, IsOwed, IsPassed, OwesNothing, Stands}
+use Rattle.session_history.specs.Owing.{Place, Moment, moment_at, journal, Latest, latest, IsOwed, IsPassed, OwesNothing, Stands}
 
 -- what a session allows its guest and its link, and how many items more have to be received before a reply is passed
 pub record Rules : Type 0 where
@@ -64,21 +64,21 @@ GoesBefore bounds moment {first = first} {second = second} one other =
     ⊎ ((is_closing bounds moment first.conn ≡ is_closing bounds moment second.conn) × (length one.earlier < length other.earlier))
 
 -- A piece is some first bytes of what its connection wasn't passed of one send of the survivor: the send is owed, all before
--- it to its connection was passed, and so was all that is owed and goes before it.
+-- it to its connection was passed, but not all of the send itself, and all was passed that is owed and goes before it.
 pub record IsDuePiece (rules : Rules) (sends : List Send) (moment : Moment) (conn : ℕ) (bytes : List ℕ) : Type 0 where
   pub send : Send
   pub stands : Stands sends send
   pub to : send.conn ≡ conn
   pub owed : IsOwed rules.bounds rules.hold moment send
   pub behind : Prefix (sent_to conn stands.earlier) (sent_to conn (passed_in rules.bounds (journal moment)))
+  pub left : sent_to conn (passed_in rules.bounds (journal moment)) ≢ sent_to conn (stands.earlier ++ send ∷ [])
   pub part : Prefix (sent_to conn (passed_in rules.bounds (journal moment)) ++ bytes) (sent_to conn (stands.earlier ++ send ∷ []))
   pub in_order : (other : Send) (of_other : Stands sends other) → GoesBefore rules.bounds moment of_other stands → IsOwed rules.bounds rules.hold moment other → IsPassed rules.bounds (journal moment) sends other of_other
 
--- with this piece a connection was passed all of the send: none of it is left, and it wasn't passed before
+-- with this piece a connection was passed all of the send: none of it is left
 pub record IsWholePiece (rules : Rules) (sends : List Send) (moment : Moment) (conn : ℕ) (bytes : List ℕ) : Type 0 where
   pub due : IsDuePiece rules sends moment conn bytes
   pub whole : sent_to conn (passed_in rules.bounds (journal moment)) ++ bytes ≡ sent_to conn (due.stands.earlier ++ due.send ∷ [])
-  pub some : bytes ≢ []
 
 -- an entry is due where this run stands: where a connection is gone, a first part of its piece went out
 abbrev pub IsDueAt : Rules → List Override → Path → Moment → Entry → Type 0
@@ -86,19 +86,24 @@ IsDueAt rules plan path moment (entry.Took event) = IsDueEvent rules plan path m
 IsDueAt rules plan path moment (entry.Gave conn bytes false) = IsWholePiece rules path.state.sends moment conn bytes
 IsDueAt rules plan path moment (entry.Gave conn bytes true) = IsDuePiece rules path.state.sends moment conn bytes
 
--- an entry was due where the survivor stood when it came or went
-pub record IsDue (rules : Rules) (items : List Item) (survivor : Survivor) (moment : Moment) (entry : Entry) : Type 0 where
+-- an entry was due where the survivor stood when it came or went: with the items that it had taken there, of those received before
+pub record IsDue (rules : Rules) (items : List Item) (survivor : Survivor) (place : Place) (entry : Entry) : Type 0 where
   pub way : OnTheWay rules items survivor
-  pub due : IsDueAt rules survivor.plan way.path moment entry
+  pub early : way.path.state.machine.taken ≤ received rules.bounds (place.start ++ place.since)
+  pub due : IsDueAt rules survivor.plan way.path (moment_at place way.path.state.machine.taken) entry
 
 -- a moment with one more entry behind it
 abbrev pub then_entry : Moment → Entry → Moment
 then_entry moment entry = record moment { since = moment.since ++ entry ∷ [] }
 
--- each of some entries is due at its moment
-abbrev pub AreDue : Rules → List Item → Survivor → Moment → List Entry → Type 0
-AreDue rules items survivor moment [] = Unit {0}
-AreDue rules items survivor moment (entry ∷ entries) = IsDue rules items survivor moment entry × AreDue rules items survivor (then_entry moment entry) entries
+-- a place behind one more entry
+abbrev pub then_place : Place → Entry → Place
+then_place place entry = record place { since = place.since ++ entry ∷ [] }
+
+-- each of some entries is due at its place
+abbrev pub AreDue : Rules → List Item → Survivor → Place → List Entry → Type 0
+AreDue rules items survivor place [] = Unit {0}
+AreDue rules items survivor place (entry ∷ entries) = IsDue rules items survivor place entry × AreDue rules items survivor (then_place place entry) entries
 
 -- a survivor and the entries of its time
 pub record Chapter : Type 0 where
@@ -110,9 +115,19 @@ abbrev pub entries_of : List Chapter → List Entry
 entries_of [] = []
 entries_of (chapter ∷ chapters) = chapter.entries ++ entries_of chapters
 
--- each chapter's entries are due, behind those of the chapters before it
+-- the place behind some entries of the time of a survivor that was adopted behind these chapters
+abbrev pub place_of : List Chapter → List Entry → Bool → Place
+place_of earlier since at_end = record { start = entries_of earlier; since = since; at_end = at_end }
+
+-- behind some entries of its time a survivor owes nothing where it stands now
+abbrev pub LeavesNothing : Rules → List Entry → List Entry → Survivor → Type 0
+LeavesNothing rules start since survivor =
+    OwesNothing rules.bounds rules.hold (record { start = start; since = since; at_end = false; taken = survivor.now.state.machine.taken }) survivor.now.state.sends
+
+-- each chapter's entries are due, behind those of the chapters before it, and behind them its survivor owes nothing
 abbrev pub AreLawful : Rules → List Item → List Entry → List Chapter → Type 0
 AreLawful rules items before [] = Unit {0}
 AreLawful rules items before (chapter ∷ chapters) =
     AreDue rules items chapter.survivor (record { start = before; since = []; at_end = false }) chapter.entries
+    × LeavesNothing rules before chapter.entries chapter.survivor
     × AreLawful rules items (before ++ chapter.entries) chapters

@@ -9,9 +9,9 @@ use Rattle.run_history.specs.Served.{Override, Path, Served, origin}
 use Rattle.session_history.specs.Passing.{passed_in, Covers, IsFeasible}
 use Rattle.session_history.specs.Heeding.{Bounds, refusal, heeded, items_in, received}
 use Rattle.session_history.specs.Owing.{OwesNothing}
-use Rattle.session_history.specs.Lawful.{Rules, Survivor, IsDue, Chapter, entries_of, IsDuePiece}
+use Rattle.session_history.specs.Lawful.{Rules, Survivor, IsDue, Chapter, entries_of, place_of, IsDuePiece, LeavesNothing}
 use Rattle.session_history.specs.Account.{Session, IsAccount, HasPassedAll}
-use Rattle.session_history.specs.Serving.{gone_on, moment_of, Serving, first_survivor, ending_at, Ending}
+use Rattle.session_history.specs.Serving.{gone_on, Serving, first_survivor, ending_at, Ending}
 
 -- behind events that are all heeded, one more is heeded unless it is refused
 abbrev pub OneMoreHeeded : Type 0
@@ -40,7 +40,7 @@ SurvivorGoesOn =
 abbrev pub EventIsTaken : Type 0
 EventIsTaken =
     (rules : Rules) (image : Image) (earlier : List Chapter) (survivor : Survivor) (since : List Entry) (event : LinkEvent) (more : List Item) → Serving rules image earlier survivor since →
-    IsDue rules (items_in rules.bounds (entries_of earlier ++ since)) survivor (moment_of earlier since) (entry.Took event) →
+    IsDue rules (items_in rules.bounds (entries_of earlier ++ since)) survivor (place_of earlier since false) (entry.Took event) →
     items_in rules.bounds ((entries_of earlier ++ since) ++ entry.Took event ∷ []) ≡ items_in rules.bounds (entries_of earlier ++ since) ++ more →
     Serving rules image earlier survivor (since ++ entry.Took event ∷ [])
 
@@ -48,13 +48,13 @@ EventIsTaken =
 abbrev pub PieceIsPassed : Type 0
 PieceIsPassed =
     (rules : Rules) (image : Image) (earlier : List Chapter) (survivor : Survivor) (since : List Entry) (conn : ℕ) (bytes : List ℕ) (gone : Bool) → Serving rules image earlier survivor since →
-    IsDue rules (items_in rules.bounds (entries_of earlier ++ since)) survivor (moment_of earlier since) (entry.Gave conn bytes gone) →
+    IsDue rules (items_in rules.bounds (entries_of earlier ++ since)) survivor (place_of earlier since false) (entry.Gave conn bytes gone) →
     Serving rules image earlier survivor (since ++ entry.Gave conn bytes gone ∷ [])
 
--- another survivor is adopted: a run from the start under a plan, which emits what was passed, and in time
+-- another survivor is adopted where this one owes nothing: a run from the start under a plan, which emits what was passed, and in time
 abbrev pub SurvivorIsAdopted : Type 0
 SurvivorIsAdopted =
-    (rules : Rules) (image : Image) (earlier : List Chapter) (survivor : Survivor) (since : List Entry) (plan : List Override) (to : Path) → Serving rules image earlier survivor since →
+    (rules : Rules) (image : Image) (earlier : List Chapter) (survivor : Survivor) (since : List Entry) (plan : List Override) (to : Path) → Serving rules image earlier survivor since → LeavesNothing rules (entries_of earlier) since survivor →
     Served rules.limits (items_in rules.bounds (entries_of earlier ++ since)) plan (origin image) to → to.state.machine.taken ≤ received rules.bounds (entries_of earlier ++ since) →
     Covers (passed_in rules.bounds (entries_of earlier ++ since)) to.state → IsFeasible (passed_in rules.bounds (entries_of earlier ++ since)) to.state →
     Serving rules image (earlier ++ record { survivor = survivor; entries = since } ∷ []) (record { plan = plan; begun = to; now = to }) []
@@ -67,7 +67,7 @@ SessionEnds = (rules : Rules) (image : Image) (earlier : List Chapter) (survivor
 abbrev pub LastIsPassed : Type 0
 LastIsPassed =
     (rules : Rules) (image : Image) (earlier : List Chapter) (survivor : Survivor) (since ending : List Entry) (at_end : Bool) (conn : ℕ) (bytes : List ℕ) (gone : Bool) → Ending rules image earlier survivor since ending at_end →
-    IsDue rules (items_in rules.bounds (entries_of earlier ++ (since ++ ending))) survivor (ending_at earlier (since ++ ending) at_end) (entry.Gave conn bytes gone) →
+    IsDue rules (items_in rules.bounds (entries_of earlier ++ (since ++ ending))) survivor (place_of earlier (since ++ ending) at_end) (entry.Gave conn bytes gone) →
     Ending rules image earlier survivor since (ending ++ entry.Gave conn bytes gone ∷ []) at_end
 
 -- at any time there is an account
@@ -80,7 +80,7 @@ EndHasAccount =
 abbrev pub BreakHasAccount : Type 0
 BreakHasAccount =
     (rules : Rules) (image : Image) (earlier : List Chapter) (survivor : Survivor) (since ending : List Entry) (at_end : Bool) (conn : ℕ) (bytes : List ℕ) → Ending rules image earlier survivor since ending at_end →
-    IsDuePiece rules survivor.now.state.sends (ending_at earlier (since ++ ending) at_end) conn bytes →
+    IsDuePiece rules survivor.now.state.sends (ending_at earlier (since ++ ending) at_end survivor.now.state.machine.taken) conn bytes →
     Served rules.limits (items_in rules.bounds (entries_of earlier ++ (since ++ ending))) survivor.plan survivor.begun survivor.now →
     IsAccount rules image (record { earlier = earlier; survivor = survivor; since = since; ending = ending; broken = entry.Gave conn bytes false ∷ [] }) at_end
 
@@ -88,5 +88,5 @@ BreakHasAccount =
 abbrev pub EndPassedAll : Type 0
 EndPassedAll =
     (rules : Rules) (image : Image) (session : Session) → IsAccount rules image session true →
-    OwesNothing rules.bounds rules.hold (record { start = entries_of session.earlier; since = session.since ++ (session.ending ++ session.broken); at_end = true }) session.survivor.now.state.sends →
+    OwesNothing rules.bounds rules.hold (record { start = entries_of session.earlier; since = session.since ++ (session.ending ++ session.broken); at_end = true; taken = session.survivor.now.state.machine.taken }) session.survivor.now.state.sends →
     HasPassedAll rules session

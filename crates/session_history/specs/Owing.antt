@@ -25,12 +25,23 @@ latest (entry.Gave conn bytes gone ∷ entries) = option_map (behind (entry.Gave
 latest (entry.Took event.Ends ∷ entries) = option_map (behind (entry.Took event.Ends)) (latest entries)
 latest (entry.Took event ∷ entries) = Some (unwrap_or (option_map (behind (entry.Took event)) (latest entries)) (record { before = []; event = event }))
 
--- A session's journal, seen from one moment: what stood before the survivor was adopted, what came since, and whether the
--- session has come to its end.
+-- A place in a session's journal: what stood before the survivor was adopted, what came since, and whether the session has
+-- come to its end.
+pub record Place : Type 0 where
+  pub start : List Entry
+  pub since : List Entry
+  pub at_end : Bool
+
+-- A moment of a session: its place, and how many items the survivor has taken there.
 pub record Moment : Type 0 where
   pub start : List Entry
   pub since : List Entry
   pub at_end : Bool
+  pub taken : ℕ
+
+-- a place, seen by a survivor that has taken so many items
+abbrev pub moment_at : Place → ℕ → Moment
+moment_at place taken = record { start = place.start; since = place.since; at_end = place.at_end; taken = taken }
 
 abbrev pub journal : Moment → List Entry
 journal moment = moment.start ++ moment.since
@@ -52,11 +63,11 @@ abbrev pub IsDueBy : Bounds → Moment → ℕ → ℕ → Option Latest → Typ
 IsDueBy bounds moment conn taken None = ⊥
 IsDueBy bounds moment conn taken (Some latest) = IsMadeDue bounds moment conn taken latest.event (received_before bounds moment latest)
 
--- Bytes that the survivor sent to a connection with so many items taken are owed: the connection is open, and so many more
--- items were received as are held back, or the session has come to its end; or the last event makes them owed.
+-- Bytes that the survivor sent to a connection with so many items taken are owed: the connection is open, and the survivor has
+-- taken so many more items as are held back, or the session has come to its end; or the last event makes them owed.
 abbrev pub IsOwed : Bounds → ℕ → Moment → Send → Type 0
 IsOwed bounds hold moment send =
-    ((is_open bounds (journal moment) send.conn ≡ true) × ((send.taken + hold ≤ received bounds (journal moment)) ⊎ (moment.at_end ≡ true)))
+    ((is_open bounds (journal moment) send.conn ≡ true) × ((send.taken + hold ≤ moment.taken) ⊎ (moment.at_end ≡ true)))
     ⊎ IsDueBy bounds moment send.conn send.taken (latest moment.since)
 
 -- where a send stands among those of a run

@@ -1,12 +1,12 @@
 -- What holds while a session serves, and at its end. Each event keeps it; it has the account.
-use Rattle.std.specs.Prelude.{◌≤◌, List, [], ◌++◌, Bool, false}
+use Rattle.std.specs.Prelude.{ℕ, ◌≤◌, List, [], ◌++◌, Bool, false}
 use Rattle.rx_io.specs.declared.journal.Entry.{Entry}
 use Rattle.elf_image.specs.declared.image.Image.{Image}
 use Rattle.run_history.specs.Served.{Override, Path, Served, origin}
 use Rattle.session_history.specs.Heeding.{items_in, received}
 use Rattle.session_history.specs.Passing.{passed_in, Covers, IsFeasible, AreBetween, AreInOrder}
-use Rattle.session_history.specs.Owing.{Moment}
-use Rattle.session_history.specs.Lawful.{Rules, Survivor, AreDue, AreLawful, Chapter, entries_of}
+use Rattle.session_history.specs.Owing.{Moment, moment_at}
+use Rattle.session_history.specs.Lawful.{Rules, Survivor, AreDue, AreLawful, Chapter, entries_of, place_of}
 
 -- the survivor went on to here
 abbrev pub gone_on : Survivor → Path → Survivor
@@ -21,29 +21,29 @@ pub record Carries (rules : Rules) (image : Image) (entries : List Entry) (plan 
   pub ordered : AreInOrder (received rules.bounds entries) (passed_in rules.bounds entries)
   pub timed : AreBetween 0 now.state.machine.taken now.state.sends
 
--- the moment of a session that serves, behind some entries of its survivor's time
-abbrev pub moment_of : List Chapter → List Entry → Moment
-moment_of earlier since = record { start = entries_of earlier; since = since; at_end = false }
+-- the moment of a session that serves, behind some entries of its survivor's time, where it has taken so many items
+abbrev pub moment_of : List Chapter → List Entry → ℕ → Moment
+moment_of earlier since taken = moment_at (place_of earlier since false) taken
 
 -- a session serves: what its account says while it has no end
 pub record Serving (rules : Rules) (image : Image) (earlier : List Chapter) (survivor : Survivor) (since : List Entry) : Type 0 where
   pub carries : Carries rules image (entries_of earlier ++ since) survivor.plan survivor.now
   pub begins : Served rules.limits (items_in rules.bounds (entries_of earlier ++ since)) survivor.plan (origin image) survivor.begun
   pub before : AreLawful rules (items_in rules.bounds (entries_of earlier ++ since)) [] earlier
-  pub due : AreDue rules (items_in rules.bounds (entries_of earlier ++ since)) survivor (moment_of earlier []) since
+  pub due : AreDue rules (items_in rules.bounds (entries_of earlier ++ since)) survivor (place_of earlier [] false) since
 
 -- the first survivor at its start
 abbrev pub first_survivor : Image → Survivor
 first_survivor image = record { plan = []; begun = origin image; now = origin image }
 
 -- the moment behind the entries of the survivor's time and the pieces of the end
-abbrev pub ending_at : List Chapter → List Entry → Bool → Moment
-ending_at earlier since at_end = record { start = entries_of earlier; since = since; at_end = at_end }
+abbrev pub ending_at : List Chapter → List Entry → Bool → ℕ → Moment
+ending_at earlier since at_end taken = moment_at (place_of earlier since at_end) taken
 
 -- a session that may have come to its end, with the pieces that were passed there
 pub record Ending (rules : Rules) (image : Image) (earlier : List Chapter) (survivor : Survivor) (since ending : List Entry) (at_end : Bool) : Type 0 where
   pub carries : Carries rules image (entries_of earlier ++ (since ++ ending)) survivor.plan survivor.now
   pub begins : Served rules.limits (items_in rules.bounds (entries_of earlier ++ (since ++ ending))) survivor.plan (origin image) survivor.begun
   pub before : AreLawful rules (items_in rules.bounds (entries_of earlier ++ (since ++ ending))) [] earlier
-  pub due : AreDue rules (items_in rules.bounds (entries_of earlier ++ (since ++ ending))) survivor (moment_of earlier []) since
-  pub last : AreDue rules (items_in rules.bounds (entries_of earlier ++ (since ++ ending))) survivor (ending_at earlier since at_end) ending
+  pub due : AreDue rules (items_in rules.bounds (entries_of earlier ++ (since ++ ending))) survivor (place_of earlier [] false) since
+  pub last : AreDue rules (items_in rules.bounds (entries_of earlier ++ (since ++ ending))) survivor (place_of earlier since at_end) ending
