@@ -8,3 +8,4 @@ pub mod Walked
 pub mod Recovered
 mod Examples
 pub mod Survivors
+pub mod Shortest

@@ -4,3 +4,4 @@ pub mod Chains
 pub mod Laws
 pub mod Episodes
 pub mod EpisodeLaws
+pub mod Shortest

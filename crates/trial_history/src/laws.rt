@@ -1,6 +1,7 @@
 //! Laws of trials, each as the contract of a function that does nothing.
 ghost use Rattle.trial_history.specs.Laws.{AsksUnderAll, TrialServes, TrialComes, CheckpointUnharmed, ChainedAt, ChainedDrop, ChainedAdopt, OneResult, NoneSurvives, OneWalk, WalkAdopts, WalkGivesUp};
 ghost use Rattle.trial_history.specs.EpisodeLaws.{OneRecovery, RecoveryAdopts, RecoveryGivesUp, PointsRise, RecoveredFirst, RecoveredOn, RecoveredThen};
+ghost use Rattle.trial_history.specs.Shortest.{RecoveriesAreShortest, FailureIsShortest};
 
 /// Whether a run asks for an item depends on no plan.
 pub fn asks_under_all()
@@ -95,4 +96,14 @@ pub fn recovered_on()
 /// Behind a recovery the trial that survived stands in its place.
 pub fn recovered_then()
     ensures { RecoveredThen }
+{}
+
+/// At each recovery of a session the journal was the shortest that brings its survivor to its failure.
+pub fn recoveries_are_shortest()
+    ensures { RecoveriesAreShortest }
+{}
+
+/// So it is where the last survivor failed.
+pub fn failure_is_shortest()
+    ensures { FailureIsShortest }
 {}
