@@ -53,25 +53,25 @@ latest_front (entry.Took (event.Closes conn) ∷ entries) last is = event_front 
 latest_front (entry.Took event.Settles ∷ entries) last is = event_front event.Settles entries (latest entries) last (λ l h. latest_front entries l h) is
 
 -- the place of a session behind some entries, and where its survivor has taken so many items
-abbrev pub place_at : List Entry → Bool → Place
-place_at entries at_end = record { start = []; since = entries; at_end = at_end }
+abbrev pub place_behind : List Entry → Bool → Place
+place_behind entries at_end = record { start = []; since = entries; at_end = at_end }
 
 abbrev pub seen_at : List Entry → Bool → ℕ → Moment
-seen_at entries at_end count = moment_at (place_at entries at_end) count
+seen_at entries at_end count = moment_at (place_behind entries at_end) count
 
 -- what is owed to a connection that wasn't closed was sent in time
-made_due_taken : (bounds : Bounds) (entries : List Entry) (at_end : Bool) (count : ℕ) (conn taken : ℕ) (event : LinkEvent) (before : ℕ) → closes conn (heeded bounds (events_in entries)) ≡ false → IsMadeDue bounds (seen_at entries at_end count) conn taken event before → taken ≤ before
-made_due_taken bounds entries at_end count conn taken event.Settles before unclosed due = due.1
-made_due_taken bounds entries at_end count conn taken (event.Closes closed) before unclosed due = due.3
-made_due_taken bounds entries at_end count conn taken (event.Opens c) before unclosed due = absurd due
-made_due_taken bounds entries at_end count conn taken (event.Piece c bytes) before unclosed due = absurd due
-made_due_taken bounds entries at_end count conn taken event.Ends before unclosed due = absurd due
+made_due_taken : (bounds : Bounds) (entries : List Entry) (at_end : Bool) (conn taken : ℕ) (event : LinkEvent) (before : ℕ) → closes conn (heeded bounds (events_in entries)) ≡ false → IsMadeDue bounds (place_behind entries at_end) conn taken event before → taken ≤ before
+made_due_taken bounds entries at_end conn taken event.Settles before unclosed due = due.1
+made_due_taken bounds entries at_end conn taken (event.Closes closed) before unclosed due = due.3
+made_due_taken bounds entries at_end conn taken (event.Opens c) before unclosed due = absurd due
+made_due_taken bounds entries at_end conn taken (event.Piece c bytes) before unclosed due = absurd due
+made_due_taken bounds entries at_end conn taken event.Ends before unclosed due = absurd due
 
-due_taken : (bounds : Bounds) (entries : List Entry) (at_end : Bool) (count : ℕ) (conn taken : ℕ) (found : Option Latest) → latest entries ≡ found → closes conn (heeded bounds (events_in entries)) ≡ false → IsDueBy bounds (seen_at entries at_end count) conn taken found → taken ≤ received bounds entries
-due_taken bounds entries at_end count conn taken None is unclosed due = absurd due
-due_taken bounds entries at_end count conn taken (Some last) is unclosed due =
+due_taken : (bounds : Bounds) (entries : List Entry) (at_end : Bool) (conn taken : ℕ) (found : Option Latest) → latest entries ≡ found → closes conn (heeded bounds (events_in entries)) ≡ false → IsDueBy bounds (place_behind entries at_end) conn taken found → taken ≤ received bounds entries
+due_taken bounds entries at_end conn taken None is unclosed due = absurd due
+due_taken bounds entries at_end conn taken (Some last) is unclosed due =
     let front = latest_front entries last is in
-    let low = made_due_taken bounds entries at_end count conn taken last.event (received bounds last.before) unclosed due in
+    let low = made_due_taken bounds entries at_end conn taken last.event (received bounds last.before) unclosed due in
     let longer = received_longer bounds last.before front.0 in
     let same = ap (received bounds) front.1 in
     omega (arith, low, longer, same)
@@ -79,28 +79,28 @@ due_taken bounds entries at_end count conn taken (Some last) is unclosed due =
 owed_taken : (bounds : Bounds) (hold : ℕ) (entries : List Entry) (at_end : Bool) (count : ℕ) (send : Send) → closes send.conn (heeded bounds (events_in entries)) ≡ false → count ≤ received bounds entries → (at_end ≡ true → send.taken ≤ received bounds entries) → IsOwed bounds hold (seen_at entries at_end count) send → send.taken ≤ received bounds entries
 owed_taken bounds hold entries at_end count send unclosed low all (inl (opened, inl early)) = omega (arith, early, low)
 owed_taken bounds hold entries at_end count send unclosed low all (inl (opened, inr ended)) = all ended
-owed_taken bounds hold entries at_end count send unclosed low all (inr due) = due_taken bounds entries at_end count send.conn send.taken (latest entries) refl unclosed due
+owed_taken bounds hold entries at_end count send unclosed low all (inr due) = due_taken bounds entries at_end send.conn send.taken (latest entries) refl unclosed due
 
 -- where one send is owed to a connection that wasn't closed, so is each one to an open connection that was made with no more items taken
-made_due_too : (bounds : Bounds) (entries : List Entry) (at_end : Bool) (count conn taken other fewer : ℕ) (event : LinkEvent) (before : ℕ) → closes conn (heeded bounds (events_in entries)) ≡ false → is_open bounds entries other ≡ true → fewer ≤ taken
-    → IsMadeDue bounds (seen_at entries at_end count) conn taken event before → IsMadeDue bounds (seen_at entries at_end count) other fewer event before
-made_due_too bounds entries at_end count conn taken other fewer event.Settles before unclosed opened low due = (opened, omega (arith, low, due.1))
-made_due_too bounds entries at_end count conn taken other fewer (event.Closes closed) before unclosed opened low due = absurd (both_ways _ unclosed due.1)
-made_due_too bounds entries at_end count conn taken other fewer (event.Opens c) before unclosed opened low due = due
-made_due_too bounds entries at_end count conn taken other fewer (event.Piece c bytes) before unclosed opened low due = due
-made_due_too bounds entries at_end count conn taken other fewer event.Ends before unclosed opened low due = due
+made_due_too : (bounds : Bounds) (entries : List Entry) (at_end : Bool) (conn taken other fewer : ℕ) (event : LinkEvent) (before : ℕ) → closes conn (heeded bounds (events_in entries)) ≡ false → is_open bounds entries other ≡ true → fewer ≤ taken
+    → IsMadeDue bounds (place_behind entries at_end) conn taken event before → IsMadeDue bounds (place_behind entries at_end) other fewer event before
+made_due_too bounds entries at_end conn taken other fewer event.Settles before unclosed opened low due = (opened, omega (arith, low, due.1))
+made_due_too bounds entries at_end conn taken other fewer (event.Closes closed) before unclosed opened low due = absurd (both_ways _ unclosed due.1)
+made_due_too bounds entries at_end conn taken other fewer (event.Opens c) before unclosed opened low due = due
+made_due_too bounds entries at_end conn taken other fewer (event.Piece c bytes) before unclosed opened low due = due
+made_due_too bounds entries at_end conn taken other fewer event.Ends before unclosed opened low due = due
 
-due_too : (bounds : Bounds) (entries : List Entry) (at_end : Bool) (count conn taken other fewer : ℕ) (found : Option Latest) → closes conn (heeded bounds (events_in entries)) ≡ false → is_open bounds entries other ≡ true → fewer ≤ taken
-    → IsDueBy bounds (seen_at entries at_end count) conn taken found → IsDueBy bounds (seen_at entries at_end count) other fewer found
-due_too bounds entries at_end count conn taken other fewer None unclosed opened low due = due
-due_too bounds entries at_end count conn taken other fewer (Some last) unclosed opened low due = made_due_too bounds entries at_end count conn taken other fewer last.event (received bounds last.before) unclosed opened low due
+due_too : (bounds : Bounds) (entries : List Entry) (at_end : Bool) (conn taken other fewer : ℕ) (found : Option Latest) → closes conn (heeded bounds (events_in entries)) ≡ false → is_open bounds entries other ≡ true → fewer ≤ taken
+    → IsDueBy bounds (place_behind entries at_end) conn taken found → IsDueBy bounds (place_behind entries at_end) other fewer found
+due_too bounds entries at_end conn taken other fewer None unclosed opened low due = due
+due_too bounds entries at_end conn taken other fewer (Some last) unclosed opened low due = made_due_too bounds entries at_end conn taken other fewer last.event (received bounds last.before) unclosed opened low due
 
 owed_too : (bounds : Bounds) (hold : ℕ) (entries : List Entry) (at_end : Bool) (count : ℕ) (send other : Send) → closes send.conn (heeded bounds (events_in entries)) ≡ false → is_open bounds entries other.conn ≡ true → other.taken ≤ send.taken
     → IsOwed bounds hold (seen_at entries at_end count) send → IsOwed bounds hold (seen_at entries at_end count) other
 owed_too bounds hold entries at_end count send other unclosed opened low (inl (was, inl early)) = inl (opened, inl (omega (arith, early, low)))
 owed_too bounds hold entries at_end count send other unclosed opened low (inl (was, inr ended)) = inl (opened, inr ended)
 owed_too bounds hold entries at_end count send other unclosed opened low (inr due) =
-    inr (due_too bounds entries at_end count send.conn send.taken other.conn other.taken (latest entries) unclosed opened low due)
+    inr (due_too bounds entries at_end send.conn send.taken other.conn other.taken (latest entries) unclosed opened low due)
 
 -- what the walk over a session's entries knows: its whole journal, and the sends of its run
 pub record Knows (rules : Rules) (image : Image) (survivor : Survivor) (whole : List Entry) : Type 0 where
@@ -146,7 +146,7 @@ next_owed rules image survivor entries more at_end count sends other mid later k
 
 -- an event
 pub step_event : (rules : Rules) (image : Image) (survivor : Survivor) (entries : List Entry) (event : LinkEvent) (more : List Entry) (at_end : Bool) → Knows rules image survivor (entries ++ entry.Took event ∷ more)
-    → IsDue rules (items_in rules.bounds (entries ++ entry.Took event ∷ more)) survivor (place_at entries at_end) (entry.Took event) → Walked rules.bounds entries survivor.now.state.sends → Walked rules.bounds (entries ++ entry.Took event ∷ []) survivor.now.state.sends
+    → IsDue rules (items_in rules.bounds (entries ++ entry.Took event ∷ more)) survivor (place_behind entries at_end) (entry.Took event) → Walked rules.bounds entries survivor.now.state.sends → Walked rules.bounds (entries ++ entry.Took event ∷ []) survivor.now.state.sends
 unfolding start start_machine
 step_event rules image survivor entries event more at_end knows due walked =
     let whole : List Entry = entries ++ entry.Took event ∷ more in

@@ -25,12 +25,12 @@ use Rattle.account_laws.proofs.Asked.{served_grows}
 use Rattle.account_laws.proofs.Connected.{run_connected}
 use Rattle.account_laws.proofs.Fronts.{between_here, gone_here}
 use Rattle.account_laws.proofs.Closing.{received_longer, unclosed_nothing}
-use Rattle.account_laws.proofs.Pieces.{place_at, seen_at, Knows, Walked, next_owed, step_event, step_whole}
+use Rattle.account_laws.proofs.Pieces.{place_behind, seen_at, Knows, Walked, next_owed, step_event, step_whole}
 
 -- one more entry
 step : (rules : Rules) (image : Image) (survivor : Survivor) (entries : List Entry) (e : Entry) (more : List Entry) (at_end : Bool) → Knows rules image survivor (entries ++ e ∷ more)
     → (at_end ≡ true → received rules.bounds (entries ++ e ∷ more) ≤ received rules.bounds entries)
-    → IsDue rules (items_in rules.bounds (entries ++ e ∷ more)) survivor (place_at entries at_end) e → Walked rules.bounds entries survivor.now.state.sends → Walked rules.bounds (entries ++ e ∷ []) survivor.now.state.sends
+    → IsDue rules (items_in rules.bounds (entries ++ e ∷ more)) survivor (place_behind entries at_end) e → Walked rules.bounds entries survivor.now.state.sends → Walked rules.bounds (entries ++ e ∷ []) survivor.now.state.sends
 step rules image survivor entries (entry.Took event) more at_end knows all due walked = step_event rules image survivor entries event more at_end knows due walked
 step rules image survivor entries (entry.Gave conn bytes true) more at_end knows all due walked =
     absurd (both_ways _ (knows.none_gone conn) (gone_here conn bytes entries more))
@@ -42,13 +42,13 @@ step rules image survivor entries (entry.Gave conn bytes false) more at_end know
 -- some entries, one after another
 walk : (rules : Rules) (image : Image) (survivor : Survivor) (whole entries todo more : List Entry) (at_end : Bool) → Knows rules image survivor whole → whole ≡ entries ++ (todo ++ more)
     → (at_end ≡ true → received rules.bounds whole ≤ received rules.bounds entries)
-    → AreDue rules (items_in rules.bounds whole) survivor (place_at entries at_end) todo → Walked rules.bounds entries survivor.now.state.sends → Walked rules.bounds (entries ++ todo) survivor.now.state.sends
+    → AreDue rules (items_in rules.bounds whole) survivor (place_behind entries at_end) todo → Walked rules.bounds entries survivor.now.state.sends → Walked rules.bounds (entries ++ todo) survivor.now.state.sends
 walk rules image survivor whole entries [] more at_end knows is all due walked = subst (λ es. Walked rules.bounds es survivor.now.state.sends) (sym (append-nil entries)) walked
 walk rules image survivor whole entries (e ∷ todo) more at_end knows is all due walked =
     let next : Walked rules.bounds (entries ++ e ∷ []) survivor.now.state.sends =
     step rules image survivor entries e (todo ++ more) at_end (subst (Knows rules image survivor) is knows)
     (λ ended. subst (λ es. received rules.bounds es ≤ received rules.bounds entries) is (all ended))
-    (subst (λ es. IsDue rules (items_in rules.bounds es) survivor (place_at entries at_end) e) is due.0) walked in
+    (subst (λ es. IsDue rules (items_in rules.bounds es) survivor (place_behind entries at_end) e) is due.0) walked in
     subst (λ es. Walked rules.bounds es survivor.now.state.sends) (append_assoc entries (e ∷ []) todo)
     (walk rules image survivor whole (entries ++ e ∷ []) todo more at_end knows (is ∙ sym (append_assoc entries (e ∷ []) (todo ++ more)))
     (λ ended. let longer = received_longer rules.bounds entries (e ∷ []) in omega (arith, all ended, longer)) due.1 next)

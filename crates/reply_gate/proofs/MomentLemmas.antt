@@ -13,7 +13,7 @@ use Rattle.run_history.proofs.Outputs.{prefix_trans, prefix_sent}
 use Rattle.session_history.specs.Heeding.{Bounds, heeded, received}
 use Rattle.session_history.specs.Opened.{opens, closes, is_open, is_gone}
 use Rattle.session_history.specs.Passing.{passed_in}
-use Rattle.session_history.specs.Owing.{Moment, journal, Latest, behind, latest, received_before, IsMadeDue, IsDueBy, IsOwed, Stands, IsPassed}
+use Rattle.session_history.specs.Owing.{Moment, place_at, journal, Latest, behind, latest, received_before, IsMadeDue, IsDueBy, IsOwed, Stands, IsPassed}
 use Rattle.session_history.specs.Lawful.{then_entry, is_close_of, is_closed_by, is_closing}
 use Rattle.session_history.proofs.Heeding.{events_in-gave, items_in-gave, passed_in-gave}
 
@@ -100,11 +100,11 @@ received-gave bounds moment conn bytes gone = ap (received bounds) (journal-then
 
 -- what the last event makes due, at two moments whose connections stand alike
 pub due_by : (bounds : Bounds) (first second : Moment) (conn taken : ℕ) (last : Option Latest) → first.start ≡ second.start → is_open bounds (journal second) conn ≡ is_open bounds (journal first) conn
-    → closes conn (heeded bounds (events_in (journal second))) ≡ closes conn (heeded bounds (events_in (journal first))) → is_gone conn (journal second) ≡ false → IsDueBy bounds first conn taken last → IsDueBy bounds second conn taken last
+    → closes conn (heeded bounds (events_in (journal second))) ≡ closes conn (heeded bounds (events_in (journal first))) → is_gone conn (journal second) ≡ false → IsDueBy bounds (place_at first) conn taken last → IsDueBy bounds (place_at second) conn taken last
 due_by bounds first second conn taken None start opened closed gone h = h
 due_by bounds first second conn taken (Some last) start opened closed gone h = by last.event h
   where
-    by : (e : LinkEvent) → IsMadeDue bounds first conn taken e (received_before bounds first last) → IsMadeDue bounds second conn taken e (received_before bounds second last)
+    by : (e : LinkEvent) → IsMadeDue bounds (place_at first) conn taken e (received_before bounds (place_at first) last) → IsMadeDue bounds (place_at second) conn taken e (received_before bounds (place_at second) last)
     by event.Settles k = (opened ∙ k.0, subst (λ (s : List Entry). taken ≤ received bounds (s ++ last.before)) start k.1)
     by (event.Closes c) k = (k.0, closed ∙ k.1, gone, subst (λ (s : List Entry). taken ≤ received bounds (s ++ last.before)) start k.3)
     by (event.Opens c) k = k
@@ -117,7 +117,7 @@ owed_at : (bounds : Bounds) (hold : ℕ) (first second : Moment) (send : Send) �
 owed_at bounds hold first second send start end last opened closed gone count (inl (is, inl enough)) = inl (opened ∙ is, inl (subst (λ (n : ℕ). send.taken + hold ≤ n) count enough))
 owed_at bounds hold first second send start end last opened closed gone count (inl (is, inr at_end)) = inl (opened ∙ is, inr (sym end ∙ at_end))
 owed_at bounds hold first second send start end last opened closed gone count (inr due) =
-    inr (subst (IsDueBy bounds second send.conn send.taken) last (due_by bounds first second send.conn send.taken (latest first.since) start opened closed gone due))
+    inr (subst (IsDueBy bounds (place_at second) send.conn send.taken) last (due_by bounds first second send.conn send.taken (latest first.since) start opened closed gone due))
 
 -- what is owed stays so behind a piece, unless it found the connection gone
 pub owed_then : (bounds : Bounds) (hold : ℕ) (moment : Moment) (conn : ℕ) (bytes : List ℕ) (gone : Bool) (send : Send) → is_gone send.conn (journal (then_entry moment (entry.Gave conn bytes gone))) ≡ false → IsOwed bounds hold moment send
@@ -131,11 +131,11 @@ owed_then bounds hold moment conn bytes gone send still owed =
     (ap (λ (entries : List Entry). closes send.conn (heeded bounds (events_in entries))) same ∙ closes-gave bounds (journal moment) conn bytes gone send.conn) still refl owed
 
 -- nothing is owed to a connection that is gone
-pub due_not_gone : (bounds : Bounds) (moment : Moment) (conn taken : ℕ) (last : Option Latest) → IsDueBy bounds moment conn taken last → is_gone conn (journal moment) ≡ false
+pub due_not_gone : (bounds : Bounds) (moment : Moment) (conn taken : ℕ) (last : Option Latest) → IsDueBy bounds (place_at moment) conn taken last → is_gone conn (journal moment) ≡ false
 due_not_gone bounds moment conn taken None h = absurd h
 due_not_gone bounds moment conn taken (Some last) h = by last.event h
   where
-    by : (e : LinkEvent) → IsMadeDue bounds moment conn taken e (received_before bounds moment last) → is_gone conn (journal moment) ≡ false
+    by : (e : LinkEvent) → IsMadeDue bounds (place_at moment) conn taken e (received_before bounds (place_at moment) last) → is_gone conn (journal moment) ≡ false
     by event.Settles k = open_not_gone bounds (journal moment) conn k.0
     by (event.Closes c) k = k.2
     by (event.Opens c) k = absurd k
@@ -159,11 +159,11 @@ owed_before bounds hold moment conn bytes gone send owed =
     (not_gone (journal moment) conn bytes gone send.conn here) refl owed
 
 -- an owed send is to an open connection, or to one that closes
-pub due_open : (bounds : Bounds) (moment : Moment) (conn taken : ℕ) (last : Option Latest) → (is_closed_by last conn && closes conn (heeded bounds (events_in (journal moment)))) ≡ false → IsDueBy bounds moment conn taken last → is_open bounds (journal moment) conn ≡ true
+pub due_open : (bounds : Bounds) (moment : Moment) (conn taken : ℕ) (last : Option Latest) → (is_closed_by last conn && closes conn (heeded bounds (events_in (journal moment)))) ≡ false → IsDueBy bounds (place_at moment) conn taken last → is_open bounds (journal moment) conn ≡ true
 due_open bounds moment conn taken None other h = absurd h
 due_open bounds moment conn taken (Some last) other h = by last.event other h
   where
-    by : (e : LinkEvent) → (is_close_of conn e && closes conn (heeded bounds (events_in (journal moment)))) ≡ false → IsMadeDue bounds moment conn taken e (received_before bounds moment last) → is_open bounds (journal moment) conn ≡ true
+    by : (e : LinkEvent) → (is_close_of conn e && closes conn (heeded bounds (events_in (journal moment)))) ≡ false → IsMadeDue bounds (place_at moment) conn taken e (received_before bounds (place_at moment) last) → is_open bounds (journal moment) conn ≡ true
     by event.Settles no_close k = k.0
     by (event.Closes c) no_close k = absurd (true≢false (sym (and_from (eqb c conn) (closes conn (heeded bounds (events_in (journal moment)))) (eq-eqb c conn k.0) k.1) ∙ no_close))
     by (event.Opens c) no_close k = absurd k

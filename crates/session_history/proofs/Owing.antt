@@ -8,28 +8,16 @@ use Rattle.rx_io.specs.declared.journal.Entry.TheVariants as entry
 use Rattle.rx_io.specs.declared.journal.LinkEvent.{LinkEvent}
 use Rattle.rx_io.specs.declared.journal.LinkEvent.TheVariants as event
 use Rattle.rx_io.specs.Sends.{Send}
-use Rattle.session_history.specs.Heeding.{Bounds, received}
-use Rattle.session_history.specs.Owing.{Place, moment_at, Latest, behind, latest, IsMadeDue, IsDueBy, IsOwed}
+use Rattle.session_history.specs.Heeding.{Bounds}
+use Rattle.session_history.specs.Owing.{Place, moment_at, Latest, behind, latest, IsOwed}
 use Rattle.session_history.specs.Lawful.{Rules, Survivor, IsDue, AreDue, then_place}
 use Rattle.session_history.proofs.Due.{behind_all}
-
--- what an event makes owed doesn't depend on what the survivor has taken since
-made_due_seen : (bounds : Bounds) (place : Place) (first second conn taken : ℕ) (e : LinkEvent) (before : ℕ) → IsMadeDue bounds (moment_at place first) conn taken e before → IsMadeDue bounds (moment_at place second) conn taken e before
-made_due_seen bounds place first second conn taken event.Settles before due = due
-made_due_seen bounds place first second conn taken (event.Closes closed) before due = due
-made_due_seen bounds place first second conn taken (event.Opens opened) before due = due
-made_due_seen bounds place first second conn taken (event.Piece to bytes) before due = due
-made_due_seen bounds place first second conn taken event.Ends before due = due
-
-due_seen : (bounds : Bounds) (place : Place) (first second conn taken : ℕ) (last : Option Latest) → IsDueBy bounds (moment_at place first) conn taken last → IsDueBy bounds (moment_at place second) conn taken last
-due_seen bounds place first second conn taken None due = due
-due_seen bounds place first second conn taken (Some last) due = made_due_seen bounds place first second conn taken last.event (received bounds (place.start ++ last.before)) due
 
 -- what is owed stays owed where more items were taken
 pub owed_later : (bounds : Bounds) (hold : ℕ) (place : Place) (low high : ℕ) (send : Send) → low ≤ high → IsOwed bounds hold (moment_at place low) send → IsOwed bounds hold (moment_at place high) send
 owed_later bounds hold place low high send less (inl (opened, inl enough)) = inl (opened, inl (omega (arith, enough, less)))
 owed_later bounds hold place low high send less (inl (opened, inr ended)) = inl (opened, inr ended)
-owed_later bounds hold place low high send less (inr due) = inr (due_seen bounds place low high send.conn send.taken (latest place.since) due)
+owed_later bounds hold place low high send less (inr due) = inr due
 
 -- where the latest event stands
 pub record StandsLast (entries : List Entry) (last : Latest) : Type 0 where

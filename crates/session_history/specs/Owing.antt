@@ -39,36 +39,42 @@ pub record Moment : Type 0 where
   pub at_end : Bool
   pub taken : ℕ
 
--- a place, seen by a survivor that has taken so many items
+-- a place, seen by a survivor that has taken so many items; and the place of a moment
 abbrev pub moment_at : Place → ℕ → Moment
 moment_at place taken = record { start = place.start; since = place.since; at_end = place.at_end; taken = taken }
+
+abbrev pub place_at : Moment → Place
+place_at moment = record { start = moment.start; since = moment.since; at_end = moment.at_end }
+
+abbrev pub journal_at : Place → List Entry
+journal_at place = place.start ++ place.since
 
 abbrev pub journal : Moment → List Entry
 journal moment = moment.start ++ moment.since
 
 -- how many items were received before an event since the survivor was adopted
-abbrev pub received_before : Bounds → Moment → Latest → ℕ
-received_before bounds moment latest = received bounds (moment.start ++ latest.before)
+abbrev pub received_before : Bounds → Place → Latest → ℕ
+received_before bounds place latest = received bounds (place.start ++ latest.before)
 
 -- an event makes owed what was sent with no more items taken than were received before it: a settle to each open connection,
 -- and a close that is heeded to its own, unless a piece found it gone
-abbrev pub IsMadeDue : Bounds → Moment → ℕ → ℕ → LinkEvent → ℕ → Type 0
-IsMadeDue bounds moment conn taken event.Settles before = (is_open bounds (journal moment) conn ≡ true) × (taken ≤ before)
-IsMadeDue bounds moment conn taken (event.Closes closed) before = (closed ≡ conn) × (closes conn (heeded bounds (events_in (journal moment))) ≡ true) × (is_gone conn (journal moment) ≡ false) × (taken ≤ before)
-IsMadeDue bounds moment conn taken (event.Opens opened) before = ⊥
-IsMadeDue bounds moment conn taken (event.Piece to bytes) before = ⊥
-IsMadeDue bounds moment conn taken event.Ends before = ⊥
+abbrev pub IsMadeDue : Bounds → Place → ℕ → ℕ → LinkEvent → ℕ → Type 0
+IsMadeDue bounds place conn taken event.Settles before = (is_open bounds (journal_at place) conn ≡ true) × (taken ≤ before)
+IsMadeDue bounds place conn taken (event.Closes closed) before = (closed ≡ conn) × (closes conn (heeded bounds (events_in (journal_at place))) ≡ true) × (is_gone conn (journal_at place) ≡ false) × (taken ≤ before)
+IsMadeDue bounds place conn taken (event.Opens opened) before = ⊥
+IsMadeDue bounds place conn taken (event.Piece to bytes) before = ⊥
+IsMadeDue bounds place conn taken event.Ends before = ⊥
 
-abbrev pub IsDueBy : Bounds → Moment → ℕ → ℕ → Option Latest → Type 0
-IsDueBy bounds moment conn taken None = ⊥
-IsDueBy bounds moment conn taken (Some latest) = IsMadeDue bounds moment conn taken latest.event (received_before bounds moment latest)
+abbrev pub IsDueBy : Bounds → Place → ℕ → ℕ → Option Latest → Type 0
+IsDueBy bounds place conn taken None = ⊥
+IsDueBy bounds place conn taken (Some latest) = IsMadeDue bounds place conn taken latest.event (received_before bounds place latest)
 
 -- Bytes that the survivor sent to a connection with so many items taken are owed: the connection is open, and the survivor has
 -- taken so many more items as are held back, or the session has come to its end; or the last event makes them owed.
 abbrev pub IsOwed : Bounds → ℕ → Moment → Send → Type 0
 IsOwed bounds hold moment send =
     ((is_open bounds (journal moment) send.conn ≡ true) × ((send.taken + hold ≤ moment.taken) ⊎ (moment.at_end ≡ true)))
-    ⊎ IsDueBy bounds moment send.conn send.taken (latest moment.since)
+    ⊎ IsDueBy bounds (place_at moment) send.conn send.taken (latest moment.since)
 
 -- where a send stands among those of a run
 pub record Stands (sends : List Send) (send : Send) : Type 0 where
