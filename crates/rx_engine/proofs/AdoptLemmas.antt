@@ -21,7 +21,7 @@ use Rattle.guest_cpu.specs.Standing.{Standing}
 use Rattle.guest_cpu.specs.Cpus.{CpuState}
 use Rattle.session_history.specs.Heeding.{heeded, items_in, received}
 use Rattle.session_history.specs.Opened.{opens}
-use Rattle.session_history.specs.Lawful.{Rules, Survivor, Chapter, entries_of}
+use Rattle.session_history.specs.Lawful.{Rules, Survivor, Chapter, entries_of, LeavesNothing}
 use Rattle.session_history.specs.Keeping.{KeepsReplies, KeepsItems, KeepsPhases}
 use Rattle.session_history.specs.Serving.{first_survivor}
 use Rattle.session_history.proofs.Paths.{served_same}
@@ -51,6 +51,7 @@ use Rattle.session_history.specs.Ends.{before_end}
 use Rattle.session_history.proofs.Sessions.{serving_account}
 use Rattle.rx_engine.specs.Sessions.{SessionState}
 use Rattle.rx_engine.specs.Standing.{Since, Story, entries, sends, IsTold, AnswersFor, IsGoing, IsFailing, IsEnding, IsBrokenOff, HasNotedMore}
+use Rattle.rx_engine.proofs.EventLemmas.{owes_nothing}
 use Rattle.rx_engine.proofs.GuestLemmas.{none_lost, none_noted, answers_as, notes_here, received_is, broken_off, broken_noting}
 use Rattle.rx_engine.proofs.StoryLemmas.{account_of, journal_of_story}
 use Rattle.rx_engine.proofs.NoteLemmas.{grew_on}
@@ -83,10 +84,10 @@ same_entries story recovery trial =
     ∙ entries_then story.earlier (record { survivor = story.survivor; entries = story.since })
 
 -- it is told, where so many instructions were counted
-told_adopted : (rules : Rules) (image : Image) (began : Since) (now : Told) (story : Story) (recovery : Recovery) (trial : Trial) (lost : ℕ) (noted : Noted) → IsTold rules image began now story → recovery.survivor ≡ story.survivor → IsRecovery rules image (entries story) recovery
+told_adopted : (rules : Rules) (image : Image) (began : Since) (now : Told) (story : Story) (recovery : Recovery) (trial : Trial) (lost : ℕ) (noted : Noted) → IsTold rules image began now story → LeavesNothing rules (entries_of story.earlier) story.since story.survivor → recovery.survivor ≡ story.survivor → IsRecovery rules image (entries story) recovery
     → survivor_in recovery.trials ≡ Some trial → lost + trial.path.steps ≡ began.lost + story.survivor.now.steps + steps_of recovery.trials → Grew began.noted.episodes noted.episodes (episode_of recovery ∷ [])
     → IsTold rules image (record began { lost = lost; noted = noted }) now (adopted_story story recovery trial)
-told_adopted rules image began now story recovery trial lost noted told is was found counts grew =
+told_adopted rules image began now story recovery trial lost noted told leaves is was found counts grew =
     let g : GoesOnAs rules image (entries story) recovery trial = recovery_adopts rules image (entries story) recovery trial was found in
     let early : trial.path.state.machine.taken ≤ story.survivor.now.state.machine.taken = subst (λ (s : Survivor). trial.path.state.machine.taken ≤ s.now.state.machine.taken) is g.early in
     let enough : story.survivor.now.state.machine.taken ≤ received rules.bounds (entries story) = told.serving.carries.taken in
@@ -98,7 +99,7 @@ told_adopted rules image began now story recovery trial lost noted told is was f
     (subst (λ (s : Survivor). AreRecovered rules image [] (first_survivor image) story.earlier story.recoveries s) (sym is) told.recovered) was found in
     record {
       serving =
-          serving_adopts rules image story.earlier story.survivor story.since (adopted_by recovery trial).plan trial.path told.serving g.ran (omega (arith, early, enough)) g.covers g.feasible;
+          serving_adopts rules image story.earlier story.survivor story.since (adopted_by recovery trial).plan trial.path told.serving leaves g.ran (omega (arith, early, enough)) g.covers g.feasible;
       way = served_same rules.limits (items_in rules.bounds (entries (adopted_story story recovery trial))) (adopted_by recovery trial).plan trial.path;
       tells = subst (Tells began.told now) (sym (same_entries story recovery trial)) told.tells;
       counted = omega (arith, more, later, before, counts);
@@ -185,7 +186,7 @@ module _ {R : Type 0} where
       let g = f.going in
       let story : Story = g.story in
       let same : replies ≡ old.replies = ledger ∙ discards_none old.replies g.passed.no_trial in
-      let given_up : HasGivenUp rules image (entries story) story.survivor trials cause = record { ring = g.saved.paths; some = g.saved.ring.some; recovers = was; none = none } in
+      let given_up : HasGivenUp rules image (entries_of story.earlier) story.since story.survivor trials cause = record { ring = g.saved.paths; some = g.saved.ring.some; recovers = was; none = none; owes_nothing = owes_nothing rules story f.due g.passed.done } in
       record {
         story = story;
         trials = trials;
@@ -229,7 +230,7 @@ module _ {R : Type 0} where
       let few : story.survivor.now.state.machine.taken ≤ rules.bounds.max_items = g.goes.few in
       record {
         story = next;
-        told = told_adopted rules image began now story recovery trial lost noted g.told refl was found counts more.episodes_more;
+        told = told_adopted rules image began now story recovery trial lost noted g.told (owes_nothing rules story f.due g.passed.done) refl was found counts more.episodes_more;
         answers = answers_adopted began noted story next old (goes_as old cpu ring replies choices adopted.env (old.taken + 4)) refl run.low run.chose (ap (λ (s : Standing). s.guest.machine.taken) run.stands) (ap (λ (s : Standing). s.steps) run.stands)
             run.front g.answers more.choices_more lost;
         goes = record {
@@ -280,7 +281,7 @@ module _ {R : Type 0} where
         noted = noted;
         last = [];
         last_noted = none_noted noted;
-        told = told_adopted rules image began now story recovery trial lost noted g.told refl was found counts more.episodes_more;
+        told = told_adopted rules image began now story recovery trial lost noted g.told (owes_nothing rules story f.due g.passed.done) refl was found counts more.episodes_more;
         answers = answers_adopted began noted story next old (goes_as old cpu ring replies choices adopted.env (old.taken + 4)) refl run.low run.chose (ap (λ (s : Standing). s.guest.machine.taken) run.stands) (ap (λ (s : Standing). s.steps) run.stands)
             run.front g.answers more.choices_more lost;
         received_are = received_is rules.bounds (entries story) old.log g.goes.items ∙ ap (received rules.bounds) (sym same);
@@ -303,14 +304,14 @@ module _ {R : Type 0} where
       }
 
   -- the episode of a recovery that adopted isn't noted: the session is broken off as the trial
-  adopted_unnoted : (rules : Rules) (image : Image) (began : Since) (now : Told) (coming : Option Coming) (story : Story) (recovery : Recovery) (trial : Trial) (lost : ℕ) (session : SessionState R) (fault : Answer) → IsTold rules image began now story
+  adopted_unnoted : (rules : Rules) (image : Image) (began : Since) (now : Told) (coming : Option Coming) (story : Story) (recovery : Recovery) (trial : Trial) (lost : ℕ) (session : SessionState R) (fault : Answer) → IsTold rules image began now story → LeavesNothing rules (entries_of story.earlier) story.since story.survivor
       → recovery.survivor ≡ story.survivor → IsRecovery rules image (entries story) recovery → survivor_in recovery.trials ≡ Some trial → lost + trial.path.steps ≡ began.lost + story.survivor.now.steps + steps_of recovery.trials
       → AnswersFor (record began { lost = lost }) (adopted_story story recovery trial) session → IsNoteFault fault → IsBrokenOff rules image (record began { lost = lost }) now coming session fault
-  adopted_unnoted rules image began now coming story recovery trial lost session fault told is was found counts answers note =
+  adopted_unnoted rules image began now coming story recovery trial lost session fault told leaves is was found counts answers note =
       let next : Story = adopted_story story recovery trial in
       let nobody : Noted = record { choices = None; episodes = None } in
       let then = told_adopted rules image (record began { noted_before = nobody; noted = nobody }) now story recovery trial lost nobody
-      (record { serving = told.serving; way = told.way; tells = told.tells; counted = told.counted; recovered = told.recovered; episodes = tt }) is was found counts tt in
+      (record { serving = told.serving; way = told.way; tells = told.tells; counted = told.counted; recovered = told.recovered; episodes = tt }) leaves is was found counts tt in
       (broken_noting (λ account. Unit {0}) rules image (record began { lost = lost }) nobody nobody now coming session next fault then
       (notes_here (record began { lost = lost }) next session fault (map episode_of story.recoveries) (episode_of recovery ∷ []) told.episodes answers (map-append episode_of story.recoveries (recovery ∷ [])) (omega arith) (λ some. note)
       (note_no_end fault note)) answers.taken answers.steps (note_ends rules coming (account_of next) fault note) (note_no_end fault note) (λ never. absurd (never note)) tt).0
@@ -375,7 +376,7 @@ module _ {R : Type 0} where
 
   -- no trial survived, and the episode isn't noted
   gave_up_unnoted : (rules : Rules) (image : Image) (began : Since) (now : Told) (coming : Option Coming) (cause : Cause) (story : Story) (paths : List Path) (trials : List Trial) (lost : ℕ) (session : SessionState R) (fault : Answer) → IsTold rules image began now story
-      → (given_up : HasGivenUp rules image (entries story) story.survivor trials cause) → lost ≡ began.lost + steps_of trials → AnswersFor began story session → IsNoteFault fault → IsBrokenOff rules image (record began { lost = lost }) now coming session fault
+      → (given_up : HasGivenUp rules image (entries_of story.earlier) story.since story.survivor trials cause) → lost ≡ began.lost + steps_of trials → AnswersFor began story session → IsNoteFault fault → IsBrokenOff rules image (record began { lost = lost }) now coming session fault
   gave_up_unnoted rules image began now coming cause story paths trials lost session fault told given_up counts answers note =
       let is : entries story ≡ before_end (account_of story) = refl in
       record {
@@ -409,7 +410,7 @@ module _ {R : Type 0} where
       let leaves = subst (λ a. LeavesRun failure (recovery_of failure story.survivor.begun cause h.trials) cpu old.ring ring old.recorded old.choices choices old.log old.replies replies a) is h.leaves in
       let end : end_of old.taken cause recovered.adopted ≡ Some (answer.GaveUp old.taken cause) = ap (end_of old.taken cause) is in
       let counted = h.counted in
-      let given_up : HasGivenUp rules image (entries story) story.survivor h.trials cause = record { ring = g.saved.paths; some = g.saved.ring.some; recovers = h.recovers; none = leaves.0 } in
+      let given_up : HasGivenUp rules image (entries_of story.earlier) story.since story.survivor h.trials cause = record { ring = g.saved.paths; some = g.saved.ring.some; recovers = h.recovers; none = leaves.0; owes_nothing = owes_nothing rules story f.due g.passed.done } in
       record {
         goes = λ noted more.
             subst (AdoptsTo rules image (record began { lost = lost; noted = noted }) now phases coming (walked old cpu ring replies choices)) (sym end)
@@ -440,7 +441,7 @@ module _ {R : Type 0} where
             subst (AdoptsTo rules image (record began { lost = lost; noted = noted }) now phases coming new) (sym (ap (end_of old.taken cause) is))
             (of_code adopted.code refl noted (episode noted more));
         breaks = λ fault note.
-            adopted_unnoted rules image began now coming story recovery trial lost new fault g.told refl h.recovers leaves.1 all
+            adopted_unnoted rules image began now coming story recovery trial lost new fault g.told (owes_nothing rules story f.due g.passed.done) refl h.recovers leaves.1 all
             (record {
               low = run.low;
               recorded = subst (Grew began.noted_before.choices began.noted.choices) (sym run.front) g.answers.recorded;

@@ -12,7 +12,7 @@ use Rattle.reply_ledger.specs.Ledger.{Ledger}
 use Rattle.item_log.specs.Heard.{items_of}
 use Rattle.session_history.specs.Heeding.{Bounds, heeded, items_in, received}
 use Rattle.session_history.specs.Opened.{opens}
-use Rattle.session_history.specs.Owing.{Moment, Latest, latest, received_before, IsMadeDue, IsDueBy}
+use Rattle.session_history.specs.Owing.{Moment, Latest, latest, received_before, IsMadeDue, IsDueBy, place_at}
 use Rattle.session_history.specs.Lawful.{Rules}
 use Rattle.session_history.specs.Keeping.{KeepsItems, KeepsReplies, KeepsPhases}
 use Rattle.rx_engine.specs.Sessions.{SessionState}
@@ -30,7 +30,7 @@ latest_story story e is = latest-took story.since e is
 pub before_story : (rules : Rules) (story : Story) (e : LinkEvent) (number : ℕ) → IsNoEnd e → received rules.bounds (entries story) < number → IsLatestBefore rules (moment (then_story story (entry.Took e ∷ []))) number
 before_story rules story e number is low last found =
     let same : record { before = story.since; event = e } ≡ last = same_Some _ last (sym (latest_story story e is) ∙ found) in
-    subst (λ (l : Latest). received_before rules.bounds (moment (then_story story (entry.Took e ∷ []))) l < number) same low
+    subst (λ (l : Latest). received_before rules.bounds (place_at (moment (then_story story (entry.Took e ∷ [])))) l < number) same low
 
 -- an event that makes nothing owed
 abbrev pub IsQuiet : LinkEvent → Type 0
@@ -45,7 +45,7 @@ quiet_no_end (event.Closes conn) is = tt
 quiet_no_end event.Settles is = tt
 quiet_no_end event.Ends is = is
 
-quiet_made : (bounds : Bounds) (at : Moment) (conn taken before : ℕ) (e : LinkEvent) → IsQuiet e → IsMadeDue bounds at conn taken e before → ⊥
+quiet_made : (bounds : Bounds) (at : Moment) (conn taken before : ℕ) (e : LinkEvent) → IsQuiet e → IsMadeDue bounds (place_at at) conn taken e before → ⊥
 quiet_made bounds at conn taken before (event.Opens opened) is made = made
 quiet_made bounds at conn taken before (event.Piece to bytes) is made = made
 quiet_made bounds at conn taken before (event.Closes closed) is made = is
@@ -55,8 +55,8 @@ quiet_made bounds at conn taken before event.Ends is made = is
 done_quiet : (rules : Rules) (story : Story) (e : LinkEvent) (all : List Send) → IsQuiet e → IsLatestDone rules (moment (then_story story (entry.Took e ∷ []))) all
 done_quiet rules story e all is send stands due =
     let at : Moment = moment (then_story story (entry.Took e ∷ [])) in
-    let made : IsDueBy rules.bounds at send.conn send.taken (Some (record { before = story.since; event = e })) = subst (IsDueBy rules.bounds at send.conn send.taken) (latest_story story e (quiet_no_end e is)) due in
-    absurd (quiet_made rules.bounds at send.conn send.taken (received_before rules.bounds at (record { before = story.since; event = e })) e is made)
+    let made : IsDueBy rules.bounds (place_at at) send.conn send.taken (Some (record { before = story.since; event = e })) = subst (IsDueBy rules.bounds (place_at at) send.conn send.taken) (latest_story story e (quiet_no_end e is)) due in
+    absurd (quiet_made rules.bounds at send.conn send.taken (received_before rules.bounds (place_at at) (record { before = story.since; event = e })) e is made)
 
 -- the latest event behind pieces
 pub before_given : (rules : Rules) (story : Story) (more : List Entry) (number : ℕ) → AreGiven more → IsLatestBefore rules (moment story) number → IsLatestBefore rules (moment (then_story story more)) number

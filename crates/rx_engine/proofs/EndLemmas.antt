@@ -10,7 +10,7 @@ use Rattle.run_history.specs.declared.answer.Answer.TheVariants as answer
 use Rattle.run_history.specs.Served.{Served}
 use Rattle.session_history.specs.Heeding.{items_in}
 use Rattle.session_history.specs.Owing.{Moment, OwesNothing}
-use Rattle.session_history.specs.Lawful.{Rules, Survivor, entries_of, IsDue, IsDueAt, then_entry, IsDuePiece}
+use Rattle.session_history.specs.Lawful.{Rules, Survivor, entries_of, place_of, IsDue, IsDueAt, then_entry, IsDuePiece}
 use Rattle.session_history.specs.Account.{Session, journal_of, IsAccount, IsBroken}
 use Rattle.session_history.specs.Giving.{AreDuePieces, then_entries}
 use Rattle.session_history.specs.Serving.{ending_at, Ending}
@@ -39,7 +39,7 @@ use Rattle.rx_engine.proofs.PieceLemmas as piece
 
 -- the moment of a story that has come to its end
 abbrev pub end_of : Story → Moment
-end_of story = ending_at story.earlier story.since true
+end_of story = ending_at story.earlier story.since true story.survivor.now.state.machine.taken
 
 -- a session at its end, with its survivor on its way
 record Stood (rules : Rules) (image : Image) (story : Story) (ending : List Entry) : Type 0 where
@@ -48,13 +48,13 @@ record Stood (rules : Rules) (image : Image) (story : Story) (ending : List Entr
 
 -- one piece
 one_last : (rules : Rules) (image : Image) (story : Story) (ending : List Entry) (conn : ℕ) (bytes : List ℕ) (gone : Bool) → Stood rules image story ending
-    → IsDueAt rules story.survivor.plan story.survivor.now (ending_at story.earlier (story.since ++ ending) true) (entry.Gave conn bytes gone) → Stood rules image story (ending ++ entry.Gave conn bytes gone ∷ [])
+    → IsDueAt rules story.survivor.plan story.survivor.now (ending_at story.earlier (story.since ++ ending) true story.survivor.now.state.machine.taken) (entry.Gave conn bytes gone) → Stood rules image story (ending ++ entry.Gave conn bytes gone ∷ [])
 one_last rules image story ending conn bytes gone stood due =
     let survivor : Survivor = story.survivor in
     let more : List Entry = entry.Gave conn bytes gone ∷ [] in
     let items : List Item = items_in rules.bounds (entries_of story.earlier ++ (story.since ++ ending)) in
-    let whole : IsDue rules items survivor (ending_at story.earlier (story.since ++ ending) true) (entry.Gave conn bytes gone) =
-    record { way = record { path = survivor.now; from = stood.way; on = served_same rules.limits items survivor.plan survivor.now }; due = due } in
+    let whole : IsDue rules items survivor (place_of story.earlier (story.since ++ ending) true) (entry.Gave conn bytes gone) =
+    record { way = record { path = survivor.now; from = stood.way; on = served_same rules.limits items survivor.plan survivor.now }; early = stood.at.carries.taken; due = due } in
     let same : (entries_of story.earlier ++ (story.since ++ ending)) ++ more ≡ entries_of story.earlier ++ (story.since ++ (ending ++ more)) =
     append_assoc (entries_of story.earlier) (story.since ++ ending) more ∙ ap (λ es. entries_of story.earlier ++ es) (append_assoc story.since ending more) in
     record {
@@ -65,11 +65,11 @@ one_last rules image story ending conn bytes gone stood due =
     }
 
 -- the moment behind one piece more
-moved_on : (P : Moment → Type 0) (story : Story) (ending : List Entry) (e : Entry) → P (then_entry (ending_at story.earlier (story.since ++ ending) true) e) → P (ending_at story.earlier (story.since ++ (ending ++ e ∷ [])) true)
-moved_on P story ending e h = subst (λ (since : List Entry). P (ending_at story.earlier since true)) (append_assoc story.since ending (e ∷ [])) h
+moved_on : (P : Moment → Type 0) (story : Story) (ending : List Entry) (e : Entry) → P (then_entry (ending_at story.earlier (story.since ++ ending) true story.survivor.now.state.machine.taken) e) → P (ending_at story.earlier (story.since ++ (ending ++ e ∷ [])) true story.survivor.now.state.machine.taken)
+moved_on P story ending e h = subst (λ (since : List Entry). P (ending_at story.earlier since true story.survivor.now.state.machine.taken)) (append_assoc story.since ending (e ∷ [])) h
 
 -- several pieces
-last_pieces : (rules : Rules) (image : Image) (story : Story) (ending more : List Entry) → Stood rules image story ending → AreDuePieces rules (sends story) (ending_at story.earlier (story.since ++ ending) true) more
+last_pieces : (rules : Rules) (image : Image) (story : Story) (ending more : List Entry) → Stood rules image story ending → AreDuePieces rules (sends story) (ending_at story.earlier (story.since ++ ending) true story.survivor.now.state.machine.taken) more
     → Stood rules image story (ending ++ more)
 last_pieces rules image story ending [] stood due = subst (Stood rules image story) (sym (append-nil ending)) stood
 last_pieces rules image story ending (entry.Gave conn bytes false ∷ more) stood due =
@@ -87,15 +87,16 @@ abbrev pub ended_account : Story → List Entry → List Entry → Session
 ended_account story ending broken = record { earlier = story.earlier; survivor = story.survivor; since = story.since; ending = ending; broken = broken }
 
 -- at one of the seven ends that is what its row asks
-ends_end : (rules : Rules) (coming : Option Coming) (session : Session) (end : Answer) → IsEnd end → StandsAt rules (before_end session) coming session.survivor end → OwesNothingAtEnd rules session → session.broken ≡ [] → EndsBy rules coming session end
-ends_end rules coming session answer.Finished is stands owes none = (stands, owes, none)
-ends_end rules coming session (answer.Exited code) is stands owes none = (stands, owes, none)
-ends_end rules coming session (answer.GaveUp point cause) is stands owes none = (stands, owes, none)
-ends_end rules coming session (answer.InputRefused kind offset) is stands owes none = (stands, owes, none)
-ends_end rules coming session (answer.MessageTooLong conn) is stands owes none = (stands, owes, none)
-ends_end rules coming session answer.LimitItems is stands owes none = (stands, owes, none)
-ends_end rules coming session answer.LimitEvents is stands owes none = (stands, owes, none)
-ends_end rules coming session _ is stands owes none = absurd is
+ends_end : (rules : Rules) (image : Image) (coming : Option Coming) (session : Session) (trials : List Trial) (end : Answer) → IsEnd end → StandsAt rules (before_end session) coming session.survivor end → OwesNothingAtEnd rules session → session.broken ≡ []
+    → GivesUpBy rules image (entries_of session.earlier) session.since session.survivor trials end → EndsBy rules coming session end
+ends_end rules image coming session trials answer.Finished is stands owes none gave = (stands, owes, none)
+ends_end rules image coming session trials (answer.Exited code) is stands owes none gave = (stands, owes, none)
+ends_end rules image coming session trials (answer.GaveUp point cause) is stands owes none gave = (stands, owes, none, gave.owes_nothing)
+ends_end rules image coming session trials (answer.InputRefused kind offset) is stands owes none gave = (stands, owes, none)
+ends_end rules image coming session trials (answer.MessageTooLong conn) is stands owes none gave = (stands, owes, none)
+ends_end rules image coming session trials answer.LimitItems is stands owes none gave = (stands, owes, none)
+ends_end rules image coming session trials answer.LimitEvents is stands owes none gave = (stands, owes, none)
+ends_end rules image coming session trials _ is stands owes none gave = absurd is
 
 -- its last piece was broken off
 account_broken : (rules : Rules) (image : Image) (story : Story) (more broken : List Entry) → Stood rules image story more → IsBroken rules (sends story) (then_entries (end_of story) more) broken → IsAccount rules image (ended_account story more broken) true
@@ -116,7 +117,7 @@ off_is rules image story more [] stood part = serving_account rules image story.
 off_is rules image story more (entry.Gave conn bytes false ∷ []) stood part =
     let none : story.since ++ more ≡ (story.since ++ more) ++ [] = sym (append-nil (story.since ++ more)) in
     broken_account rules image story.earlier story.survivor (story.since ++ more) [] false conn bytes (ending_none rules image story.earlier story.survivor (story.since ++ more) false stood.serving)
-    (subst (λ (since : List Entry). IsDuePiece rules (sends story) (ending_at story.earlier since false) conn bytes) none part)
+    (subst (λ (since : List Entry). IsDuePiece rules (sends story) (ending_at story.earlier since false story.survivor.now.state.machine.taken) conn bytes) none part)
     (subst (λ (since : List Entry). Served rules.limits (items_in rules.bounds (entries_of story.earlier ++ since)) story.survivor.plan story.survivor.begun story.survivor.now) none stood.way)
 off_is rules image story more (entry.Gave conn bytes true ∷ []) stood part = absurd part
 off_is rules image story more (entry.Gave conn bytes false ∷ next ∷ rest) stood part = absurd part
@@ -131,9 +132,9 @@ count_off : (first last since before steps now begun tried : ℕ) → last ≡ f
 count_off first last since before steps now begun tried all earlier same later = omega (arith, all, earlier, same, later)
 
 -- nobody gives up but at an end
-gives_no_end : (rules : Rules) (image : Image) (entries : List Entry) (survivor : Survivor) (trials : List Trial) (end : Answer) → (IsEnd end → ⊥) → GivesUpBy rules image entries survivor trials end
-gives_no_end rules image entries survivor trials (answer.GaveUp point cause) never = absurd (never tt)
-gives_no_end rules image entries survivor trials _ never = tt
+gives_no_end : (rules : Rules) (image : Image) (start since : List Entry) (survivor : Survivor) (trials : List Trial) (end : Answer) → (IsEnd end → ⊥) → GivesUpBy rules image start since survivor trials end
+gives_no_end rules image start since survivor trials (answer.GaveUp point cause) never = absurd (never tt)
+gives_no_end rules image start since survivor trials _ never = tt
 
 module _ {R : Type 0} where
   stood_end : (rules : Rules) (image : Image) (began : Since) (now : Told) (coming : Option Coming) (session : SessionState R) (end : Answer) (e : IsEnding rules image began now coming session end) → Stood rules image e.story []
@@ -150,7 +151,7 @@ module _ {R : Type 0} where
   stood_pieces rules image began now coming session end e more due =
       let story : Story = e.story in
       last_pieces rules image story [] more (stood_end rules image began now coming session end e)
-      (subst (λ (since : List Entry). AreDuePieces rules (sends story) (ending_at story.earlier since true) more) (sym (append-nil story.since)) due)
+      (subst (λ (since : List Entry). AreDuePieces rules (sends story) (ending_at story.earlier since true story.survivor.now.state.machine.taken) more) (sym (append-nil story.since)) due)
 
   -- what was told in all
   told_end : (rules : Rules) (image : Image) (began : Since) (before now : Told) (coming : Option Coming) (session : SessionState R) (end : Answer) (e : IsEnding rules image began before coming session end) (more broken : List Entry)
@@ -176,7 +177,7 @@ module _ {R : Type 0} where
             tells = told_end rules image began before now coming session end e more [] (subst (Tells before now) (sym (append-nil more)) tells);
             account = ending_account rules image story.earlier story.survivor story.since more true (stood_pieces rules image began before coming session end e more due).at;
             comes = λ is. record { end = end; is_end = e.is_end; stands = stands };
-            ends = ends_end rules later (ended_account story more []) end e.is_end stands owes refl;
+            ends = ends_end rules image later (ended_account story more []) e.trials end e.is_end stands owes refl e.gave_up;
             pieces = are_given rules (sends story) (end_of story) more due;
             asked = asked;
             choices_are = refl;
@@ -227,7 +228,7 @@ module _ {R : Type 0} where
           last = e.last;
           tried = e.tried;
           notes = notes_fault rules image began before coming session end fault noted e no_end same_choices same_episodes;
-          gave_up = gives_no_end rules image (entries story) story.survivor e.trials fault no_end;
+          gave_up = gives_no_end rules image (entries_of story.earlier) story.since story.survivor e.trials fault no_end;
           counted = λ others.
               count_all first last began.lost e.lost (spent story.recoveries) session.steps story.survivor.now.steps story.survivor.begun.steps (steps_of e.trials) all e.lost_is e.told.counted e.answers.steps
               (steps_later rules.limits (items_in rules.bounds (entries story)) story.survivor.plan story.survivor.begun story.survivor.now e.told.way);
@@ -261,7 +262,7 @@ module _ {R : Type 0} where
       last = off.last;
       tried = off.tried;
       notes = off.notes;
-      gave_up = gives_no_end rules image (before_end off.account) off.account.survivor off.trials end off.no_end;
+      gave_up = gives_no_end rules image (entries_of off.account.earlier) off.account.since off.account.survivor off.trials end off.no_end;
       counted = λ others.
           count_off first last began.lost (spent off.recoveries) session.steps off.account.survivor.now.steps off.account.survivor.begun.steps (steps_of off.trials) (all others) (off.counted others) off.steps off.later;
     },

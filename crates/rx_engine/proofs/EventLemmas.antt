@@ -12,19 +12,19 @@ use Rattle.run_history.specs.Served.{Served, AsksFor}
 use Rattle.session_history.specs.Heeding.{items_in, received, AreHeeded}
 use Rattle.session_history.specs.Opened.{opens}
 use Rattle.session_history.specs.Owing.{Latest, behind, latest, IsOwed, IsPassed, OwesNothing}
-use Rattle.session_history.specs.Lawful.{Rules, Survivor, entries_of, IsDue}
+use Rattle.session_history.specs.Lawful.{Rules, Survivor, entries_of, place_of, IsDue}
 use Rattle.session_history.proofs.Paths.{served_same, served_with}
 use Rattle.session_history.proofs.Sessions.{serving_event}
 use Rattle.rx_engine.specs.Standing.{Since, Story, entries, moment, sends, then_story, IsTold, IsLatestDone, HasPassedDue}
 use Rattle.rx_engine.proofs.TellLemmas.{tells_on}
 
--- where all items received were taken, what was due was passed, and so was what the latest event makes owed, nothing is owed
-pub owes_nothing : (rules : Rules) (story : Story) → received rules.bounds (entries story) ≤ story.survivor.now.state.machine.taken → HasPassedDue rules story → IsLatestDone rules (moment story) (sends story)
+-- where what was due was passed, and so was what the latest event makes owed, nothing is owed
+pub owes_nothing : (rules : Rules) (story : Story) → HasPassedDue rules story → IsLatestDone rules (moment story) (sends story)
     → OwesNothing rules.bounds rules.hold (moment story) (sends story)
-owes_nothing rules story all due done send stands owed = of owed
+owes_nothing rules story due done send stands owed = of owed
   where
     of : IsOwed rules.bounds rules.hold (moment story) send → IsPassed rules.bounds (entries story) (sends story) send stands
-    of (inl (still, inl early)) = due send stands still (omega (arith, early, all))
+    of (inl (still, inl early)) = due send stands still early
     of (inl (still, inr ended)) = absurd (let no : ⊥ = cc in no)
     of (inr made) = done send stands made
 
@@ -35,8 +35,8 @@ pub told_event : (rules : Rules) (image : Image) (began : Since) (old now : Told
 told_event rules image began old now story event more told asks owes heeds tells brings =
     let items : List Item = items_in rules.bounds (entries story) in
     let survivor : Survivor = story.survivor in
-    let due : IsDue rules items survivor (moment story) (entry.Took event) =
-    record { way = record { path = survivor.now; from = told.way; on = served_same rules.limits items survivor.plan survivor.now }; due = record { asks = asks; owes_nothing = owes; heeded = heeds } } in
+    let due : IsDue rules items survivor (place_of story.earlier story.since false) (entry.Took event) =
+    record { way = record { path = survivor.now; from = told.way; on = served_same rules.limits items survivor.plan survivor.now }; early = told.serving.carries.taken; due = record { asks = asks; owes_nothing = owes; heeded = heeds } } in
     let same : entries story ++ entry.Took event ∷ [] ≡ entries_of story.earlier ++ (story.since ++ entry.Took event ∷ []) = append_assoc (entries_of story.earlier) story.since (entry.Took event ∷ []) in
     record {
       serving = serving_event rules image story.earlier survivor story.since event more told.serving due brings;

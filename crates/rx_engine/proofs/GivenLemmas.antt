@@ -7,7 +7,7 @@ use Rattle.rx_io.specs.Sends.{Send}
 use Rattle.item_log.specs.Log.{Log}
 use Rattle.session_history.specs.Heeding.{Bounds, heeded}
 use Rattle.session_history.specs.Opened.{closes, is_gone, is_open}
-use Rattle.session_history.specs.Owing.{Moment, journal, latest, IsDueBy}
+use Rattle.session_history.specs.Owing.{Moment, journal, latest, IsDueBy, place_at}
 use Rattle.session_history.specs.Lawful.{Rules, entries_of, then_entry}
 use Rattle.session_history.specs.Giving.{AreGiven, then_entries}
 use Rattle.session_history.specs.Keeping.{KeepsItems}
@@ -16,14 +16,14 @@ use Rattle.rx_engine.specs.Standing.{Story, entries, then_story, IsLatestDone, I
 use Rattle.session_history.proofs.Endings.{events_in-given}
 
 -- what the latest event makes owed behind a piece, it made owed before it
-due_before : (bounds : Bounds) (at : Moment) (conn : ℕ) (bytes : List ℕ) (gone : Bool) (to taken : ℕ) → IsDueBy bounds (then_entry at (entry.Gave conn bytes gone)) to taken (latest (then_entry at (entry.Gave conn bytes gone)).since)
-    → IsDueBy bounds at to taken (latest at.since)
+due_before : (bounds : Bounds) (at : Moment) (conn : ℕ) (bytes : List ℕ) (gone : Bool) (to taken : ℕ) → IsDueBy bounds (place_at (then_entry at (entry.Gave conn bytes gone))) to taken (latest (then_entry at (entry.Gave conn bytes gone)).since)
+    → IsDueBy bounds (place_at at) to taken (latest at.since)
 due_before bounds at conn bytes gone to taken due =
     let e : Entry = entry.Gave conn bytes gone in
     let same : journal (then_entry at e) ≡ journal at ++ e ∷ [] = journal-then at e in
     let still : is_gone to (journal (then_entry at e)) ≡ false = due_not_gone bounds (then_entry at e) to taken (latest (then_entry at e).since) due in
     let here : is_gone to (journal at ++ e ∷ []) ≡ false = sym (ap (is_gone to) same) ∙ still in
-    subst (IsDueBy bounds at to taken) (latest-gave at.since conn bytes gone)
+    subst (IsDueBy bounds (place_at at) to taken) (latest-gave at.since conn bytes gone)
     (due_by bounds (then_entry at e) at to taken (latest (then_entry at e).since) refl (sym (ap (λ (es : List Entry). is_open bounds es to) same ∙ is_open-same bounds (journal at) conn bytes gone to here))
     (sym (ap (λ (es : List Entry). closes to (heeded bounds (events_in es))) same ∙ closes-gave bounds (journal at) conn bytes gone to)) (not_gone (journal at) conn bytes gone to here) due)
 

@@ -29,7 +29,7 @@ use Rattle.guest_runs.specs.Runs.{GoesOn, IsSilent, RunsOn}
 use Rattle.session_history.specs.Heeding.{Bounds, items_in, received}
 use Rattle.session_history.specs.Opened.{is_open}
 use Rattle.session_history.specs.Owing.{Stands, IsPassed}
-use Rattle.session_history.specs.Lawful.{Rules}
+use Rattle.session_history.specs.Lawful.{Rules, entries_of}
 use Rattle.session_history.specs.Account.{Session}
 use Rattle.session_history.specs.Keeping.{KeepsReplies, KeepsItems}
 use Rattle.rx_engine.specs.Sessions.{SessionState}
@@ -208,7 +208,7 @@ module _ {R : Type 0} where
   -- a session whose survivor has come to an end, and sent nothing on the way
   comes_ending : (rules : Rules) (image : Image) (began : Since) (now : Told) (phases : Phases) (coming : Option Coming) (old new : SessionState R) (g : IsGoing rules image began now phases old) (to : Path) (end : Answer) → HasSameParts old new
       → new.choices ≡ old.choices → IsCounted new → GoesOn rules.limits (items_in rules.bounds (entries g.story)) g.story.survivor.plan g.story.survivor.now to → IsSilent g.story.survivor.now to → new.cpu.slots.live ≡ standing_of to → IsEnd end
-      → StandsAt rules (entries g.story) coming (gone_on g.story.survivor to) end → GivesUpBy rules image (entries g.story) (gone_on g.story.survivor to) [] end → IsEnding rules image began now coming new end
+      → StandsAt rules (entries g.story) coming (gone_on g.story.survivor to) end → GivesUpBy rules image (entries_of g.story.earlier) g.story.since (gone_on g.story.survivor to) [] end → IsEnding rules image began now coming new end
   comes_ending rules image began now phases coming old new g to end same chosen counted goes silent stands is_end cause gave_up =
       let passed = has_passed rules g.story old.replies new.replies to g.passed same.replies silent.sends in
       record {
@@ -248,6 +248,7 @@ module _ {R : Type 0} where
       let silent : IsSilent b.going.story.survivor.now runs.now = runs.comes.0 in
       record {
         going = going_on rules image began now phases old new b.going runs.now [] same (none_used silent) (none_more chosen) counted runs.goes runs.comes.1.lives (sym runs.stands) silent.sends;
+        due = due_still rules b.going.story runs.now silent.sends runs.goes.taken b.due;
         fails = runs.comes.1;
       }
 

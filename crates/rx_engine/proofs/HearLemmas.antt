@@ -102,7 +102,7 @@ module _ {R : Type 0} where
       let asks = w.hearing.asks in
       record {
         told =
-            told_event rules image began before now story event heard.more w.hearing.told (subst (AsksFor rules.limits story.survivor.plan story.survivor.now) (sym exact) asks) (owes_nothing rules story all w.due w.hearing.passed.done) w.hearing.goes.items.all_heeded tells
+            told_event rules image began before now story event heard.more w.hearing.told (subst (AsksFor rules.limits story.survivor.plan story.survivor.now) (sym exact) asks) (owes_nothing rules story w.due w.hearing.passed.done) w.hearing.goes.items.all_heeded tells
             heard.brings;
         answers = answers_still began story old new (entry.Took event ∷ []) same w.hearing.answers;
         goes =

@@ -38,7 +38,7 @@ use Rattle.rx_engine.proofs.NoteLemmas.{notes_end}
 use Rattle.rx_engine.proofs.FaultLemmas.{note_no_end, note_ends}
 use Rattle.session_history.specs.Heeding.{Bounds, heeded, received}
 use Rattle.session_history.specs.Opened.{opens, closes, is_gone, is_open}
-use Rattle.session_history.specs.Owing.{Moment, journal, latest, IsOwed, IsDueBy, IsPassed, OwesNothing}
+use Rattle.session_history.specs.Owing.{Moment, journal, latest, IsOwed, IsDueBy, IsPassed, OwesNothing, place_at}
 use Rattle.session_history.specs.Lawful.{Rules, is_closed_by, is_closing, Chapter, entries_of}
 use Rattle.session_history.specs.Giving.{AreGiven, AreDuePieces, then_entries, IsReady, IsClosing, Passes, PassesRest}
 use Rattle.session_history.specs.Serving.{moment_of, ending_at}
@@ -67,27 +67,26 @@ closing_shut bounds at conn closing still =
     (sym (and_second (is_closed_by (latest at.since) conn) (closes conn (heeded bounds (events_in (journal at)))) closing) ∙ open_not_closed bounds (journal at) conn still)
 
 -- so what is owed to it is due by the latest event
-pub closing_due : (bounds : Bounds) (hold : ℕ) (at : Moment) (send : Send) → is_closing bounds at send.conn ≡ true → IsOwed bounds hold at send → IsDueBy bounds at send.conn send.taken (latest at.since)
+pub closing_due : (bounds : Bounds) (hold : ℕ) (at : Moment) (send : Send) → is_closing bounds at send.conn ≡ true → IsOwed bounds hold at send → IsDueBy bounds (place_at at) send.conn send.taken (latest at.since)
 closing_due bounds hold at send closing (inl why) = absurd (closing_shut bounds at send.conn closing why.0)
 closing_due bounds hold at send closing (inr due) = due
 
 -- and at an end it is due as before it
-due_of_end : (bounds : Bounds) (hold : ℕ) (earlier : List Chapter) (since : List Entry) (send : Send) → is_closing bounds (ending_at earlier since true) send.conn ≡ true → IsOwed bounds hold (ending_at earlier since true) send
-    → IsDueBy bounds (moment_of earlier since) send.conn send.taken (latest since)
-due_of_end bounds hold earlier since send closing owed =
-    let at : Moment = ending_at earlier since true in
+due_of_end : (bounds : Bounds) (hold : ℕ) (earlier : List Chapter) (since : List Entry) (taken : ℕ) (send : Send) → is_closing bounds (ending_at earlier since true taken) send.conn ≡ true → IsOwed bounds hold (ending_at earlier since true taken) send
+    → IsDueBy bounds (place_at (moment_of earlier since taken)) send.conn send.taken (latest since)
+due_of_end bounds hold earlier since taken send closing owed =
+    let at : Moment = ending_at earlier since true taken in
     let due = closing_due bounds hold at send closing owed in
-    due_by bounds at (moment_of earlier since) send.conn send.taken (latest since) refl refl refl (due_not_gone bounds at send.conn send.taken (latest since) due) due
+    due_by bounds at (moment_of earlier since taken) send.conn send.taken (latest since) refl refl refl (due_not_gone bounds at send.conn send.taken (latest since) due) due
 
 -- what is due with the items taken so far may be passed
 pub due_ready : (rules : Rules) (image : Image) (began : Since) (now : Told) (story : Story) (until : ℕ) (ledger : Ledger) → IsTold rules image began now story → until + rules.hold ≡ story.survivor.now.state.machine.taken → HasPassed rules story ledger
     → IsReady rules (sends story) (moment story) until ledger
 due_ready rules image began now story until ledger told is passed =
-    let low = told.serving.carries.taken in
     record {
       keeps = passed.replies;
       fronts = fronts_of rules image began now story told;
-      owed = λ send stands still early. inl (still, inl (omega (arith, low, is, early)));
+      owed = λ send stands still early. inl (still, inl (omega (arith, is, early)));
       closed = λ send stands closing owed. passed.done send stands (closing_due rules.bounds rules.hold (moment story) send closing owed);
     }
 
@@ -110,7 +109,7 @@ end_ready rules image began now story until ledger told replies done = record {
   keeps = replies;
   fronts = fronts_of rules image began now story told;
   owed = λ send stands still early. inl (still, inr refl);
-  closed = λ send stands closing owed. done send stands closing (due_of_end rules.bounds rules.hold story.earlier story.since send closing owed);
+  closed = λ send stands closing owed. done send stands closing (due_of_end rules.bounds rules.hold story.earlier story.since story.survivor.now.state.machine.taken send closing owed);
 }
 
 -- where that was passed, nothing is owed
@@ -125,7 +124,7 @@ end_owes rules image began now story more until ledger told low due replies none
     same = append_assoc (entries_of story.earlier) story.since more
 
     of : (b : Bool) → is_closing rules.bounds (then_entries (end_of story) more) send.conn ≡ b → IsPassed rules.bounds (journal (then_entries (end_of story) more)) (sends story) send stands
-    of true is = closed_given rules (sends story) (moment story) more given done send stands is (due_of_end rules.bounds rules.hold story.earlier (story.since ++ more) send is owed)
+    of true is = closed_given rules (sends story) (moment story) more given done send stands is (due_of_end rules.bounds rules.hold story.earlier (story.since ++ more) story.survivor.now.state.machine.taken send is owed)
     of false is =
         let few = made_by rules image began now story told send stands in
         nothing_waits rules.bounds (journal (then_entries (end_of story) more)) (sends story) ledger until (subst (λ (es : List Entry). KeepsReplies rules.bounds es None (sends story) ledger) same replies)

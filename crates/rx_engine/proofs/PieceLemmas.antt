@@ -8,7 +8,7 @@ use Rattle.rx_io.specs.Sends.{Send}
 use Rattle.elf_image.specs.declared.image.Image.{Image}
 use Rattle.run_history.specs.Served.{Served}
 use Rattle.session_history.specs.Heeding.{items_in}
-use Rattle.session_history.specs.Lawful.{Rules, Survivor, Chapter, entries_of, IsDue, IsDueAt}
+use Rattle.session_history.specs.Lawful.{Rules, Survivor, Chapter, entries_of, place_of, IsDue, IsDueAt}
 use Rattle.session_history.specs.Giving.{AreDuePieces, AreGiven}
 use Rattle.session_history.specs.Serving.{moment_of, Serving}
 use Rattle.session_history.proofs.Heeding.{items_in-gave}
@@ -31,11 +31,11 @@ pub record Stood (rules : Rules) (image : Image) (earlier : List Chapter) (survi
 
 -- one piece
 one_piece : (rules : Rules) (image : Image) (earlier : List Chapter) (survivor : Survivor) (since : List Entry) (conn : ℕ) (bytes : List ℕ) (gone : Bool) → Stood rules image earlier survivor since
-    → IsDueAt rules survivor.plan survivor.now (moment_of earlier since) (entry.Gave conn bytes gone) → Stood rules image earlier survivor (since ++ entry.Gave conn bytes gone ∷ [])
+    → IsDueAt rules survivor.plan survivor.now (moment_of earlier since survivor.now.state.machine.taken) (entry.Gave conn bytes gone) → Stood rules image earlier survivor (since ++ entry.Gave conn bytes gone ∷ [])
 one_piece rules image earlier survivor since conn bytes gone stood due =
     let items : List Item = items_in rules.bounds (entries_of earlier ++ since) in
-    let whole : IsDue rules items survivor (moment_of earlier since) (entry.Gave conn bytes gone) =
-    record { way = record { path = survivor.now; from = stood.way; on = served_same rules.limits items survivor.plan survivor.now }; due = due } in
+    let whole : IsDue rules items survivor (place_of earlier since false) (entry.Gave conn bytes gone) =
+    record { way = record { path = survivor.now; from = stood.way; on = served_same rules.limits items survivor.plan survivor.now }; early = stood.serving.carries.taken; due = due } in
     let kept : items ≡ items_in rules.bounds (entries_of earlier ++ (since ++ entry.Gave conn bytes gone ∷ [])) =
     sym (items_in-gave rules.bounds (entries_of earlier ++ since) conn bytes gone) ∙ ap (items_in rules.bounds) (append_assoc (entries_of earlier) since (entry.Gave conn bytes gone ∷ [])) in
     record {
@@ -44,7 +44,7 @@ one_piece rules image earlier survivor since conn bytes gone stood due =
     }
 
 -- several pieces
-pub pieces : (rules : Rules) (image : Image) (earlier : List Chapter) (survivor : Survivor) (since more : List Entry) → Stood rules image earlier survivor since → AreDuePieces rules survivor.now.state.sends (moment_of earlier since) more
+pub pieces : (rules : Rules) (image : Image) (earlier : List Chapter) (survivor : Survivor) (since more : List Entry) → Stood rules image earlier survivor since → AreDuePieces rules survivor.now.state.sends (moment_of earlier since survivor.now.state.machine.taken) more
     → Stood rules image earlier survivor (since ++ more)
 pieces rules image earlier survivor since [] stood due = subst (Stood rules image earlier survivor) (sym (append-nil since)) stood
 pieces rules image earlier survivor since (entry.Gave conn bytes false ∷ more) stood due =

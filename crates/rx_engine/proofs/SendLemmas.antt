@@ -18,7 +18,7 @@ use Rattle.guest_runs.specs.Runs.{RunsOn, TakesOn}
 use Rattle.guest_runs.proofs.TakeLemmas.{takes_serve}
 use Rattle.session_history.specs.Heeding.{Bounds, items_in, heeded, received}
 use Rattle.session_history.specs.Opened.{opens}
-use Rattle.session_history.specs.Owing.{Moment, Latest, latest, received_before, IsMadeDue, IsDueBy, IsPassed, journal}
+use Rattle.session_history.specs.Owing.{Moment, Latest, latest, received_before, IsMadeDue, IsDueBy, IsPassed, journal, place_at}
 use Rattle.session_history.specs.Lawful.{Rules}
 use Rattle.session_history.specs.Keeping.{IsSendable, KeepsReplies, KeepsItems}
 use Rattle.reply_gate.proofs.ReplyLemmas.{sent_keeps}
@@ -30,16 +30,16 @@ use Rattle.rx_engine.proofs.CheckpointLemmas.{HasSameSide, saved_on}
 use Rattle.rx_engine.proofs.GuestLemmas.{HasSameParts, none_more, none_used, answers_for, goes_with, has_passed, still_received}
 
 -- nothing is due by an event before which fewer items were received than the send was made with
-made_late : (bounds : Bounds) (at : Moment) (conn taken before : ℕ) (e : LinkEvent) → before < taken → IsMadeDue bounds at conn taken e before → ⊥
+made_late : (bounds : Bounds) (at : Moment) (conn taken before : ℕ) (e : LinkEvent) → before < taken → IsMadeDue bounds (place_at at) conn taken e before → ⊥
 made_late bounds at conn taken before event.Settles late made = omega (arith, late, made.1)
 made_late bounds at conn taken before (event.Closes closed) late made = omega (arith, late, made.3)
 made_late bounds at conn taken before (event.Opens opened) late made = made
 made_late bounds at conn taken before (event.Piece to bytes) late made = made
 made_late bounds at conn taken before event.Ends late made = made
 
-due_late : (rules : Rules) (at : Moment) (conn taken : ℕ) (o : Option Latest) → ((last : Latest) → o ≡ Some last → received_before rules.bounds at last < taken) → IsDueBy rules.bounds at conn taken o → ⊥
+due_late : (rules : Rules) (at : Moment) (conn taken : ℕ) (o : Option Latest) → ((last : Latest) → o ≡ Some last → received_before rules.bounds (place_at at) last < taken) → IsDueBy rules.bounds (place_at at) conn taken o → ⊥
 due_late rules at conn taken None late due = due
-due_late rules at conn taken (Some last) late due = made_late rules.bounds at conn taken (received_before rules.bounds at last) last.event (late last refl) due
+due_late rules at conn taken (Some last) late due = made_late rules.bounds at conn taken (received_before rules.bounds (place_at at) last) last.event (late last refl) due
 
 -- a send among others and one more is the last, or stands among the others
 data Placed (all : List Send) (last send : Send) (earlier : List Send) : Type 0 where
@@ -64,7 +64,7 @@ pub done_sent : (rules : Rules) (at : Moment) (all : List Send) (last : Send) �
 done_sent rules at all last late done send stands due = of (placed all stands.earlier stands.later last send stands.split)
   where
     of : Placed all last send stands.earlier → IsPassed rules.bounds (journal at) (all ++ last ∷ []) send stands
-    of (Last it) = absurd (due_late rules at send.conn send.taken (latest at.since) (λ l is. subst (λ (s : Send). received_before rules.bounds at l < s.taken) (sym it) (late l is)) due)
+    of (Last it) = absurd (due_late rules at send.conn send.taken (latest at.since) (λ l is. subst (λ (s : Send). received_before rules.bounds (place_at at) l < s.taken) (sym it) (late l is)) due)
     of (Within later split) = done send (record { earlier = stands.earlier; later = later; split = split }) due
 
 -- a connection that the guest may send to was opened in the ledger

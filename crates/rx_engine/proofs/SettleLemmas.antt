@@ -10,7 +10,7 @@ use Rattle.reply_ledger.specs.Ledger.{Ledger}
 use Rattle.reply_ledger.specs.Parts.{next_part, rest_part}
 use Rattle.session_history.specs.Heeding.{Bounds, heeded, received}
 use Rattle.session_history.specs.Opened.{closes, is_gone, is_open}
-use Rattle.session_history.specs.Owing.{Moment, journal, Latest, latest, received_before, IsMadeDue, IsDueBy, IsPassed, Stands}
+use Rattle.session_history.specs.Owing.{Moment, journal, Latest, latest, received_before, IsMadeDue, IsDueBy, IsPassed, Stands, place_at}
 use Rattle.session_history.specs.Passing.{passed_in, AreBetween}
 use Rattle.session_history.specs.Lawful.{Rules, is_closed_by, is_closing}
 use Rattle.session_history.specs.Giving.{AreFronts, IsReady, IsClosing}
@@ -50,7 +50,7 @@ settle_ready rules image began now story until ledger told low replies =
       fronts = fronts_of rules image began now after told;
       owed = λ send stands still early.
           let few = made_by rules image began now after told send stands in
-          inr (subst (IsDueBy rules.bounds (moment after) send.conn send.taken) (sym is) (still, omega (arith, few, low)));
+          inr (subst (IsDueBy rules.bounds (place_at (moment after)) send.conn send.taken) (sym is) (still, omega (arith, few, low)));
       closed = λ send stands closing owed. absurd (none_closes rules.bounds (moment after) _ send.conn is (λ c. refl) closing);
     }
 
@@ -66,9 +66,9 @@ all_due rules image began now story until ledger told low replies none send stan
 pub settle_done : (rules : Rules) (story : Story) (last : Latest) → latest (moment story).since ≡ Some last → last.event ≡ event.Settles
     → ((send : Send) (stands : Stands (sends story) send) → is_open rules.bounds (entries story) send.conn ≡ true → IsPassed rules.bounds (entries story) (sends story) send stands) → IsLatestDone rules (moment story) (sends story)
 settle_done rules story last is settles all send stands due =
-    let made : IsMadeDue rules.bounds (moment story) send.conn send.taken last.event (received_before rules.bounds (moment story) last) = subst (IsDueBy rules.bounds (moment story) send.conn send.taken) is due in
-    let open_still : IsMadeDue rules.bounds (moment story) send.conn send.taken event.Settles (received_before rules.bounds (moment story) last) =
-    subst (λ e. IsMadeDue rules.bounds (moment story) send.conn send.taken e (received_before rules.bounds (moment story) last)) settles made in
+    let made : IsMadeDue rules.bounds (place_at (moment story)) send.conn send.taken last.event (received_before rules.bounds (place_at (moment story)) last) = subst (IsDueBy rules.bounds (place_at (moment story)) send.conn send.taken) is due in
+    let open_still : IsMadeDue rules.bounds (place_at (moment story)) send.conn send.taken event.Settles (received_before rules.bounds (place_at (moment story)) last) =
+    subst (λ e. IsMadeDue rules.bounds (place_at (moment story)) send.conn send.taken e (received_before rules.bounds (place_at (moment story)) last)) settles made in
     all send stands open_still.0
 
 -- A close was heard: all that was sent to its connection is owed, unless it is gone.
@@ -87,7 +87,7 @@ close_ready rules image began now story conn ledger told low closed replies =
       closes = refl;
       owed = λ send stands to still.
           let few = made_by rules image began now after told send stands in
-          inr (subst (IsDueBy rules.bounds (moment after) send.conn send.taken) (sym is)
+          inr (subst (IsDueBy rules.bounds (place_at (moment after)) send.conn send.taken) (sym is)
           (sym to, subst (λ c. closes c (heeded rules.bounds (events_in (entries after))) ≡ true) (sym to) closed, subst (λ c. is_gone c (entries after) ≡ false) (sym to) still, omega (arith, few, low)));
     }
 
@@ -95,8 +95,8 @@ close_ready rules image began now story conn ledger told low closed replies =
 pub close_done : (rules : Rules) (image : Image) (began : Since) (now : Told) (story : Story) (last : Latest) (conn : ℕ) (ledger : Ledger) → IsTold rules image began now story → latest (moment story).since ≡ Some last → last.event ≡ event.Closes conn
     → KeepsReplies rules.bounds (entries story) (Some conn) (sends story) ledger → (is_gone conn (entries story) ≡ false → rest_part ledger conn ≡ None) → IsLatestDone rules (moment story) (sends story)
 close_done rules image began now story last conn ledger told is closed replies none send stands due =
-    let made : IsMadeDue rules.bounds (moment story) send.conn send.taken last.event (received_before rules.bounds (moment story) last) = subst (IsDueBy rules.bounds (moment story) send.conn send.taken) is due in
-    let by : IsMadeDue rules.bounds (moment story) send.conn send.taken (event.Closes conn) (received_before rules.bounds (moment story) last) =
-    subst (λ e. IsMadeDue rules.bounds (moment story) send.conn send.taken e (received_before rules.bounds (moment story) last)) closed made in
+    let made : IsMadeDue rules.bounds (place_at (moment story)) send.conn send.taken last.event (received_before rules.bounds (place_at (moment story)) last) = subst (IsDueBy rules.bounds (place_at (moment story)) send.conn send.taken) is due in
+    let by : IsMadeDue rules.bounds (place_at (moment story)) send.conn send.taken (event.Closes conn) (received_before rules.bounds (place_at (moment story)) last) =
+    subst (λ e. IsMadeDue rules.bounds (place_at (moment story)) send.conn send.taken e (received_before rules.bounds (place_at (moment story)) last)) closed made in
     let still : is_gone conn (entries story) ≡ false = ap (λ c. is_gone c (entries story)) by.0 ∙ by.2 in
     no_rest rules.bounds (entries story) (sends story) ledger conn replies (fronts_of rules image began now story told) still (none still) send stands (sym by.0)

@@ -25,8 +25,8 @@ use Rattle.session_history.proofs.Heeding.{passed_in-took}
 use Rattle.reply_gate.proofs.MomentLemmas.{due_by, due_not_gone}
 use Rattle.event_gate.proofs.Refusing.{IsEvent, events_ended, heeded_without}
 use Rattle.event_gate.proofs.Knowing.{gone-took}
-use Rattle.session_history.specs.Owing.{Moment, journal, latest, IsDueBy}
-use Rattle.session_history.specs.Lawful.{Rules, is_closed_by, is_closing}
+use Rattle.session_history.specs.Owing.{Moment, journal, latest, IsDueBy, place_at}
+use Rattle.session_history.specs.Lawful.{Rules, is_closed_by, is_closing, entries_of}
 use Rattle.session_history.specs.Keeping.{KeepsReplies}
 use Rattle.session_history.specs.Hearing.{closing_of, IsHeeded, IsHeard, IsUnheeded}
 use Rattle.session_history.specs.Ends.{IsEnd, StandsAt, IsWaiting, WasAsked, IsLastRefused}
@@ -88,8 +88,8 @@ pub done_ended : (rules : Rules) (story : Story) → IsLatestDone rules (moment 
 done_ended rules story done send stands due =
     let after : Moment = moment (then_story story (entry.Took event.Ends ∷ [])) in
     let gone_not : is_gone send.conn (journal after) ≡ false = due_not_gone rules.bounds after send.conn send.taken (latest after.since) due in
-    let was : IsDueBy rules.bounds (moment story) send.conn send.taken (latest (moment story).since) =
-    subst (IsDueBy rules.bounds (moment story) send.conn send.taken) (latest-ended story.since)
+    let was : IsDueBy rules.bounds (place_at (moment story)) send.conn send.taken (latest (moment story).since) =
+    subst (IsDueBy rules.bounds (place_at (moment story)) send.conn send.taken) (latest-ended story.since)
     (due_by rules.bounds after (moment story) send.conn send.taken (latest after.since) refl (sym (ended_open rules.bounds story send.conn))
     (ap (λ (es : List LinkEvent). closes send.conn (heeded rules.bounds es)) (sym (ended_events rules.bounds story))) (sym (ended_gone rules.bounds story send.conn) ∙ gone_not) due) in
     subst (λ (pieces : List Send). Prefix (sent_to send.conn (stands.earlier ++ send ∷ [])) (sent_to send.conn pieces)) (sym (ended_passed rules.bounds story)) (done send stands was)
@@ -122,7 +122,7 @@ module _ {R : Type 0} where
       let story : Story = w.hearing.story in
       let low = w.hearing.told.serving.carries.taken in
       let exact : received rules.bounds (entries story) ≡ story.survivor.now.state.machine.taken = omega (arith, low, all) in
-      told_event rules image began before now story e more w.hearing.told (subst (AsksFor rules.limits story.survivor.plan story.survivor.now) (sym exact) w.hearing.asks) (owes_nothing rules story all w.due w.hearing.passed.done) w.hearing.goes.items.all_heeded tells brings
+      told_event rules image began before now story e more w.hearing.told (subst (AsksFor rules.limits story.survivor.plan story.survivor.now) (sym exact) w.hearing.asks) (owes_nothing rules story w.due w.hearing.passed.done) w.hearing.goes.items.all_heeded tells brings
 
   -- it waits behind entries that bring nothing
   pub waits_still : (rules : Rules) (image : Image) (began : Since) (before : Told) (phases : Phases) (old : SessionState R) (w : IsWaitingFor rules image began before phases old) (more : List Entry) → received rules.bounds (entries w.hearing.story) ≤ w.hearing.story.survivor.now.state.machine.taken
@@ -162,7 +162,7 @@ module _ {R : Type 0} where
       → HasSameRun old new → new.log ≡ old.log → new.replies.trial ≡ None → IsEnd end
       → (IsWaiting rules (entries (then_story w.hearing.story (entry.Took e ∷ []))) w.hearing.story.survivor → IsLastRefused rules.bounds (entries (then_story w.hearing.story (entry.Took e ∷ []))) cause
       → StandsAt rules (entries (then_story w.hearing.story (entry.Took e ∷ []))) coming w.hearing.story.survivor end)
-      → GivesUpBy rules image (entries (then_story w.hearing.story (entry.Took e ∷ []))) w.hearing.story.survivor [] end → IsEnding rules image began now coming new end
+      → GivesUpBy rules image (entries_of w.hearing.story.earlier) (w.hearing.story.since ++ entry.Took e ∷ []) w.hearing.story.survivor [] end → IsEnding rules image began now coming new end
   ending_refused rules image began before now phases coming old new w e cause end no_end all tells u same log no_trial is_end stands gave_up =
       let story : Story = w.hearing.story in
       let es = more_entries story (entry.Took e ∷ []) in
@@ -251,7 +251,7 @@ module _ {R : Type 0} where
           tried = inl (refl, refl);
           gave_up = tt;
         },
-        (waits, owes_nothing rules story all w.due w.hearing.passed.done, w.hearing.goes.items.all_heeded),
+        (waits, owes_nothing rules story w.due w.hearing.passed.done, w.hearing.goes.items.all_heeded),
       )
 
   -- no event could be taken
@@ -260,7 +260,7 @@ module _ {R : Type 0} where
   off_read rules image began before now phases coming old new w all tells same =
       let story : Story = w.hearing.story in
       broken_off rules image began now coming new story answer.ReadFault (told_nothing rules image began before now story w.hearing.told tells) (answers_here began story old new same w.hearing.answers)
-      ((waits_here rules image began before phases old w all, owes_nothing rules story all w.due w.hearing.passed.done, w.hearing.goes.items.all_heeded), (refl, refl)) (λ is. is)
+      ((waits_here rules image began before phases old w all, owes_nothing rules story w.due w.hearing.passed.done, w.hearing.goes.items.all_heeded), (refl, refl)) (λ is. is)
       (λ never. held_here rules image began before phases old new w same)
 
   -- memory ran out, before an event was taken or behind one that is heeded
@@ -271,7 +271,7 @@ module _ {R : Type 0} where
   off_memory rules image began before now phases coming takes old new w all same (inl tells) took =
       let story : Story = w.hearing.story in
       broken_with (λ account. takes ≡ false → WasAsked rules account) rules image began now coming new story answer.Memory (told_nothing rules image began before now story w.hearing.told tells) (answers_here began story old new same w.hearing.answers) tt (λ is. is) (λ never. absurd (never tt))
-      (λ none. (waits_here rules image began before phases old w all, owes_nothing rules story all w.due w.hearing.passed.done, w.hearing.goes.items.all_heeded))
+      (λ none. (waits_here rules image began before phases old w all, owes_nothing rules story w.due w.hearing.passed.done, w.hearing.goes.items.all_heeded))
   off_memory rules image began before now phases coming takes old new w all same (inr still) (inl tells) =
       broken_with (λ account. takes ≡ false → WasAsked rules account) rules image began now coming new w.hearing.story answer.Memory (told_nothing rules image began before now w.hearing.story w.hearing.told tells) (answers_here began w.hearing.story old new same w.hearing.answers) tt (λ is. is) (λ never. absurd (never tt))
       (λ none. still_takes takes _ still none)

@@ -8,7 +8,7 @@ use Rattle.run_history.specs.declared.answer.Answer.{Answer}
 use Rattle.run_history.specs.declared.answer.Answer.TheVariants as answer
 use Rattle.run_history.specs.declared.answer.Cause.{Cause}
 use Rattle.run_history.specs.Served.{Path}
-use Rattle.session_history.specs.Lawful.{Rules, Survivor}
+use Rattle.session_history.specs.Lawful.{Rules, Survivor, entries_of, LeavesNothing}
 use Rattle.session_history.specs.Serving.{first_survivor}
 use Rattle.session_history.specs.Ends.{IsEnd, HasServed, before_end}
 use Rattle.trial_history.specs.Tables.{Trial, survivor_in}
@@ -26,21 +26,23 @@ spent recoveries = sum (map (λ (recovery : Recovery). (recovery.survivor.now.st
 abbrev pub told_of : Survivor → Cause → List Trial → Episode
 told_of survivor cause trials = episode_of (record { survivor = survivor; cause = cause; ring = []; trials = trials })
 
--- the last survivor failed by this cause, and none of these trials, a walk over all of its checkpoints, at least one, survived
-pub record HasGivenUp (rules : Rules) (image : Image) (entries : List Entry) (survivor : Survivor) (trials : List Trial) (cause : Cause) : Type 0 where
+-- The last survivor failed by this cause, behind some entries of its time and those before it, where it owed nothing; and none of these
+-- trials, a walk over all of its checkpoints, at least one, survived.
+pub record HasGivenUp (rules : Rules) (image : Image) (start since : List Entry) (survivor : Survivor) (trials : List Trial) (cause : Cause) : Type 0 where
   pub ring : List Path
   pub some : 0 < length ring
-  pub recovers : IsRecovery rules image entries (record { survivor = survivor; cause = cause; ring = ring; trials = trials })
+  pub recovers : IsRecovery rules image (start ++ since) (record { survivor = survivor; cause = cause; ring = ring; trials = trials })
   pub none : survivor_in trials ≡ None
+  pub owes_nothing : LeavesNothing rules start since survivor
 
-abbrev pub GivesUpBy : Rules → Image → List Entry → Survivor → List Trial → Answer → Type 0
-GivesUpBy rules image entries survivor trials (answer.GaveUp point cause) = HasGivenUp rules image entries survivor trials cause
-GivesUpBy rules image entries survivor trials _ = Unit {0}
+abbrev pub GivesUpBy : Rules → Image → List Entry → List Entry → Survivor → List Trial → Answer → Type 0
+GivesUpBy rules image start since survivor trials (answer.GaveUp point cause) = HasGivenUp rules image start since survivor trials cause
+GivesUpBy rules image start since survivor trials _ = Unit {0}
 
 -- trials are made behind the last survivor only where it failed, and there is an episode of them
-abbrev pub AreLastTrials : Rules → Image → List Entry → Survivor → List Trial → List Episode → Type 0
-AreLastTrials rules image entries survivor trials last =
-    ((trials ≡ []) × (last ≡ [])) ⊎ ((cause : Cause) × HasGivenUp rules image entries survivor trials cause × (last ≡ told_of survivor cause trials ∷ []))
+abbrev pub AreLastTrials : Rules → Image → List Entry → List Entry → Survivor → List Trial → List Episode → Type 0
+AreLastTrials rules image start since survivor trials last =
+    ((trials ≡ []) × (last ≡ [])) ⊎ ((cause : Cause) × HasGivenUp rules image start since survivor trials cause × (last ≡ told_of survivor cause trials ∷ []))
 
 -- an answer behind which the notes of a session may lack its last episode
 abbrev pub IsNoteFault : Answer → Type 0
@@ -72,7 +74,7 @@ pub record HasRecovered (rules : Rules) (image : Image) (began now : Told) (comi
   pub recovered : AreRecovered rules image [] (first_survivor image) served.session.earlier recoveries served.session.survivor
   pub trials : List Trial
   pub last : List Episode
-  pub tried : AreLastTrials rules image (before_end served.session) served.session.survivor trials last
-  pub gave_up : GivesUpBy rules image (before_end served.session) served.session.survivor trials end
+  pub tried : AreLastTrials rules image (entries_of served.session.earlier) served.session.since served.session.survivor trials last
+  pub gave_up : GivesUpBy rules image (entries_of served.session.earlier) served.session.since served.session.survivor trials end
   pub counted : end ≢ answer.Memory → after ≡ before + (spent recoveries + (served.session.survivor.now.steps - served.session.survivor.begun.steps) + steps_of trials)
   pub notes : HasNoted noted_before noted_now end choices (map episode_of recoveries ++ last) recorded tail

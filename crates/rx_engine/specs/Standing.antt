@@ -15,7 +15,7 @@ use Rattle.guest_runs.specs.Runs.{IsBounded}
 use Rattle.session_history.specs.Heeding.{heeded, items_in, received, AreHeeded}
 use Rattle.item_log.specs.Log as logs
 use Rattle.session_history.specs.Opened.{opens, is_open}
-use Rattle.session_history.specs.Owing.{Moment, journal, Latest, latest, received_before, Stands, IsDueBy, IsPassed, OwesNothing}
+use Rattle.session_history.specs.Owing.{Moment, journal, Latest, latest, received_before, Stands, IsDueBy, IsPassed, OwesNothing, place_at}
 use Rattle.session_history.specs.Lawful.{Rules, Survivor, is_closing, Chapter, entries_of}
 use Rattle.session_history.specs.Account.{Session, journal_of, IsAccount}
 use Rattle.session_history.specs.Serving.{moment_of, Serving, first_survivor}
@@ -44,7 +44,7 @@ abbrev pub entries : Story → List Entry
 entries story = entries_of story.earlier ++ story.since
 
 abbrev pub moment : Story → Moment
-moment story = moment_of story.earlier story.since
+moment story = moment_of story.earlier story.since story.survivor.now.state.machine.taken
 
 abbrev pub sends : Story → List Send
 sends story = story.survivor.now.state.sends
@@ -109,11 +109,11 @@ module _ {R : Type 0} where
 -- what the latest event makes owed was passed
 abbrev pub IsLatestDone : Rules → Moment → List Send → Type 0
 IsLatestDone rules moment sends =
-    (send : Send) (stands : Stands sends send) → IsDueBy rules.bounds moment send.conn send.taken (latest moment.since) → IsPassed rules.bounds (journal moment) sends send stands
+    (send : Send) (stands : Stands sends send) → IsDueBy rules.bounds (place_at moment) send.conn send.taken (latest moment.since) → IsPassed rules.bounds (journal moment) sends send stands
 
 -- fewer items than this number were received before the latest event
 abbrev pub IsLatestBefore : Rules → Moment → ℕ → Type 0
-IsLatestBefore rules moment number = (last : Latest) → latest moment.since ≡ Some last → received_before rules.bounds moment last < number
+IsLatestBefore rules moment number = (last : Latest) → latest moment.since ≡ Some last → received_before rules.bounds (place_at moment) last < number
 
 -- what is due with the items that the survivor has taken was passed
 abbrev pub HasPassedDue : Rules → Story → Type 0
@@ -123,7 +123,7 @@ HasPassedDue rules story =
 -- what the close of a connection, the latest event, makes owed was passed
 abbrev pub IsCloseDone : Rules → Moment → List Send → Type 0
 IsCloseDone rules moment sends =
-    (send : Send) (stands : Stands sends send) → is_closing rules.bounds moment send.conn ≡ true → IsDueBy rules.bounds moment send.conn send.taken (latest moment.since) → IsPassed rules.bounds (journal moment) sends send stands
+    (send : Send) (stands : Stands sends send) → is_closing rules.bounds moment send.conn ≡ true → IsDueBy rules.bounds (place_at moment) send.conn send.taken (latest moment.since) → IsPassed rules.bounds (journal moment) sends send stands
 
 -- the ledger of a session beside its story: it has the survivor's sends, and what was due is passed
 pub record HasPassed (rules : Rules) (story : Story) (ledger : Ledger) : Type 0 where
@@ -167,9 +167,10 @@ module _ {R : Type 0} where
     pub hearing : IsHearing rules image began now phases session
     pub due : HasPassedDue rules hearing.story
 
-  -- where its guest fails at its next instruction
+  -- where its guest fails at its next instruction, and what is due was passed
   pub record IsFailing (rules : Rules) (image : Image) (began : Since) (now : Told) (phases : Phases) (cause : Cause) (session : SessionState R) : Type 0 where
     pub going : IsGoing rules image began now phases session
+    pub due : HasPassedDue rules going.story
     pub fails : FailsBy rules.limits going.story.survivor.plan going.story.survivor.now cause
 
   -- at one of its ends, before what is left is passed
@@ -191,8 +192,8 @@ module _ {R : Type 0} where
     pub live : UnlessGaveUp end (session.cpu.slots.live ≡ standing_of story.survivor.now)
     pub is_end : IsEnd end
     pub stands : StandsAt rules (entries story) coming story.survivor end
-    pub tried : AreLastTrials rules image (entries story) story.survivor trials last
-    pub gave_up : GivesUpBy rules image (entries story) story.survivor trials end
+    pub tried : AreLastTrials rules image (entries_of story.earlier) story.since story.survivor trials last
+    pub gave_up : GivesUpBy rules image (entries_of story.earlier) story.since story.survivor trials end
 
   -- a session that was broken off, by no end of its own
   pub record IsBrokenOff (rules : Rules) (image : Image) (began : Since) (now : Told) (coming : Option Coming) (session : SessionState R) (end : Answer) : Type 0 where
@@ -207,7 +208,7 @@ module _ {R : Type 0} where
     pub recovered : AreRecovered rules image [] (first_survivor image) account.earlier recoveries account.survivor
     pub trials : List Trial
     pub last : List Episode
-    pub tried : AreLastTrials rules image (before_end account) account.survivor trials last
+    pub tried : AreLastTrials rules image (entries_of account.earlier) account.since account.survivor trials last
     pub notes : HasNoted began.noted_before began.noted end account.survivor.now.choices (map episode_of recoveries ++ last) session.recorded session.choices
     pub taken : session.taken ≡ account.survivor.now.state.machine.taken
     pub steps : session.steps ≡ account.survivor.now.steps

@@ -67,7 +67,7 @@ last_exits image items choices (suc n) state code ran ended =
 ends_whole : (rules : Rules) (coming : Option _) (session : Session) (end : Answer) → IsEnd end → EndsBy rules coming session end → OwesNothingAtEnd rules session × (session.broken ≡ [])
 ends_whole rules coming session answer.Finished is (stands, owes, whole) = (owes, whole)
 ends_whole rules coming session (answer.Exited code) is (stands, owes, whole) = (owes, whole)
-ends_whole rules coming session (answer.GaveUp point cause) is (stands, owes, whole) = (owes, whole)
+ends_whole rules coming session (answer.GaveUp point cause) is (stands, owes, whole, before) = (owes, whole)
 ends_whole rules coming session (answer.InputRefused kind offset) is (stands, owes, whole) = (owes, whole)
 ends_whole rules coming session (answer.MessageTooLong conn) is (stands, owes, whole) = (owes, whole)
 ends_whole rules coming session answer.LimitItems is (stands, owes, whole) = (owes, whole)
@@ -78,7 +78,7 @@ ends_whole rules coming session _ is ends = absurd is
 all_at_end : (rules : Rules) (image : Image) (session : Session) (at_end : Bool) → IsAccount rules image session at_end → OwesNothingAtEnd rules session → session.broken ≡ [] → HasPassedAll rules session
 all_at_end rules image session at_end account owes whole =
     passed_all rules image session account.passed
-    (subst (λ (entries : List Entry). OwesNothing rules.bounds rules.hold (record { start = entries_of session.earlier; since = session.since ++ entries; at_end = true }) session.survivor.now.state.sends)
+    (subst (λ (entries : List Entry). OwesNothing rules.bounds rules.hold (record { start = entries_of session.earlier; since = session.since ++ entries; at_end = true; taken = session.survivor.now.state.machine.taken }) session.survivor.now.state.sends)
     (sym (append-nil session.ending) ∙ ap (λ broken. session.ending ++ broken) (sym whole)) owes)
 
 -- what was written, by what was passed

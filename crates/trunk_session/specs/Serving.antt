@@ -7,9 +7,9 @@ use Rattle.elf_image.specs.declared.image.Image.{Image}
 use Rattle.run_history.specs.declared.answer.Answer.{Answer}
 use Rattle.run_history.specs.declared.answer.Answer.TheVariants as answer
 use Rattle.session_history.specs.Account.{Session, journal_of, IsAccount}
-use Rattle.session_history.specs.Ends.{IsEnd, before_end, HasCome, EndsBy, WasAsked}
+use Rattle.session_history.specs.Ends.{IsEnd, HasCome, EndsBy, WasAsked}
 use Rattle.session_history.specs.Giving.{AreGiven}
-use Rattle.session_history.specs.Lawful.{Rules}
+use Rattle.session_history.specs.Lawful.{Rules, entries_of}
 use Rattle.session_history.specs.Serving.{first_survivor}
 use Rattle.trial_history.specs.Tables.{Trial}
 use Rattle.episodes.specs.declared.episode.Episode.{Episode}
@@ -41,8 +41,8 @@ pub record ServesTrunk (rules : Rules) (image : Image) (source source_later : Op
   pub recovered : AreRecovered rules image [] (first_survivor image) session.earlier recoveries session.survivor
   pub trials : List Trial
   pub last : List Episode
-  pub tried : AreLastTrials rules image (before_end session) session.survivor trials last
-  pub gave_up : GivesUpBy rules image (before_end session) session.survivor trials end
+  pub tried : AreLastTrials rules image (entries_of session.earlier) session.since session.survivor trials last
+  pub gave_up : GivesUpBy rules image (entries_of session.earlier) session.since session.survivor trials end
   pub all_counted : end ≢ answer.Memory → counted ≡ spent recoveries + (session.survivor.now.steps - session.survivor.begun.steps) + steps_of trials
   pub comes : at_end ≡ true → HasCome rules coming session
   pub ends : EndsBy rules coming session end
