@@ -1,10 +1,11 @@
 // Who else looks at a failure.
-ghost use Rattle.std.specs.Prelude.{◌≡◌, ◌≤◌};
+ghost use Rattle.std.specs.Prelude.{◌≡◌, ◌+◌, ◌≤◌, ℕ, List, Option, None};
 ghost use Rattle.ckpt_ring.specs.Rings.{checkpoints_of};
-ghost use Rattle.reply_ledger.specs.Trials.{discarded};
-ghost use Rattle.trial_plan.specs.Sessions.{CanTry, taken_in};
+ghost use Rattle.episodes.specs.declared.episode.Try.{Try};
+ghost use Rattle.trial_plan.specs.Sessions.{CanTry, Failure, FailedAt, IsUnder, taken_in};
 ghost use Rattle.trial_plan.specs.Trying.{KeepsSaved};
 ghost use Rattle.trial_plan.specs.Walking.{LeavesNoTrial};
+ghost use Rattle.trial_plan.specs.Watching.{LooksBy};
 
 use ckpt_ring::Ring;
 use guest_cpu::Cpu;
@@ -17,13 +18,20 @@ use std::sync::ledger::Ledger;
 
 /// Something that looks at each failure, once, before trials are made of it.
 pub trait Watch {
+    /// How many instructions it has counted so far.
+    ghost ran: { Self → ℕ };
+
+    /// The tables that it tells, if it tells any: one of each failure at which it looked.
+    ghost tables: { Self → Option (List (List Try)) };
+
     /// A program failed with so many items taken, as `walk` expects it, and may be run from its checkpoints as often as one likes.
     /// Checkpoints, items, replies and what was passed stay as they are, and no trial is left in `replies`. The guest may stand
-    /// anywhere. `steps` counts its instructions.
+    /// anywhere. `steps` counts its instructions. A watch that tells its tables tells one more then: a try for each checkpoint in
+    /// each environment, in the order of a walk, with the result that it has.
     ///
     /// # Errors
     ///
-    /// `AllocError` where memory runs out. A trial may be left then.
+    /// `AllocError` where memory runs out. A trial may be left then. No table more is told.
     fn failed<R: AccessRule, L: Ledger>(
         &mut self,
         cpu: &mut Cpu<R>,
@@ -37,7 +45,11 @@ pub trait Watch {
         requires failed { CanTry budget (R.rule cpu.old.rule) point cpu.old items.now replies.old }
         requires same { ring.now.standing ≡ checkpoints_of taken_in cpu.old.slots.saved }
         ensures saved { KeepsSaved cpu.old cpu.new }
-        ensures ledger { LeavesNoTrial replies.old replies.new result };
+        ensures ledger { LeavesNoTrial replies.old replies.new result }
+        ensures counted { steps.new + ran self.old ≡ steps.old + ran self.new }
+        ensures least { ran self.old ≤ ran self.new }
+        ensures tells { (failure : Failure) → IsUnder failure budget (R.rule cpu.old.rule) → FailedAt point failure cpu.old items.now replies.old
+            → LooksBy failure point (tables self.old) (tables self.new) result };
 }
 
 /// Nobody looks.
@@ -45,6 +57,10 @@ pub trait Watch {
 pub struct NoWatch;
 
 impl Watch for NoWatch {
+    ghost ran = { λ _. 0 };
+
+    ghost tables = { λ _. None };
+
     fn failed<R: AccessRule, L: Ledger>(
         &mut self,
         _cpu: &mut Cpu<R>,
