@@ -3,6 +3,7 @@ pub mod Chains
 pub mod RingLemmas
 pub mod Forces
 pub mod Walked
+pub mod WatchLemmas
 pub mod Recoveries
 pub mod TrimLemmas
 pub mod ForgetLemmas

@@ -1,5 +1,5 @@
 -- What a recovery makes of a session whose program failed.
-use Rattle.std.specs.Prelude.{◌≡◌, ℕ, ◌+◌, ◌-◌, ◌<◌, ◌≤◌, Bool, List, [], ◌++◌, length, take, drop, Option, None, Some, Result, Ok, Err, option_and_then, slice_get}
+use Rattle.std.specs.Prelude.{◌≡◌, ◌⊎◌, ℕ, ◌+◌, ◌-◌, ◌<◌, ◌≤◌, Bool, List, [], ◌∷◌, ◌++◌, length, take, drop, Option, None, Some, Result, Ok, Err, option_and_then, slice_get}
 use Rattle.std.specs.declared.alloc.AllocError.{AllocError}
 use Rattle.block_book.specs.declared.choice.Choice.{Choice}
 use Rattle.block_book.specs.Heap.{Heap}
@@ -21,6 +21,7 @@ use Rattle.trial_history.specs.Tables.{Trial, survivor_in}
 use Rattle.trial_history.specs.Episodes.{Recovery, episode_of, IsRecovery, adopted_by}
 use Rattle.trial_plan.specs.Sessions.{CanGoOn, Failure, IsUnder, FailedAt, taken_in}
 use Rattle.trial_plan.specs.Trying.{steps_of}
+use Rattle.trial_plan.specs.Watching.{TellsTable}
 use Rattle.recovery_gate.specs.declared.recovering.Adopted.{Adopted}
 use Rattle.recovery_gate.specs.declared.recovering.Recovered.{Recovered}
 use Rattle.recovery_gate.specs.Rings.{KeepsRing, AreBehind, IsInForce}
@@ -115,3 +116,8 @@ module _ {R : Type 0} where
 abbrev pub KeepsAtFault : Checkpoints → Checkpoints → List Choice → List Choice → Result Recovered AllocError → Type 0
 KeepsAtFault before after chose choices (Ok recovered) = Unit {0}
 KeepsAtFault before after chose choices (Err fault) = (after ≡ before) × (choices ≡ chose)
+
+-- by the answer: a watch that tells its tables tells one more, that of the failure; after want of memory it may, or tells what it told
+abbrev pub WatchedBy : {X : Type 0} → Failure → ℕ → Option (List (List Try)) → Option (List (List Try)) → Result X AllocError → Type 0
+WatchedBy failure point old new (Ok done) = TellsTable failure point old new
+WatchedBy failure point old new (Err fault) = (new ≡ old) ⊎ TellsTable failure point old new

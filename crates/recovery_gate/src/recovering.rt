@@ -3,10 +3,10 @@ ghost use Rattle.std.specs.Prelude.{◌≡◌, ◌++◌, ◌+◌, ◌-◌, ◌/�
 ghost use Rattle.ckpt_ring.specs.Slots.{newest_slot, without_newer_slots};
 ghost use Rattle.ckpt_ring.specs.Rings.{checkpoints_of};
 ghost use Rattle.run_history.specs.Served.{Path};
-ghost use Rattle.trial_plan.specs.Sessions.{Failure, IsUnder, taken_in};
-ghost use Rattle.trial_plan.specs.Trying.{StandsOn};
-ghost use Rattle.trial_plan.specs.Walking.{HasSameBytes};
-ghost use Rattle.recovery_gate.specs.Recovering.{adopted_in, HasToRecover, CanRecover, RecoversBy, KeepsAtFault, KeepsSlots, AdoptsBy};
+ghost use Rattle.trial_plan.specs.Sessions.{CanTry, Failure, FailedAt, IsUnder, taken_in};
+ghost use Rattle.trial_plan.specs.Trying.{KeepsSaved, StandsOn};
+ghost use Rattle.trial_plan.specs.Walking.{HasSameBytes, IsEpisode, StaysBy, WalksBy};
+ghost use Rattle.recovery_gate.specs.Recovering.{adopted_in, HasToRecover, CanRecover, RecoversBy, KeepsAtFault, KeepsSlots, AdoptsBy, WatchedBy};
 
 use alloc_env::Env;
 use block_book::Choice;
@@ -20,7 +20,7 @@ use run_history::Cause;
 use rx_io::Steps;
 use std::alloc::{AllocError, Global};
 use std::sync::ledger::Ledger;
-use trial_plan::walk;
+use trial_plan::{Watch, walk};
 
 /// What a session adopts of a trial that survived.
 #[derive(Clone, Copy, Debug)]
@@ -107,6 +107,40 @@ fn index_of(ring: &Ring, number: usize) -> u32
     index.min(ring.len() as usize) as u32
 }
 
+// The watch looks at a failure, and then it is tried to come past it, by `walk`.
+fn walk_watched<R: AccessRule, W: Watch, L: Ledger>(
+    alloc: Global,
+    cpu: &mut Cpu<R>,
+    ring: &Ring,
+    point: u64,
+    cause: Cause,
+    pc: u32,
+    budget: u32,
+    items: &ItemLog,
+    replies: &mut Replies,
+    choices: &mut Vec<Choice>,
+    watch: &mut W,
+    steps: &mut Steps<L>,
+) -> Result<Episode, AllocError>
+    requires failed { CanTry budget (R.rule cpu.old.rule) point cpu.old items.now replies.old }
+    requires same { ring.now.standing ≡ checkpoints_of taken_in cpu.old.slots.saved }
+    ensures walks { (failure : Failure) → IsUnder failure budget (R.rule cpu.old.rule) → FailedAt point failure cpu.old items.now replies.old
+        → WalksBy failure point cpu.new choices.new.items replies.old replies.new (W.ran watch.new + steps.old) (W.ran watch.old + steps.new) result }
+    ensures watched { (failure : Failure) → IsUnder failure budget (R.rule cpu.old.rule) → FailedAt point failure cpu.old items.now replies.old
+        → WatchedBy failure point (W.tables watch.old) (W.tables watch.new) result }
+    ensures episode { IfOk result (IsEpisode point cause pc) }
+    ensures saved { KeepsSaved cpu.old cpu.new }
+    ensures ledger { StaysBy replies.old replies.new result }
+    ensures least { W.ran watch.new + steps.old ≤ W.ran watch.old + steps.new }
+{
+    if let Err(e) = watch.failed(cpu, ring, point, budget, items, replies, steps) {
+        return Err(e);
+    }
+    walk(
+        alloc, cpu, ring, point, cause, pc, budget, items, replies, choices, steps,
+    )
+}
+
 /// Tries to come past a failure, by `walk`, and adopts the trial that survives, if one does. `point` says how many items the program
 /// had taken, `cause` and `pc` why and where it failed; the episode tells of that and of all trials. Of the program's answers of malloc the
 /// first `recorded` ones, none of which is behind the oldest checkpoint, aren't in `choices`.
@@ -114,12 +148,12 @@ fn index_of(ring: &Ring, number: usize) -> u32
 /// Where a trial is adopted, the guest stands where it has come, at its request for the item behind the failure, or at its end;
 /// `choices` are its answers of malloc behind the first `recorded` ones, its sends are the survivor's in `replies`, and of the checkpoints those stand
 /// that aren't newer than its own. Where none survives the guest may stand anywhere, and all else is as it was. What was passed stays.
-/// `steps` counts the instructions of all trials.
+/// The watch looks at the failure first. `steps` counts the instructions of all trials, and those of the watch.
 ///
 /// # Errors
 ///
 /// `AllocError` where memory runs out. The guest may then stand anywhere; `choices` and the checkpoints are as they were.
-pub fn recover<R: AccessRule, L: Ledger>(
+pub fn recover<R: AccessRule, W: Watch, L: Ledger>(
     alloc: Global,
     cpu: &mut Cpu<R>,
     ring: &mut Ring,
@@ -131,20 +165,23 @@ pub fn recover<R: AccessRule, L: Ledger>(
     replies: &mut Replies,
     recorded: u64,
     choices: &mut Vec<Choice>,
+    watch: &mut W,
     steps: &mut Steps<L>,
 ) -> Result<Recovered, AllocError>
     requires can { CanRecover budget (R.rule cpu.old.rule) point cause pc cpu.old ring.old recorded choices.old.items items.now replies.old }
     ensures recovers { (failure : Failure) (begun : Path) → IsUnder failure budget (R.rule cpu.old.rule) → HasToRecover point cause pc failure cpu.old ring.old recorded choices.old.items items.now replies.old
-        → RecoversBy failure begun cause cpu.new ring.old ring.new recorded choices.old.items choices.new.items items.now replies.old replies.new steps.old steps.new result }
+        → RecoversBy failure begun cause cpu.new ring.old ring.new recorded choices.old.items choices.new.items items.now replies.old replies.new (W.ran watch.new + steps.old) (W.ran watch.old + steps.new) result }
+    ensures watched { (failure : Failure) → IsUnder failure budget (R.rule cpu.old.rule) → HasToRecover point cause pc failure cpu.old ring.old recorded choices.old.items items.now replies.old
+        → WatchedBy failure point (W.tables watch.old) (W.tables watch.new) result }
     ensures fault { KeepsAtFault ring.old ring.new choices.old.items choices.new.items result }
     ensures slots { IfOk result (λ recovered. KeepsSlots recovered.adopted cpu.old cpu.new) }
     ensures rule { cpu.new.rule ≡ cpu.old.rule }
     ensures ledger { IfOk result (λ _. HasSameBytes replies.old replies.new) }
-    ensures least { steps.old ≤ steps.new }
+    ensures least { W.ran watch.new + steps.old ≤ W.ran watch.old + steps.new }
 {
     let mut own = Vec::new(alloc);
-    match walk(
-        alloc, cpu, ring, point, cause, pc, budget, items, replies, &mut own, steps,
+    match walk_watched(
+        alloc, cpu, ring, point, cause, pc, budget, items, replies, &mut own, watch, steps,
     ) {
         Ok(episode) => {
             let number = episode.tries.as_slice().len();
