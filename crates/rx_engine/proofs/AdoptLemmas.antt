@@ -1,6 +1,6 @@
 -- What a failure makes of a session: it goes on as a trial, or gives up.
 use Rattle.std.proofs.Common.{◌≡◌, inl, inr, ℕ, zero, suc, ◌+◌, ◌-◌, ◌^◌, ◌<◌, ◌≤◌, List, [], ◌∷◌, ◌++◌, length, map, take, drop, Option, None, Some, false, refl, sym, ◌∙◌, ap, subst, arith, append-nil, append_assoc}
-use Rattle.std.specs.Prelude.{◌≢◌, sum, option_map}
+use Rattle.std.specs.Prelude.{◌≢◌, ◌⊎◌, sum, option_map}
 use Rattle.std.proofs.lemmas.List.{map-append}
 use Rattle.std.proofs.lemmas.List.Sums.{sum_by-append}
 use Rattle.std.proofs.lemmas.Option.{none-some}
@@ -47,6 +47,11 @@ use Rattle.rx_engine.specs.Recovered.{spent, told_of, HasGivenUp, IsNoteFault}
 use Rattle.rx_engine.specs.Serving.{AdoptsTo, Adopting, end_of}
 use Rattle.notes.specs.Noting.{Noted}
 use Rattle.episodes.specs.declared.episode.Episode.{Episode}
+use Rattle.episodes.specs.declared.episode.Try.{Try}
+use Rattle.trial_plan.specs.Watching.{TellsMore, TellsTable}
+use Rattle.rx_engine.specs.Recovered.{AreTables}
+use Rattle.rx_engine.specs.Standing.{unwatched}
+use Rattle.rx_engine.proofs.TableLemmas.{TellsOne, told_unwatched, tables_here, tables_memory, tables_given_up, tables_then}
 use Rattle.session_history.specs.Ends.{before_end}
 use Rattle.session_history.proofs.Sessions.{serving_account}
 use Rattle.rx_engine.specs.Sessions.{SessionState}
@@ -84,10 +89,10 @@ same_entries story recovery trial =
     ∙ entries_then story.earlier (record { survivor = story.survivor; entries = story.since })
 
 -- it is told, where so many instructions were counted
-told_adopted : (rules : Rules) (image : Image) (began : Since) (now : Told) (story : Story) (recovery : Recovery) (trial : Trial) (lost : ℕ) (noted : Noted) → IsTold rules image began now story → LeavesNothing rules (entries_of story.earlier) story.since story.survivor → recovery.survivor ≡ story.survivor → IsRecovery rules image (entries story) recovery
+told_adopted : (rules : Rules) (image : Image) (began : Since) (now : Told) (story : Story) (recovery : Recovery) (trial : Trial) (lost : ℕ) (noted : Noted) (tables : Option (List (List Try))) → IsTold rules image began now story → LeavesNothing rules (entries_of story.earlier) story.since story.survivor → recovery.survivor ≡ story.survivor → IsRecovery rules image (entries story) recovery
     → survivor_in recovery.trials ≡ Some trial → lost + trial.path.steps ≡ began.lost + story.survivor.now.steps + steps_of recovery.trials → Grew began.noted.episodes noted.episodes (episode_of recovery ∷ [])
-    → IsTold rules image (record began { lost = lost; noted = noted }) now (adopted_story story recovery trial)
-told_adopted rules image began now story recovery trial lost noted told leaves is was found counts grew =
+    → TellsOne rules (entries story) recovery began.tables tables → IsTold rules image (record began { lost = lost; noted = noted; tables = tables }) now (adopted_story story recovery trial)
+told_adopted rules image began now story recovery trial lost noted tables told leaves is was found counts grew one =
     let g : GoesOnAs rules image (entries story) recovery trial = recovery_adopts rules image (entries story) recovery trial was found in
     let early : trial.path.state.machine.taken ≤ story.survivor.now.state.machine.taken = subst (λ (s : Survivor). trial.path.state.machine.taken ≤ s.now.state.machine.taken) is g.early in
     let enough : story.survivor.now.state.machine.taken ≤ received rules.bounds (entries story) = told.serving.carries.taken in
@@ -109,6 +114,7 @@ told_adopted rules image began now story recovery trial lost noted told leaves i
       episodes =
           subst (Grew began.noted_before.episodes noted.episodes) (sym (map-append episode_of story.recoveries (recovery ∷ [])))
           (grew_on began.noted_before.episodes began.noted.episodes noted.episodes (map episode_of story.recoveries) (episode_of recovery ∷ []) told.episodes grew);
+      tables = tables_then rules story recovery began.tables_before began.tables tables told.tables one;
     }
 
 -- a run that fails doesn't stand at its request
@@ -150,6 +156,10 @@ module _ {R : Type 0} where
     steps = steps;
   }
 
+  -- whatever its watch tells
+  answers_told : (began : Since) (story : Story) (session : SessionState R) (tables : Option (List (List Try))) → AnswersFor began story session → AnswersFor (record began { tables = tables }) story session
+  answers_told began story session tables answers = record { low = answers.low; recorded = answers.recorded; choices = answers.choices; taken = answers.taken; steps = answers.steps }
+
   -- what is asked for before a recovery
   pub to_recover : (rules : Rules) (image : Image) (began : Since) (now : Told) (phases : Phases) (cause : Cause) (session : SessionState R) (f : IsFailing rules image began now phases cause session) → rules.limits.budget ≤ 2 ^ 24 → rules.bounds.max_items ≤ 2 ^ 20
       → HasToRecover session.taken cause session.cpu.slots.live.guest.machine.pc (failure_of rules image f.going.story f.going.saved.paths) session.cpu session.ring session.recorded session.choices session.log session.replies
@@ -169,6 +179,13 @@ module _ {R : Type 0} where
         pc_is = sym (ap (λ (s : Standing). s.guest.machine.pc) g.goes.guest);
       }
 
+  -- the table that was told of a failure is that of its recovery
+  table_of : (rules : Rules) (image : Image) (began : Since) (now : Told) (phases : Phases) (cause : Cause) (session : SessionState R) (f : IsFailing rules image began now phases cause session) (trials : List Trial) (old new : Option (List (List Try)))
+      → TellsTable (failure_of rules image f.going.story f.going.saved.paths) session.taken old new
+      → TellsOne rules (entries f.going.story) (recovery_of (failure_of rules image f.going.story f.going.saved.paths) f.going.story.survivor.begun cause trials) old new
+  table_of rules image began now phases cause session f trials old new told =
+      subst (λ n. TellsTable (failure_of rules image f.going.story f.going.saved.paths) n old new) f.going.answers.taken told
+
   -- the session behind a walk and an adoption
   abbrev pub walked : SessionState R → CpuState R → Checkpoints → Ledger → List Choice → SessionState R
   walked old cpu ring replies choices = record old { cpu = cpu; ring = ring; replies = replies; choices = choices }
@@ -179,10 +196,11 @@ module _ {R : Type 0} where
 
   -- no trial survived
   pub gives_up : (rules : Rules) (image : Image) (began : Since) (now : Told) (phases : Phases) (coming : Option Coming) (cause : Cause) (old : SessionState R) (cpu : CpuState R) (ring : Checkpoints) (replies : Ledger) (choices : List Choice)
-      (f : IsFailing rules image began now phases cause old) (trials : List Trial) (lost before after : ℕ) (noted : Noted) → cpu.slots.saved ≡ old.cpu.slots.saved → IsRecovery rules image (entries f.going.story) (recovery_of (failure_of rules image f.going.story f.going.saved.paths) f.going.story.survivor.begun cause trials)
+      (f : IsFailing rules image began now phases cause old) (trials : List Trial) (lost before after : ℕ) (noted : Noted) (tables : Option (List (List Try))) → cpu.slots.saved ≡ old.cpu.slots.saved → IsRecovery rules image (entries f.going.story) (recovery_of (failure_of rules image f.going.story f.going.saved.paths) f.going.story.survivor.begun cause trials)
       → survivor_in trials ≡ None → replies ≡ discarded old.replies → choices ≡ old.choices → after ≡ before + steps_of trials → lost + old.steps + before ≡ began.lost + old.steps + after
-      → HasNotedMore began.noted noted [] (told_of f.going.story.survivor cause trials ∷ []) → IsEnding rules image (record began { lost = lost; noted = noted }) now coming (walked old cpu ring replies choices) (answer.GaveUp old.taken cause)
-  gives_up rules image began now phases coming cause old cpu ring replies choices f trials lost before after noted slots was none ledger chose counted counts more =
+      → HasNotedMore began.noted noted [] (told_of f.going.story.survivor cause trials ∷ []) → TellsOne rules (entries f.going.story) (recovery_of (failure_of rules image f.going.story f.going.saved.paths) f.going.story.survivor.begun cause trials) began.tables tables
+      → IsEnding rules image (record began { lost = lost; noted = noted; tables = tables }) now coming (walked old cpu ring replies choices) (answer.GaveUp old.taken cause)
+  gives_up rules image began now phases coming cause old cpu ring replies choices f trials lost before after noted tables slots was none ledger chose counted counts more one =
       let g = f.going in
       let story : Story = g.story in
       let same : replies ≡ old.replies = ledger ∙ discards_none old.replies g.passed.no_trial in
@@ -195,8 +213,9 @@ module _ {R : Type 0} where
         noted = began.noted;
         last = told_of story.survivor cause trials ∷ [];
         last_noted = more;
-        told = g.told;
-        answers = answers_as began story old (walked old cpu ring replies choices) refl chose refl refl g.answers;
+        told = told_unwatched rules image began now story g.told;
+        tables = tables_given_up rules image story.earlier story.since story.survivor story.recoveries trials cause (answer.GaveUp old.taken cause) given_up began.tables_before began.tables tables g.told.tables one;
+        answers = answers_told began story (walked old cpu ring replies choices) tables (answers_as began story old (walked old cpu ring replies choices) refl chose refl refl g.answers);
         received_are = received_is rules.bounds (entries story) old.log g.goes.items;
         replies = subst (λ (l : Ledger). KeepsReplies rules.bounds (entries story) None (sends story) l) (sym same) g.passed.replies;
         no_trial = ap (λ (l : Ledger). l.trial) same ∙ g.passed.no_trial;
@@ -215,8 +234,9 @@ module _ {R : Type 0} where
       → survivor_in trials ≡ Some trial
       → HasAdoptedRun (failure_of rules image f.going.story f.going.saved.paths) (recovery_of (failure_of rules image f.going.story f.going.saved.paths) f.going.story.survivor.begun cause trials) trial adopted cpu ring old.recorded choices old.log replies
       → HasSameBytes old.replies replies → adopted.code ≡ None → lost + trial.path.steps ≡ began.lost + f.going.story.survivor.now.steps + steps_of trials
-      → (noted : Noted) → HasNotedMore began.noted noted [] (told_of f.going.story.survivor cause trials ∷ []) → IsGoing rules image (record began { lost = lost; noted = noted }) now phases (goes_as old cpu ring replies choices adopted.env (old.taken + 4))
-  adopts_going rules image began now phases cause old cpu ring replies choices adopted f trials trial lost was found run bytes asks counts noted more =
+      → (noted : Noted) → HasNotedMore began.noted noted [] (told_of f.going.story.survivor cause trials ∷ []) → (tables : Option (List (List Try))) → TellsOne rules (entries f.going.story) (recovery_of (failure_of rules image f.going.story f.going.saved.paths) f.going.story.survivor.begun cause trials) began.tables tables
+      → IsGoing rules image (record began { lost = lost; noted = noted; tables = tables }) now phases (goes_as old cpu ring replies choices adopted.env (old.taken + 4))
+  adopts_going rules image began now phases cause old cpu ring replies choices adopted f trials trial lost was found run bytes asks counts noted more tables one =
       let g = f.going in
       let story : Story = g.story in
       let recovery : Recovery = recovery_of (failure_of rules image story g.saved.paths) story.survivor.begun cause trials in
@@ -230,9 +250,9 @@ module _ {R : Type 0} where
       let few : story.survivor.now.state.machine.taken ≤ rules.bounds.max_items = g.goes.few in
       record {
         story = next;
-        told = told_adopted rules image began now story recovery trial lost noted g.told (owes_nothing rules story f.due g.passed.done) refl was found counts more.episodes_more;
-        answers = answers_adopted began noted story next old (goes_as old cpu ring replies choices adopted.env (old.taken + 4)) refl run.low run.chose (ap (λ (s : Standing). s.guest.machine.taken) run.stands) (ap (λ (s : Standing). s.steps) run.stands)
-            run.front g.answers more.choices_more lost;
+        told = told_adopted rules image began now story recovery trial lost noted tables g.told (owes_nothing rules story f.due g.passed.done) refl was found counts more.episodes_more one;
+        answers = answers_told (record began { lost = lost; noted = noted }) next (goes_as old cpu ring replies choices adopted.env (old.taken + 4)) tables (answers_adopted began noted story next old (goes_as old cpu ring replies choices adopted.env (old.taken + 4)) refl run.low run.chose
+            (ap (λ (s : Standing). s.guest.machine.taken) run.stands) (ap (λ (s : Standing). s.steps) run.stands) run.front g.answers more.choices_more lost);
         goes = record {
           lives = lives;
           guest = run.stands;
@@ -266,13 +286,15 @@ module _ {R : Type 0} where
       → IsRecovery rules image (entries f.going.story) (recovery_of (failure_of rules image f.going.story f.going.saved.paths) f.going.story.survivor.begun cause trials) → survivor_in trials ≡ Some trial
       → HasAdoptedRun (failure_of rules image f.going.story f.going.saved.paths) (recovery_of (failure_of rules image f.going.story f.going.saved.paths) f.going.story.survivor.begun cause trials) trial adopted cpu ring old.recorded choices old.log replies
       → HasSameBytes old.replies replies → adopted.code ≡ Some code → lost + trial.path.steps ≡ began.lost + f.going.story.survivor.now.steps + steps_of trials
-      → (noted : Noted) → HasNotedMore began.noted noted [] (told_of f.going.story.survivor cause trials ∷ []) → IsEnding rules image (record began { lost = lost; noted = noted }) now coming (goes_as old cpu ring replies choices adopted.env (old.taken + 4)) (answer.Exited code)
-  adopts_ending rules image began now phases coming cause old cpu ring replies choices adopted code f trials trial lost was found run bytes exits counts noted more =
+      → (noted : Noted) → HasNotedMore began.noted noted [] (told_of f.going.story.survivor cause trials ∷ []) → (tables : Option (List (List Try))) → TellsOne rules (entries f.going.story) (recovery_of (failure_of rules image f.going.story f.going.saved.paths) f.going.story.survivor.begun cause trials) began.tables tables
+      → IsEnding rules image (record began { lost = lost; noted = noted; tables = tables }) now coming (goes_as old cpu ring replies choices adopted.env (old.taken + 4)) (answer.Exited code)
+  adopts_ending rules image began now phases coming cause old cpu ring replies choices adopted code f trials trial lost was found run bytes exits counts noted more tables one =
       let g = f.going in
       let story : Story = g.story in
       let recovery : Recovery = recovery_of (failure_of rules image story g.saved.paths) story.survivor.begun cause trials in
       let next : Story = adopted_story story recovery trial in
       let same : entries next ≡ entries story = same_entries story recovery trial in
+      let then = told_adopted rules image began now story recovery trial lost noted tables g.told refl was found counts more.episodes_more one in
       record {
         story = next;
         trials = [];
@@ -281,9 +303,10 @@ module _ {R : Type 0} where
         noted = noted;
         last = [];
         last_noted = none_noted noted;
-        told = told_adopted rules image began now story recovery trial lost noted g.told (owes_nothing rules story f.due g.passed.done) refl was found counts more.episodes_more;
-        answers = answers_adopted began noted story next old (goes_as old cpu ring replies choices adopted.env (old.taken + 4)) refl run.low run.chose (ap (λ (s : Standing). s.guest.machine.taken) run.stands) (ap (λ (s : Standing). s.steps) run.stands)
-            run.front g.answers more.choices_more lost;
+        told = told_unwatched rules image (record began { lost = lost; noted = noted; tables = tables }) now next then;
+        tables = tables_here rules image next.earlier next.since next.survivor next.recoveries [] (answer.Exited code) began.tables_before tables then.tables;
+        answers = answers_told (record began { lost = lost; noted = noted }) next (goes_as old cpu ring replies choices adopted.env (old.taken + 4)) tables (answers_adopted began noted story next old (goes_as old cpu ring replies choices adopted.env (old.taken + 4)) refl run.low run.chose
+            (ap (λ (s : Standing). s.guest.machine.taken) run.stands) (ap (λ (s : Standing). s.steps) run.stands) run.front g.answers more.choices_more lost);
         received_are = received_is rules.bounds (entries story) old.log g.goes.items ∙ ap (received rules.bounds) (sym same);
         replies = subst (λ es. KeepsReplies rules.bounds es None trial.path.state.sends replies) (sym same) run.replies;
         no_trial = bytes.no_trial;
@@ -304,15 +327,16 @@ module _ {R : Type 0} where
       }
 
   -- the episode of a recovery that adopted isn't noted: the session is broken off as the trial
-  adopted_unnoted : (rules : Rules) (image : Image) (began : Since) (now : Told) (coming : Option Coming) (story : Story) (recovery : Recovery) (trial : Trial) (lost : ℕ) (session : SessionState R) (fault : Answer) → IsTold rules image began now story → LeavesNothing rules (entries_of story.earlier) story.since story.survivor
+  adopted_unnoted : (rules : Rules) (image : Image) (began : Since) (now : Told) (coming : Option Coming) (story : Story) (recovery : Recovery) (trial : Trial) (lost : ℕ) (session : SessionState R) (fault : Answer) (tables : Option (List (List Try))) → IsTold rules image began now story → LeavesNothing rules (entries_of story.earlier) story.since story.survivor
       → recovery.survivor ≡ story.survivor → IsRecovery rules image (entries story) recovery → survivor_in recovery.trials ≡ Some trial → lost + trial.path.steps ≡ began.lost + story.survivor.now.steps + steps_of recovery.trials
-      → AnswersFor (record began { lost = lost }) (adopted_story story recovery trial) session → IsNoteFault fault → IsBrokenOff rules image (record began { lost = lost }) now coming session fault
-  adopted_unnoted rules image began now coming story recovery trial lost session fault told leaves is was found counts answers note =
+      → AnswersFor (record began { lost = lost }) (adopted_story story recovery trial) session → IsNoteFault fault → TellsOne rules (entries story) recovery began.tables tables → IsBrokenOff rules image (record began { lost = lost; tables = tables }) now coming session fault
+  adopted_unnoted rules image began now coming story recovery trial lost session fault tables told leaves is was found counts answers note one =
       let next : Story = adopted_story story recovery trial in
       let nobody : Noted = record { choices = None; episodes = None } in
-      let then = told_adopted rules image (record began { noted_before = nobody; noted = nobody }) now story recovery trial lost nobody
-      (record { serving = told.serving; way = told.way; tells = told.tells; counted = told.counted; recovered = told.recovered; episodes = tt }) leaves is was found counts tt in
-      (broken_noting (λ account. Unit {0}) rules image (record began { lost = lost }) nobody nobody now coming session next fault then
+      let then = told_adopted rules image (unwatched (record began { noted_before = nobody; noted = nobody })) now story recovery trial lost nobody None
+      (record { serving = told.serving; way = told.way; tells = told.tells; counted = told.counted; recovered = told.recovered; episodes = tt; tables = refl }) leaves is was found counts tt refl in
+      (broken_noting (λ account. Unit {0}) rules image (record began { lost = lost; tables = tables }) nobody nobody now coming session next fault then
+      (tables_here rules image next.earlier next.since next.survivor next.recoveries [] fault began.tables_before tables (tables_then rules story recovery began.tables_before began.tables tables told.tables one))
       (notes_here (record began { lost = lost }) next session fault (map episode_of story.recoveries) (episode_of recovery ∷ []) told.episodes answers (map-append episode_of story.recoveries (recovery ∷ [])) (omega arith) (λ some. note)
       (note_no_end fault note)) answers.taken answers.steps (note_ends rules coming (account_of next) fault note) (note_no_end fault note) (λ never. absurd (never note)) tt).0
 
@@ -333,6 +357,7 @@ module _ {R : Type 0} where
     last = off.last;
     tried = off.tried;
     notes = off.notes;
+    tables = off.tables;
     taken = off.taken;
     steps = off.steps;
     counted = λ others. off.counted others ∙ ap (λ n. n + off.account.survivor.begun.steps) (sym (same others));
@@ -340,12 +365,21 @@ module _ {R : Type 0} where
   }
 
   -- memory ran out: the session answers for the run that failed
-  pub adopt_breaks : (rules : Rules) (image : Image) (began : Since) (now : Told) (phases : Phases) (coming : Option Coming) (cause : Cause) (old : SessionState R) (cpu : CpuState R) (ring : Checkpoints) (replies : Ledger) (choices : List Choice) (lost : ℕ)
-      → IsFailing rules image began now phases cause old → choices ≡ old.choices → IsBrokenOff rules image (record began { lost = lost }) now coming (walked old cpu ring replies choices) answer.Memory
-  adopt_breaks rules image began now phases coming cause old cpu ring replies choices lost f chose =
-      off_lost rules image began now coming (walked old cpu ring replies choices) answer.Memory lost (λ others. absurd (others refl))
-      (broken_off rules image began now coming (walked old cpu ring replies choices) f.going.story answer.Memory f.going.told
-      (answers_as began f.going.story old (walked old cpu ring replies choices) refl chose refl refl f.going.answers) tt (λ is. is) (λ never. absurd (never tt)))
+  pub adopt_breaks : (rules : Rules) (image : Image) (began : Since) (now : Told) (phases : Phases) (coming : Option Coming) (cause : Cause) (old : SessionState R) (cpu : CpuState R) (ring : Checkpoints) (replies : Ledger) (choices : List Choice) (lost : ℕ) (tables : Option (List (List Try)))
+      → (f : IsFailing rules image began now phases cause old) → choices ≡ old.choices → (tables ≡ began.tables) ⊎ TellsTable (failure_of rules image f.going.story f.going.saved.paths) old.taken began.tables tables
+      → IsBrokenOff rules image (record began { lost = lost; tables = tables }) now coming (walked old cpu ring replies choices) answer.Memory
+  adopt_breaks rules image began now phases coming cause old cpu ring replies choices lost tables f chose looked =
+      let story : Story = f.going.story in
+      let told = f.going.told in
+      let answers = answers_as began story old (walked old cpu ring replies choices) refl chose refl refl f.going.answers in
+      let all : List Episode = map episode_of story.recoveries in
+      off_lost rules image (record began { tables = tables }) now coming (walked old cpu ring replies choices) answer.Memory lost (λ others. absurd (others refl))
+      (broken_noting (λ account. Unit {0}) rules image (record began { tables = tables }) began.noted_before began.noted now coming (walked old cpu ring replies choices) story answer.Memory (told_unwatched rules image began now story told)
+      (elim looked [
+        | inl same ↦ tables_here rules image story.earlier story.since story.survivor story.recoveries [] answer.Memory began.tables_before tables (subst (λ (t : Option (List (List Try))). TellsMore began.tables_before t (AreTables rules [] story.earlier story.recoveries)) (sym same) told.tables)
+        | inr more ↦ tables_memory rules image story.earlier story.since story.survivor story.recoveries (recovery_of (failure_of rules image story f.going.saved.paths) story.survivor.begun cause []) [] began.tables_before began.tables tables told.tables (table_of rules image began now phases cause old f [] began.tables tables more)
+      ])
+      (notes_here began story (walked old cpu ring replies choices) answer.Memory all [] told.episodes answers (sym (append-nil all)) (omega arith) (λ some. absurd (omega (arith, some))) (λ is. is)) answers.taken answers.steps tt (λ is. is) (λ never. absurd (never tt)) tt).0
 
   -- behind a failure the number is higher, up to which an environment is in force
   pub adopted_later : (rules : Rules) (image : Image) (began : Since) (now : Told) (phases : Phases) (cause : Cause) (old : SessionState R) → IsFailing rules image began now phases cause old → (old.until < old.taken + 4) × (old.taken ≤ rules.bounds.max_items)
@@ -375,9 +409,10 @@ module _ {R : Type 0} where
       HasRecovery (failure_of rules image f.going.story f.going.saved.paths) f.going.story.survivor.begun cause recovered cpu old.ring ring old.recorded old.choices choices old.log old.replies replies before after
 
   -- no trial survived, and the episode isn't noted
-  gave_up_unnoted : (rules : Rules) (image : Image) (began : Since) (now : Told) (coming : Option Coming) (cause : Cause) (story : Story) (paths : List Path) (trials : List Trial) (lost : ℕ) (session : SessionState R) (fault : Answer) → IsTold rules image began now story
-      → (given_up : HasGivenUp rules image (entries_of story.earlier) story.since story.survivor trials cause) → lost ≡ began.lost + steps_of trials → AnswersFor began story session → IsNoteFault fault → IsBrokenOff rules image (record began { lost = lost }) now coming session fault
-  gave_up_unnoted rules image began now coming cause story paths trials lost session fault told given_up counts answers note =
+  gave_up_unnoted : (rules : Rules) (image : Image) (began : Since) (now : Told) (coming : Option Coming) (cause : Cause) (story : Story) (paths : List Path) (trials : List Trial) (lost : ℕ) (session : SessionState R) (fault : Answer) (tables : Option (List (List Try))) → IsTold rules image began now story
+      → (given_up : HasGivenUp rules image (entries_of story.earlier) story.since story.survivor trials cause) → lost ≡ began.lost + steps_of trials → AnswersFor began story session → IsNoteFault fault
+      → TellsOne rules (entries story) (record { survivor = story.survivor; cause = cause; ring = given_up.ring; trials = trials }) began.tables tables → IsBrokenOff rules image (record began { lost = lost; tables = tables }) now coming session fault
+  gave_up_unnoted rules image began now coming cause story paths trials lost session fault tables told given_up counts answers note one =
       let is : entries story ≡ before_end (account_of story) = refl in
       record {
         account = account_of story;
@@ -393,6 +428,7 @@ module _ {R : Type 0} where
         last = told_of story.survivor cause trials ∷ [];
         tried = inr (cause, given_up, refl);
         notes = notes_here began story session fault (map episode_of story.recoveries) (told_of story.survivor cause trials ∷ []) told.episodes answers refl (omega arith) (λ some. note) (note_no_end fault note);
+        tables = tables_given_up rules image story.earlier story.since story.survivor story.recoveries trials cause fault given_up began.tables_before began.tables tables told.tables one;
         taken = answers.taken;
         steps = answers.steps;
         counted = λ others. let before = told.counted in omega (arith, before, counts);
@@ -400,9 +436,9 @@ module _ {R : Type 0} where
       }
 
   pub adopt_none : (rules : Rules) (image : Image) (began : Since) (now : Told) (phases : Phases) (coming : Option Coming) (cause : Cause) (old : SessionState R) (cpu : CpuState R) (ring : Checkpoints) (replies : Ledger) (choices : List Choice) (recovered : Recovered)
-      (lost before after : ℕ) (f : IsFailing rules image began now phases cause old) → Left rules image began now phases cause old f recovered cpu ring replies choices before after → KeepsSlots recovered.adopted old.cpu cpu → recovered.adopted ≡ None → lost + old.steps + before ≡ began.lost + old.steps + after
-      → Adopting rules image (record began { lost = lost }) now phases coming old.taken cause (walked old cpu ring replies choices) recovered
-  adopt_none rules image began now phases coming cause old cpu ring replies choices recovered lost before after f h slots is counts =
+      (lost before after : ℕ) (tables : Option (List (List Try))) (f : IsFailing rules image began now phases cause old) → Left rules image began now phases cause old f recovered cpu ring replies choices before after → KeepsSlots recovered.adopted old.cpu cpu → recovered.adopted ≡ None → lost + old.steps + before ≡ began.lost + old.steps + after
+      → TellsTable (failure_of rules image f.going.story f.going.saved.paths) old.taken began.tables tables → Adopting rules image (record began { lost = lost; tables = tables }) now phases coming old.taken cause (walked old cpu ring replies choices) recovered
+  adopt_none rules image began now phases coming cause old cpu ring replies choices recovered lost before after tables f h slots is counts told =
       let g = f.going in
       let story : Story = g.story in
       let failure : Failure = failure_of rules image story g.saved.paths in
@@ -411,21 +447,22 @@ module _ {R : Type 0} where
       let end : end_of old.taken cause recovered.adopted ≡ Some (answer.GaveUp old.taken cause) = ap (end_of old.taken cause) is in
       let counted = h.counted in
       let given_up : HasGivenUp rules image (entries_of story.earlier) story.since story.survivor h.trials cause = record { ring = g.saved.paths; some = g.saved.ring.some; recovers = h.recovers; none = leaves.0; owes_nothing = owes_nothing rules story f.due g.passed.done } in
+      let one = table_of rules image began now phases cause old f h.trials began.tables tables told in
       record {
         goes = λ noted more.
-            subst (AdoptsTo rules image (record began { lost = lost; noted = noted }) now phases coming (walked old cpu ring replies choices)) (sym end)
-            (gives_up rules image began now phases coming cause old cpu ring replies choices f h.trials lost before after noted stay h.recovers leaves.0 leaves.3 leaves.2 h.counted counts
-            (subst (λ (e : Episode). HasNotedMore began.noted noted [] (e ∷ [])) h.episode_is more));
+            subst (AdoptsTo rules image (record began { lost = lost; noted = noted; tables = tables }) now phases coming (walked old cpu ring replies choices)) (sym end)
+            (gives_up rules image began now phases coming cause old cpu ring replies choices f h.trials lost before after noted tables stay h.recovers leaves.0 leaves.3 leaves.2 h.counted counts
+            (subst (λ (e : Episode). HasNotedMore began.noted noted [] (e ∷ [])) h.episode_is more) one);
         breaks = λ fault note.
-            gave_up_unnoted rules image began now coming cause story g.saved.paths h.trials lost (walked old cpu ring replies choices) fault g.told given_up (omega (arith, counted, counts))
-            (answers_as began story old (walked old cpu ring replies choices) refl leaves.2 refl refl g.answers) note;
+            gave_up_unnoted rules image began now coming cause story g.saved.paths h.trials lost (walked old cpu ring replies choices) fault tables g.told given_up (omega (arith, counted, counts))
+            (answers_as began story old (walked old cpu ring replies choices) refl leaves.2 refl refl g.answers) note one;
       }
 
   pub adopt_some : (rules : Rules) (image : Image) (began : Since) (now : Told) (phases : Phases) (coming : Option Coming) (cause : Cause) (old : SessionState R) (cpu : CpuState R) (ring : Checkpoints) (replies : Ledger) (choices : List Choice) (recovered : Recovered) (adopted : Adopted)
-      (lost before after : ℕ) (f : IsFailing rules image began now phases cause old) → Left rules image began now phases cause old f recovered cpu ring replies choices before after → HasSameBytes old.replies replies → recovered.adopted ≡ Some adopted
-      → lost + cpu.slots.live.steps + before ≡ began.lost + old.steps + after
-      → Adopting rules image (record began { lost = lost }) now phases coming old.taken cause (goes_as old cpu ring replies choices adopted.env (old.taken + 4)) recovered
-  adopt_some rules image began now phases coming cause old cpu ring replies choices recovered adopted lost before after f h bytes is counts =
+      (lost before after : ℕ) (tables : Option (List (List Try))) (f : IsFailing rules image began now phases cause old) → Left rules image began now phases cause old f recovered cpu ring replies choices before after → HasSameBytes old.replies replies → recovered.adopted ≡ Some adopted
+      → lost + cpu.slots.live.steps + before ≡ began.lost + old.steps + after → TellsTable (failure_of rules image f.going.story f.going.saved.paths) old.taken began.tables tables
+      → Adopting rules image (record began { lost = lost; tables = tables }) now phases coming old.taken cause (goes_as old cpu ring replies choices adopted.env (old.taken + 4)) recovered
+  adopt_some rules image began now phases coming cause old cpu ring replies choices recovered adopted lost before after tables f h bytes is counts told =
       let g = f.going in
       let story : Story = g.story in
       let failure : Failure = failure_of rules image story g.saved.paths in
@@ -438,33 +475,33 @@ module _ {R : Type 0} where
       let episode = λ (noted : Noted) (more : HasNotedMore began.noted noted [] (recovered.episode ∷ [])). subst (λ (e : Episode). HasNotedMore began.noted noted [] (e ∷ [])) h.episode_is more in
       record {
         goes = λ noted more.
-            subst (AdoptsTo rules image (record began { lost = lost; noted = noted }) now phases coming new) (sym (ap (end_of old.taken cause) is))
+            subst (AdoptsTo rules image (record began { lost = lost; noted = noted; tables = tables }) now phases coming new) (sym (ap (end_of old.taken cause) is))
             (of_code adopted.code refl noted (episode noted more));
         breaks = λ fault note.
-            adopted_unnoted rules image began now coming story recovery trial lost new fault g.told (owes_nothing rules story f.due g.passed.done) refl h.recovers leaves.1 all
+            adopted_unnoted rules image began now coming story recovery trial lost new fault tables g.told (owes_nothing rules story f.due g.passed.done) refl h.recovers leaves.1 all
             (record {
               low = run.low;
               recorded = subst (Grew began.noted_before.choices began.noted.choices) (sym run.front) g.answers.recorded;
               choices = run.chose;
               taken = ap (λ (s : Standing). s.guest.machine.taken) run.stands;
               steps = ap (λ (s : Standing). s.steps) run.stands;
-            }) note;
+            }) note (table_of rules image began now phases cause old f h.trials began.tables tables told);
       }
     where
       of_code : (code : Option ℕ) → adopted.code ≡ code → (noted : Noted) → HasNotedMore began.noted noted [] (told_of f.going.story.survivor cause h.trials ∷ [])
-          → AdoptsTo rules image (record began { lost = lost; noted = noted }) now phases coming (goes_as old cpu ring replies choices adopted.env (old.taken + 4)) (option_map answer.Exited adopted.code)
+          → AdoptsTo rules image (record began { lost = lost; noted = noted; tables = tables }) now phases coming (goes_as old cpu ring replies choices adopted.env (old.taken + 4)) (option_map answer.Exited adopted.code)
       of_code None asks noted more =
           let failure : Failure = failure_of rules image f.going.story f.going.saved.paths in
           let leaves = subst (λ a. LeavesRun failure (recovery_of failure f.going.story.survivor.begun cause h.trials) cpu old.ring ring old.recorded old.choices choices old.log old.replies replies a) is h.leaves in
-          subst (λ code. AdoptsTo rules image (record began { lost = lost; noted = noted }) now phases coming (goes_as old cpu ring replies choices adopted.env (old.taken + 4)) (option_map answer.Exited code)) (sym asks)
+          subst (λ code. AdoptsTo rules image (record began { lost = lost; noted = noted; tables = tables }) now phases coming (goes_as old cpu ring replies choices adopted.env (old.taken + 4)) (option_map answer.Exited code)) (sym asks)
           (adopts_going rules image began now phases cause old cpu ring replies choices adopted f h.trials leaves.0 lost h.recovers leaves.1 leaves.2 bytes asks
-          (some_counts before after lost began.lost cpu.slots.live.steps old.steps f.going.story.survivor.now.steps leaves.0.path.steps (steps_of h.trials) h.counted counts (ap (λ (s : Standing). s.steps) leaves.2.stands) f.going.answers.steps) noted more)
+          (some_counts before after lost began.lost cpu.slots.live.steps old.steps f.going.story.survivor.now.steps leaves.0.path.steps (steps_of h.trials) h.counted counts (ap (λ (s : Standing). s.steps) leaves.2.stands) f.going.answers.steps) noted more tables (table_of rules image began now phases cause old f h.trials began.tables tables told))
       of_code (Some code) exits noted more =
           let failure : Failure = failure_of rules image f.going.story f.going.saved.paths in
           let leaves = subst (λ a. LeavesRun failure (recovery_of failure f.going.story.survivor.begun cause h.trials) cpu old.ring ring old.recorded old.choices choices old.log old.replies replies a) is h.leaves in
-          subst (λ code. AdoptsTo rules image (record began { lost = lost; noted = noted }) now phases coming (goes_as old cpu ring replies choices adopted.env (old.taken + 4)) (option_map answer.Exited code)) (sym exits)
+          subst (λ code. AdoptsTo rules image (record began { lost = lost; noted = noted; tables = tables }) now phases coming (goes_as old cpu ring replies choices adopted.env (old.taken + 4)) (option_map answer.Exited code)) (sym exits)
           (adopts_ending rules image began now phases coming cause old cpu ring replies choices adopted code f h.trials leaves.0 lost h.recovers leaves.1 leaves.2 bytes exits
-          (some_counts before after lost began.lost cpu.slots.live.steps old.steps f.going.story.survivor.now.steps leaves.0.path.steps (steps_of h.trials) h.counted counts (ap (λ (s : Standing). s.steps) leaves.2.stands) f.going.answers.steps) noted more)
+          (some_counts before after lost began.lost cpu.slots.live.steps old.steps f.going.story.survivor.now.steps leaves.0.path.steps (steps_of h.trials) h.counted counts (ap (λ (s : Standing). s.steps) leaves.2.stands) f.going.answers.steps) noted more tables (table_of rules image began now phases cause old f h.trials began.tables tables told))
 
   -- the run that is adopted has no more instructions than were counted
   pub adopt_least : (rules : Rules) (image : Image) (began : Since) (now : Told) (phases : Phases) (cause : Cause) (old : SessionState R) (cpu : CpuState R) (ring : Checkpoints) (replies : Ledger) (choices : List Choice) (recovered : Recovered) (adopted : Adopted)

@@ -127,6 +127,7 @@ module _ {R : Type 0} where
             counted = h.told.counted;
             recovered = h.told.recovered;
             episodes = subst (λ e. Grew began.noted_before.episodes e (map episode_of h.story.recoveries)) (sym alike) h.told.episodes;
+            tables = h.told.tables;
           };
           answers = record {
             low = low;
@@ -219,7 +220,7 @@ module _ {R : Type 0} where
       record {
         hearing = record {
           story = h.story;
-          told = record { serving = h.told.serving; way = h.told.way; tells = h.told.tells; counted = h.told.counted; recovered = h.told.recovered; episodes = tt };
+          told = record { serving = h.told.serving; way = h.told.way; tells = h.told.tells; counted = h.told.counted; recovered = h.told.recovered; episodes = tt; tables = h.told.tables };
           answers = record { low = h.answers.low; recorded = tt; choices = h.answers.choices; taken = h.answers.taken; steps = h.answers.steps };
           goes = h.goes;
           saved = h.saved;

@@ -25,7 +25,8 @@ use Rattle.std.specs.Prelude.{◌≢◌}
 use Rattle.trial_history.specs.Tables.{Trial}
 use Rattle.trial_history.proofs.Going.{steps_later}
 use Rattle.trial_plan.specs.Trying.{steps_of}
-use Rattle.rx_engine.specs.Recovered.{HasRecovered, HasNoted, GivesUpBy, spent}
+use Rattle.rx_engine.specs.Recovered.{HasWatched, HasNoted, GivesUpBy, spent}
+use Rattle.rx_engine.proofs.TableLemmas.{tables_here, tables_fault}
 use Rattle.rx_engine.proofs.GuestLemmas.{notes_here}
 use Rattle.rx_engine.specs.Leaving.{HoldsCheckpoints}
 use Rattle.rx_engine.proofs.HeldLemmas.{held_given}
@@ -165,35 +166,38 @@ module _ {R : Type 0} where
       → later ≡ coming → AreDuePieces rules (sends e.story) (end_of e.story) more → Tells before now more → OwesNothing rules.bounds rules.hold (then_entries (end_of e.story) more) (sends e.story)
       → (takes ≡ false → IsAsking rules e.story) → (noted : Noted) (recorded : ℕ) (tail : List Choice) → HasNoted began.noted_before noted end e.story.survivor.now.choices (map episode_of e.story.recoveries ++ e.last) recorded tail
       → (first last : ℕ) → last ≡ first + (began.lost + session.steps) → P (ended_account e.story more [])
-      → (recovered : HasRecovered rules image began.told now later takes end began.noted_before noted recorded tail session.taken session.steps first last) × P recovered.served.session
+      → (watched : HasWatched rules image began.told now later takes end began.noted_before noted recorded tail session.taken session.steps first last began.tables_before began.tables) × P watched.recovered.served.session
   served_end P rules image began before now coming later takes session end e more same due tells owes asked noted recorded tail notes first last all holds =
       let story : Story = e.story in
       let stands : StandsAt rules (entries story) later story.survivor end = subst (λ (c : Option Coming). StandsAt rules (entries story) c story.survivor end) (sym same) e.stands in (
         record {
-          choices = story.survivor.now.choices;
-          served = record {
-            session = ended_account story more [];
-            at_end = true;
-            tells = told_end rules image began before now coming session end e more [] (subst (Tells before now) (sym (append-nil more)) tells);
-            account = ending_account rules image story.earlier story.survivor story.since more true (stood_pieces rules image began before coming session end e more due).at;
-            comes = λ is. record { end = end; is_end = e.is_end; stands = stands };
-            ends = ends_end rules image later (ended_account story more []) e.trials end e.is_end stands owes refl e.gave_up;
-            pieces = are_given rules (sends story) (end_of story) more due;
-            asked = asked;
-            choices_are = refl;
-            taken_is = sym e.answers.taken;
-            steps_are = sym e.answers.steps;
+          recovered = record {
+            choices = story.survivor.now.choices;
+            served = record {
+              session = ended_account story more [];
+              at_end = true;
+              tells = told_end rules image began before now coming session end e more [] (subst (Tells before now) (sym (append-nil more)) tells);
+              account = ending_account rules image story.earlier story.survivor story.since more true (stood_pieces rules image began before coming session end e more due).at;
+              comes = λ is. record { end = end; is_end = e.is_end; stands = stands };
+              ends = ends_end rules image later (ended_account story more []) e.trials end e.is_end stands owes refl e.gave_up;
+              pieces = are_given rules (sends story) (end_of story) more due;
+              asked = asked;
+              choices_are = refl;
+              taken_is = sym e.answers.taken;
+              steps_are = sym e.answers.steps;
+            };
+            recoveries = e.story.recoveries;
+            recovered = e.told.recovered;
+            trials = e.trials;
+            last = e.last;
+            tried = e.tried;
+            notes = notes;
+            gave_up = e.gave_up;
+            counted = λ others.
+                count_all first last began.lost e.lost (spent story.recoveries) session.steps story.survivor.now.steps story.survivor.begun.steps (steps_of e.trials) all e.lost_is e.told.counted e.answers.steps
+                (steps_later rules.limits (items_in rules.bounds (entries story)) story.survivor.plan story.survivor.begun story.survivor.now e.told.way);
           };
-          recoveries = e.story.recoveries;
-          recovered = e.told.recovered;
-          trials = e.trials;
-          last = e.last;
-          tried = e.tried;
-          notes = notes;
-          gave_up = e.gave_up;
-          counted = λ others.
-              count_all first last began.lost e.lost (spent story.recoveries) session.steps story.survivor.now.steps story.survivor.begun.steps (steps_of e.trials) all e.lost_is e.told.counted e.answers.steps
-              (steps_later rules.limits (items_in rules.bounds (entries story)) story.survivor.plan story.survivor.begun story.survivor.now e.told.way);
+          watched = e.tables;
         },
         holds,
       )
@@ -203,35 +207,38 @@ module _ {R : Type 0} where
       → later ≡ coming → AreDuePieces rules (sends e.story) (end_of e.story) more → IsBroken rules (sends e.story) (then_entries (end_of e.story) more) broken → Tells before now (more ++ broken)
       → EndsBy rules later (ended_account e.story more broken) fault → (IsEnd fault → ⊥) → (takes ≡ false → IsAsking rules e.story)
       → (noted : Noted) → noted.choices ≡ began.noted.choices → noted.episodes ≡ began.noted.episodes → (first last : ℕ) → last ≡ first + (began.lost + session.steps) → P (ended_account e.story more broken)
-      → (recovered : HasRecovered rules image began.told now later takes fault began.noted_before noted session.recorded session.choices session.taken session.steps first last) × P recovered.served.session
+      → (watched : HasWatched rules image began.told now later takes fault began.noted_before noted session.recorded session.choices session.taken session.steps first last began.tables_before began.tables) × P watched.recovered.served.session
   served_broken P rules image began before now coming later takes session end fault e more broken same due part tells ends no_end asked noted same_choices same_episodes first last all holds =
       let story : Story = e.story in
       let stands : StandsAt rules (entries story) later story.survivor end = subst (λ (c : Option Coming). StandsAt rules (entries story) c story.survivor end) (sym same) e.stands in (
         record {
-          choices = story.survivor.now.choices;
-          served = record {
-            session = ended_account story more broken;
-            at_end = true;
-            tells = told_end rules image began before now coming session end e more broken tells;
-            account = account_broken rules image story more broken (stood_pieces rules image began before coming session end e more due) part;
-            comes = λ is. record { end = end; is_end = e.is_end; stands = stands };
-            ends = ends;
-            pieces = are_given rules (sends story) (end_of story) more due;
-            asked = asked;
-            choices_are = refl;
-            taken_is = sym e.answers.taken;
-            steps_are = sym e.answers.steps;
+          recovered = record {
+            choices = story.survivor.now.choices;
+            served = record {
+              session = ended_account story more broken;
+              at_end = true;
+              tells = told_end rules image began before now coming session end e more broken tells;
+              account = account_broken rules image story more broken (stood_pieces rules image began before coming session end e more due) part;
+              comes = λ is. record { end = end; is_end = e.is_end; stands = stands };
+              ends = ends;
+              pieces = are_given rules (sends story) (end_of story) more due;
+              asked = asked;
+              choices_are = refl;
+              taken_is = sym e.answers.taken;
+              steps_are = sym e.answers.steps;
+            };
+            recoveries = e.story.recoveries;
+            recovered = e.told.recovered;
+            trials = e.trials;
+            last = e.last;
+            tried = e.tried;
+            notes = notes_fault rules image began before coming session end fault noted e no_end same_choices same_episodes;
+            gave_up = gives_no_end rules image (entries_of story.earlier) story.since story.survivor e.trials fault no_end;
+            counted = λ others.
+                count_all first last began.lost e.lost (spent story.recoveries) session.steps story.survivor.now.steps story.survivor.begun.steps (steps_of e.trials) all e.lost_is e.told.counted e.answers.steps
+                (steps_later rules.limits (items_in rules.bounds (entries story)) story.survivor.plan story.survivor.begun story.survivor.now e.told.way);
           };
-          recoveries = e.story.recoveries;
-          recovered = e.told.recovered;
-          trials = e.trials;
-          last = e.last;
-          tried = e.tried;
-          notes = notes_fault rules image began before coming session end fault noted e no_end same_choices same_episodes;
-          gave_up = gives_no_end rules image (entries_of story.earlier) story.since story.survivor e.trials fault no_end;
-          counted = λ others.
-              count_all first last began.lost e.lost (spent story.recoveries) session.steps story.survivor.now.steps story.survivor.begun.steps (steps_of e.trials) all e.lost_is e.told.counted e.answers.steps
-              (steps_later rules.limits (items_in rules.bounds (entries story)) story.survivor.plan story.survivor.begun story.survivor.now e.told.way);
+          watched = tables_fault rules image story.earlier story.since story.survivor story.recoveries e.trials e.last end fault began.tables_before began.tables (λ same. subst IsEnd same e.is_end) e.tables;
         },
         holds,
       )
@@ -239,32 +246,35 @@ module _ {R : Type 0} where
   -- a session that was broken off has served
   pub served_off : (P : Session → Type 0) (rules : Rules) (image : Image) (began : Since) (now : Told) (coming : Option Coming) (takes : Bool) (session : SessionState R) (end : Answer) → (off : IsBrokenOff rules image began now coming session end) → (takes ≡ false → WasAsked rules off.account) → (first last : ℕ)
       → (end ≢ answer.Memory → last ≡ first + (began.lost + session.steps)) → P off.account
-      → (recovered : HasRecovered rules image began.told now coming takes end began.noted_before began.noted session.recorded session.choices session.taken session.steps first last) × P recovered.served.session
+      → (watched : HasWatched rules image began.told now coming takes end began.noted_before began.noted session.recorded session.choices session.taken session.steps first last began.tables_before began.tables) × P watched.recovered.served.session
   served_off P rules image began now coming takes session end off asked first last all holds = (
     record {
-      choices = off.account.survivor.now.choices;
-      served = record {
-        session = off.account;
-        at_end = false;
-        tells = off.tells;
-        account = off.is_account;
-        comes = λ is. absurd (let no : ⊥ = cc in no);
-        ends = off.ends;
-        pieces = off.pieces;
-        asked = asked;
-        choices_are = refl;
-        taken_is = sym off.taken;
-        steps_are = sym off.steps;
+      recovered = record {
+        choices = off.account.survivor.now.choices;
+        served = record {
+          session = off.account;
+          at_end = false;
+          tells = off.tells;
+          account = off.is_account;
+          comes = λ is. absurd (let no : ⊥ = cc in no);
+          ends = off.ends;
+          pieces = off.pieces;
+          asked = asked;
+          choices_are = refl;
+          taken_is = sym off.taken;
+          steps_are = sym off.steps;
+        };
+        recoveries = off.recoveries;
+        recovered = off.recovered;
+        trials = off.trials;
+        last = off.last;
+        tried = off.tried;
+        notes = off.notes;
+        gave_up = gives_no_end rules image (entries_of off.account.earlier) off.account.since off.account.survivor off.trials end off.no_end;
+        counted = λ others.
+            count_off first last began.lost (spent off.recoveries) session.steps off.account.survivor.now.steps off.account.survivor.begun.steps (steps_of off.trials) (all others) (off.counted others) off.steps off.later;
       };
-      recoveries = off.recoveries;
-      recovered = off.recovered;
-      trials = off.trials;
-      last = off.last;
-      tried = off.tried;
-      notes = off.notes;
-      gave_up = gives_no_end rules image (entries_of off.account.earlier) off.account.since off.account.survivor off.trials end off.no_end;
-      counted = λ others.
-          count_off first last began.lost (spent off.recoveries) session.steps off.account.survivor.now.steps off.account.survivor.begun.steps (steps_of off.trials) (all others) (off.counted others) off.steps off.later;
+      watched = off.tables;
     },
     holds,
   )
@@ -291,6 +301,7 @@ module _ {R : Type 0} where
         last = [];
         tried = inl (refl, refl);
         notes = notes_here began story session fault (map episode_of story.recoveries) [] told.episodes answers refl (omega arith) (λ some. absurd (omega (arith, some))) no_end;
+        tables = tables_here rules image story.earlier (story.since ++ more) story.survivor story.recoveries [] fault began.tables_before began.tables told.tables;
         counted = λ others. let none : steps_of [] ≡ 0 = refl in let counts = told.counted in omega (arith, none, counts);
         later = steps_later rules.limits (items_in rules.bounds (entries story)) story.survivor.plan story.survivor.begun story.survivor.now told.way;
         taken = answers.taken;

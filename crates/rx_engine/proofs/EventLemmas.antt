@@ -47,6 +47,7 @@ told_event rules image began old now story event more told asks owes heeds tells
       recovered = told.recovered;
       counted = told.counted;
       episodes = told.episodes;
+      tables = told.tables;
     }
 
 -- the latest event of some entries and one that was taken last, which isn't Ends

@@ -33,12 +33,14 @@ use Rattle.session_history.specs.Lawful.{Rules, entries_of}
 use Rattle.session_history.specs.Account.{Session}
 use Rattle.session_history.specs.Keeping.{KeepsReplies, KeepsItems}
 use Rattle.rx_engine.specs.Sessions.{SessionState}
-use Rattle.rx_engine.specs.Standing.{Since, Story, entries, moment, IsTold, AnswersFor, GoesWith, IsLatestDone, IsLatestBefore, HasPassedDue, HasPassed, IsGoing, IsBetween, IsWaitingFor, IsFailing, IsEnding, IsBrokenOff, HasNotedMore}
+use Rattle.rx_engine.specs.Standing.{Since, Story, entries, moment, IsTold, AnswersFor, GoesWith, IsLatestDone, IsLatestBefore, HasPassedDue, HasPassed, IsGoing, IsBetween, IsWaitingFor, IsFailing, IsEnding, IsBrokenOff, HasNotedMore, unwatched}
 use Rattle.rx_engine.specs.Serving.{IsCounted}
 use Rattle.rx_engine.proofs.StoryLemmas.{on_story, told_on, account_of, journal_of_story}
 use Rattle.trial_history.proofs.Going.{steps_later}
 use Rattle.trial_plan.specs.Trying.{steps_of}
-use Rattle.rx_engine.specs.Recovered.{GivesUpBy, HasNoted, IsNoteFault}
+use Rattle.rx_engine.specs.Recovered.{GivesUpBy, HasNoted, IsNoteFault, AreAllTables}
+use Rattle.trial_plan.specs.Watching.{TellsMore}
+use Rattle.rx_engine.proofs.TableLemmas.{told_unwatched, tables_here}
 use Rattle.episodes.specs.declared.episode.Episode.{Episode}
 use Rattle.notes.specs.Noting.{Noted}
 use Rattle.trial_history.specs.Episodes.{episode_of}
@@ -216,7 +218,8 @@ module _ {R : Type 0} where
         trials = [];
         lost = began.lost;
         lost_is = none_lost began.lost;
-        told = told_on rules image began now g.story to g.told goes.served (still_received rules image began now g.story to g.told goes.taken);
+        told = told_unwatched rules image began now (on_story g.story to) (told_on rules image began now g.story to g.told goes.served (still_received rules image began now g.story to g.told goes.taken));
+        tables = tables_here rules image g.story.earlier g.story.since (gone_on g.story.survivor to) g.story.recoveries [] end began.tables_before began.tables g.told.tables;
         noted = began.noted;
         last = [];
         last_noted = none_noted began.noted;
@@ -271,10 +274,11 @@ module _ {R : Type 0} where
   -- A session that is broken off where it stood, and has noted so much, has an account, of which holds what holds of its story's. What its
   -- story was told beside that may be told otherwise.
   pub broken_noting : (P : Session → Type 0) (rules : Rules) (image : Image) (began : Since) (before noted : Noted) (now : Told) (coming : Option Coming) (session : SessionState R) (story : Story) (end : Answer)
-      → IsTold rules image (record began { noted_before = before; noted = noted }) now story
+      → IsTold rules image (unwatched (record began { noted_before = before; noted = noted })) now story
+      → TellsMore began.tables_before began.tables (AreAllTables rules image story.earlier story.since story.survivor story.recoveries [] [] end)
       → HasNoted began.noted_before began.noted end story.survivor.now.choices (map episode_of story.recoveries) session.recorded session.choices → session.taken ≡ story.survivor.now.state.machine.taken → session.steps ≡ story.survivor.now.steps
       → EndsBy rules coming (account_of story) end → (IsEnd end → ⊥) → ((IsNoteFault end → ⊥) → HoldsCheckpoints rules image (entries story) story.survivor session) → P (account_of story) → (off : IsBrokenOff rules image began now coming session end) × P off.account
-  broken_noting P rules image began before noted now coming session story end told notes taken steps ends no_end held holds = (
+  broken_noting P rules image began before noted now coming session story end told tables notes taken steps ends no_end held holds = (
     record {
       account = account_of story;
       tells = subst (Tells began.told now) (sym (journal_of_story story)) told.tells;
@@ -289,6 +293,7 @@ module _ {R : Type 0} where
       last = [];
       tried = inl (refl, refl);
       notes = subst (λ all. HasNoted began.noted_before began.noted end story.survivor.now.choices all session.recorded session.choices) (sym (append-nil (map episode_of story.recoveries))) notes;
+      tables = tables;
       taken = taken;
       steps = steps;
       counted = λ others. let none : steps_of [] ≡ 0 = refl in let counts = told.counted in omega (arith, none, counts);
@@ -300,7 +305,8 @@ module _ {R : Type 0} where
   pub broken_with : (P : Session → Type 0) (rules : Rules) (image : Image) (began : Since) (now : Told) (coming : Option Coming) (session : SessionState R) (story : Story) (end : Answer) → IsTold rules image began now story → AnswersFor began story session
       → EndsBy rules coming (account_of story) end → (IsEnd end → ⊥) → ((IsNoteFault end → ⊥) → HoldsCheckpoints rules image (entries story) story.survivor session) → P (account_of story) → (off : IsBrokenOff rules image began now coming session end) × P off.account
   broken_with P rules image began now coming session story end told answers ends no_end held holds =
-      broken_noting P rules image began began.noted_before began.noted now coming session story end told
+      broken_noting P rules image began began.noted_before began.noted now coming session story end (told_unwatched rules image began now story told)
+      (tables_here rules image story.earlier story.since story.survivor story.recoveries [] end began.tables_before began.tables told.tables)
       (notes_here began story session end (map episode_of story.recoveries) [] told.episodes answers (sym (append-nil (map episode_of story.recoveries))) (omega arith) (λ some. absurd (omega (arith, some))) no_end) answers.taken answers.steps ends no_end held holds
 
   pub broken_off : (rules : Rules) (image : Image) (began : Since) (now : Told) (coming : Option Coming) (session : SessionState R) (story : Story) (end : Answer) → IsTold rules image began now story → AnswersFor began story session

@@ -1,6 +1,7 @@
 pub mod StoryLemmas
 pub mod HeldLemmas
 pub mod LeavingLemmas
+pub mod TableLemmas
 pub mod CheckpointLemmas
 pub mod GuestLemmas
 pub mod TellLemmas

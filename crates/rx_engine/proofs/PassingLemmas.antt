@@ -32,7 +32,7 @@ use Rattle.reply_gate.specs.declared.pass_fault.PassFault.TheVariants as pass_fa
 use Rattle.run_history.specs.declared.answer.Answer.{Answer}
 use Rattle.session_history.specs.Account.{Session}
 use Rattle.session_history.specs.Ends.{IsEnd, EndsBy}
-use Rattle.rx_engine.specs.Recovered.{HasRecovered, IsNoteFault}
+use Rattle.rx_engine.specs.Recovered.{HasWatched, IsNoteFault}
 use Rattle.notes.specs.Noting.{Noted}
 use Rattle.rx_engine.proofs.NoteLemmas.{notes_end}
 use Rattle.rx_engine.proofs.FaultLemmas.{note_no_end, note_ends}
@@ -47,7 +47,7 @@ use Rattle.reply_gate.proofs.MomentLemmas.{open_not_closed, due_by, due_not_gone
 use Rattle.reply_gate.proofs.ReplyLemmas.{nothing_waits, closed_keeps, fronts_stay}
 use Rattle.rx_engine.specs.declared.stop.Stop.{Stop}
 use Rattle.rx_engine.specs.Sessions.{SessionState}
-use Rattle.rx_engine.specs.Standing.{Since, Story, entries, moment, sends, then_story, IsTold, HasPassed, HasPassedDue, IsCloseDone, IsAsking, IsWaitingFor, IsEnding}
+use Rattle.rx_engine.specs.Standing.{unwatched, Since, Story, entries, moment, sends, then_story, IsTold, HasPassed, HasPassedDue, IsCloseDone, IsAsking, IsWaitingFor, IsEnding}
 use Rattle.rx_engine.specs.Serving.{IsAnswerTo, CanGive, CanPass, PassesStory, PassesDue, StandsClosing}
 use Rattle.rx_engine.proofs.GivenLemmas.{done_given, closed_given, latest-given, events_in-story}
 use Rattle.rx_engine.proofs.PassLemmas.{rest_ok}
@@ -310,17 +310,17 @@ module _ {R : Type 0} where
   pub finish_ok : (P : Session → Type 0) (rules : Rules) (image : Image) (began : Since) (before now : Told) (coming later : Option Coming) (takes : Bool) (session : SessionState R) (end : Answer) (until : ℕ) (ledger : Ledger) (done : Unit {0}) (e : IsEnding rules image began before coming session end) → later ≡ coming → session.taken ≤ until
       → Passes {E = PassFault} rules (sends e.story) (end_of e.story) until ledger before now (Ok done) → (takes ≡ false → IsAsking rules e.story) → (noted : Noted) → Grew began.noted.choices noted.choices session.choices
       → noted.episodes ≡ began.noted.episodes → (first last : ℕ) → last ≡ first + (began.lost + session.steps)
-      → ((more broken : List Entry) → P (ended_account e.story more broken)) → (recovered : HasRecovered rules image began.told now later takes end began.noted_before noted (session.recorded + length session.choices) [] session.taken session.steps first last) × P recovered.served.session
+      → ((more broken : List Entry) → P (ended_account e.story more broken)) → (watched : HasWatched rules image began.told now later takes end began.noted_before noted (session.recorded + length session.choices) [] session.taken session.steps first last began.tables_before began.tables) × P watched.recovered.served.session
   finish_ok P rules image began before now coming later takes session end until ledger done e same low passes asked noted choices episodes first last all holds =
       let few = e.answers.taken in
       served_end P rules image began before now coming later takes session end e passes.0 same passes.1 passes.2
-      (end_owes rules image (record began { lost = e.lost; noted = e.noted }) before e.story passes.0 until ledger e.told (omega (arith, low, few)) passes.1 passes.3.0 passes.3.1 e.closed) asked noted (session.recorded + length session.choices) [] (notes_end rules image began before coming session end noted e choices episodes) first last all (holds passes.0 [])
+      (end_owes rules image (unwatched (record began { lost = e.lost; noted = e.noted })) before e.story passes.0 until ledger e.told (omega (arith, low, few)) passes.1 passes.3.0 passes.3.1 e.closed) asked noted (session.recorded + length session.choices) [] (notes_end rules image began before coming session end noted e choices episodes) first last all (holds passes.0 [])
 
   -- and noting the rest failed
   pub finish_unnoted : (P : Session → Type 0) (rules : Rules) (image : Image) (began : Since) (before now : Told) (coming later : Option Coming) (takes : Bool) (session : SessionState R) (end fault : Answer) (until : ℕ) (ledger : Ledger) (done : Unit {0}) (e : IsEnding rules image began before coming session end) → later ≡ coming
       → Passes {E = PassFault} rules (sends e.story) (end_of e.story) until ledger before now (Ok done) → (takes ≡ false → IsAsking rules e.story) → IsNoteFault fault → (noted : Noted) → noted.choices ≡ began.noted.choices → noted.episodes ≡ began.noted.episodes
       → (first last : ℕ) → last ≡ first + (began.lost + session.steps) → ((more broken : List Entry) → P (ended_account e.story more broken))
-      → (recovered : HasRecovered rules image began.told now later takes fault began.noted_before noted session.recorded session.choices session.taken session.steps first last) × P recovered.served.session
+      → (watched : HasWatched rules image began.told now later takes fault began.noted_before noted session.recorded session.choices session.taken session.steps first last began.tables_before began.tables) × P watched.recovered.served.session
   finish_unnoted P rules image began before now coming later takes session end fault until ledger done e same passes asked is noted choices episodes first last all holds =
       served_broken P rules image began before now coming later takes session end fault e passes.0 [] same passes.1 tt (subst (Tells before now) (sym (append-nil passes.0)) passes.2) (note_ends rules later (ended_account e.story passes.0 []) fault is) (note_no_end fault is) asked
       noted choices episodes first last all (holds passes.0 [])
@@ -329,7 +329,7 @@ module _ {R : Type 0} where
   pub finish_fault : (P : Session → Type 0) (rules : Rules) (image : Image) (began : Since) (before now : Told) (coming later : Option Coming) (takes : Bool) (session : SessionState R) (end : Answer) (until : ℕ) (ledger : Ledger) (why : PassFault) (fault : Answer) (e : IsEnding rules image began before coming session end) → later ≡ coming
       → IsAnswerTo why fault → Passes rules (sends e.story) (end_of e.story) until ledger before now (Err why) → (takes ≡ false → IsAsking rules e.story) → (noted : Noted) → noted.choices ≡ began.noted.choices → noted.episodes ≡ began.noted.episodes
       → (first last : ℕ) → last ≡ first + (began.lost + session.steps) → ((more broken : List Entry) → P (ended_account e.story more broken))
-      → (recovered : HasRecovered rules image began.told now later takes fault began.noted_before noted session.recorded session.choices session.taken session.steps first last) × P recovered.served.session
+      → (watched : HasWatched rules image began.told now later takes fault began.noted_before noted session.recorded session.choices session.taken session.steps first last began.tables_before began.tables) × P watched.recovered.served.session
   finish_fault P rules image began before now coming later takes session end until ledger pass_fault.WriteFault fault e same is passes asked noted choices episodes first last all holds =
       served_broken P rules image began before now coming later takes session end fault e passes.0 passes.1 same passes.2 passes.3 passes.4 (subst (EndsBy rules later (ended_account e.story passes.0 passes.1)) (sym is) tt) (subst (λ (a : Answer). IsEnd a → ⊥) (sym is) (λ never. never)) asked noted choices episodes first last all (holds passes.0 passes.1)
   finish_fault P rules image began before now coming later takes session end until ledger pass_fault.Memory fault e same is passes asked noted choices episodes first last all holds =
@@ -349,7 +349,7 @@ module _ {R : Type 0} where
   }
 
   pub ending_ready : (rules : Rules) (image : Image) (began : Since) (now : Told) (coming : Option Coming) (session : SessionState R) (end : Answer) (until : ℕ) (e : IsEnding rules image began now coming session end) → IsReady rules (sends e.story) (end_of e.story) until session.replies
-  ending_ready rules image began now coming session end until e = end_ready rules image (record began { lost = e.lost; noted = e.noted }) now e.story until session.replies e.told e.replies e.closed
+  ending_ready rules image began now coming session end until e = end_ready rules image (unwatched (record began { lost = e.lost; noted = e.noted })) now e.story until session.replies e.told e.replies e.closed
 
   -- behind the close of a connection that was heard: what passing its rest asks for
   pub closing_stands : (rules : Rules) (image : Image) (began : Since) (before now : Told) (phases later : Phases) (conn : ℕ) (old new : SessionState R) (w : IsWaitingFor rules image began before phases old) → HasHeard rules image began now later (then_story w.hearing.story (entry.Took (event.Closes conn) ∷ [])) new

@@ -67,4 +67,5 @@ told_pieces rules image began old now story more told due tells =
       recovered = told.recovered;
       counted = told.counted;
       episodes = told.episodes;
+      tables = told.tables;
     }

@@ -12,9 +12,10 @@ use Rattle.rx_engine.specs.declared.stop.Stop.TheVariants as stop
 use Rattle.rx_engine.specs.Sessions.{SessionState}
 use Rattle.block_book.specs.declared.choice.Choice.{Choice}
 use Rattle.episodes.specs.declared.episode.Episode.{Episode}
+use Rattle.episodes.specs.declared.episode.Try.{Try}
 use Rattle.notes.specs.Noting.{Noted, noted}
 use Rattle.rx_engine.proofs.GuestLemmas.{none_noted}
-use Rattle.rx_engine.specs.Standing.{Since, IsGoing, IsEnding, IsBrokenOff, HasNotedMore}
+use Rattle.rx_engine.specs.Standing.{Since, IsGoing, IsFailing, IsEnding, IsBrokenOff, HasNotedMore}
 use Rattle.run_history.specs.declared.answer.Cause.{Cause}
 use Rattle.recovery_gate.specs.declared.recovering.Adopted.{Adopted}
 use Rattle.std.proofs.lemmas.Option.{same_Some, none-some}
@@ -55,6 +56,11 @@ one_more began episode =
     (noted began.noted.choices more.0, record { choices_more = (none_noted began.noted).choices_more; episodes_more = more.1 })
 
 module _ {R : Type 0} where
+  -- a watch that tells the same
+  pub failing_told : {rules : Rules} {image : Image} {began : Since} {now : Told} {phases : Phases} {tables : Option (List (List Try))} {cause : Cause} {session : SessionState R} → began.tables ≡ tables → IsFailing rules image began now phases cause session
+      → IsFailing rules image (record began { tables = tables }) now phases cause session
+  failing_told {rules = rules} {image = image} {began = began} {now = now} {phases = phases} {cause = cause} {session = session} same = subst (λ (t : Option (List (List Try))). IsFailing rules image (record began { tables = t }) now phases cause session) same
+
   -- notes that tell the same
   pub broken_told : (rules : Rules) (image : Image) (began : Since) (now : Told) (coming : Option Coming) (choices later : Option (List Choice)) (episodes others : Option (List Episode)) (session : SessionState R) (end : Answer) → later ≡ choices → others ≡ episodes
       → IsBrokenOff rules image (record began { noted = noted choices episodes }) now coming session end → IsBrokenOff rules image (record began { noted = noted later others }) now coming session end

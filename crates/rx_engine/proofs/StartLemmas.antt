@@ -34,6 +34,9 @@ use Rattle.session_history.proofs.Sessions.{serving_first}
 use Rattle.rx_engine.specs.Options.{rules_of}
 use Rattle.rx_engine.specs.Sessions.{SessionState, IsBegun}
 use Rattle.notes.specs.Noting.{Noted}
+use Rattle.episodes.specs.declared.episode.Try.{Try}
+use Rattle.rx_engine.specs.Recovered.{AreTables}
+use Rattle.rx_engine.proofs.TableLemmas.{tells_none}
 use Rattle.rx_engine.proofs.GuestLemmas.{none_noted}
 use Rattle.rx_engine.specs.Standing.{Since, Story, IsBetween, told_since}
 use Rattle.rx_engine.proofs.CheckpointLemmas.{in_force_by}
@@ -83,8 +86,10 @@ lost_then lost live steps before after = (lost + live + after) - (steps + before
 pub lost_counts : (lost live steps before after : ℕ) → steps + before ≤ after + live → lost_then lost live steps before after + steps + before ≡ lost + live + after
 lost_counts lost live steps before after least = omega (arith, least)
 
-pub lost_all : (first lost live steps before after : ℕ) → before ≡ first + (lost + live) → steps + before ≤ after + live → after ≡ first + (lost_then lost live steps before after + steps)
-lost_all first lost live steps before after counted least = omega (arith, counted, least)
+-- and with what the watch has counted: before the first turn, before this one, and behind it
+pub lost_all : (first lost live steps before after began ran later : ℕ) → began + before ≡ ran + first + (lost + live) → steps + (later + before) ≤ ran + after + live
+    → began + after ≡ later + first + (lost_then lost live steps (later + before) (ran + after) + steps)
+lost_all first lost live steps before after began ran later counted least = omega (arith, counted, least)
 
 module _ {R : Type 0} where
   -- its guest stands at the start
@@ -92,11 +97,11 @@ module _ {R : Type 0} where
   starts_at image session begun = let start : IsStart image 0 = runs_start image 0 in begun.cpu.live_is ∙ sym start.stands
 
   -- it begins with its start as its first checkpoint
-  starts_saved : (permits : R → Heap → ℕ → ℕ → Bool) (image : Image) (now : Told) (noted : Noted) (phases : Phases) (session : SessionState R) (cpu : CpuState R) (ring : Checkpoints) → IsBegun image session.options session.cpu.rule session → IsFresh phases
+  starts_saved : (permits : R → Heap → ℕ → ℕ → Bool) (image : Image) (now : Told) (noted : Noted) (tables : Option (List (List Try))) (phases : Phases) (session : SessionState R) (cpu : CpuState R) (ring : Checkpoints) → IsBegun image session.options session.cpu.rule session → IsFresh phases
       → KeepsRing (rules_of session.options (permits session.cpu.rule)) image [] [] (origin image) (origin image ∷ []) cpu ring session.log session.replies → cpu.slots.live ≡ session.cpu.slots.live
-      → IsBetween (rules_of session.options (permits session.cpu.rule)) image (told_since now noted noted 0) now phases (record session { cpu = cpu; ring = ring })
+      → IsBetween (rules_of session.options (permits session.cpu.rule)) image (told_since now noted noted tables tables 0) now phases (record session { cpu = cpu; ring = ring })
   unfolding M.start M.start_machine H.heeded_behind
-  starts_saved permits image now noted phases session cpu ring begun fresh keeps live =
+  starts_saved permits image now noted tables phases session cpu ring begun fresh keeps live =
       let rules : Rules = rules_of session.options (permits session.cpu.rule) in
       let start : IsStart image rules.limits.budget = runs_start image rules.limits.budget in
       record {
@@ -109,6 +114,7 @@ module _ {R : Type 0} where
             recovered = recovered_first rules image;
             counted = refl;
             episodes = (none_noted noted).episodes_more;
+            tables = tells_none tables (AreTables (rules_of session.options (permits session.cpu.rule)) [] [] []) tt;
           };
           answers = record {
             low = omega (arith, begun.none_recorded);
@@ -134,17 +140,17 @@ module _ {R : Type 0} where
         due = λ send stands is taken. absurd (none_stands send stands);
       }
 
-  pub starts_between : (permits : R → Heap → ℕ → ℕ → Bool) (image : Image) (now : Told) (noted : Noted) (phases : Phases) (session after : SessionState R) → IsBegun image session.options session.cpu.rule session → IsFresh phases
+  pub starts_between : (permits : R → Heap → ℕ → ℕ → Bool) (image : Image) (now : Told) (noted : Noted) (tables : Option (List (List Try))) (phases : Phases) (session after : SessionState R) → IsBegun image session.options session.cpu.rule session → IsFresh phases
       → ((rules : Rules) → KeepsRing rules image [] [] (origin image) (origin image ∷ []) after.cpu after.ring session.log session.replies) → after ≡ record session { cpu = after.cpu; ring = after.ring } → after.cpu.slots.live ≡ session.cpu.slots.live
-      → IsBetween (rules_of session.options (permits session.cpu.rule)) image (told_since now noted noted 0) now phases after
-  starts_between permits image now noted phases session after begun fresh keeps same live =
-      subst (λ (s : SessionState R). IsBetween (rules_of session.options (permits session.cpu.rule)) image (told_since now noted noted 0) now phases s) (sym same)
-      (starts_saved permits image now noted phases session after.cpu after.ring begun fresh (keeps (rules_of session.options (permits session.cpu.rule))) live)
+      → IsBetween (rules_of session.options (permits session.cpu.rule)) image (told_since now noted noted tables tables 0) now phases after
+  starts_between permits image now noted tables phases session after begun fresh keeps same live =
+      subst (λ (s : SessionState R). IsBetween (rules_of session.options (permits session.cpu.rule)) image (told_since now noted noted tables tables 0) now phases s) (sym same)
+      (starts_saved permits image now noted tables phases session after.cpu after.ring begun fresh (keeps (rules_of session.options (permits session.cpu.rule))) live)
 
   -- how far a session has come that serves
-  pub record HasTurned (Went Fixed Works : Type 0) (permits : R → Heap → ℕ → ℕ → Bool) (before now : Told) (noted_before noted : Noted) (faults_before faults : ℕ) (phases : Phases) (coming upcoming : Option Coming) (from to : Counts) (takes gives : Bool) (gives_to : ℕ → Bool) (first last : ℕ) (old new : SessionState R) : Type 0 where
+  pub record HasTurned (Went Fixed Works : Type 0) (permits : R → Heap → ℕ → ℕ → Bool) (before now : Told) (noted_before noted : Noted) (tables_before tables : Option (List (List Try))) (faults_before faults : ℕ) (phases : Phases) (coming upcoming : Option Coming) (from to : Counts) (takes gives : Bool) (gives_to : ℕ → Bool) (first last : ℕ) (old new : SessionState R) : Type 0 where
     pub lost : ℕ
-    pub stands : (image : Image) → IsBegun image old.options old.cpu.rule old → IsBetween (rules_of old.options (permits old.cpu.rule)) image (told_since before noted_before noted lost) now phases new
+    pub stands : (image : Image) → IsBegun image old.options old.cpu.rule old → IsBetween (rules_of old.options (permits old.cpu.rule)) image (told_since before noted_before noted tables_before tables lost) now phases new
     pub frame : HasSameFrame old new
     pub known : StaysKnown coming upcoming
     pub takes_still : takes ≡ true

@@ -32,6 +32,7 @@ use Rattle.session_history.specs.Hearing.{closing_of, IsHeeded, IsHeard, IsUnhee
 use Rattle.session_history.specs.Ends.{IsEnd, StandsAt, IsWaiting, WasAsked, IsLastRefused}
 use Rattle.rx_engine.specs.Sessions.{SessionState}
 use Rattle.rx_engine.specs.Standing.{Since, Story, entries, moment, sends, then_story, IsTold, AnswersFor, IsLatestDone, IsAsking, IsWaitingFor, IsEnding, IsBrokenOff}
+use Rattle.rx_engine.proofs.TableLemmas.{told_unwatched, tables_here}
 use Rattle.rx_engine.proofs.StoryLemmas.{still_takes}
 use Rattle.rx_engine.proofs.TellLemmas.{tells_on}
 use Rattle.rx_engine.proofs.GuestLemmas.{received_is, answers_as, none_noted, broken_off, broken_with, none_lost}
@@ -111,6 +112,7 @@ told_nothing rules image began before now story told tells = record {
   recovered = told.recovered;
   counted = told.counted;
   episodes = told.episodes;
+  tables = told.tables;
 }
 
 module _ {R : Type 0} where
@@ -178,7 +180,8 @@ module _ {R : Type 0} where
         noted = began.noted;
         last = [];
         last_noted = none_noted began.noted;
-        told = waits_took rules image began before now phases old w e all tells [] (u.brings_none ∙ sym (append-nil (items_in rules.bounds (entries story))));
+        told = told_unwatched rules image began now (then_story story (entry.Took e ∷ [])) (waits_took rules image began before now phases old w e all tells [] (u.brings_none ∙ sym (append-nil (items_in rules.bounds (entries story)))));
+        tables = tables_here rules image story.earlier (story.since ++ entry.Took e ∷ []) story.survivor story.recoveries [] end began.tables_before began.tables w.hearing.told.tables;
         answers = answers_still began story old new (entry.Took e ∷ []) same w.hearing.answers;
         received_are = ap (λ (l : Log). logs.received l) log ∙ (received_is rules.bounds (entries story) old.log w.hearing.goes.items ∙ ap length (sym none));
         replies = subst (λ (all : List Entry). KeepsReplies rules.bounds all None (sends story) new.replies) es u.replies;
@@ -208,7 +211,8 @@ module _ {R : Type 0} where
         noted = began.noted;
         last = [];
         last_noted = none_noted began.noted;
-        told = waits_took rules image began before now phases old w event.Ends all tells heard.more heard.brings;
+        told = told_unwatched rules image began now (then_story story (entry.Took event.Ends ∷ [])) (waits_took rules image began before now phases old w event.Ends all tells heard.more heard.brings);
+        tables = tables_here rules image story.earlier (story.since ++ entry.Took event.Ends ∷ []) story.survivor story.recoveries [] answer.Finished began.tables_before began.tables w.hearing.told.tables;
         answers = answers_still began story old new (entry.Took event.Ends ∷ []) same w.hearing.answers;
         received_are = received_is rules.bounds (entries story ++ entry.Took event.Ends ∷ []) new.log heard.items ∙ ap (received rules.bounds) es;
         replies = subst (λ (all : List Entry). KeepsReplies rules.bounds all None (sends story) new.replies) es heard.replies;
@@ -238,7 +242,8 @@ module _ {R : Type 0} where
           noted = began.noted;
           last = [];
           last_noted = none_noted began.noted;
-          told = told;
+          told = told_unwatched rules image began now story told;
+          tables = tables_here rules image story.earlier story.since story.survivor story.recoveries [] (answer.InputRefused kind offset) began.tables_before began.tables w.hearing.told.tables;
           answers = answers_here began story old new same w.hearing.answers;
           received_are = ap (λ (l : Log). logs.received l) log ∙ received_is rules.bounds (entries story) old.log w.hearing.goes.items;
           replies = subst (λ (ledger : Ledger). KeepsReplies rules.bounds (entries story) None (sends story) ledger) (sym replies) w.hearing.passed.replies;

@@ -39,4 +39,5 @@ told_on rules image began now story to told on taken = record {
   recovered = recovered_on rules image [] (first_survivor image) story.earlier story.recoveries story.survivor to told.recovered;
   counted = told.counted;
   episodes = told.episodes;
+  tables = told.tables;
 }

@@ -155,17 +155,17 @@ later_ok (Ok done) low mid high less more = omega (arith, less, more)
 later_ok (Err why) low mid high less more = tt
 
 -- the counts of an arm: as many instructions were counted as the guest did
-pub lost_none : (lost began steps first last before after live to : ℕ) → lost + steps + first ≡ began + before + last → last + live ≡ after + to → after + before ≡ first + live → steps ≡ to → lost ≡ began
-lost_none lost began steps first last before after live to counts ran run is = omega (arith, counts, ran, run, is)
+pub lost_none : (ran lost began steps first last before after live to : ℕ) → lost + steps + (ran + first) ≡ began + before + (ran + last) → last + live ≡ after + to → after + before ≡ first + live → steps ≡ to → lost ≡ began
+lost_none ran lost began steps first last before after live to counts went run is = omega (arith, counts, went, run, is)
 
-pub least_none : (steps first last before after live to : ℕ) → last + live ≡ after + to → after + before ≡ first + live → steps ≤ to → steps + first ≤ last + before
-least_none steps first last before after live to ran run low = omega (arith, ran, run, low)
+pub least_none : (ran steps first last before after live to : ℕ) → last + live ≡ after + to → after + before ≡ first + live → steps ≤ to → steps + (ran + first) ≤ ran + last + before
+least_none ran steps first last before after live to went run low = omega (arith, went, run, low)
 
-pub lost_failed : (lost began steps first last before after live : ℕ) → lost + steps + first ≡ began + before + last → after + before ≡ first + live → lost + steps + after ≡ began + live + last
-lost_failed lost began steps first last before after live counts run = omega (arith, counts, run)
+pub lost_failed : (ran later lost began steps first last before after live : ℕ) → lost + steps + (later + first) ≡ began + before + (ran + last) → after + before ≡ first + live → lost + steps + (later + after) ≡ began + live + (ran + last)
+lost_failed ran later lost began steps first last before after live counts run = omega (arith, counts, run)
 
-pub least_failed : (steps first last before after live : ℕ) → steps + after ≤ last + live → after + before ≡ first + live → steps + first ≤ last + before
-least_failed steps first last before after live least run = omega (arith, least, run)
+pub least_failed : (ran later steps first last before after live : ℕ) → steps + (later + after) ≤ ran + last + live → after + before ≡ first + live → steps + (later + first) ≤ ran + last + before
+least_failed ran later steps first last before after live least run = omega (arith, least, run)
 
 module _ {R : Type 0} where
   pub further_ok : (result : Result (Unit {0}) Stop) (old new : SessionState R) → new.until ≡ old.until → IfOk result (λ _. old.cpu.slots.live.steps < new.cpu.slots.live.steps) → IfOk result (λ _. GoesFurther old new)

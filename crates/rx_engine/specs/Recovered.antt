@@ -1,5 +1,7 @@
 -- What a session leaves that recovered its program.
 use Rattle.std.specs.Prelude.{◌≡◌, ◌≢◌, ◌⊎◌, ℕ, ◌+◌, ◌-◌, ◌<◌, ◌≤◌, List, [], ◌∷◌, ◌++◌, length, map, sum, take, drop, Bool, Option, None}
+use Rattle.session_history.specs.Heeding.{items_in}
+use Rattle.session_history.specs.Passing.{passed_in}
 use Rattle.block_book.specs.declared.choice.Choice.{Choice}
 use Rattle.rx_io.specs.Links.{Told, Coming, Grew}
 use Rattle.elf_image.specs.declared.image.Image.{Image}
@@ -8,14 +10,16 @@ use Rattle.run_history.specs.declared.answer.Answer.{Answer}
 use Rattle.run_history.specs.declared.answer.Answer.TheVariants as answer
 use Rattle.run_history.specs.declared.answer.Cause.{Cause}
 use Rattle.run_history.specs.Served.{Path}
-use Rattle.session_history.specs.Lawful.{Rules, Survivor, entries_of, LeavesNothing}
+use Rattle.session_history.specs.Lawful.{Rules, Survivor, Chapter, entries_of, LeavesNothing}
 use Rattle.session_history.specs.Serving.{first_survivor}
 use Rattle.session_history.specs.Ends.{IsEnd, HasServed, before_end}
 use Rattle.trial_history.specs.Tables.{Trial, survivor_in}
 use Rattle.episodes.specs.declared.episode.Episode.{Episode}
+use Rattle.episodes.specs.declared.episode.Try.{Try}
 use Rattle.notes.specs.Noting.{Noted}
-use Rattle.trial_history.specs.Episodes.{Recovery, episode_of, IsRecovery, AreRecovered}
+use Rattle.trial_history.specs.Episodes.{Recovery, point_of, episode_of, IsRecovery, AreRecovered}
 use Rattle.trial_plan.specs.Trying.{steps_of}
+use Rattle.trial_plan.specs.Watching.{IsWholeTable, TellsMore}
 
 -- How many instructions were done before a survivor began: those of each survivor before it, from where it began to where it failed, and
 -- those of all trials, each from its checkpoint.
@@ -78,3 +82,35 @@ pub record HasRecovered (rules : Rules) (image : Image) (began now : Told) (comi
   pub gave_up : GivesUpBy rules image (entries_of served.session.earlier) served.session.since served.session.survivor trials end
   pub counted : end ≢ answer.Memory → after ≡ before + (spent recoveries + (served.session.survivor.now.steps - served.session.survivor.begun.steps) + steps_of trials)
   pub notes : HasNoted noted_before noted_now end choices (map episode_of recoveries ++ last) recorded tail
+
+-- a whole table is that of a recovery, behind all entries that the journal had at the failure
+abbrev pub IsTable : Rules → List Entry → Recovery → List Try → Type 0
+IsTable rules entries recovery tries = IsWholeTable rules.limits (items_in rules.bounds entries) recovery.survivor.plan (passed_in rules.bounds entries) (point_of recovery) recovery.ring tries
+
+-- tables of the recoveries of a session, one of each, in order: behind some entries, each behind those of its chapter
+abbrev pub AreTables : Rules → List Entry → List Chapter → List Recovery → List (List Try) → Type 0
+AreTables rules before [] [] [] = Unit {0}
+AreTables rules before (chapter ∷ chapters) (recovery ∷ recoveries) (tries ∷ tables) = IsTable rules (before ++ chapter.entries) recovery tries × AreTables rules (before ++ chapter.entries) chapters recoveries tables
+AreTables rules before _ _ _ = ⊥
+
+-- Tables behind those: where an episode tells of trials behind the last survivor, one of these trials' checkpoints; and else none, but that one
+-- may stand where memory ran out.
+abbrev pub AreLastTables : Rules → Image → List Entry → List Entry → Survivor → List Trial → List Episode → Answer → List (List Try) → Type 0
+AreLastTables rules image start since survivor trials [] end tables = (length tables ≤ 1) × (end ≢ answer.Memory → tables ≡ [])
+AreLastTables rules image start since survivor trials (episode ∷ more) end tables =
+    (cause : Cause) × (given_up : HasGivenUp rules image start since survivor trials cause) × (tries : List Try) × (tables ≡ tries ∷ [])
+    × IsTable rules (start ++ since) (record { survivor = survivor; cause = cause; ring = given_up.ring; trials = trials }) tries
+
+-- All tables that a watch tells of a session: those of its recoveries, and those behind the last survivor.
+pub record AreAllTables (rules : Rules) (image : Image) (earlier : List Chapter) (since : List Entry) (survivor : Survivor) (recoveries : List Recovery) (trials : List Trial) (last : List Episode) (end : Answer) (tables : List (List Try)) : Type 0 where
+  pub each : List (List Try)
+  pub behind : List (List Try)
+  pub all : tables ≡ each ++ behind
+  pub each_right : AreTables rules [] earlier recoveries each
+  pub behind_right : AreLastTables rules image (entries_of earlier) since survivor trials last end behind
+
+-- A session that was watched has served and has recovered, and its watch, where it tells its tables, has told those of its recoveries more.
+pub record HasWatched (rules : Rules) (image : Image) (began now : Told) (coming : Option Coming) (takes : Bool) (end : Answer) (noted_before noted_now : Noted) (recorded : ℕ) (tail : List Choice) (taken steps before after : ℕ) (tables_before tables : Option (List (List Try))) : Type 0 where
+  pub recovered : HasRecovered rules image began now coming takes end noted_before noted_now recorded tail taken steps before after
+  pub watched : TellsMore tables_before tables
+      (AreAllTables rules image recovered.served.session.earlier recovered.served.session.since recovered.served.session.survivor recovered.recoveries recovered.trials recovered.last end)

@@ -32,6 +32,7 @@ use Rattle.event_gate.specs.declared.heard.HearFault.TheVariants as hear
 use Rattle.recovery_gate.specs.declared.recovering.Adopted.{Adopted}
 use Rattle.recovery_gate.specs.declared.recovering.Recovered.{Recovered}
 use Rattle.notes.specs.Noting.{Noted}
+use Rattle.episodes.specs.declared.episode.Try.{Try}
 use Rattle.rx_engine.specs.declared.stop.Stop.{Stop}
 use Rattle.rx_engine.specs.declared.stop.Stop.TheVariants as stop
 use Rattle.rx_engine.specs.Sessions.{SessionState, IsBegun}
@@ -243,10 +244,11 @@ module _ {R : Type 0} where
     pub cpu : session.cpu ≡ with_live (live_of session.cpu) before.cpu
     pub runs : RunsOn rules.limits (items_in rules.bounds (entries between.going.story)) between.going.story.survivor.plan between.going.story.survivor.now (Ok happened) session.cpu.slots.live
 
-  -- it stands so for some image, since some time
-  pub record StandsBetween (rules : Rules) (now : Told) (phases : Phases) (session : SessionState R) : Type 0 where
+  -- it stands so for some image, since some time, where its watch tells these tables
+  pub record StandsBetween (rules : Rules) (now : Told) (phases : Phases) (tables : Option (List (List Try))) (session : SessionState R) : Type 0 where
     pub image : Image
     pub began : Since
+    pub tables_are : began.tables ≡ tables
     pub is : IsBetween rules image began now phases session
 
   pub record StandsWaiting (rules : Rules) (now : Told) (phases : Phases) (session : SessionState R) : Type 0 where
@@ -264,9 +266,10 @@ module _ {R : Type 0} where
     pub began : Since
     pub is : IsEnding rules image began now coming session end
 
-  pub record StandsFailing (rules : Rules) (now : Told) (phases : Phases) (cause : Cause) (session : SessionState R) : Type 0 where
+  pub record StandsFailing (rules : Rules) (now : Told) (phases : Phases) (tables : Option (List (List Try))) (cause : Cause) (session : SessionState R) : Type 0 where
     pub image : Image
     pub began : Since
+    pub tables_are : began.tables ≡ tables
     pub is : IsFailing rules image began now phases cause session
 
   -- it has heard the close of this connection, for some rules and some image, since some time

@@ -24,12 +24,14 @@ use Rattle.session_history.specs.Giving.{AreGiven}
 use Rattle.session_history.specs.Ends.{IsEnd, IsWaiting, StandsAt, EndsBy, before_end}
 use Rattle.trial_history.specs.Tables.{Trial}
 use Rattle.trial_plan.specs.Trying.{steps_of}
-use Rattle.rx_engine.specs.Recovered.{spent, GivesUpBy, AreLastTrials, HasNoted, IsNoteFault}
+use Rattle.rx_engine.specs.Recovered.{spent, GivesUpBy, AreLastTrials, HasNoted, IsNoteFault, AreTables, AreAllTables}
 use Rattle.rx_engine.specs.Leaving.{HoldsCheckpoints, UnlessGaveUp}
+use Rattle.trial_plan.specs.Watching.{TellsMore}
 use Rattle.trial_history.specs.Episodes.{Recovery, episode_of, AreRecovered}
 use Rattle.recovery_gate.specs.Rings.{KeepsRing, AreBehind, IsInForce}
 use Rattle.block_book.specs.declared.choice.Choice.{Choice}
 use Rattle.episodes.specs.declared.episode.Episode.{Episode}
+use Rattle.episodes.specs.declared.episode.Try.{Try}
 use Rattle.notes.specs.Noting.{Noted}
 use Rattle.rx_engine.specs.Sessions.{SessionState}
 
@@ -53,23 +55,30 @@ sends story = story.survivor.now.state.sends
 abbrev pub then_story : Story → List Entry → Story
 then_story story more = record story { since = story.since ++ more }
 
--- Since when a session is told: what its link and its notes had told when it began, what the notes tell now, and how many instructions
--- were counted that aren't of the survivor's run, which is counted from its start.
+-- Since when a session is told: what its link, its notes and its watch had told when it began, what the notes and the watch tell now, and how
+-- many instructions were counted that aren't of the survivor's run, which is counted from its start.
 pub record Since : Type 0 where
   pub told : Told
   pub noted_before : Noted
   pub noted : Noted
+  pub tables_before : Option (List (List Try))
+  pub tables : Option (List (List Try))
   pub lost : ℕ
 
-abbrev pub told_since : Told → Noted → Noted → ℕ → Since
-told_since told noted_before noted lost = record { told = told; noted_before = noted_before; noted = noted; lost = lost }
+abbrev pub told_since : Told → Noted → Noted → Option (List (List Try)) → Option (List (List Try)) → ℕ → Since
+told_since told noted_before noted tables_before tables lost = record { told = told; noted_before = noted_before; noted = noted; tables_before = tables_before; tables = tables; lost = lost }
+
+-- where nobody watches no table is told
+abbrev pub unwatched : Since → Since
+unwatched began = record began { tables_before = None; tables = None }
 
 -- notes tell these answers of malloc and these episodes more
 pub record HasNotedMore (before now : Noted) (choices : List Choice) (episodes : List Episode) : Type 0 where
   pub choices_more : Grew before.choices now.choices choices
   pub episodes_more : Grew before.episodes now.episodes episodes
 
--- it is told by one account, by what the link told since the session began, and by its notes, which have an episode of each recovery
+-- it is told by one account, by what the link told since the session began, by its notes, which have an episode of each recovery, and by its
+-- watch, which has a table of each
 pub record IsTold (rules : Rules) (image : Image) (began : Since) (now : Told) (story : Story) : Type 0 where
   pub serving : Serving rules image story.earlier story.survivor story.since
   pub way : Served rules.limits (items_in rules.bounds (entries story)) story.survivor.plan story.survivor.begun story.survivor.now
@@ -77,6 +86,7 @@ pub record IsTold (rules : Rules) (image : Image) (began : Since) (now : Told) (
   pub counted : spent story.recoveries ≡ began.lost + story.survivor.begun.steps
   pub recovered : AreRecovered rules image [] (first_survivor image) story.earlier story.recoveries story.survivor
   pub episodes : Grew began.noted_before.episodes began.noted.episodes (map episode_of story.recoveries)
+  pub tables : TellsMore began.tables_before began.tables (AreTables rules [] story.earlier story.recoveries)
 
 module _ {R : Type 0} where
   -- a session answers for the survivor's run: of its answers of malloc the first ones are noted, and it has the others
@@ -182,7 +192,8 @@ module _ {R : Type 0} where
     pub noted : Noted
     pub last : List Episode
     pub last_noted : HasNotedMore noted began.noted [] last
-    pub told : IsTold rules image (record began { lost = lost; noted = noted }) now story
+    pub told : IsTold rules image (unwatched (record began { lost = lost; noted = noted })) now story
+    pub tables : TellsMore began.tables_before began.tables (AreAllTables rules image story.earlier story.since story.survivor story.recoveries trials last end)
     pub answers : AnswersFor (record began { lost = lost; noted = noted }) story session
     pub received_are : logs.received session.log ≡ received rules.bounds (entries story)
     pub replies : KeepsReplies rules.bounds (entries story) None (sends story) session.replies
@@ -210,6 +221,7 @@ module _ {R : Type 0} where
     pub last : List Episode
     pub tried : AreLastTrials rules image (entries_of account.earlier) account.since account.survivor trials last
     pub notes : HasNoted began.noted_before began.noted end account.survivor.now.choices (map episode_of recoveries ++ last) session.recorded session.choices
+    pub tables : TellsMore began.tables_before began.tables (AreAllTables rules image account.earlier account.since account.survivor recoveries trials last end)
     pub taken : session.taken ≡ account.survivor.now.state.machine.taken
     pub steps : session.steps ≡ account.survivor.now.steps
     pub counted : end ≢ answer.Memory → spent recoveries + steps_of trials ≡ began.lost + account.survivor.begun.steps

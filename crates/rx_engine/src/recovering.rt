@@ -17,6 +17,7 @@ use run_history::{Answer, Cause};
 use rx_io::{IoFault, Link, Steps};
 use std::alloc::AllocError;
 use std::sync::ledger::Ledger;
+use trial_plan::Watch;
 
 /// A fault of notes, as a session's answer.
 pub fn note_answer(fault: IoFault) -> Answer
@@ -39,21 +40,22 @@ fn end_of(point: u64, cause: Cause, adopted: Option<Adopted>) -> Option<Answer>
 }
 
 impl<R: AccessRule> Session<R> {
-    /// The guest failed: the session goes on as a trial that came past the failure, or gives up.
-    pub(crate) fn recover<K: Link, N: Notes, L: Ledger>(
+    /// The guest failed: the watch looks at it, and then the session goes on as a trial that came past the failure, or gives up.
+    pub(crate) fn recover<K: Link, N: Notes, W: Watch, L: Ledger>(
         &mut self,
         link: &mut K,
         notes: &mut N,
+        watch: &mut W,
         cause: Cause,
         steps: &mut Steps<L>,
     ) -> Result<(), Stop>
-        requires fails { StandsFailing (rules_of self.old.options (R.rule self.old.cpu.rule)) (K.told link.old) (K.phases link.old) cause self.old }
+        requires fails { StandsFailing (rules_of self.old.options (R.rule self.old.cpu.rule)) (K.told link.old) (K.phases link.old) (W.tables watch.old) cause self.old }
         requires marked { IsCounted self.old }
         requires takes { K.takes link.old ≡ true }
         requires gives { CanGive (K.gives link.old) (K.gives_to link.old) self.old.replies }
-        ensures turns { (image : Image) (began : Since) (lost : ℕ) → IsFailing (rules_of self.old.options (R.rule self.old.cpu.rule)) image (record began { noted = noted (N.told_choices notes.old) (N.told_episodes notes.old) }) (K.told link.old) (K.phases link.old) cause self.old
-            → UnlessMemory result (lost + self.new.steps + steps.old ≡ began.lost + self.old.steps + steps.new)
-            → ComesBetween (rules_of self.old.options (R.rule self.old.cpu.rule)) image (record began { lost = lost; noted = noted (N.told_choices notes.new) (N.told_episodes notes.new) }) (K.told link.new) (K.phases link.new) (K.coming link.new) (K.takes link.new) self.new result }
+        ensures turns { (image : Image) (began : Since) (lost : ℕ) → IsFailing (rules_of self.old.options (R.rule self.old.cpu.rule)) image (record began { noted = noted (N.told_choices notes.old) (N.told_episodes notes.old); tables = W.tables watch.old }) (K.told link.old) (K.phases link.old) cause self.old
+            → UnlessMemory result (lost + self.new.steps + (W.ran watch.new + steps.old) ≡ began.lost + self.old.steps + (W.ran watch.old + steps.new))
+            → ComesBetween (rules_of self.old.options (R.rule self.old.cpu.rule)) image (record began { lost = lost; noted = noted (N.told_choices notes.new) (N.told_episodes notes.new); tables = W.tables watch.new }) (K.told link.new) (K.phases link.new) (K.coming link.new) (K.takes link.new) self.new result }
         ensures frame { HasSameFrame self.old self.new }
         ensures oldest { UnlessNoteStop result (KeepsOldest self.old self.new) }
         ensures takes { TakesBy (K.takes link.new) result }
@@ -61,7 +63,7 @@ impl<R: AccessRule> Session<R> {
         ensures coming { UnlessBroken result (StaysKnown (K.coming link.old) (K.coming link.new)) }
         ensures once { BreaksOnce (K.coming link.old) (K.coming link.new) (K.gives link.new) result }
         ensures marked { IfOk result (λ _. IsCounted self.new) }
-        ensures least { self.new.steps + steps.old ≤ steps.new + self.old.steps }
+        ensures least { self.new.steps + (W.ran watch.new + steps.old) ≤ W.ran watch.old + steps.new + self.old.steps }
         ensures later { IfOk result (λ _. IsAdoptedLater self.old self.new) }
         ensures cause { HasStopCause (K.counts link.old) (K.counts link.new) result }
         ensures noted { HasNoteStop (N.faults notes.old) (N.faults notes.new) result }
@@ -70,7 +72,7 @@ impl<R: AccessRule> Session<R> {
         ensures went { K.Went link.old link.new }
     {
         let point = self.taken;
-        let recovered = match self.adopt(cause, steps) {
+        let recovered = match self.adopt(watch, cause, steps) {
             Ok(recovered) => recovered,
             Err(AllocError) => return Err(Stop::Breaks(Answer::Memory)),
         };
@@ -84,21 +86,22 @@ impl<R: AccessRule> Session<R> {
     }
 
     // The session becomes a trial, of which what is due has to be passed, or comes to its end; but the episode isn't noted yet.
-    fn adopt<L: Ledger>(
+    fn adopt<W: Watch, L: Ledger>(
         &mut self,
+        watch: &mut W,
         cause: Cause,
         steps: &mut Steps<L>,
     ) -> Result<Recovered, AllocError>
-        requires fails { (told : Told) × (phases : Phases) × StandsFailing (rules_of self.old.options (R.rule self.old.cpu.rule)) told phases cause self.old }
+        requires fails { (told : Told) × (phases : Phases) × StandsFailing (rules_of self.old.options (R.rule self.old.cpu.rule)) told phases (W.tables watch.old) cause self.old }
         requires marked { IsCounted self.old }
-        ensures adopts { (image : Image) (began : Since) (now : Told) (phases : Phases) (coming : Option Coming) (lost : ℕ) → IsFailing (rules_of self.old.options (R.rule self.old.cpu.rule)) image began now phases cause self.old
-            → (IfOk result (λ _. lost + self.new.steps + steps.old ≡ began.lost + self.old.steps + steps.new))
-            → AdoptsBy (rules_of self.old.options (R.rule self.old.cpu.rule)) image (record began { lost = lost }) now phases coming self.old.taken cause self.new result }
+        ensures adopts { (image : Image) (began : Since) (now : Told) (phases : Phases) (coming : Option Coming) (lost : ℕ) → IsFailing (rules_of self.old.options (R.rule self.old.cpu.rule)) image (record began { tables = W.tables watch.old }) now phases cause self.old
+            → (IfOk result (λ _. lost + self.new.steps + (W.ran watch.new + steps.old) ≡ began.lost + self.old.steps + (W.ran watch.old + steps.new)))
+            → AdoptsBy (rules_of self.old.options (R.rule self.old.cpu.rule)) image (record began { lost = lost; tables = W.tables watch.new }) now phases coming self.old.taken cause self.new result }
         ensures frame { HasSameFrame self.old self.new }
         ensures oldest { IfOk result (λ _. KeepsOldest self.old self.new) }
         ensures opened { IfOk result (λ _. HasSameOpen self.old.replies self.new.replies) }
         ensures marked { IfOk result (λ recovered. end_of self.old.taken cause recovered.adopted ≡ None → IsCounted self.new) }
-        ensures least { self.new.steps + steps.old ≤ steps.new + self.old.steps }
+        ensures least { self.new.steps + (W.ran watch.new + steps.old) ≤ W.ran watch.old + steps.new + self.old.steps }
         ensures later { IfOk result (λ recovered. end_of self.old.taken cause recovered.adopted ≡ None → IsAdoptedLater self.old self.new) }
     {
         let point = self.taken;
@@ -115,6 +118,7 @@ impl<R: AccessRule> Session<R> {
             &mut self.replies,
             self.recorded,
             &mut self.choices,
+            watch,
             steps,
         ) {
             Ok(recovered) => match recovered.adopted {

@@ -10,7 +10,7 @@ ghost use Rattle.notes.specs.Noting.{noted};
 ghost use Rattle.rx_engine.specs.Options.{rules_of};
 ghost use Rattle.rx_engine.specs.Sessions.{IsBegun};
 ghost use Rattle.rx_engine.specs.Standing.{Since, IsGoing, IsBetween, IsAsking, IsWaitingFor, IsEnding};
-ghost use Rattle.rx_engine.specs.Recovered.{HasRecovered};
+ghost use Rattle.rx_engine.specs.Recovered.{HasRecovered, HasWatched};
 ghost use Rattle.rx_engine.specs.Leaving.{IsTrimmed, KeepsOldest, HasLeft};
 ghost use Rattle.rx_engine.specs.Serving.{CanGive, HasStopCause, HasNoteStop, HasAnswerCause, HasNoteCause, UnlessBroken, UnlessMemory, TakesAtEnd, TakesBy, BreaksPassing, BreaksAt, BreaksOnce, StaysKnown, IsCounted, IsOkOrMemory, HasSameFrame, HasRun, GoesFurther, StandsBetween, StandsWaiting, StandsEmitting, StandsEnding, ComesBetween, IsReadyToServe, IsUnnoted, UnlessNoteStop, UnlessNoteFault};
 
@@ -25,6 +25,7 @@ use reply_gate::pass_until;
 use run_history::Answer;
 use rx_io::{Bytes, Link, Steps};
 use std::sync::ledger::Ledger;
+use trial_plan::{NoWatch, Watch};
 
 impl<R: AccessRule> Session<R> {
     /// Serves a link to which no connection was opened yet, from the start of the program to an end, a fault or want of memory, and
@@ -54,9 +55,42 @@ impl<R: AccessRule> Session<R> {
         ensures counted_at_least { steps.old + self.new.steps ≤ steps.new }
         ensures went { K.Went link.old link.new }
     {
+        let mut watch = NoWatch;
+        self.serve_watched(link, notes, &mut watch, steps)
+    }
+
+    /// Serves a link to which no connection was opened yet, from the start of the program to an end, a fault or want of memory, and
+    /// answers how it ended. At an end all that is held back is passed. Checkpoints of the program are saved on the way. The notes are told each
+    /// recovery, and the answers of malloc: those from before the oldest checkpoint as it is saved, and the others at an end. The watch looks at
+    /// each failure before trials are made. What it counts isn't the session's.
+    pub fn serve_watched<K: Link, N: Notes, W: Watch, L: Ledger>(
+        &mut self,
+        link: &mut K,
+        notes: &mut N,
+        watch: &mut W,
+        steps: &mut Steps<L>,
+    ) -> Answer
+        requires begun { IsReadyToServe self.old }
+        requires fresh { IsFresh (K.phases link.old) }
+        requires takes { K.takes link.old ≡ true }
+        requires gives { K.gives link.old ≡ true }
+        ensures served { (image : Image) → IsBegun image self.old.options self.old.cpu.rule self.old
+            → (watched : HasWatched (rules_of self.old.options (R.rule self.old.cpu.rule)) image (K.told link.old) (K.told link.new) (K.coming link.new) (K.takes link.new) result (noted (N.told_choices notes.old) (N.told_episodes notes.old)) (noted (N.told_choices notes.new) (N.told_episodes notes.new)) self.new.recorded self.new.choices self.new.taken self.new.steps (W.ran watch.new + steps.old) (W.ran watch.old + steps.new) (W.tables watch.old) (W.tables watch.new))
+            × UnlessNoteFault result (HasLeft (rules_of self.old.options (R.rule self.old.cpu.rule)) image watched.recovered.served.session self.new result) }
+        ensures cause { HasAnswerCause (K.counts link.old) (K.counts link.new) result }
+        ensures noted { HasNoteCause (N.faults notes.old) (N.faults notes.new) result }
+        ensures works { UnlessNoteFault result (N.works notes.new ≡ N.works notes.old) }
+        ensures fixed { N.fixed notes.new ≡ N.fixed notes.old }
+        ensures takes { TakesAtEnd (K.takes link.new) result }
+        ensures gives { IsEnd result → K.gives link.new ≡ true }
+        ensures coming { IsEnd result → StaysKnown (K.coming link.old) (K.coming link.new) }
+        ensures once { BreaksAt (K.coming link.old) (K.coming link.new) (K.gives link.new) result }
+        ensures counted_at_least { W.ran watch.new + steps.old + self.new.steps ≤ W.ran watch.old + steps.new }
+        ensures went { K.Went link.old link.new }
+    {
         self.save_start();
         'turns: loop {
-            match self.turn(link, notes, steps) {
+            match self.turn(link, notes, watch, steps) {
                 Ok(()) => {}
                 Err(Stop::Breaks(answer)) => return answer,
                 Err(Stop::Ends(answer)) => return self.finish(link, notes, answer),
@@ -71,8 +105,8 @@ impl<R: AccessRule> Session<R> {
         ensures served { (image : Image) (began : Since) (ending : IsEnding (rules_of self.old.options (R.rule self.old.cpu.rule)) image (record began { noted = noted (N.told_choices notes.old) (N.told_episodes notes.old) }) (K.told link.old) (K.coming link.old) self.old answer)
             → (K.takes link.old ≡ false → IsAsking (rules_of self.old.options (R.rule self.old.cpu.rule)) ending.story) → (before after : ℕ) → after ≡ before + (began.lost + self.old.steps)
             → IsTrimmed self.old
-            → (recovered : HasRecovered (rules_of self.old.options (R.rule self.old.cpu.rule)) image began.told (K.told link.new) (K.coming link.new) (K.takes link.new) result began.noted_before (noted (N.told_choices notes.new) (N.told_episodes notes.new)) self.new.recorded self.new.choices self.new.taken self.new.steps before after)
-            × UnlessNoteFault result (HasLeft (rules_of self.old.options (R.rule self.old.cpu.rule)) image recovered.served.session self.new result) }
+            → (watched : HasWatched (rules_of self.old.options (R.rule self.old.cpu.rule)) image began.told (K.told link.new) (K.coming link.new) (K.takes link.new) result began.noted_before (noted (N.told_choices notes.new) (N.told_episodes notes.new)) self.new.recorded self.new.choices self.new.taken self.new.steps before after began.tables_before began.tables)
+            × UnlessNoteFault result (HasLeft (rules_of self.old.options (R.rule self.old.cpu.rule)) image watched.recovered.served.session self.new result) }
         ensures cause { HasAnswerCause (K.counts link.old) (K.counts link.new) result }
         ensures noted { HasNoteCause (N.faults notes.old) (N.faults notes.new) result }
         ensures works { UnlessNoteFault result (N.works notes.new ≡ N.works notes.old) }
@@ -96,18 +130,19 @@ impl<R: AccessRule> Session<R> {
     }
 
     // Runs the guest to its next event, and does what the event asks for.
-    fn turn<K: Link, N: Notes, L: Ledger>(
+    fn turn<K: Link, N: Notes, W: Watch, L: Ledger>(
         &mut self,
         link: &mut K,
         notes: &mut N,
+        watch: &mut W,
         steps: &mut Steps<L>,
     ) -> Result<(), Stop>
-        requires stands { StandsBetween (rules_of self.old.options (R.rule self.old.cpu.rule)) (K.told link.old) (K.phases link.old) self.old }
+        requires stands { StandsBetween (rules_of self.old.options (R.rule self.old.cpu.rule)) (K.told link.old) (K.phases link.old) (W.tables watch.old) self.old }
         requires takes { K.takes link.old ≡ true }
         requires gives { CanGive (K.gives link.old) (K.gives_to link.old) self.old.replies }
-        ensures turns { (image : Image) (began : Since) (lost : ℕ) → IsBetween (rules_of self.old.options (R.rule self.old.cpu.rule)) image (record began { noted = noted (N.told_choices notes.old) (N.told_episodes notes.old) }) (K.told link.old) (K.phases link.old) self.old
-            → UnlessMemory result (lost + self.new.steps + steps.old ≡ began.lost + self.old.cpu.slots.live.steps + steps.new)
-            → ComesBetween (rules_of self.old.options (R.rule self.old.cpu.rule)) image (record began { lost = lost; noted = noted (N.told_choices notes.new) (N.told_episodes notes.new) }) (K.told link.new) (K.phases link.new) (K.coming link.new) (K.takes link.new) self.new result }
+        ensures turns { (image : Image) (began : Since) (lost : ℕ) → IsBetween (rules_of self.old.options (R.rule self.old.cpu.rule)) image (record began { noted = noted (N.told_choices notes.old) (N.told_episodes notes.old); tables = W.tables watch.old }) (K.told link.old) (K.phases link.old) self.old
+            → UnlessMemory result (lost + self.new.steps + (W.ran watch.new + steps.old) ≡ began.lost + self.old.cpu.slots.live.steps + (W.ran watch.old + steps.new))
+            → ComesBetween (rules_of self.old.options (R.rule self.old.cpu.rule)) image (record began { lost = lost; noted = noted (N.told_choices notes.new) (N.told_episodes notes.new); tables = W.tables watch.new }) (K.told link.new) (K.phases link.new) (K.coming link.new) (K.takes link.new) self.new result }
         ensures frame { HasSameFrame self.old self.new }
         ensures trimmed { IsTrimmed self.old → UnlessNoteStop result (IsTrimmed self.new) }
         ensures takes { TakesBy (K.takes link.new) result }
@@ -115,7 +150,7 @@ impl<R: AccessRule> Session<R> {
         ensures coming { UnlessBroken result (StaysKnown (K.coming link.old) (K.coming link.new)) }
         ensures once { BreaksOnce (K.coming link.old) (K.coming link.new) (K.gives link.new) result }
         ensures marked { IfOk result (λ _. IsCounted self.new) }
-        ensures least { self.new.steps + steps.old ≤ steps.new + self.old.cpu.slots.live.steps }
+        ensures least { self.new.steps + (W.ran watch.new + steps.old) ≤ W.ran watch.old + steps.new + self.old.cpu.slots.live.steps }
         ensures later { IfOk result (λ _. GoesFurther self.old self.new) }
         ensures cause { HasStopCause (K.counts link.old) (K.counts link.new) result }
         ensures noted { HasNoteStop (N.faults notes.old) (N.faults notes.new) result }
@@ -140,7 +175,7 @@ impl<R: AccessRule> Session<R> {
             }
             Ok(Event::Failed(cause)) => {
                 self.count_run();
-                self.recover(link, notes, cause, steps)
+                self.recover(link, notes, watch, cause, steps)
             }
             Err(_) => Err(Stop::Breaks(Answer::Memory)),
         }

@@ -3,6 +3,7 @@ use Rattle.rv_exec.specs.Stepping.{limits_of}
 use Rattle.recovery_gate.specs.Recovering.{HasToRecover}
 use Rattle.rx_engine.specs.Options.{rules_of}
 use Rattle.rx_engine.specs.Sessions.{SessionState}
+use Rattle.rx_engine.specs.Standing.{Since}
 use Rattle.rx_engine.specs.Serving.{Adopting}
 use Rattle.rx_engine.proofs.AdoptLemmas.{failure_of, failing_moved, to_recover, adopt_none, adopting_at, adopt_some, adopt_least, adopt_breaks, adopted_later}
 use Rattle.rx_engine.proofs.session.Session.adopt.Goals as goal
@@ -20,33 +21,35 @@ recover-requires g c =
 
 pub returns-in-Some-clause-adopts : goal.returns-in-Some-clause-adopts
 returns-in-Some-clause-adopts g c image began now phases coming lost fails counts =
+    let before : Since = record began { tables = g.W.Watch.tables c.args.watch.now } in
     let rules = rules_of c.args.self.now.options (g.R.AccessRule.rule c.args.self.now.cpu.rule) in
     let f = failing_moved (sym c.self.view_is) fails in
     let under = ap (λ (s : SessionState _). limits_of s.options.budget (g.R.AccessRule.rule s.cpu.rule)) (sym c.self.view_is) in
     let budget = subst (λ (s : SessionState _). s.options.budget ≤ 2 ^ 24) c.self.view_is c.self.invariant.few_budget in
     let items = subst (λ (s : SessionState _). s.options.max_items ≤ 2 ^ 20) c.self.view_is c.self.invariant.few_items in
     let has = subst (λ n. HasToRecover c.self.inside.taken c.args.cause n (failure_of rules image f.going.story f.going.saved.paths) c.self.inside.cpu c.self.inside.ring c.self.inside.recorded c.self.inside.choices.items c.self.inside.log c.self.inside.replies) (sym c.pc-pc.ensures)
-    (to_recover rules image began now phases c.args.cause _ f budget items) in
+    (to_recover rules image before now phases c.args.cause _ f budget items) in
     let h = c.in-Ok.ensures.recovers (failure_of rules image f.going.story f.going.saved.paths) f.going.story.survivor.begun under has in
-    subst (λ (s : SessionState _). Adopting rules image (record began { lost = lost }) now phases coming c.args.self.now.taken c.args.cause s c.in-Ok.recovered) (sym c.count_run.ensures)
+    subst (λ (s : SessionState _). Adopting rules image (record began { lost = lost; tables = g.W.Watch.tables c.recover.new.watch }) now phases coming c.args.self.now.taken c.args.cause s c.in-Ok.recovered) (sym c.count_run.ensures)
     (adopting_at (ap (λ (s : SessionState _). s.taken) c.self.view_is)
-    (adopt_some rules image began now phases coming c.args.cause _ c.recover.new.cpu c.recover.new.ring c.recover.new.replies c.recover.new.choices.items c.in-Ok.recovered c.in-Some.adopted lost c.args.steps.now c.recover.new.steps f h c.in-Ok.ensures.ledger c.in-Some.is
-    (subst (λ n. lost + n + c.args.steps.now ≡ began.lost + c.self.inside.steps + c.recover.new.steps) (ap (λ (s : SessionState _). s.steps) c.count_run.ensures)
-    (subst (λ n. lost + c.count_run.new.self.steps + c.args.steps.now ≡ began.lost + n + c.recover.new.steps) (sym (ap (λ (s : SessionState _). s.steps) c.self.view_is)) counts))))
+    (adopt_some rules image before now phases coming c.args.cause _ c.recover.new.cpu c.recover.new.ring c.recover.new.replies c.recover.new.choices.items c.in-Ok.recovered c.in-Some.adopted lost (g.W.Watch.ran c.recover.new.watch + c.args.steps.now) (g.W.Watch.ran c.args.watch.now + c.recover.new.steps) (g.W.Watch.tables c.recover.new.watch) f h c.in-Ok.ensures.ledger c.in-Some.is
+    (subst (λ n. lost + n + (g.W.Watch.ran c.recover.new.watch + c.args.steps.now) ≡ began.lost + c.self.inside.steps + (g.W.Watch.ran c.args.watch.now + c.recover.new.steps)) (ap (λ (s : SessionState _). s.steps) c.count_run.ensures)
+    (subst (λ n. lost + c.count_run.new.self.steps + (g.W.Watch.ran c.recover.new.watch + c.args.steps.now) ≡ began.lost + n + (g.W.Watch.ran c.args.watch.now + c.recover.new.steps)) (sym (ap (λ (s : SessionState _). s.steps) c.self.view_is)) counts)) (c.in-Ok.ensures.watched (failure_of rules image f.going.story f.going.saved.paths) under has)))
 
 pub returns-in-None-clause-adopts : goal.returns-in-None-clause-adopts
 returns-in-None-clause-adopts g c image began now phases coming lost fails counts =
+    let before : Since = record began { tables = g.W.Watch.tables c.args.watch.now } in
     let rules = rules_of c.args.self.now.options (g.R.AccessRule.rule c.args.self.now.cpu.rule) in
     let f = failing_moved (sym c.self.view_is) fails in
     let under = ap (λ (s : SessionState _). limits_of s.options.budget (g.R.AccessRule.rule s.cpu.rule)) (sym c.self.view_is) in
     let budget = subst (λ (s : SessionState _). s.options.budget ≤ 2 ^ 24) c.self.view_is c.self.invariant.few_budget in
     let items = subst (λ (s : SessionState _). s.options.max_items ≤ 2 ^ 20) c.self.view_is c.self.invariant.few_items in
     let has = subst (λ n. HasToRecover c.self.inside.taken c.args.cause n (failure_of rules image f.going.story f.going.saved.paths) c.self.inside.cpu c.self.inside.ring c.self.inside.recorded c.self.inside.choices.items c.self.inside.log c.self.inside.replies) (sym c.pc-pc.ensures)
-    (to_recover rules image began now phases c.args.cause _ f budget items) in
+    (to_recover rules image before now phases c.args.cause _ f budget items) in
     let h = c.in-Ok.ensures.recovers (failure_of rules image f.going.story f.going.saved.paths) f.going.story.survivor.begun under has in
     adopting_at (ap (λ (s : SessionState _). s.taken) c.self.view_is)
-    (adopt_none rules image began now phases coming c.args.cause _ c.recover.new.cpu c.recover.new.ring c.recover.new.replies c.recover.new.choices.items c.in-Ok.recovered lost c.args.steps.now c.recover.new.steps f h c.in-Ok.ensures.slots c.in-None.is
-    (subst (λ n. lost + c.self.inside.steps + c.args.steps.now ≡ began.lost + n + c.recover.new.steps) (sym (ap (λ (s : SessionState _). s.steps) c.self.view_is)) counts))
+    (adopt_none rules image before now phases coming c.args.cause _ c.recover.new.cpu c.recover.new.ring c.recover.new.replies c.recover.new.choices.items c.in-Ok.recovered lost (g.W.Watch.ran c.recover.new.watch + c.args.steps.now) (g.W.Watch.ran c.args.watch.now + c.recover.new.steps) (g.W.Watch.tables c.recover.new.watch) f h c.in-Ok.ensures.slots c.in-None.is
+    (subst (λ n. lost + c.self.inside.steps + (g.W.Watch.ran c.recover.new.watch + c.args.steps.now) ≡ began.lost + n + (g.W.Watch.ran c.args.watch.now + c.recover.new.steps)) (sym (ap (λ (s : SessionState _). s.steps) c.self.view_is)) counts) (c.in-Ok.ensures.watched (failure_of rules image f.going.story f.going.saved.paths) under has))
 
 pub returns-in-Some-clause-least : goal.returns-in-Some-clause-least
 returns-in-Some-clause-least g c =
@@ -58,7 +61,7 @@ returns-in-Some-clause-least g c =
     let has = subst (λ n. HasToRecover c.self.inside.taken c.args.cause n (failure_of rules c.requires.fails.2.image f.going.story f.going.saved.paths) c.self.inside.cpu c.self.inside.ring c.self.inside.recorded c.self.inside.choices.items c.self.inside.log c.self.inside.replies) (sym c.pc-pc.ensures)
     (to_recover rules c.requires.fails.2.image c.requires.fails.2.began c.requires.fails.0 c.requires.fails.1 c.args.cause _ f budget items) in
     let h = c.in-Ok.ensures.recovers (failure_of rules c.requires.fails.2.image f.going.story f.going.saved.paths) f.going.story.survivor.begun under has in
-    let least = adopt_least rules c.requires.fails.2.image c.requires.fails.2.began c.requires.fails.0 c.requires.fails.1 c.args.cause _ c.recover.new.cpu c.recover.new.ring c.recover.new.replies c.recover.new.choices.items c.in-Ok.recovered c.in-Some.adopted c.args.steps.now c.recover.new.steps f h c.in-Some.is in
+    let least = adopt_least rules c.requires.fails.2.image c.requires.fails.2.began c.requires.fails.0 c.requires.fails.1 c.args.cause _ c.recover.new.cpu c.recover.new.ring c.recover.new.replies c.recover.new.choices.items c.in-Ok.recovered c.in-Some.adopted (g.W.Watch.ran c.recover.new.watch + c.args.steps.now) (g.W.Watch.ran c.args.watch.now + c.recover.new.steps) f h c.in-Some.is in
     let steps : c.count_run.new.self.steps ≡ c.recover.new.cpu.slots.live.steps = ap (λ (s : SessionState _). s.steps) c.count_run.ensures in
     let before : c.self.inside.steps ≡ c.args.self.now.steps = ap (λ (s : SessionState _). s.steps) c.self.view_is in
     omega (arith, least, steps, before)
@@ -74,5 +77,13 @@ returns-in-Some-clause-later g c = λ goes.
 
 pub returns-in-Err-clause-adopts : goal.returns-in-Err-clause-adopts
 returns-in-Err-clause-adopts g c image began now phases coming lost fails none =
+    let before : Since = record began { tables = g.W.Watch.tables c.args.watch.now } in
     let rules = rules_of c.args.self.now.options (g.R.AccessRule.rule c.args.self.now.cpu.rule) in
-    adopt_breaks rules image began now phases coming c.args.cause _ c.recover.new.cpu c.recover.new.ring c.recover.new.replies c.recover.new.choices.items lost (failing_moved (sym c.self.view_is) fails) c.in-Err.ensures.fault.1
+    let f = failing_moved (sym c.self.view_is) fails in
+    let under = ap (λ (s : SessionState _). limits_of s.options.budget (g.R.AccessRule.rule s.cpu.rule)) (sym c.self.view_is) in
+    let budget = subst (λ (s : SessionState _). s.options.budget ≤ 2 ^ 24) c.self.view_is c.self.invariant.few_budget in
+    let items = subst (λ (s : SessionState _). s.options.max_items ≤ 2 ^ 20) c.self.view_is c.self.invariant.few_items in
+    let has = subst (λ n. HasToRecover c.self.inside.taken c.args.cause n (failure_of rules image f.going.story f.going.saved.paths) c.self.inside.cpu c.self.inside.ring c.self.inside.recorded c.self.inside.choices.items c.self.inside.log c.self.inside.replies) (sym c.pc-pc.ensures)
+    (to_recover rules image before now phases c.args.cause _ f budget items) in
+    adopt_breaks rules image before now phases coming c.args.cause _ c.recover.new.cpu c.recover.new.ring c.recover.new.replies c.recover.new.choices.items lost (g.W.Watch.tables c.recover.new.watch) f c.in-Err.ensures.fault.1
+    (c.in-Err.ensures.watched (failure_of rules image f.going.story f.going.saved.paths) under has)

@@ -2,7 +2,7 @@ use Rattle.std.specs.Prelude.{IfSome, slice_get}
 use Rattle.reply_ledger.specs.Trimming as ledgers
 use Rattle.std.proofs.Common.{◌≡◌, ◌+◌, ap, false, ◌≤◌, length, refl, sym, ◌∙◌, subst, arith}
 use Rattle.rx_engine.specs.Options.{rules_of}
-use Rattle.rx_engine.specs.Recovered.{HasRecovered}
+use Rattle.rx_engine.specs.Recovered.{HasWatched}
 use Rattle.rx_engine.specs.Sessions.{SessionState}
 use Rattle.rx_engine.specs.Standing.{Since, entries, sends, IsAsking, IsEnding}
 use Rattle.notes.specs.Noting.{noted}
@@ -68,8 +68,8 @@ returns-in-Err-note_rest-clause-served g c image since ends asked first last all
     let counts = subst (λ (s : SessionState _). last ≡ first + (began.lost + s.steps)) (sym c.self.view_is) all in
     let e = both.0 in
     let passes = c.in_default.ensures.passes rules (sends e.story) (end_of e.story) (sym e.received_are ∙ sym c.received-stamp.ensures.count) (ending_ready rules image began _ _ _ c.args.answer 18446744073709551615 e) in
-    subst (λ (s : SessionState _). (recovered : HasRecovered rules image began.told (g.K.Link.told c.pass_until.new.link) (g.K.Link.coming c.pass_until.new.link) (g.K.Link.takes c.pass_until.new.link) c.in-Err-note_rest.fault began.noted_before told s.recorded s.choices s.taken s.steps first last)
-    × UnlessNoteFault c.in-Err-note_rest.fault (HasLeft rules image recovered.served.session c.note_rest.new.self c.in-Err-note_rest.fault)) (sym c.in-Err-note_rest.ensures.noted.1)
+    subst (λ (s : SessionState _). (watched : HasWatched rules image began.told (g.K.Link.told c.pass_until.new.link) (g.K.Link.coming c.pass_until.new.link) (g.K.Link.takes c.pass_until.new.link) c.in-Err-note_rest.fault began.noted_before told s.recorded s.choices s.taken s.steps first last began.tables_before began.tables)
+    × UnlessNoteFault c.in-Err-note_rest.fault (HasLeft rules image watched.recovered.served.session c.note_rest.new.self c.in-Err-note_rest.fault)) (sym c.in-Err-note_rest.ensures.noted.1)
     (finish_unnoted (λ account. UnlessNoteFault c.in-Err-note_rest.fault (HasLeft rules image account c.note_rest.new.self c.in-Err-note_rest.fault)) rules image began _ (g.K.Link.told c.pass_until.new.link) _ (g.K.Link.coming c.pass_until.new.link) (g.K.Link.takes c.pass_until.new.link) _ c.args.answer c.in-Err-note_rest.fault 18446744073709551615 c.pass_until.new.replies c.in_default.field-0 e c.in_default.ensures.coming
     passes both.1 c.in-Err-note_rest.ensures.noted.2 told c.in-Err-note_rest.ensures.noted.0 c.in-Err-note_rest.ensures.episodes first last counts (λ more broken. note_unless c.in-Err-note_rest.fault _ c.in-Err-note_rest.ensures.noted.2))
 
@@ -86,8 +86,8 @@ returns-clause-served g c image since ends asked first last all trimmed =
     let passes = c.in_default.ensures.passes rules (sends e.story) (end_of e.story) (sym e.received_are ∙ sym c.received-stamp.ensures.count) (ending_ready rules image began _ _ _ c.args.answer 18446744073709551615 e) in
     let low : c.self.inside.taken ≤ 18446744073709551615 = omega (arith, c.self.ranges) in
     let last_session = c.forget_sends.new.self in
-    let Whole : SessionState _ → Type 0 = λ (s : SessionState _). (recovered : HasRecovered rules image began.told (g.K.Link.told c.pass_until.new.link) (g.K.Link.coming c.pass_until.new.link) (g.K.Link.takes c.pass_until.new.link) c.args.answer began.noted_before told s.recorded s.choices s.taken s.steps first last)
-    × UnlessNoteFault c.args.answer (HasLeft rules image recovered.served.session last_session c.args.answer) in
+    let Whole : SessionState _ → Type 0 = λ (s : SessionState _). (watched : HasWatched rules image began.told (g.K.Link.told c.pass_until.new.link) (g.K.Link.coming c.pass_until.new.link) (g.K.Link.takes c.pass_until.new.link) c.args.answer began.noted_before told s.recorded s.choices s.taken s.steps first last began.tables_before began.tables)
+    × UnlessNoteFault c.args.answer (HasLeft rules image watched.recovered.served.session last_session c.args.answer) in
     let stood = subst (λ (s : SessionState _). IsTrimmed s) (sym c.self.view_is) trimmed in
     subst Whole (sym c.forget_sends.ensures.same)
     (subst Whole (sym c.in_default-note_rest.ensures.noted.1)

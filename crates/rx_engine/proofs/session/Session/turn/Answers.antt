@@ -35,7 +35,7 @@ send-requires-clause-emits g c =
 
 pub returns-in-Ok-Asks-clause-turns : goal.returns-in-Ok-Asks-clause-turns
 returns-in-Ok-Asks-clause-turns g c image began lost b counts =
-    let before : Since = record began { noted = noted (g.N.Notes.told_choices c.args.notes.now) (g.N.Notes.told_episodes c.args.notes.now) } in
+    let before : Since = record began { tables = g.W.Watch.tables c.args.watch.now; noted = noted (g.N.Notes.told_choices c.args.notes.now) (g.N.Notes.told_episodes c.args.notes.now) } in
     let view = ap (λ (s : SessionState _). s.cpu.slots.live.steps) c.self.view_is in
     let counted = c.run_to_event.ensures.counted in
     let run_counts : c.run_to_event.new.steps + c.args.self.now.cpu.slots.live.steps ≡ c.args.steps.now + c.run_to_event.new.self.slots.live.steps = omega (arith, view, counted) in
@@ -46,9 +46,9 @@ returns-in-Ok-Asks-clause-turns g c image began lost b counts =
     let here : Rules = rules_of c.count_run.new.self.options (g.R.AccessRule.rule c.count_run.new.self.cpu.rule) in
     let same = same_rules g.R.AccessRule.rule c.args.self.now c.count_run.new.self (ran_frame c.args.self.now _ c.count_run.new.self c.run_to_event.new.self c.self.view_is c.run_to_event.ensures.kept (ap (λ (s : SessionState _). s.options) c.count_run.ensures) (ap (λ (s : SessionState _). s.cpu) c.count_run.ensures)) in
     let run = has_run g.R.AccessRule.rule c.env_now-env.result image before (g.K.Link.told c.args.link.now) (g.K.Link.phases c.args.link.now) c.args.self.now _ c.run_to_event.new.self c.in-Ok-Asks.field-0 (event.Asks) c.env_now-env.ensures c.self.view_is c.in-Ok-Asks.field-0-is c.run_to_event.ensures.kept b c.in-Ok-Asks.ensures.event in
-    let after : Since = record began { noted = noted (g.N.Notes.told_choices c.ask.new.notes) (g.N.Notes.told_episodes c.ask.new.notes) } in
+    let after : Since = record began { tables = g.W.Watch.tables c.args.watch.now; noted = noted (g.N.Notes.told_choices c.ask.new.notes) (g.N.Notes.told_episodes c.ask.new.notes) } in
     comes_lost rules image after (g.K.Link.told c.ask.new.link) (g.K.Link.phases c.ask.new.link) (g.K.Link.coming c.ask.new.link) (g.K.Link.takes c.ask.new.link) c.ask.new.self c.ask.result lost
-    (λ others. lost_none lost began.lost c.ask.new.self.steps c.args.steps.now c.ask.new.steps c.args.self.now.cpu.slots.live.steps c.run_to_event.new.steps c.run_to_event.new.self.slots.live.steps c.ask.new.self.cpu.slots.live.steps (counts others) asked run_counts c.ask.ensures.marked.steps)
+    (λ others. lost_none (g.W.Watch.ran c.args.watch.now) lost began.lost c.ask.new.self.steps c.args.steps.now c.ask.new.steps c.args.self.now.cpu.slots.live.steps c.run_to_event.new.steps c.run_to_event.new.self.slots.live.steps c.ask.new.self.cpu.slots.live.steps (counts others) asked run_counts c.ask.ensures.marked.steps)
     (comes_under image after (g.K.Link.told c.ask.new.link) (g.K.Link.phases c.ask.new.link) (g.K.Link.coming c.ask.new.link) (g.K.Link.takes c.ask.new.link) c.ask.new.self c.ask.result here rules same
     (c.ask.ensures.turns image before (waits_under rules here (sym same) (asks_now rules image before _ _ c.args.self.now _ c.count_run.new.self c.run_to_event.new.self c.self.view_is c.count_run.ensures run))))
 
@@ -60,7 +60,7 @@ returns-in-Ok-Asks-clause-later g c =
 
 pub returns-in-Ok-Emits-clause-turns : goal.returns-in-Ok-Emits-clause-turns
 returns-in-Ok-Emits-clause-turns g c image began lost b counts =
-    let before : Since = record began { noted = noted (g.N.Notes.told_choices c.args.notes.now) (g.N.Notes.told_episodes c.args.notes.now) } in
+    let before : Since = record began { tables = g.W.Watch.tables c.args.watch.now; noted = noted (g.N.Notes.told_choices c.args.notes.now) (g.N.Notes.told_episodes c.args.notes.now) } in
     let view = ap (λ (s : SessionState _). s.cpu.slots.live.steps) c.self.view_is in
     let counted = c.run_to_event.ensures.counted in
     let run_counts : c.run_to_event.new.steps + c.args.self.now.cpu.slots.live.steps ≡ c.args.steps.now + c.run_to_event.new.self.slots.live.steps = omega (arith, view, counted) in
@@ -69,7 +69,7 @@ returns-in-Ok-Emits-clause-turns g c image began lost b counts =
     let same : here ≡ rules = λ i. rules_of ((ap (λ (s : SessionState _). s.options) c.self.view_is) i) (g.R.AccessRule.rule ((ap (λ (cpu : CpuState _). cpu.rule) c.run_to_event.ensures.kept ∙ ap (λ (s : SessionState _). s.cpu.rule) c.self.view_is) i)) in
     let run = has_run g.R.AccessRule.rule c.env_now-env.result image before (g.K.Link.told c.args.link.now) (g.K.Link.phases c.args.link.now) c.args.self.now _ c.run_to_event.new.self c.in-Ok-Emits.field-0 (event.Emits c.in-Ok-Emits.conn c.in-Ok-Emits.bytes) c.env_now-env.ensures c.self.view_is c.in-Ok-Emits.field-0-is c.run_to_event.ensures.kept b c.in-Ok-Emits.ensures.event in
     comes_lost rules image before (g.K.Link.told c.send.new.link) (g.K.Link.phases c.send.new.link) (g.K.Link.coming c.send.new.link) (g.K.Link.takes c.send.new.link) c.send.new.self c.send.result lost
-    (λ others. lost_none lost began.lost c.send.new.self.steps c.args.steps.now c.run_to_event.new.steps c.args.self.now.cpu.slots.live.steps c.run_to_event.new.steps c.run_to_event.new.self.slots.live.steps c.run_to_event.new.self.slots.live.steps (counts others) refl run_counts
+    (λ others. lost_none (g.W.Watch.ran c.args.watch.now) lost began.lost c.send.new.self.steps c.args.steps.now c.run_to_event.new.steps c.args.self.now.cpu.slots.live.steps c.run_to_event.new.steps c.run_to_event.new.self.slots.live.steps c.run_to_event.new.self.slots.live.steps (counts others) refl run_counts
     (steps_unless c.send.result c.send.new.self c.send.ensures.marked others ∙ ap (λ (cpu : CpuState _). cpu.slots.live.steps) c.send.ensures.cpu))
     (comes_under image before (g.K.Link.told c.send.new.link) (g.K.Link.phases c.send.new.link) (g.K.Link.coming c.send.new.link) (g.K.Link.takes c.send.new.link) c.send.new.self c.send.result here rules same
     (subst (λ b. ComesBetween here image before (g.K.Link.told c.send.new.link) (g.K.Link.phases c.send.new.link) (g.K.Link.coming c.send.new.link) b c.send.new.self c.send.result) (sym (c.send.ensures.takes ∙ c.requires.takes))
@@ -83,7 +83,7 @@ returns-in-Ok-Emits-clause-later g c =
 
 pub returns-in-Ok-Chooses-clause-turns : goal.returns-in-Ok-Chooses-clause-turns
 returns-in-Ok-Chooses-clause-turns g c image began lost b counts =
-    let before : Since = record began { noted = noted (g.N.Notes.told_choices c.args.notes.now) (g.N.Notes.told_episodes c.args.notes.now) } in
+    let before : Since = record began { tables = g.W.Watch.tables c.args.watch.now; noted = noted (g.N.Notes.told_choices c.args.notes.now) (g.N.Notes.told_episodes c.args.notes.now) } in
     let view = ap (λ (s : SessionState _). s.cpu.slots.live.steps) c.self.view_is in
     let counted = c.run_to_event.ensures.counted in
     let run_counts : c.run_to_event.new.steps + c.args.self.now.cpu.slots.live.steps ≡ c.args.steps.now + c.run_to_event.new.self.slots.live.steps = omega (arith, view, counted) in
@@ -92,7 +92,7 @@ returns-in-Ok-Chooses-clause-turns g c image began lost b counts =
     let same : here ≡ rules = λ i. rules_of ((ap (λ (s : SessionState _). s.options) c.self.view_is) i) (g.R.AccessRule.rule ((ap (λ (cpu : CpuState _). cpu.rule) c.run_to_event.ensures.kept ∙ ap (λ (s : SessionState _). s.cpu.rule) c.self.view_is) i)) in
     let run = has_run g.R.AccessRule.rule c.env_now-env.result image before (g.K.Link.told c.args.link.now) (g.K.Link.phases c.args.link.now) c.args.self.now _ c.run_to_event.new.self c.in-Ok-Chooses.field-0 (event.Chooses c.in-Ok-Chooses.choice) c.env_now-env.ensures c.self.view_is c.in-Ok-Chooses.field-0-is c.run_to_event.ensures.kept b c.in-Ok-Chooses.ensures.event in
     comes_lost rules image before (g.K.Link.told c.args.link.now) (g.K.Link.phases c.args.link.now) (g.K.Link.coming c.args.link.now) (g.K.Link.takes c.args.link.now) c.choose.new.self c.choose.result lost
-    (λ others. lost_none lost began.lost c.choose.new.self.steps c.args.steps.now c.run_to_event.new.steps c.args.self.now.cpu.slots.live.steps c.run_to_event.new.steps c.run_to_event.new.self.slots.live.steps c.run_to_event.new.self.slots.live.steps (counts others) refl run_counts
+    (λ others. lost_none (g.W.Watch.ran c.args.watch.now) lost began.lost c.choose.new.self.steps c.args.steps.now c.run_to_event.new.steps c.args.self.now.cpu.slots.live.steps c.run_to_event.new.steps c.run_to_event.new.self.slots.live.steps c.run_to_event.new.self.slots.live.steps (counts others) refl run_counts
     (steps_unless c.choose.result c.choose.new.self c.choose.ensures.marked others ∙ ap (λ (cpu : CpuState _). cpu.slots.live.steps) c.choose.ensures.cpu))
     (comes_under image before (g.K.Link.told c.args.link.now) (g.K.Link.phases c.args.link.now) (g.K.Link.coming c.args.link.now) (g.K.Link.takes c.args.link.now) c.choose.new.self c.choose.result here rules same
     (subst (λ b. ComesBetween here image before (g.K.Link.told c.args.link.now) (g.K.Link.phases c.args.link.now) (g.K.Link.coming c.args.link.now) b c.choose.new.self c.choose.result) (sym c.requires.takes)
@@ -106,20 +106,20 @@ returns-in-Ok-Chooses-clause-later g c =
 
 pub returns-in-Ok-Exits-clause-turns : goal.returns-in-Ok-Exits-clause-turns
 returns-in-Ok-Exits-clause-turns g c image began lost b counts =
-    let before : Since = record began { noted = noted (g.N.Notes.told_choices c.args.notes.now) (g.N.Notes.told_episodes c.args.notes.now) } in
+    let before : Since = record began { tables = g.W.Watch.tables c.args.watch.now; noted = noted (g.N.Notes.told_choices c.args.notes.now) (g.N.Notes.told_episodes c.args.notes.now) } in
     let view = ap (λ (s : SessionState _). s.cpu.slots.live.steps) c.self.view_is in
     let counted = c.run_to_event.ensures.counted in
     let run_counts : c.run_to_event.new.steps + c.args.self.now.cpu.slots.live.steps ≡ c.args.steps.now + c.run_to_event.new.self.slots.live.steps = omega (arith, view, counted) in
     let rules : Rules = rules_of c.args.self.now.options (g.R.AccessRule.rule c.args.self.now.cpu.rule) in
     let run = has_run g.R.AccessRule.rule c.env_now-env.result image before (g.K.Link.told c.args.link.now) (g.K.Link.phases c.args.link.now) c.args.self.now _ c.run_to_event.new.self c.in-Ok-Exits.field-0 (event.Exits c.in-Ok-Exits.code) c.env_now-env.ensures c.self.view_is c.in-Ok-Exits.field-0-is c.run_to_event.ensures.kept b c.in-Ok-Exits.ensures.event in
     comes_lost rules image before (g.K.Link.told c.args.link.now) (g.K.Link.phases c.args.link.now) (g.K.Link.coming c.args.link.now) (g.K.Link.takes c.args.link.now) c.count_run-in-Ok-Exits.new.self (Err (stop.Ends (answer.Exited c.in-Ok-Exits.code))) lost
-    (λ others. lost_none lost began.lost c.count_run-in-Ok-Exits.new.self.steps c.args.steps.now c.run_to_event.new.steps c.args.self.now.cpu.slots.live.steps c.run_to_event.new.steps c.run_to_event.new.self.slots.live.steps c.run_to_event.new.self.slots.live.steps (counts others) refl run_counts
+    (λ others. lost_none (g.W.Watch.ran c.args.watch.now) lost began.lost c.count_run-in-Ok-Exits.new.self.steps c.args.steps.now c.run_to_event.new.steps c.args.self.now.cpu.slots.live.steps c.run_to_event.new.steps c.run_to_event.new.self.slots.live.steps c.run_to_event.new.self.slots.live.steps (counts others) refl run_counts
     (ap (λ (s : SessionState _). s.steps) c.count_run-in-Ok-Exits.ensures))
     (exits_now rules image before _ (g.K.Link.phases c.args.link.now) _ c.in-Ok-Exits.code c.args.self.now _ c.count_run-in-Ok-Exits.new.self c.run_to_event.new.self c.self.view_is c.count_run-in-Ok-Exits.ensures run, λ none. still_takes (g.K.Link.takes c.args.link.now) _ c.requires.takes none)
 
 pub returns-in-Err-clause-turns : goal.returns-in-Err-clause-turns
 returns-in-Err-clause-turns g c image began lost b counts =
-    let before : Since = record began { noted = noted (g.N.Notes.told_choices c.args.notes.now) (g.N.Notes.told_episodes c.args.notes.now) } in
+    let before : Since = record began { tables = g.W.Watch.tables c.args.watch.now; noted = noted (g.N.Notes.told_choices c.args.notes.now) (g.N.Notes.told_episodes c.args.notes.now) } in
     let rules : Rules = rules_of c.args.self.now.options (g.R.AccessRule.rule c.args.self.now.cpu.rule) in
     comes_lost rules image before (g.K.Link.told c.args.link.now) (g.K.Link.phases c.args.link.now) (g.K.Link.coming c.args.link.now) (g.K.Link.takes c.args.link.now) _ (Err (stop.Breaks answer.Memory)) lost (λ others. absurd (others refl))
     (breaks_now rules image before _ (g.K.Link.phases c.args.link.now) _ c.args.self.now _ c.run_to_event.new.self c.self.view_is b, λ none. still_takes (g.K.Link.takes c.args.link.now) _ c.requires.takes none)
@@ -158,11 +158,11 @@ recover-requires-clause-fails g c =
     let here : Rules = rules_of c.count_run-in-Ok-Failed.new.self.options (g.R.AccessRule.rule c.count_run-in-Ok-Failed.new.self.cpu.rule) in
     let same = same_rules g.R.AccessRule.rule c.args.self.now c.count_run-in-Ok-Failed.new.self (ran_frame c.args.self.now _ c.count_run-in-Ok-Failed.new.self c.run_to_event.new.self c.self.view_is c.run_to_event.ensures.kept (ap (λ (s : SessionState _). s.options) c.count_run-in-Ok-Failed.ensures) (ap (λ (s : SessionState _). s.cpu) c.count_run-in-Ok-Failed.ensures)) in
     let run = has_run g.R.AccessRule.rule c.env_now-env.result c.requires.stands.image c.requires.stands.began (g.K.Link.told c.args.link.now) (g.K.Link.phases c.args.link.now) c.args.self.now _ c.run_to_event.new.self c.in-Ok-Failed.field-0 (event.Failed c.in-Ok-Failed.cause) c.env_now-env.ensures c.self.view_is c.in-Ok-Failed.field-0-is c.run_to_event.ensures.kept c.requires.stands.is c.in-Ok-Failed.ensures.event in
-    record { image = c.requires.stands.image; began = c.requires.stands.began; is = fails_under rules here (sym same) (fails_now rules c.requires.stands.image c.requires.stands.began _ _ c.in-Ok-Failed.cause c.args.self.now _ c.count_run-in-Ok-Failed.new.self c.run_to_event.new.self c.self.view_is c.count_run-in-Ok-Failed.ensures run) }
+    record { image = c.requires.stands.image; began = c.requires.stands.began; tables_are = c.requires.stands.tables_are; is = fails_under rules here (sym same) (fails_now rules c.requires.stands.image c.requires.stands.began _ _ c.in-Ok-Failed.cause c.args.self.now _ c.count_run-in-Ok-Failed.new.self c.run_to_event.new.self c.self.view_is c.count_run-in-Ok-Failed.ensures run) }
 
 pub returns-in-Ok-Failed-clause-turns : goal.returns-in-Ok-Failed-clause-turns
 returns-in-Ok-Failed-clause-turns g c image began lost b counts =
-    let before : Since = record began { noted = noted (g.N.Notes.told_choices c.args.notes.now) (g.N.Notes.told_episodes c.args.notes.now) } in
+    let before : Since = record began { tables = g.W.Watch.tables c.args.watch.now; noted = noted (g.N.Notes.told_choices c.args.notes.now) (g.N.Notes.told_episodes c.args.notes.now) } in
     let view = ap (λ (s : SessionState _). s.cpu.slots.live.steps) c.self.view_is in
     let counted = c.run_to_event.ensures.counted in
     let steps : c.count_run-in-Ok-Failed.new.self.steps ≡ c.run_to_event.new.self.slots.live.steps = ap (λ (s : SessionState _). s.steps) c.count_run-in-Ok-Failed.ensures in
@@ -171,9 +171,9 @@ returns-in-Ok-Failed-clause-turns g c image began lost b counts =
     let here : Rules = rules_of c.count_run-in-Ok-Failed.new.self.options (g.R.AccessRule.rule c.count_run-in-Ok-Failed.new.self.cpu.rule) in
     let same = same_rules g.R.AccessRule.rule c.args.self.now c.count_run-in-Ok-Failed.new.self (ran_frame c.args.self.now _ c.count_run-in-Ok-Failed.new.self c.run_to_event.new.self c.self.view_is c.run_to_event.ensures.kept (ap (λ (s : SessionState _). s.options) c.count_run-in-Ok-Failed.ensures) (ap (λ (s : SessionState _). s.cpu) c.count_run-in-Ok-Failed.ensures)) in
     let run = has_run g.R.AccessRule.rule c.env_now-env.result image before (g.K.Link.told c.args.link.now) (g.K.Link.phases c.args.link.now) c.args.self.now _ c.run_to_event.new.self c.in-Ok-Failed.field-0 (event.Failed c.in-Ok-Failed.cause) c.env_now-env.ensures c.self.view_is c.in-Ok-Failed.field-0-is c.run_to_event.ensures.kept b c.in-Ok-Failed.ensures.event in
-    comes_under image (record began { lost = lost; noted = noted (g.N.Notes.told_choices c.recover.new.notes) (g.N.Notes.told_episodes c.recover.new.notes) }) (g.K.Link.told c.recover.new.link) (g.K.Link.phases c.recover.new.link) (g.K.Link.coming c.recover.new.link) (g.K.Link.takes c.recover.new.link) c.recover.new.self c.recover.result here rules same
+    comes_under image (record began { lost = lost; tables = g.W.Watch.tables c.recover.new.watch; noted = noted (g.N.Notes.told_choices c.recover.new.notes) (g.N.Notes.told_episodes c.recover.new.notes) }) (g.K.Link.told c.recover.new.link) (g.K.Link.phases c.recover.new.link) (g.K.Link.coming c.recover.new.link) (g.K.Link.takes c.recover.new.link) c.recover.new.self c.recover.result here rules same
     (c.recover.ensures.turns image before lost (fails_under rules here (sym same) (fails_now rules image before _ _ c.in-Ok-Failed.cause c.args.self.now _ c.count_run-in-Ok-Failed.new.self c.run_to_event.new.self c.self.view_is c.count_run-in-Ok-Failed.ensures run))
-    (λ others. lost_failed lost began.lost c.recover.new.self.steps c.args.steps.now c.recover.new.steps c.args.self.now.cpu.slots.live.steps c.run_to_event.new.steps c.count_run-in-Ok-Failed.new.self.steps (counts others) run_counts))
+    (λ others. lost_failed (g.W.Watch.ran c.args.watch.now) (g.W.Watch.ran c.recover.new.watch) lost began.lost c.recover.new.self.steps c.args.steps.now c.recover.new.steps c.args.self.now.cpu.slots.live.steps c.run_to_event.new.steps c.count_run-in-Ok-Failed.new.self.steps (counts others) run_counts))
 
 pub returns-in-Ok-Failed-clause-later : goal.returns-in-Ok-Failed-clause-later
 returns-in-Ok-Failed-clause-later g c =
