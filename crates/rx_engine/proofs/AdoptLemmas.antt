@@ -294,7 +294,7 @@ module _ {R : Type 0} where
       let recovery : Recovery = recovery_of (failure_of rules image story g.saved.paths) story.survivor.begun cause trials in
       let next : Story = adopted_story story recovery trial in
       let same : entries next ≡ entries story = same_entries story recovery trial in
-      let then = told_adopted rules image began now story recovery trial lost noted tables g.told refl was found counts more.episodes_more one in
+      let then = told_adopted rules image began now story recovery trial lost noted tables g.told (owes_nothing rules story f.due g.passed.done) refl was found counts more.episodes_more one in
       record {
         story = next;
         trials = [];
