@@ -1,8 +1,11 @@
 -- The tables that a watch tells of a session.
-use Rattle.std.proofs.Common.{◌≡◌, ◌≤◌, ℕ, List, [], ◌∷◌, ◌++◌, length, Option, None, Some, refl, sym, ◌∙◌, ap, subst, arith, append-nil, append_assoc}
+use Rattle.std.proofs.Common.{◌≡◌, ◌+◌, ◌≤◌, ℕ, Bool, List, [], ◌∷◌, ◌++◌, length, Option, None, Some, refl, sym, ◌∙◌, ap, subst, arith, append-nil, append_assoc}
 use Rattle.std.specs.Prelude.{◌≢◌}
 use Rattle.rx_io.specs.declared.journal.Entry.{Entry}
-use Rattle.rx_io.specs.Links.{Told}
+use Rattle.rx_io.specs.Links.{Told, Coming}
+use Rattle.block_book.specs.declared.choice.Choice.{Choice}
+use Rattle.notes.specs.Noting.{Noted}
+use Rattle.session_history.specs.Account.{Session}
 use Rattle.elf_image.specs.declared.image.Image.{Image}
 use Rattle.run_history.specs.declared.answer.Answer.{Answer}
 use Rattle.run_history.specs.declared.answer.Answer.TheVariants as answer
@@ -13,7 +16,7 @@ use Rattle.episodes.specs.declared.episode.Try.{Try}
 use Rattle.trial_history.specs.Tables.{Trial}
 use Rattle.trial_history.specs.Episodes.{Recovery}
 use Rattle.trial_plan.specs.Watching.{TellsMore}
-use Rattle.rx_engine.specs.Recovered.{HasGivenUp, told_of, IsTable, AreTables, AreLastTables, AreAllTables}
+use Rattle.rx_engine.specs.Recovered.{HasRecovered, HasGivenUp, told_of, IsTable, AreTables, AreLastTables, AreAllTables}
 use Rattle.rx_engine.specs.Standing.{Since, Story, entries, unwatched, IsTold}
 
 -- tables of which something holds
@@ -106,3 +109,13 @@ pub tables_fault : (rules : Rules) (image : Image) (earlier : List Chapter) (sin
 tables_fault rules image earlier since survivor recoveries trials last end fault old new other =
     tells_so old new (AreAllTables rules image earlier since survivor recoveries trials last end) (AreAllTables rules image earlier since survivor recoveries trials last fault)
     (λ more are. record { each = are.each; behind = are.behind; all = are.all; each_right = are.each_right; behind_right = last_fault rules image (entries_of earlier) since survivor trials last end fault are.behind other are.behind_right })
+
+-- where a watch counts nothing, what is counted is the session's
+pub counted_alone : (P : Session → Type 0) (rules : Rules) (image : Image) (began now : Told) (coming : Option Coming) (takes : Bool) (end : Answer) (noted_before noted_now : Noted) (recorded : ℕ) (tail : List Choice) (taken steps before after : ℕ)
+    → (recovered : HasRecovered rules image began now coming takes end noted_before noted_now recorded tail taken steps (0 + before) (0 + after)) × P recovered.served.session
+    → (recovered : HasRecovered rules image began now coming takes end noted_before noted_now recorded tail taken steps before after) × P recovered.served.session
+counted_alone P rules image began now coming takes end noted_before noted_now recorded tail taken steps before after h =
+    let first : 0 + before ≡ before = omega arith in
+    let last : 0 + after ≡ after = omega arith in
+    subst (λ n. (recovered : HasRecovered rules image began now coming takes end noted_before noted_now recorded tail taken steps before n) × P recovered.served.session) last
+    (subst (λ n. (recovered : HasRecovered rules image began now coming takes end noted_before noted_now recorded tail taken steps n (0 + after)) × P recovered.served.session) first h)
