@@ -137,11 +137,11 @@ fn memory_holds_files(rt: HostRuntime) -> Result<(), Fail> {
 #[test]
 fn the_system_holds_files(rt: HostRuntime) -> Result<(), Fail> {
     let alloc = rt.alloc();
-    use_files(&rt, alloc, StdFiles::make(&rt), "rx_io_no_folder/a")?;
+    use_files(&rt, alloc, StdFiles::make(&rt, alloc), "rx_io_no_folder/a")?;
     fs::remove_file(&rt, "rx_io_a")?;
     fs::remove_file(&rt, "rx_io_b")?;
     // A file of several pieces is loaded whole.
-    let mut files = StdFiles::make(&rt);
+    let mut files = StdFiles::make(&rt, alloc);
     let bytes = vec![in alloc; 5u8; 10_000]?;
     assert_eq!(rt; files.add("rx_io_long", bytes.as_slice()), Ok(()));
     let whole = files.load(alloc, "rx_io_long", 10_000);

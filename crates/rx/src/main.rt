@@ -27,7 +27,7 @@ fn run<L: Ledger>(rt: &HostRuntime, words: &[String], blank: Blank) -> End
     requires some { 0 < blank.parts }
 {
     let alloc = rt.alloc();
-    let mut files = StdFiles::make(rt);
+    let mut files = StdFiles::make(rt, alloc);
     let mut input = StdSource::make(rt);
     let mut output = StdSink::make(rt);
     let mut listener = TameListener::make(alloc, Vec::new(alloc), 1);

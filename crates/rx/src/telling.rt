@@ -67,7 +67,7 @@ fn refused_field(
     let Answer::ElfRefused(kind) = answer else {
         return None;
     };
-    let file = StdFiles::make(rt)
+    let file = StdFiles::make(rt, rt.alloc())
         .load(rt.alloc(), program, MAX_PROGRAM)
         .ok()?;
     field_of_refusal(rt.alloc(), file.as_slice(), kind, window)
@@ -80,7 +80,7 @@ fn explanation(rt: &HostRuntime, answer: Answer, source: &str) -> Option<String>
     let Answer::AsmRefused { kind, line } = answer else {
         return None;
     };
-    let text = StdFiles::make(rt)
+    let text = StdFiles::make(rt, rt.alloc())
         .load(rt.alloc(), source, MAX_SOURCE)
         .ok()?;
     explain(rt.alloc(), text.as_slice(), kind, line).ok()

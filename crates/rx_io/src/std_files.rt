@@ -10,18 +10,32 @@ use std::fs::OpenOptions;
 use std::io::{ErrorKind, Read, Write};
 use std::rt;
 
-/// The files of the system, by their paths. Of them nothing is told.
+// A file that is open for more bytes at its end, under its name.
+#[derive(Drop)]
+struct OpenFile<F> {
+    name: String,
+    file: F,
+}
+
+/// The files of the system, by their paths. Of them nothing is told. The one to which bytes were added last stays open.
 #[derive(Drop)]
 pub struct StdFiles<'a, R: rt::Files> {
     rt: &'a R,
+    alloc: Global,
+    last: Option<OpenFile<R::File>>,
     faults: u64,
 }
 
 impl<'a, R: rt::Files> StdFiles<'a, R> {
-    pub fn make(rt: &'a R) -> StdFiles<'a, R>
+    pub fn make(rt: &'a R, alloc: Global) -> StdFiles<'a, R>
         ensures { ⟦<StdFiles<'a, R> as Files>⟧.faults result ≡ 0 }
     {
-        StdFiles { rt, faults: 0 }
+        StdFiles {
+            rt,
+            alloc,
+            last: None,
+            faults: 0,
+        }
     }
 }
 
@@ -94,11 +108,28 @@ fn load_from<R: rt::Files>(
     read_whole(&mut file, alloc, limit)
 }
 
-fn add_to<R: rt::Files>(rt: &R, name: &str, bytes: &[u8]) -> bool {
+// Adds bytes at a file's end, and leaves it open, unless that failed or there is no memory for its name.
+fn add_to<R: rt::Files>(
+    rt: &R,
+    alloc: Global,
+    last: &mut Option<OpenFile<R::File>>,
+    name: &str,
+    bytes: &[u8],
+) -> bool {
+    if let Some(open) = last {
+        if open.name.as_str() == name {
+            return write_whole(&mut open.file, bytes);
+        }
+    }
     let Some(mut file) = open(rt, OpenOptions::new().append(true).create(true), name) else {
         return false;
     };
-    write_whole(&mut file, bytes)
+    let is_written = write_whole(&mut file, bytes);
+    *last = match String::from_str(alloc, name) {
+        Ok(name) => Some(OpenFile { name, file }),
+        Err(_) => None,
+    };
+    is_written
 }
 
 impl<R: rt::Files> Files for StdFiles<'_, R> {
@@ -119,6 +150,7 @@ impl<R: rt::Files> Files for StdFiles<'_, R> {
     }
 
     fn start(&mut self, name: &str) -> Result<(), IoFault> {
+        self.last = None;
         let made = open(
             self.rt,
             OpenOptions::new().write(true).create(true).truncate(true),
@@ -132,7 +164,7 @@ impl<R: rt::Files> Files for StdFiles<'_, R> {
     }
 
     fn add(&mut self, name: &str, bytes: &[u8]) -> Result<(), IoFault> {
-        if !add_to(self.rt, name, bytes) {
+        if !add_to(self.rt, self.alloc, &mut self.last, name, bytes) {
             self.faults = self.faults.saturating_add(1);
             return Err(IoFault::Failed);
         }
