@@ -10,3 +10,5 @@ pub mod LoopLemmas
 pub mod TakeLemmas
 pub mod QuestionLemmas
 pub mod StartLemmas
+pub mod RecordLemmas
+pub mod RoomLemmas

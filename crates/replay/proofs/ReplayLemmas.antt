@@ -71,7 +71,7 @@ pub replay_same : (image : Image) (recording : Recorded) (entries later : List E
 replay_same image recording entries later replay same is = replay_more image recording entries later [] replay (same ∙ sym (append-nil (items_in (bounds_of recording) entries))) is
 
 -- an instruction that wants an item takes it
-wants_takes : (m : Machine) → does None None m ≡ Wants → (item : Option Item) (choice : Option Choice) → does item choice m ≡ takes m item
+pub wants_takes : (m : Machine) → does None None m ≡ Wants → (item : Option Item) (choice : Option Choice) → does item choice m ≡ takes m item
 wants_takes m wants item choice = of_shape (does_shape m)
   where
     of_shape : Shape m (λ item choice. does item choice m) → does item choice m ≡ takes m item

@@ -4,3 +4,4 @@ pub mod Playing
 pub mod Making
 pub mod Hearing
 pub mod Judging
+pub mod Laws

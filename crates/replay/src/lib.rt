@@ -3,6 +3,7 @@
 
 mod giving;
 mod hearing;
+pub mod laws;
 mod player;
 mod playing;
 mod replaying;

@@ -1,0 +1,250 @@
+-- A replay of a record that a run left is the beginning of that run, and the run's next instruction contradicts each way to differ.
+use Rattle.std.proofs.Common.{◌≡◌, ◌≢◌, inl, inr, ℕ, zero, suc, ◌+◌, ◌-◌, ◌<◌, ◌≤◌, Bool, true, false, cond, eqb, List, [], ◌∷◌, ◌++◌, length, take, drop, Option, Some, None, refl, sym, ◌∙◌, ap, subst, arith, append-nil, append_assoc, length-append}
+use Rattle.std.specs.Prelude.{slice_get, is_some, is_none, option_and_then, IsSome, nat_lt}
+use Rattle.std.proofs.lemmas.Bool.{cases_Bool, ne_eqb}
+use Rattle.std.proofs.lemmas.List.{take-append-drop, length-take-le}
+use Rattle.std.proofs.lemmas.Option.{option_and_then_some, none-some, same_Some, slice_get_past}
+use Rattle.rx_io.specs.declared.bytes.Item.{Item}
+use Rattle.rx_io.specs.declared.journal.Entry.{Entry}
+use Rattle.rx_io.specs.declared.journal.Entry.TheVariants as entry
+use Rattle.rx_io.specs.declared.journal.LinkEvent.{LinkEvent}
+use Rattle.rx_io.specs.declared.journal.LinkEvent.TheVariants as event
+use Rattle.rx_io.specs.declared.journal.LinkEvent.TheVariants.{Ends}
+use Rattle.rx_io.specs.Links.{Told, Coming, events_in, pieces_in, HasEnded}
+use Rattle.block_book.specs.declared.choice.Choice.{Choice}
+use Rattle.block_book.specs.Answer.{is_allowed, insert_live}
+use Rattle.block_book.specs.Heap.{most_blocks}
+use Rattle.elf_image.specs.declared.image.Image.{Image}
+use Rattle.run_history.specs.declared.answer.Cause.{Cause}
+use Rattle.run_history.specs.declared.answer.Answer.{Answer}
+use Rattle.run_history.specs.declared.answer.Answer.TheVariants as answer
+use Rattle.run_history.specs.Machine.{Machine, State, register, start, Effect, Goes, Wants, Chooses, Fails}
+use Rattle.run_history.specs.Call.{takes, chooses, allocated}
+use Rattle.run_history.specs.Repeating.{repeated}
+use Rattle.run_history.specs.Run.{Run, does, effect, after, next, run}
+use Rattle.run_history.proofs.Repeats.{repeated_add}
+use Rattle.run_history.proofs.Runs.{Later, does_more, next_parts, run_from, run_more, run_one}
+use Rattle.session_history.specs.Heeding.{Bounds, Unheeded, refusal, heeded_behind, heeded, items_in, AreHeeded}
+use Rattle.session_history.specs.Heeding as unheeded
+use Rattle.session_history.specs.Ends.{IsLastRefused}
+use Rattle.session_history.proofs.Heeding.{events_in-append}
+use Rattle.schedule_file.specs.declared.recorded.Recorded.{Recorded}
+use Rattle.replay.specs.Giving.{AreGiven}
+use Rattle.replay.specs.Replaying.{bounds_of, Replay, IsReplay, IsUnusable, Differs, Ended, Failed, Unanswered, Starved, Unused, Untaken, EndsBy, HasReplayed}
+use Rattle.replay.specs.Laws.{IsRecordOf, BringsFirst, IsNoMismatch}
+use Rattle.replay.proofs.ReplayLemmas.{wants_takes, wants_chooses, asked_size}
+
+-- of so many steps there is the first
+first_step : {X : Type 0} (step : X → Option X) (count : ℕ) (x y : X) → 0 < count → repeated step count x ≡ Some y → (next : X) × (step x ≡ Some next)
+first_step step zero x y some ran = absurd (omega (arith, some))
+first_step step (suc count) x y some ran =
+    let one_more : suc count ≡ 1 + count = omega arith in
+    let split = sym (repeated_add step x 1 count) ∙ ap (λ (n : ℕ). repeated step n x) (sym one_more) ∙ ran in
+    option_and_then_some (λ z. repeated step count z) (step x) y split (λ z here rest. (z, here))
+
+-- a replay is the beginning of the run that a record tells of
+begins : (image : Image) (items : List Item) (recording : Recorded) (entries : List Entry) (replay : Replay) → IsReplay image recording entries replay → BringsFirst (bounds_of recording) items entries
+    → run items recording.choices (start image) replay.steps ≡ Some replay.state
+begins image items recording entries replay is brings =
+    let front = items_in (bounds_of recording) entries in
+    let used = take replay.used recording.choices in
+    let ran : run (front ++ brings.more) (used ++ drop replay.used recording.choices) (start image) replay.steps ≡ Some replay.state =
+    run_more front brings.more used (drop replay.used recording.choices) (start image) replay.state replay.steps is.ran.ran in
+    let whole : run (front ++ brings.more) recording.choices (start image) replay.steps ≡ Some replay.state =
+    subst (λ (all : List Choice). run (front ++ brings.more) all (start image) replay.steps ≡ Some replay.state) (take-append-drop replay.used recording.choices) ran in
+    subst (λ (all : List Item). run all recording.choices (start image) replay.steps ≡ Some replay.state) (sym brings.first) whole
+
+-- it used so many answers of malloc
+used_so_many : (image : Image) (recording : Recorded) (entries : List Entry) (replay : Replay) → IsReplay image recording entries replay → replay.state.machine.allocations ≡ replay.used
+used_so_many image recording entries replay is = is.ran.used ∙ length-take-le replay.used recording.choices is.used
+
+-- at the record's end it stands where that run ended
+stands_alike : (items : List Item) (choices : List Choice) (first here last : State) (steps count : ℕ) → run items choices first steps ≡ Some here → run items choices first count ≡ Some last → steps ≡ count → here ≡ last
+stands_alike items choices first here last steps count ran whole same =
+    same_Some here last (sym ran ∙ ap (λ (n : ℕ). run items choices first n) same ∙ whole)
+
+-- before it, the run goes on by an instruction
+record GoesOn (items : List Item) (choices : List Choice) (first here : State) (steps : ℕ) : Type 0 where
+  later : State
+  goes : after here (effect items choices here.machine) ≡ Some later
+  lives : here.ended ≡ None
+  ran : run items choices first (steps + 1) ≡ Some later
+
+goes_on : (items : List Item) (choices : List Choice) (first here last : State) (steps count : ℕ) → run items choices first steps ≡ Some here → run items choices first count ≡ Some last → steps < count → GoesOn items choices first here steps
+goes_on items choices first here last steps count ran whole short =
+    let rest = count - steps in
+    let parts : count ≡ steps + rest = omega (arith, short) in
+    let some : 0 < rest = omega (arith, short) in
+    let behind : run items choices here rest ≡ Some last = sym (run_from items choices first here steps rest ran) ∙ ap (λ (n : ℕ). run items choices first n) (sym parts) ∙ whole in
+    let step = first_step (next items choices) rest here last some behind in
+    let is = next_parts items choices here step.0 step.1 in
+    record { later = step.0; goes = is.1; lives = is.0; ran = run_one items choices first here step.0 steps ran step.1 }
+
+-- a run that has ended itself doesn't go on
+ended_not : (ended : Option ℕ) → ended ≡ None → IsSome ended → ⊥
+ended_not None is some = cc
+ended_not (Some code) is some = cc
+
+-- nor does one that fails
+failed_not : (items : List Item) (choices : List Choice) (here later : State) (cause : Cause) → does None None here.machine ≡ Fails cause → after here (effect items choices here.machine) ≡ Some later → ⊥
+failed_not items choices here later cause fails goes =
+    let still : effect items choices here.machine ≡ Fails cause =
+    does_more here.machine None (slice_get items here.machine.taken) None (slice_get choices here.machine.allocations) (Fails cause) (Later _) (Later _) fails
+    (record { no_item = (λ e. cc); no_choice = (λ size e. cc) }) in
+    none-some later (ap (after here) (sym still) ∙ goes)
+
+-- nor does one that asks for an item behind the last one
+starved_not : (items : List Item) (choices : List Choice) (here later : State) → does None None here.machine ≡ Wants → length items ≤ here.machine.taken → after here (effect items choices here.machine) ≡ Some later → ⊥
+starved_not items choices here later wants none goes =
+    let still : effect items choices here.machine ≡ Wants =
+    wants_takes here.machine wants (slice_get items here.machine.taken) (slice_get choices here.machine.allocations) ∙ ap (takes here.machine) (slice_get_past items here.machine.taken none) in
+    none-some later (ap (after here) (sym still) ∙ goes)
+
+-- a block more is live
+length-insert_live : (new : ℕ × ℕ) (live : List (ℕ × ℕ)) → length (insert_live new live) ≡ length live + 1
+length-insert_live new [] = refl
+length-insert_live new (block ∷ blocks) = of (nat_lt new.0 block.0) (length-insert_live new blocks)
+  where
+    of : (b : Bool) → length (insert_live new blocks) ≡ length blocks + 1 → length (cond b (new ∷ (block ∷ blocks)) (block ∷ insert_live new blocks)) ≡ length (block ∷ blocks) + 1
+    of true more = omega arith
+    of false more = omega (arith, more)
+
+-- behind a malloc that was answered with a block one more is live
+one_more_live : (here later : State) (size : ℕ) (choice : Choice) → choice.at ≢ 0 → Some (record here { machine = allocated size choice here.machine }) ≡ Some later → length later.machine.blocks ≡ length here.machine.blocks + 1
+unfolding allocated
+one_more_live here later size choice some goes =
+    let new : List (ℕ × ℕ) = insert_live (choice.at, size) here.machine.blocks in
+    sym (ap (λ (s : State). length s.machine.blocks) (same_Some _ later goes))
+    ∙ ap (λ (b : Bool). length (cond b here.machine.blocks new)) (ne_eqb choice.at 0 some)
+    ∙ length-insert_live (choice.at, size) here.machine.blocks
+
+-- nor does one whose malloc has no answer that can be used, where there is room behind it
+unusable_not : (here later : State) (size : ℕ) (choice : Option Choice) → IsUnusable here.machine size choice → length later.machine.blocks ≤ most_blocks → after here (chooses size here.machine choice) ≡ Some later → ⊥
+unusable_not here later size None unusable room goes = none-some later goes
+unusable_not here later size (Some choice) (inl refused) room goes =
+    none-some later (ap (λ (b : Bool). after here (cond b (Goes (allocated size choice here.machine)) (Chooses size))) (sym refused) ∙ goes)
+unusable_not here later size (Some choice) (inr full) room goes =
+    elim (cases_Bool (is_allowed here.machine.heap_start here.machine.heap_end here.machine.blocks size choice)) [
+      | inl may ↦
+          let went : Some (record here { machine = allocated size choice here.machine }) ≡ Some later =
+          ap (λ (b : Bool). after here (cond b (Goes (allocated size choice here.machine)) (Chooses size))) (sym may) ∙ goes in
+          let more = one_more_live here later size choice full.0 went in
+          absurd (omega (arith, full.1, room, more))
+      | inr not_may ↦ absurd (none-some later (ap (λ (b : Bool). after here (cond b (Goes (allocated size choice here.machine)) (Chooses size))) (sym not_may) ∙ goes))
+    ]
+
+unanswered_not : (items : List Item) (choices : List Choice) (here later : State) (size used : ℕ) → does None None here.machine ≡ Chooses size → here.machine.allocations ≡ used → IsUnusable here.machine size (slice_get choices used)
+    → length later.machine.blocks ≤ most_blocks → after here (effect items choices here.machine) ≡ Some later → ⊥
+unanswered_not items choices here later size used wants same unusable room goes =
+    let sizes : Chooses (register here.machine 10) ≡ Chooses size = sym (asked_size here.machine size wants) ∙ wants in
+    let sized : register here.machine 10 ≡ size = cc in
+    let still : effect items choices here.machine ≡ chooses size here.machine (slice_get choices used) =
+    wants_chooses here.machine size wants (slice_get items here.machine.taken) (slice_get choices here.machine.allocations)
+    ∙ ap (λ (n : ℕ). chooses n here.machine (slice_get choices here.machine.allocations)) sized
+    ∙ ap (λ (n : ℕ). chooses size here.machine (slice_get choices n)) same in
+    unusable_not here later size (slice_get choices used) unusable room (ap (after here) (sym still) ∙ goes)
+
+-- no more items come than these, where the link has ended
+none_left : (items front more : List Item) (taken : ℕ) → items ≡ front ++ more → more ≡ [] → taken ≡ length front → length items ≤ taken
+none_left items front more taken first all count =
+    let same : length items ≡ length front = ap length (first ∙ ap (λ (rest : List Item). front ++ rest) all ∙ append-nil front) in
+    omega (arith, same, count)
+
+-- so it doesn't differ
+differs_not : (image : Image) (items : List Item) (state : State) (recording : Recorded) (entries : List Entry) (replay : Replay) → IsReplay image recording entries replay → IsRecordOf image items state recording
+    → BringsFirst (bounds_of recording) items entries → Differs recording entries replay → ⊥
+differs_not image items state recording entries replay is of_run brings differs = by_case differs
+  where
+    here : run items recording.choices (start image) replay.steps ≡ Some replay.state
+    here = begins image items recording entries replay is brings
+
+    on : replay.steps < recording.steps → GoesOn items recording.choices (start image) replay.state replay.steps
+    on short = goes_on items recording.choices (start image) replay.state state replay.steps recording.steps here of_run.ran.ran short
+
+    ends : replay.steps ≡ recording.steps → replay.state ≡ state
+    ends same = stands_alike items recording.choices (start image) replay.state state replay.steps recording.steps here of_run.ran.ran same
+
+    by_case : Differs recording entries replay → ⊥
+    by_case (Ended short ended) = ended_not replay.state.ended (on short).lives ended
+    by_case (Failed cause short lives fails) = failed_not items recording.choices replay.state (on short).later cause fails (on short).goes
+    by_case (Unanswered size short lives wants unusable) =
+        let low : replay.steps + 1 ≤ recording.steps = omega (arith, short) in
+        unanswered_not items recording.choices replay.state (on short).later size replay.used wants (used_so_many image recording entries replay is) unusable
+        (of_run.room (replay.steps + 1) (on short).later low (on short).ran) (on short).goes
+    by_case (Starved short lives wants taken ended) =
+        starved_not items recording.choices replay.state (on short).later wants
+        (none_left items (items_in (bounds_of recording) entries) brings.more replay.state.machine.taken brings.first (brings.all ended) taken) (on short).goes
+    by_case (Unused same few) =
+        let all : replay.used ≡ length recording.choices = sym (used_so_many image recording entries replay is) ∙ ap (λ (s : State). s.machine.allocations) (ends same) ∙ of_run.ran.used in
+        omega (arith, all, few)
+    by_case (Untaken same differ) = differ (ap (λ (s : State). s.machine.taken) (ends same) ∙ of_run.taken)
+
+-- the first law
+pub record_is_replayed : (image : Image) (items : List Item) (state : State) (recording : Recorded) (began now : Told) (coming : Option Coming) (takes : Bool) (step before after : ℕ)
+    (replayed : HasReplayed image recording began now coming takes (answer.Mismatch step) before after)
+    → IsRecordOf image items state recording → BringsFirst (bounds_of recording) items replayed.entries → ⊥
+record_is_replayed image items state recording began now coming takes step before after replayed of_run brings =
+    differs_not image items state recording replayed.entries replayed.replay replayed.is of_run brings replayed.ends.1
+
+-- the second one
+pub replay_gives_sends : (image : Image) (items : List Item) (state : State) (recording : Recorded) (began now : Told) (coming : Option Coming) (takes : Bool) (before after : ℕ)
+    (replayed : HasReplayed image recording began now coming takes answer.Finished before after)
+    → IsRecordOf image items state recording → BringsFirst (bounds_of recording) items replayed.entries → (replayed.replay.state ≡ state) × AreGiven state.sends (pieces_in replayed.entries)
+replay_gives_sends image items state recording began now coming takes before after replayed of_run brings =
+    let same : replayed.replay.state ≡ state =
+    stands_alike items recording.choices (start image) replayed.replay.state state replayed.replay.steps recording.steps
+    (begins image items recording replayed.entries replayed.replay replayed.is brings) of_run.ran.ran replayed.ends.0 in
+    (same, subst (λ (s : State). AreGiven s.sends (pieces_in replayed.entries)) same replayed.ends.3)
+
+-- an event that is refused isn't heeded, nor is any behind it
+refused_shorter : (bounds : Bounds) (before events : List LinkEvent) (event : LinkEvent) (cause : Unheeded) → refusal bounds (before ++ events) event ≡ Some cause → length (heeded_behind bounds before (events ++ event ∷ [])) ≤ length events
+unfolding heeded_behind
+refused_shorter bounds before [] event cause refused =
+    let bad : is_none (refusal bounds before event) ≡ false = ap (λ (b : List LinkEvent). is_none (refusal bounds b event)) (sym (append-nil before)) ∙ ap (λ (r : Option Unheeded). is_none r) refused in
+    let none : length (cond (is_none (refusal bounds before event)) (event ∷ []) []) ≡ 0 = ap (λ (b : Bool). length (cond b (event ∷ []) [])) bad in
+    omega (arith, none)
+refused_shorter bounds before (first ∷ events) event cause refused =
+    of (is_none (refusal bounds before first))
+    (refused_shorter bounds (before ++ first ∷ []) events event cause (ap (λ (b : List LinkEvent). refusal bounds b event) (append_assoc before (first ∷ []) events) ∙ refused))
+  where
+    of : (b : Bool) → length (heeded_behind bounds (before ++ first ∷ []) (events ++ event ∷ [])) ≤ length events
+        → length (cond b (first ∷ heeded_behind bounds (before ++ first ∷ []) (events ++ event ∷ [])) []) ≤ length (first ∷ events)
+    of true later = omega (arith, later)
+    of false later = omega arith
+
+-- where every event is heeded, the last one isn't refused
+last_not : (bounds : Bounds) (entries before : List Entry) (event : LinkEvent) (cause : Unheeded) → entries ≡ before ++ entry.Took event ∷ [] → events_in (entry.Took event ∷ []) ≡ event ∷ [] → refusal bounds (events_in before) event ≡ Some cause
+    → AreHeeded bounds entries → ⊥
+last_not bounds entries before event cause last counts refused heeds =
+    let events : events_in entries ≡ events_in before ++ event ∷ [] =
+    ap events_in last ∙ events_in-append before (entry.Took event ∷ []) ∙ ap (λ (more : List LinkEvent). events_in before ++ more) counts in
+    let all : heeded bounds (events_in before ++ event ∷ []) ≡ events_in before ++ event ∷ [] = subst (λ (these : List LinkEvent). heeded bounds these ≡ these) events heeds in
+    omega (arith, refused_shorter bounds [] (events_in before) event cause refused, ap length all, length-append (events_in before) (event ∷ []))
+
+none_refused : (bounds : Bounds) (entries : List Entry) (cause : Unheeded) → IsLastRefused bounds entries cause → AreHeeded bounds entries → ⊥
+none_refused bounds entries cause last heeds = by_event last.event last.last last.no_end last.refused
+  where
+    by_event : (event : LinkEvent) → entries ≡ last.before ++ entry.Took event ∷ [] → event ≢ Ends → refusal bounds (events_in last.before) event ≡ Some cause → ⊥
+    by_event (event.Opens conn) split counts refused = last_not bounds entries last.before (event.Opens conn) cause split refl refused heeds
+    by_event (event.Piece conn bytes) split counts refused = last_not bounds entries last.before (event.Piece conn bytes) cause split refl refused heeds
+    by_event (event.Closes conn) split counts refused = last_not bounds entries last.before (event.Closes conn) cause split refl refused heeds
+    by_event event.Settles split counts refused = last_not bounds entries last.before event.Settles cause split refl refused heeds
+    by_event event.Ends split counts refused = absurd (counts refl)
+
+-- the third law
+pub only_faults : (image : Image) (items : List Item) (state : State) (recording : Recorded) (began now : Told) (coming : Option Coming) (takes : Bool) (end : Answer) (before after : ℕ)
+    (replayed : HasReplayed image recording began now coming takes end before after)
+    → IsRecordOf image items state recording → BringsFirst (bounds_of recording) items replayed.entries → IsNoMismatch recording replayed.entries coming end
+only_faults image items state recording began now coming takes end before after replayed of_run brings = by_answer end replayed.ends
+  where
+    by_answer : (end : Answer) → EndsBy image recording replayed.entries coming replayed.replay end → IsNoMismatch recording replayed.entries coming end
+    by_answer answer.Finished ends = tt
+    by_answer answer.ReadFault ends = tt
+    by_answer answer.WriteFault ends = tt
+    by_answer answer.Memory ends = tt
+    by_answer (answer.InputRefused kind offset) ends = ends.1
+    by_answer (answer.MessageTooLong conn) ends = none_refused (bounds_of recording) replayed.entries unheeded.TooLong ends.0.refused
+    by_answer answer.LimitItems ends = none_refused (bounds_of recording) replayed.entries unheeded.LimitItems ends.0
+    by_answer answer.LimitEvents ends = none_refused (bounds_of recording) replayed.entries unheeded.LimitEvents ends.0
+    by_answer (answer.Mismatch step) ends = absurd (differs_not image items state recording replayed.entries replayed.replay replayed.is of_run brings ends.1)
+    by_answer _ ends = absurd ends

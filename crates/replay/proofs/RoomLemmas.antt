@@ -1,0 +1,98 @@
+-- At no time of a session's run more blocks are live than may be, so what the session knows of it is a record.
+use Rattle.std.proofs.Common.{◌≡◌, ℕ, zero, suc, ◌+◌, ◌-◌, ◌%◌, ◌<◌, ◌≤◌, Bool, not, List, ◌++◌, length, map, filter, Option, Some, refl, sym, ◌∙◌, ap, subst, arith}
+use Rattle.std.proofs.lemmas.List.{length-map}
+use Rattle.std.proofs.lemmas.List.Sums.{length-filter, count_by-le-length}
+use Rattle.std.proofs.lemmas.Option.{option_and_then_some, same_Some}
+use Rattle.rx_io.specs.declared.bytes.Item.{Item}
+use Rattle.block_book.specs.declared.block.Block.{Block}
+use Rattle.block_book.specs.declared.choice.Choice.{Choice}
+use Rattle.block_book.specs.Answer.{live_blocks}
+use Rattle.block_book.specs.Heap.{IsHeap, most_blocks, empty_heap}
+use Rattle.elf_image.specs.declared.image.Image.{Image}
+use Rattle.elf_image.specs.Image.{heap_start, heap_end, stack_top}
+use Rattle.run_history.specs.Machine.{State, start, start_machine}
+use Rattle.run_history.specs.Repeating.{repeated}
+use Rattle.run_history.specs.Run.{Run, run}
+use Rattle.run_history.specs.Served.{Limits, IsLaidOut, Override, Path, Served, env_at, guest_of, origin, planned_next, serve}
+use Rattle.run_history.proofs.Repeats.{repeated_add}
+use Rattle.run_history.proofs.Runs.{run_chosen}
+use Rattle.run_history.proofs.Serves.{Follows, IsUsed, serves_to, served_follows}
+use Rattle.run_history.proofs.Layouts.{laid_out_next}
+use Rattle.guest_cpu.proofs.StartLemmas.{heap_above_null, heap_ordered}
+use Rattle.session_history.specs.Heeding.{items_in}
+use Rattle.session_history.specs.Lawful.{Rules}
+use Rattle.session_history.specs.Account.{Session, journal_of, IsAccount}
+use Rattle.schedule_file.specs.declared.recorded.Recorded.{Recorded}
+use Rattle.replay.specs.Laws.{HasRoom, IsRecordOf}
+
+-- the empty heap of an image is one
+begins_empty : (image : Image) → IsHeap (empty_heap (heap_start image) (heap_end image))
+begins_empty image =
+    let least = image.in_window.least in
+    let whole = image.in_window.whole in
+    record {
+      start_multiple = omega arith;
+      end_multiple = omega arith;
+      above_null = heap_above_null image;
+      ordered = heap_ordered image;
+      standing = heap_ordered image;
+      few = omega arith;
+    }
+
+-- and its guest is laid out so at the start
+begins_laid_out : (image : Image) → IsLaidOut (guest_of (origin image))
+unfolding start start_machine
+begins_laid_out image = record { sound = begins_empty image; start = refl; end = refl; live = refl }
+
+-- each instruction of a served run keeps the layout, so all of them do
+laid_out_behind : (limits : Limits) (items : List Item) (plan : List Override) (first second : Path) (count : ℕ) → IsLaidOut (guest_of first) → serve limits items plan first count ≡ Some second → IsLaidOut (guest_of second)
+laid_out_behind limits items plan first second zero out ran = subst (λ (p : Path). IsLaidOut (guest_of p)) (same_Some first second ran) out
+laid_out_behind limits items plan first second (suc count) out ran =
+    option_and_then_some (planned_next limits items plan) (serve limits items plan first count) second ran (λ mid before goes.
+    let env = env_at plan mid.state.machine.taken in
+    laid_out_next limits items env mid second (laid_out_behind limits items plan first mid count out before) (serves_to limits items env mid second goes))
+
+-- no more blocks are live than stand
+live_fewer : (blocks : List Block) → length (live_blocks blocks) ≤ length blocks
+live_fewer blocks =
+    let is_live : Block → Bool = λ (block : Block). not block.delayed in
+    let place : Block → ℕ × ℕ = λ (block : Block). (block.at, block.size) in
+    let count = length-map (filter is_live blocks) place ∙ length-filter is_live blocks in
+    omega (arith, count, count_by-le-length is_live blocks)
+
+-- so there is room in each layout
+room_in : (path : Path) → IsLaidOut (guest_of path) → length path.state.machine.blocks ≤ most_blocks
+room_in path out = omega (arith, ap length out.live, live_fewer path.heap.blocks, out.sound.few)
+
+-- a served run has room at any time
+pub served_has_room : (limits : Limits) (image : Image) (items : List Item) (plan : List Override) (path : Path) (count : ℕ) → serve limits items plan (origin image) count ≡ Some path → HasRoom image items path.choices count
+unfolding start start_machine
+served_has_room limits image items plan path count ran earlier state low reached =
+    let rest = count - earlier in
+    let parts : count ≡ earlier + rest = omega (arith, low) in
+    let split = sym (repeated_add (planned_next limits items plan) (origin image) earlier rest) ∙ ap (λ (n : ℕ). serve limits items plan (origin image) n) (sym parts) ∙ ran in
+    option_and_then_some (λ (p : Path). serve limits items plan p rest) (serve limits items plan (origin image) earlier) path split (λ mid before behind.
+    let first = served_follows limits items plan (origin image) mid earlier refl before in
+    let second = served_follows limits items plan mid path rest first.used behind in
+    let longer : run items path.choices (start image) earlier ≡ Some mid.state =
+    subst (λ (all : List Choice). run items all (start image) earlier ≡ Some mid.state) (sym second.chose) (run_chosen items mid.choices second.others (start image) mid.state earlier first.ran) in
+    let same : mid.state ≡ state = same_Some mid.state state (sym longer ∙ reached) in
+    subst (λ (s : State). length s.machine.blocks ≤ most_blocks) same (room_in mid (laid_out_behind limits items plan (origin image) mid earlier (begins_laid_out image) before)))
+
+-- so what a session knows of its run is a record of it
+pub session_leaves_record : (rules : Rules) (image : Image) (session : Session) (at_end : Bool) (recording : Recorded) → IsAccount rules image session at_end
+    → recording.choices ≡ session.survivor.now.choices → recording.steps ≡ session.survivor.now.steps → recording.taken ≡ session.survivor.now.state.machine.taken
+    → IsRecordOf image (items_in rules.bounds (journal_of session)) session.survivor.now.state recording
+unfolding start start_machine
+session_leaves_record rules image session at_end recording account choices steps taken =
+    let items = items_in rules.bounds (journal_of session) in
+    let now = session.survivor.now in
+    let served = account.served in
+    let follows = served_follows rules.limits items session.survivor.plan (origin image) now served.more refl served.ran in
+    let counted : served.more ≡ now.steps = omega (arith, follows.counted) in
+    let room = served_has_room rules.limits image items session.survivor.plan now served.more served.ran in
+    record {
+      ran = subst (λ (all : List Choice). Run image items all recording.steps now.state) (sym choices) (subst (λ (n : ℕ). Run image items now.choices n now.state) (sym steps) account.ran);
+      taken = sym taken;
+      room = subst (λ (all : List Choice). HasRoom image items all recording.steps) (sym choices) (subst (λ (n : ℕ). HasRoom image items now.choices n) (counted ∙ sym steps) room);
+    }

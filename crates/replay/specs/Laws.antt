@@ -1,0 +1,81 @@
+-- What holds of each replay of a record that a run left, over the items that the run was given.
+use Rattle.std.specs.Prelude.{◌≡◌, ℕ, ◌≤◌, Bool, List, [], ◌++◌, length, Option, Some, IfSome}
+use Rattle.rx_io.specs.declared.bytes.Item.{Item}
+use Rattle.rx_io.specs.declared.journal.Entry.{Entry}
+use Rattle.rx_io.specs.Links.{Told, Coming, Refuses, pieces_in, HasEnded}
+use Rattle.block_book.specs.declared.choice.Choice.{Choice}
+use Rattle.block_book.specs.Heap.{most_blocks}
+use Rattle.elf_image.specs.declared.image.Image.{Image}
+use Rattle.run_history.specs.declared.answer.Answer.{Answer}
+use Rattle.run_history.specs.declared.answer.Answer.TheVariants as answer
+use Rattle.run_history.specs.Machine.{State, start}
+use Rattle.run_history.specs.Run.{Run, run}
+use Rattle.session_history.specs.Heeding.{Bounds, items_in, AreHeeded}
+use Rattle.session_history.specs.Lawful.{Rules}
+use Rattle.session_history.specs.Account.{Session, journal_of, IsAccount}
+use Rattle.schedule_file.specs.declared.recorded.Recorded.{Recorded}
+use Rattle.replay.specs.Giving.{AreGiven}
+use Rattle.replay.specs.Replaying.{bounds_of, HasReplayed}
+
+-- at no time of a run more blocks are live than may be
+abbrev pub HasRoom : Image → List Item → List Choice → ℕ → Type 0
+HasRoom image items choices steps = (earlier : ℕ) (state : State) → earlier ≤ steps → run items choices (start image) earlier ≡ Some state → length state.machine.blocks ≤ most_blocks
+
+-- a record tells of the run of an image on these items, which ends in this state
+pub record IsRecordOf (image : Image) (items : List Item) (state : State) (recorded : Recorded) : Type 0 where
+  -- all answers of malloc that the run used stand in the record, and its number of instructions
+  pub ran : Run image items recorded.choices recorded.steps state
+  -- so does the number of items that it took
+  pub taken : state.machine.taken ≡ recorded.taken
+  -- at no time of it more blocks are live than may be
+  pub room : HasRoom image items recorded.choices recorded.steps
+
+-- the events of a journal bring the first of these items
+pub record BringsFirst (bounds : Bounds) (items : List Item) (entries : List Entry) : Type 0 where
+  -- those that they don't bring
+  pub more : List Item
+  pub first : items ≡ items_in bounds entries ++ more
+  -- where the link has ended, they bring all of them
+  pub all : HasEnded entries → more ≡ []
+
+-- No replay of such a record says that the run doesn't go on as recorded.
+abbrev pub RecordIsReplayed : Type 0
+RecordIsReplayed =
+    (image : Image) (items : List Item) (state : State) (recorded : Recorded) (began now : Told) (coming : Option Coming) (takes : Bool) (step before after : ℕ)
+    (replayed : HasReplayed image recorded began now coming takes (answer.Mismatch step) before after) →
+    IsRecordOf image items state recorded → BringsFirst (bounds_of recorded) items replayed.entries → ⊥
+
+-- At Finished it stands where the recorded run ended, so its pieces are the sends of that run.
+abbrev pub ReplayGivesSends : Type 0
+ReplayGivesSends =
+    (image : Image) (items : List Item) (state : State) (recorded : Recorded) (began now : Told) (coming : Option Coming) (takes : Bool) (before after : ℕ)
+    (replayed : HasReplayed image recorded began now coming takes answer.Finished before after) →
+    IsRecordOf image items state recorded → BringsFirst (bounds_of recorded) items replayed.entries → (replayed.replay.state ≡ state) × AreGiven state.sends (pieces_in replayed.entries)
+
+-- An answer that isn't the run's doing: all was as recorded; or there was a fault of reading or writing, or want of memory; or the input was
+-- refused, by its grammar or by what any session may have.
+abbrev pub IsNoMismatch : Recorded → List Entry → Option Coming → Answer → Type 0
+IsNoMismatch recorded entries coming answer.Finished = Unit {0}
+IsNoMismatch recorded entries coming answer.ReadFault = Unit {0}
+IsNoMismatch recorded entries coming answer.WriteFault = Unit {0}
+IsNoMismatch recorded entries coming answer.Memory = Unit {0}
+IsNoMismatch recorded entries coming (answer.InputRefused kind offset) = IfSome coming (λ next. next ≡ Refuses kind offset)
+IsNoMismatch recorded entries coming (answer.MessageTooLong conn) = AreHeeded (bounds_of recorded) entries → ⊥
+IsNoMismatch recorded entries coming answer.LimitItems = AreHeeded (bounds_of recorded) entries → ⊥
+IsNoMismatch recorded entries coming answer.LimitEvents = AreHeeded (bounds_of recorded) entries → ⊥
+IsNoMismatch recorded entries coming _ = ⊥
+
+-- It has no other answer.
+abbrev pub OnlyFaults : Type 0
+OnlyFaults =
+    (image : Image) (items : List Item) (state : State) (recorded : Recorded) (began now : Told) (coming : Option Coming) (takes : Bool) (end : Answer) (before after : ℕ)
+    (replayed : HasReplayed image recorded began now coming takes end before after) →
+    IsRecordOf image items state recorded → BringsFirst (bounds_of recorded) items replayed.entries → IsNoMismatch recorded replayed.entries coming end
+
+-- A session's answers of malloc, its number of instructions and its count of items taken are a record of its run on the items that it
+-- received.
+abbrev pub SessionLeavesRecord : Type 0
+SessionLeavesRecord =
+    (rules : Rules) (image : Image) (session : Session) (at_end : Bool) (recorded : Recorded) → IsAccount rules image session at_end →
+    recorded.choices ≡ session.survivor.now.choices → recorded.steps ≡ session.survivor.now.steps → recorded.taken ≡ session.survivor.now.state.machine.taken →
+    IsRecordOf image (items_in rules.bounds (journal_of session)) session.survivor.now.state recorded

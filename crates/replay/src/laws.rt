@@ -1,0 +1,22 @@
+//! Laws of replays, each as the contract of a function that does nothing.
+ghost use Rattle.replay.specs.Laws.{RecordIsReplayed, ReplayGivesSends, OnlyFaults, SessionLeavesRecord};
+
+/// No replay of a record over the items that its run was given says that the run doesn't go on as recorded.
+pub fn record_is_replayed()
+    ensures { RecordIsReplayed }
+{}
+
+/// At its end it stands where the recorded run ended, and has given the sends of that run.
+pub fn replay_gives_sends()
+    ensures { ReplayGivesSends }
+{}
+
+/// Else there was a fault or want of memory, or the input was refused.
+pub fn only_faults()
+    ensures { OnlyFaults }
+{}
+
+/// What a session knows of its run at any time is a record of it.
+pub fn session_leaves_record()
+    ensures { SessionLeavesRecord }
+{}
