@@ -12,3 +12,5 @@ pub mod QuestionLemmas
 pub mod StartLemmas
 pub mod RecordLemmas
 pub mod RoomLemmas
+pub mod StreamLemmas
+pub mod SessionLemmas

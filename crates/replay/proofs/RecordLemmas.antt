@@ -43,7 +43,7 @@ first_step step (suc count) x y some ran =
     option_and_then_some (λ z. repeated step count z) (step x) y split (λ z here rest. (z, here))
 
 -- a replay is the beginning of the run that a record tells of
-begins : (image : Image) (items : List Item) (recording : Recorded) (entries : List Entry) (replay : Replay) → IsReplay image recording entries replay → BringsFirst (bounds_of recording) items entries
+pub begins : (image : Image) (items : List Item) (recording : Recorded) (entries : List Entry) (replay : Replay) → IsReplay image recording entries replay → BringsFirst (bounds_of recording) items entries
     → run items recording.choices (start image) replay.steps ≡ Some replay.state
 begins image items recording entries replay is brings =
     let front = items_in (bounds_of recording) entries in
@@ -64,13 +64,13 @@ stands_alike items choices first here last steps count ran whole same =
     same_Some here last (sym ran ∙ ap (λ (n : ℕ). run items choices first n) same ∙ whole)
 
 -- before it, the run goes on by an instruction
-record GoesOn (items : List Item) (choices : List Choice) (first here : State) (steps : ℕ) : Type 0 where
-  later : State
-  goes : after here (effect items choices here.machine) ≡ Some later
-  lives : here.ended ≡ None
-  ran : run items choices first (steps + 1) ≡ Some later
+pub record GoesOn (items : List Item) (choices : List Choice) (first here : State) (steps : ℕ) : Type 0 where
+  pub later : State
+  pub goes : after here (effect items choices here.machine) ≡ Some later
+  pub lives : here.ended ≡ None
+  pub ran : run items choices first (steps + 1) ≡ Some later
 
-goes_on : (items : List Item) (choices : List Choice) (first here last : State) (steps count : ℕ) → run items choices first steps ≡ Some here → run items choices first count ≡ Some last → steps < count → GoesOn items choices first here steps
+pub goes_on : (items : List Item) (choices : List Choice) (first here last : State) (steps count : ℕ) → run items choices first steps ≡ Some here → run items choices first count ≡ Some last → steps < count → GoesOn items choices first here steps
 goes_on items choices first here last steps count ran whole short =
     let rest = count - steps in
     let parts : count ≡ steps + rest = omega (arith, short) in
@@ -94,7 +94,7 @@ failed_not items choices here later cause fails goes =
     none-some later (ap (after here) (sym still) ∙ goes)
 
 -- nor does one that asks for an item behind the last one
-starved_not : (items : List Item) (choices : List Choice) (here later : State) → does None None here.machine ≡ Wants → length items ≤ here.machine.taken → after here (effect items choices here.machine) ≡ Some later → ⊥
+pub starved_not : (items : List Item) (choices : List Choice) (here later : State) → does None None here.machine ≡ Wants → length items ≤ here.machine.taken → after here (effect items choices here.machine) ≡ Some later → ⊥
 starved_not items choices here later wants none goes =
     let still : effect items choices here.machine ≡ Wants =
     wants_takes here.machine wants (slice_get items here.machine.taken) (slice_get choices here.machine.allocations) ∙ ap (takes here.machine) (slice_get_past items here.machine.taken none) in
@@ -186,15 +186,20 @@ pub record_is_replayed : (image : Image) (items : List Item) (state : State) (re
 record_is_replayed image items state recording began now coming takes step before after replayed of_run brings =
     differs_not image items state recording replayed.entries replayed.replay replayed.is of_run brings replayed.ends.1
 
--- the second one
+-- at its end it has given the sends of the recorded run
+pub finished_gives : (image : Image) (items : List Item) (state : State) (recording : Recorded) (entries : List Entry) (replay : Replay) (coming : Option Coming) → IsReplay image recording entries replay → IsRecordOf image items state recording
+    → BringsFirst (bounds_of recording) items entries → (end : Answer) → end ≡ answer.Finished → EndsBy image recording entries coming replay end → (replay.state ≡ state) × AreGiven state.sends (pieces_in entries)
+finished_gives image items state recording entries replay coming is of_run brings end finished ends =
+    let here = subst (EndsBy image recording entries coming replay) finished ends in
+    let same : replay.state ≡ state = stands_alike items recording.choices (start image) replay.state state replay.steps recording.steps (begins image items recording entries replay is brings) of_run.ran.ran here.0 in
+    (same, subst (λ (s : State). AreGiven s.sends (pieces_in entries)) same here.3)
+
+-- the second law
 pub replay_gives_sends : (image : Image) (items : List Item) (state : State) (recording : Recorded) (began now : Told) (coming : Option Coming) (takes : Bool) (before after : ℕ)
     (replayed : HasReplayed image recording began now coming takes answer.Finished before after)
     → IsRecordOf image items state recording → BringsFirst (bounds_of recording) items replayed.entries → (replayed.replay.state ≡ state) × AreGiven state.sends (pieces_in replayed.entries)
 replay_gives_sends image items state recording began now coming takes before after replayed of_run brings =
-    let same : replayed.replay.state ≡ state =
-    stands_alike items recording.choices (start image) replayed.replay.state state replayed.replay.steps recording.steps
-    (begins image items recording replayed.entries replayed.replay replayed.is brings) of_run.ran.ran replayed.ends.0 in
-    (same, subst (λ (s : State). AreGiven s.sends (pieces_in replayed.entries)) same replayed.ends.3)
+    finished_gives image items state recording replayed.entries replayed.replay coming replayed.is of_run brings answer.Finished refl replayed.ends
 
 -- an event that is refused isn't heeded, nor is any behind it
 refused_shorter : (bounds : Bounds) (before events : List LinkEvent) (event : LinkEvent) (cause : Unheeded) → refusal bounds (before ++ events) event ≡ Some cause → length (heeded_behind bounds before (events ++ event ∷ [])) ≤ length events

@@ -23,7 +23,7 @@ use Rattle.session_history.specs.Heeding.{items_in}
 use Rattle.session_history.specs.Lawful.{Rules}
 use Rattle.session_history.specs.Account.{Session, journal_of, IsAccount}
 use Rattle.schedule_file.specs.declared.recorded.Recorded.{Recorded}
-use Rattle.replay.specs.Laws.{HasRoom, IsRecordOf}
+use Rattle.replay.specs.Laws.{HasRoom, IsRecordOf, HasSession}
 
 -- the empty heap of an image is one
 begins_empty : (image : Image) → IsHeap (empty_heap (heap_start image) (heap_end image))
@@ -80,11 +80,10 @@ served_has_room limits image items plan path count ran earlier state low reached
     subst (λ (s : State). length s.machine.blocks ≤ most_blocks) same (room_in mid (laid_out_behind limits items plan (origin image) mid earlier (begins_laid_out image) before)))
 
 -- so what a session knows of its run is a record of it
-pub session_leaves_record : (rules : Rules) (image : Image) (session : Session) (at_end : Bool) (recording : Recorded) → IsAccount rules image session at_end
-    → recording.choices ≡ session.survivor.now.choices → recording.steps ≡ session.survivor.now.steps → recording.taken ≡ session.survivor.now.state.machine.taken
+pub session_leaves_record : (rules : Rules) (image : Image) (session : Session) (at_end : Bool) (recording : Recorded) → IsAccount rules image session at_end → HasSession rules session recording
     → IsRecordOf image (items_in rules.bounds (journal_of session)) session.survivor.now.state recording
 unfolding start start_machine
-session_leaves_record rules image session at_end recording account choices steps taken =
+session_leaves_record rules image session at_end recording account has =
     let items = items_in rules.bounds (journal_of session) in
     let now = session.survivor.now in
     let served = account.served in
@@ -92,7 +91,7 @@ session_leaves_record rules image session at_end recording account choices steps
     let counted : served.more ≡ now.steps = omega (arith, follows.counted) in
     let room = served_has_room rules.limits image items session.survivor.plan now served.more served.ran in
     record {
-      ran = subst (λ (all : List Choice). Run image items all recording.steps now.state) (sym choices) (subst (λ (n : ℕ). Run image items now.choices n now.state) (sym steps) account.ran);
-      taken = sym taken;
-      room = subst (λ (all : List Choice). HasRoom image items all recording.steps) (sym choices) (subst (λ (n : ℕ). HasRoom image items now.choices n) (counted ∙ sym steps) room);
+      ran = subst (λ (all : List Choice). Run image items all recording.steps now.state) (sym has.choices) (subst (λ (n : ℕ). Run image items now.choices n now.state) (sym has.steps) account.ran);
+      taken = sym has.taken;
+      room = subst (λ (all : List Choice). HasRoom image items all recording.steps) (sym has.choices) (subst (λ (n : ℕ). HasRoom image items now.choices n) (counted ∙ sym has.steps) room);
     }

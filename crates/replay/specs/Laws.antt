@@ -2,7 +2,9 @@
 use Rattle.std.specs.Prelude.{◌≡◌, ℕ, ◌≤◌, Bool, List, [], ◌++◌, length, Option, Some, IfSome}
 use Rattle.rx_io.specs.declared.bytes.Item.{Item}
 use Rattle.rx_io.specs.declared.journal.Entry.{Entry}
-use Rattle.rx_io.specs.Links.{Told, Coming, Refuses, pieces_in, HasEnded}
+use Rattle.rx_io.specs.declared.journal.LinkEvent.{LinkEvent}
+use Rattle.rx_io.specs.Links.{Told, Coming, Refuses, events_in, pieces_in, HasEnded}
+use Rattle.rx_io.specs.Prefix.{Prefix}
 use Rattle.block_book.specs.declared.choice.Choice.{Choice}
 use Rattle.block_book.specs.Heap.{most_blocks}
 use Rattle.elf_image.specs.declared.image.Image.{Image}
@@ -72,10 +74,39 @@ OnlyFaults =
     (replayed : HasReplayed image recorded began now coming takes end before after) →
     IsRecordOf image items state recorded → BringsFirst (bounds_of recorded) items replayed.entries → IsNoMismatch recorded replayed.entries coming end
 
--- A session's answers of malloc, its number of instructions and its count of items taken are a record of its run on the items that it
--- received.
+-- What a session knows of its run stands in a record: how pieces are cut into messages, the answers of malloc, how many instructions were
+-- executed, and how many items were taken.
+pub record HasSession (rules : Rules) (session : Session) (recorded : Recorded) : Type 0 where
+  pub frame : recorded.frame ≡ rules.bounds.framing
+  pub choices : recorded.choices ≡ session.survivor.now.choices
+  pub steps : recorded.steps ≡ session.survivor.now.steps
+  pub taken : recorded.taken ≡ session.survivor.now.state.machine.taken
+
+-- It is a record of the session's run on the items that it received.
 abbrev pub SessionLeavesRecord : Type 0
 SessionLeavesRecord =
-    (rules : Rules) (image : Image) (session : Session) (at_end : Bool) (recorded : Recorded) → IsAccount rules image session at_end →
-    recorded.choices ≡ session.survivor.now.choices → recorded.steps ≡ session.survivor.now.steps → recorded.taken ≡ session.survivor.now.state.machine.taken →
+    (rules : Rules) (image : Image) (session : Session) (at_end : Bool) (recorded : Recorded) → IsAccount rules image session at_end → HasSession rules session recorded →
     IsRecordOf image (items_in rules.bounds (journal_of session)) session.survivor.now.state recorded
+
+-- Two journals had one stream of events, a session's and a replay's: each took the first ones of it, and the replay's link ends only behind
+-- the last one.
+pub record HadOneStream (events : List LinkEvent) (session replay : List Entry) : Type 0 where
+  pub session_took : Prefix (events_in session) events
+  pub replay_took : Prefix (events_in replay) events
+  pub all : HasEnded replay → events_in replay ≡ events
+
+-- Then what the replay took brings the first of the items that the session received: it asks for no event behind those of the recorded run.
+abbrev pub OneStreamBrings : Type 0
+OneStreamBrings =
+    (image : Image) (bounds : Bounds) (journal : List Entry) (events : List LinkEvent) (state : State) (recorded : Recorded) (began now : Told) (coming : Option Coming) (takes : Bool) (end : Answer) (before after : ℕ)
+    (replayed : HasReplayed image recorded began now coming takes end before after) →
+    recorded.frame ≡ bounds.framing → IsRecordOf image (items_in bounds journal) state recorded → HadOneStream events journal replayed.entries → BringsFirst (bounds_of recorded) (items_in bounds journal) replayed.entries
+
+-- So a session's record is replayed over the session's stream: no answer says that the run doesn't go on as recorded, and at Finished the
+-- replay has given the sends of the session's run.
+abbrev pub SessionIsReplayed : Type 0
+SessionIsReplayed =
+    (rules : Rules) (image : Image) (session : Session) (at_end : Bool) (events : List LinkEvent) (recorded : Recorded) (began now : Told) (coming : Option Coming) (takes : Bool) (end : Answer) (before after : ℕ)
+    (replayed : HasReplayed image recorded began now coming takes end before after) →
+    IsAccount rules image session at_end → HasSession rules session recorded → HadOneStream events (journal_of session) replayed.entries →
+    IsNoMismatch recorded replayed.entries coming end × (end ≡ answer.Finished → AreGiven session.survivor.now.state.sends (pieces_in replayed.entries))

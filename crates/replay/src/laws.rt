@@ -1,5 +1,5 @@
 //! Laws of replays, each as the contract of a function that does nothing.
-ghost use Rattle.replay.specs.Laws.{RecordIsReplayed, ReplayGivesSends, OnlyFaults, SessionLeavesRecord};
+ghost use Rattle.replay.specs.Laws.{RecordIsReplayed, ReplayGivesSends, OnlyFaults, SessionLeavesRecord, OneStreamBrings, SessionIsReplayed};
 
 /// No replay of a record over the items that its run was given says that the run doesn't go on as recorded.
 pub fn record_is_replayed()
@@ -19,4 +19,14 @@ pub fn only_faults()
 /// What a session knows of its run at any time is a record of it.
 pub fn session_leaves_record()
     ensures { SessionLeavesRecord }
+{}
+
+/// A replay over the stream of events that a session had takes no event behind those of the recorded run.
+pub fn one_stream_brings()
+    ensures { OneStreamBrings }
+{}
+
+/// A session's record is replayed over the session's stream, to the same sends.
+pub fn session_is_replayed()
+    ensures { SessionIsReplayed }
 {}

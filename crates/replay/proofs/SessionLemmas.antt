@@ -1,0 +1,130 @@
+-- A session's record is replayed over the session's stream.
+use Rattle.std.proofs.Common.{◌≡◌, ◌⊎◌, inl, inr, ℕ, ◌<◌, ◌≤◌, Bool, List, [], ◌∷◌, ◌++◌, length, Option, refl, sym, ◌∙◌, ap, subst, arith, append-nil, append_assoc, length-append}
+use Rattle.rx_io.specs.Prefix.{Prefix}
+use Rattle.rx_io.specs.declared.bytes.Item.{Item}
+use Rattle.rx_io.specs.declared.journal.Entry.{Entry}
+use Rattle.rx_io.specs.declared.journal.LinkEvent.{LinkEvent}
+use Rattle.rx_io.specs.declared.journal.LinkEvent.TheVariants.{Ends}
+use Rattle.rx_io.specs.Links.{Told, Coming, events_in, pieces_in, HasEnded}
+use Rattle.item_log.specs.Heard.{items_of}
+use Rattle.elf_image.specs.declared.image.Image.{Image}
+use Rattle.run_history.specs.declared.answer.Answer.{Answer}
+use Rattle.run_history.specs.declared.answer.Answer.TheVariants as answer
+use Rattle.run_history.specs.Machine.{State, start}
+use Rattle.session_history.specs.Heeding.{Bounds, heeded, items_in, received}
+use Rattle.session_history.specs.Lawful.{Rules}
+use Rattle.session_history.specs.Account.{Session, journal_of, IsAccount}
+use Rattle.schedule_file.specs.declared.recorded.Recorded.{Recorded}
+use Rattle.replay.specs.Giving.{AreGiven}
+use Rattle.replay.specs.Replaying.{bounds_of, WasAsked, AreAsked, HasReplayed}
+use Rattle.replay.specs.Laws.{IsRecordOf, BringsFirst, IsNoMismatch, HasSession, HadOneStream}
+use Rattle.replay.proofs.RecordLemmas.{begins, goes_on, starved_not, finished_gives, only_faults}
+use Rattle.replay.proofs.RoomLemmas.{session_leaves_record}
+use Rattle.replay.proofs.StreamLemmas.{heeded_first, two_fronts, items_grow, took_behind, ended_behind}
+
+-- a list without elements
+nothing : {X : Type 0} (xs : List X) → length xs ≡ 0 → xs ≡ []
+nothing [] none = refl
+nothing (x ∷ xs) none = absurd (omega (arith, none))
+
+-- where a replay asked for an event, it hasn't all items of the recorded run
+asked_not : (image : Image) (items : List Item) (state : State) (recording : Recorded) (before : List Entry) → IsRecordOf image items state recording → WasAsked image recording before → items ≡ items_in (bounds_of recording) before → ⊥
+asked_not image items state recording before of_run was all =
+    let bounds = bounds_of recording in
+    let brings : BringsFirst bounds items before = record { more = []; first = all ∙ sym (append-nil (items_in bounds before)); all = λ ended. refl } in
+    let replay = was.replay in
+    let here = begins image items recording before replay was.asks.is brings in
+    let on = goes_on items recording.choices (start image) replay.state state replay.steps recording.steps here of_run.ran.ran was.asks.shorter in
+    let none : length items ≤ replay.state.machine.taken = omega (arith, ap length all, was.asks.taken) in
+    starved_not items recording.choices replay.state on.later was.asks.asks none on.goes
+
+module _ (image : Image) (bounds : Bounds) (journal : List Entry) (events : List LinkEvent) (state : State) (recording : Recorded) (entries : List Entry)
+    (asked : AreAsked image recording entries) (frame : recording.frame ≡ bounds.framing) (of_run : IsRecordOf image (items_in bounds journal) state recording) (stream : HadOneStream events journal entries) where
+  -- the events that the session heeded, and those that the replay heeded
+  session_events : List LinkEvent
+  session_events = heeded bounds (events_in journal)
+
+  replay_events : List LinkEvent
+  replay_events = heeded (bounds_of recording) (events_in entries)
+
+  items_are : items_in bounds journal ≡ items_of recording.frame session_events
+  unfolding session_events
+  items_are = ap (λ framing. items_of framing (heeded bounds (events_in journal))) (sym frame)
+
+  -- each is a front of the stream
+  session_front : Prefix session_events events
+  unfolding session_events
+  session_front =
+      let front = heeded_first bounds [] (events_in journal) in
+      (front.0 ++ stream.session_took.0, sym (append_assoc (heeded bounds (events_in journal)) front.0 stream.session_took.0) ∙ ap (λ es. es ++ stream.session_took.0) front.1 ∙ stream.session_took.1)
+
+  replay_front : Prefix replay_events events
+  unfolding replay_events
+  replay_front =
+      let front = heeded_first (bounds_of recording) [] (events_in entries) in
+      (front.0 ++ stream.replay_took.0, sym (append_assoc (heeded (bounds_of recording) (events_in entries)) front.0 stream.replay_took.0) ∙ ap (λ es. es ++ stream.replay_took.0) front.1 ∙ stream.replay_took.1)
+
+  -- the replay took no event behind those of the session
+  not_behind : (event : LinkEvent) (mid : List LinkEvent) → replay_events ≡ session_events ++ event ∷ mid → ⊥
+  unfolding session_events replay_events
+  not_behind event mid longer =
+      let front = heeded_first (bounds_of recording) [] (events_in entries) in
+      let parts : events_in entries ≡ session_events ++ event ∷ (mid ++ front.0) = sym front.1 ∙ ap (λ es. es ++ front.0) longer ∙ append_assoc session_events (event ∷ mid) front.0 in
+      let took = took_behind entries session_events event (mid ++ front.0) parts in
+      let was = asked took.before took.after event took.split in
+      asked_not image (items_in bounds journal) state recording took.before of_run was
+      (items_are ∙ ap (items_of recording.frame) (sym (was.asks.heeds ∙ took.events)))
+
+  -- so the replay's are the first of the session's
+  replay_first : Prefix replay_events session_events
+  replay_first =
+      elim (two_fronts session_events session_front.0 replay_events replay_front.0 (session_front.1 ∙ sym replay_front.1)) [
+        | inl front ↦ front
+        | inr longer ↦ absurd (not_behind longer.0 longer.1 longer.2)
+      ]
+
+  -- and all of them, where its link has ended
+  all_events : HasEnded entries → replay_events ≡ events
+  unfolding replay_events
+  all_events ended =
+      let took = ended_behind entries ended in
+      let was = asked took.before took.after Ends took.split in
+      subst (λ es. heeded (bounds_of recording) es ≡ es) took.events was.asks.heeds ∙ stream.all ended
+
+  pub stream_brings : BringsFirst (bounds_of recording) (items_in bounds journal) entries
+  unfolding replay_events
+  stream_brings =
+      let front = items_grow recording.frame replay_events session_events replay_first in
+      record { more = front.0; first = items_are ∙ sym front.1; all = λ ended. none_more ended front.0 front.1 }
+    where
+      none_more : HasEnded entries → (more : List Item) → items_of recording.frame replay_events ++ more ≡ items_of recording.frame session_events → more ≡ []
+      none_more ended more same =
+          let whole = all_events ended in
+          let longer = ap length session_front.1 in
+          let count = length-append session_events session_front.0 in
+          let shorter = ap length replay_first.1 in
+          let other = length-append replay_events replay_first.0 in
+          let last : length replay_first.0 ≡ 0 = omega (arith, ap length whole, longer, count, shorter, other) in
+          let no_event = nothing replay_first.0 last in
+          let alike : session_events ≡ replay_events = sym replay_first.1 ∙ ap (λ es. replay_events ++ es) no_event ∙ append-nil replay_events in
+          let items : length (items_of recording.frame session_events) ≡ length (items_of recording.frame replay_events) = ap (λ es. length (items_of recording.frame es)) alike in
+          nothing more (omega (arith, items, ap length same, length-append (items_of recording.frame replay_events) more))
+
+pub one_stream_brings : (image : Image) (bounds : Bounds) (journal : List Entry) (events : List LinkEvent) (state : State) (recording : Recorded) (began now : Told) (coming : Option Coming) (takes : Bool) (end : Answer) (before after : ℕ)
+    (replayed : HasReplayed image recording began now coming takes end before after)
+    → recording.frame ≡ bounds.framing → IsRecordOf image (items_in bounds journal) state recording → HadOneStream events journal replayed.entries → BringsFirst (bounds_of recording) (items_in bounds journal) replayed.entries
+one_stream_brings image bounds journal events state recording began now coming takes end before after replayed frame of_run stream =
+    stream_brings image bounds journal events state recording replayed.entries replayed.asked frame of_run stream
+
+pub session_is_replayed : (rules : Rules) (image : Image) (session : Session) (at_end : Bool) (events : List LinkEvent) (recording : Recorded) (began now : Told) (coming : Option Coming) (takes : Bool) (end : Answer) (before after : ℕ)
+    (replayed : HasReplayed image recording began now coming takes end before after)
+    → IsAccount rules image session at_end → HasSession rules session recording → HadOneStream events (journal_of session) replayed.entries
+    → IsNoMismatch recording replayed.entries coming end × (end ≡ answer.Finished → AreGiven session.survivor.now.state.sends (pieces_in replayed.entries))
+session_is_replayed rules image session at_end events recording began now coming takes end before after replayed account has stream =
+    let items = items_in rules.bounds (journal_of session) in
+    let state = session.survivor.now.state in
+    let of_run = session_leaves_record rules image session at_end recording account has in
+    let brings = stream_brings image rules.bounds (journal_of session) events state recording replayed.entries replayed.asked has.frame of_run stream in (
+      only_faults image items state recording began now coming takes end before after replayed of_run brings,
+      λ finished. (finished_gives image items state recording replayed.entries replayed.replay coming replayed.is of_run brings end finished replayed.ends).1,
+    )
