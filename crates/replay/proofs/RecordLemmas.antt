@@ -1,6 +1,6 @@
 -- A replay of a record that a run left is the beginning of that run, and the run's next instruction contradicts each way to differ.
-use Rattle.std.proofs.Common.{◌≡◌, ◌≢◌, inl, inr, ℕ, zero, suc, ◌+◌, ◌-◌, ◌<◌, ◌≤◌, Bool, true, false, cond, eqb, List, [], ◌∷◌, ◌++◌, length, take, drop, Option, Some, None, refl, sym, ◌∙◌, ap, subst, arith, append-nil, append_assoc, length-append}
-use Rattle.std.specs.Prelude.{slice_get, is_some, is_none, option_and_then, IsSome, nat_lt}
+use Rattle.std.proofs.Common.{◌≡◌, ◌≢◌, inl, inr, ℕ, zero, suc, ◌+◌, ◌-◌, ◌<◌, ◌≤◌, Bool, true, false, cond, List, [], ◌∷◌, ◌++◌, length, take, drop, Option, Some, None, refl, sym, ◌∙◌, ap, subst, arith, append-nil, append_assoc, length-append}
+use Rattle.std.specs.Prelude.{slice_get, is_none, IsSome, nat_lt}
 use Rattle.std.proofs.lemmas.Bool.{cases_Bool, ne_eqb}
 use Rattle.std.proofs.lemmas.List.{take-append-drop, length-take-le}
 use Rattle.std.proofs.lemmas.Option.{option_and_then_some, none-some, same_Some, slice_get_past}
@@ -10,7 +10,7 @@ use Rattle.rx_io.specs.declared.journal.Entry.TheVariants as entry
 use Rattle.rx_io.specs.declared.journal.LinkEvent.{LinkEvent}
 use Rattle.rx_io.specs.declared.journal.LinkEvent.TheVariants as event
 use Rattle.rx_io.specs.declared.journal.LinkEvent.TheVariants.{Ends}
-use Rattle.rx_io.specs.Links.{Told, Coming, events_in, pieces_in, HasEnded}
+use Rattle.rx_io.specs.Links.{Told, Coming, events_in, pieces_in}
 use Rattle.block_book.specs.declared.choice.Choice.{Choice}
 use Rattle.block_book.specs.Answer.{is_allowed, insert_live}
 use Rattle.block_book.specs.Heap.{most_blocks}
@@ -18,10 +18,10 @@ use Rattle.elf_image.specs.declared.image.Image.{Image}
 use Rattle.run_history.specs.declared.answer.Cause.{Cause}
 use Rattle.run_history.specs.declared.answer.Answer.{Answer}
 use Rattle.run_history.specs.declared.answer.Answer.TheVariants as answer
-use Rattle.run_history.specs.Machine.{Machine, State, register, start, Effect, Goes, Wants, Chooses, Fails}
+use Rattle.run_history.specs.Machine.{State, register, start, Goes, Wants, Chooses, Fails}
 use Rattle.run_history.specs.Call.{takes, chooses, allocated}
 use Rattle.run_history.specs.Repeating.{repeated}
-use Rattle.run_history.specs.Run.{Run, does, effect, after, next, run}
+use Rattle.run_history.specs.Run.{does, effect, after, next, run}
 use Rattle.run_history.proofs.Repeats.{repeated_add}
 use Rattle.run_history.proofs.Runs.{Later, does_more, next_parts, run_from, run_more, run_one}
 use Rattle.session_history.specs.Heeding.{Bounds, Unheeded, refusal, heeded_behind, heeded, items_in, AreHeeded}

@@ -1,5 +1,5 @@
 -- At no time of a session's run more blocks are live than may be, so what the session knows of it is a record.
-use Rattle.std.proofs.Common.{◌≡◌, ℕ, zero, suc, ◌+◌, ◌-◌, ◌%◌, ◌<◌, ◌≤◌, Bool, not, List, ◌++◌, length, map, filter, Option, Some, refl, sym, ◌∙◌, ap, subst, arith}
+use Rattle.std.proofs.Common.{◌≡◌, ℕ, zero, suc, ◌+◌, ◌-◌, ◌≤◌, Bool, not, List, length, filter, Some, refl, sym, ◌∙◌, ap, subst, arith}
 use Rattle.std.proofs.lemmas.List.{length-map}
 use Rattle.std.proofs.lemmas.List.Sums.{length-filter, count_by-le-length}
 use Rattle.std.proofs.lemmas.Option.{option_and_then_some, same_Some}
@@ -9,14 +9,13 @@ use Rattle.block_book.specs.declared.choice.Choice.{Choice}
 use Rattle.block_book.specs.Answer.{live_blocks}
 use Rattle.block_book.specs.Heap.{IsHeap, most_blocks, empty_heap}
 use Rattle.elf_image.specs.declared.image.Image.{Image}
-use Rattle.elf_image.specs.Image.{heap_start, heap_end, stack_top}
+use Rattle.elf_image.specs.Image.{heap_start, heap_end}
 use Rattle.run_history.specs.Machine.{State, start, start_machine}
-use Rattle.run_history.specs.Repeating.{repeated}
 use Rattle.run_history.specs.Run.{Run, run}
-use Rattle.run_history.specs.Served.{Limits, IsLaidOut, Override, Path, Served, env_at, guest_of, origin, planned_next, serve}
+use Rattle.run_history.specs.Served.{Limits, IsLaidOut, Override, Path, env_at, guest_of, origin, planned_next, serve}
 use Rattle.run_history.proofs.Repeats.{repeated_add}
 use Rattle.run_history.proofs.Runs.{run_chosen}
-use Rattle.run_history.proofs.Serves.{Follows, IsUsed, serves_to, served_follows}
+use Rattle.run_history.proofs.Serves.{serves_to, served_follows}
 use Rattle.run_history.proofs.Layouts.{laid_out_next}
 use Rattle.guest_cpu.proofs.StartLemmas.{heap_above_null, heap_ordered}
 use Rattle.session_history.specs.Heeding.{items_in}

@@ -1,5 +1,5 @@
 -- A session's record is replayed over the session's stream.
-use Rattle.std.proofs.Common.{◌≡◌, ◌⊎◌, inl, inr, ℕ, ◌<◌, ◌≤◌, Bool, List, [], ◌∷◌, ◌++◌, length, Option, refl, sym, ◌∙◌, ap, subst, arith, append-nil, append_assoc, length-append}
+use Rattle.std.proofs.Common.{◌≡◌, inl, inr, ℕ, ◌≤◌, Bool, List, [], ◌∷◌, ◌++◌, length, Option, refl, sym, ◌∙◌, ap, subst, arith, append-nil, append_assoc, length-append}
 use Rattle.rx_io.specs.Prefix.{Prefix}
 use Rattle.rx_io.specs.declared.bytes.Item.{Item}
 use Rattle.rx_io.specs.declared.journal.Entry.{Entry}
@@ -11,7 +11,7 @@ use Rattle.elf_image.specs.declared.image.Image.{Image}
 use Rattle.run_history.specs.declared.answer.Answer.{Answer}
 use Rattle.run_history.specs.declared.answer.Answer.TheVariants as answer
 use Rattle.run_history.specs.Machine.{State, start}
-use Rattle.session_history.specs.Heeding.{Bounds, heeded, items_in, received}
+use Rattle.session_history.specs.Heeding.{Bounds, heeded, items_in}
 use Rattle.session_history.specs.Lawful.{Rules}
 use Rattle.session_history.specs.Account.{Session, journal_of, IsAccount}
 use Rattle.schedule_file.specs.declared.recorded.Recorded.{Recorded}

@@ -1,9 +1,8 @@
 -- Two journals over one stream of events: the one of the session that left a record, and the one of its replay.
-use Rattle.std.proofs.Common.{◌≡◌, ◌≢◌, ◌⊎◌, inl, inr, ℕ, ◌<◌, ◌≤◌, Bool, true, false, cond, List, [], ◌∷◌, ◌++◌, length, drop, Option, Some, None, refl, sym, ◌∙◌, ap, subst, arith, append-nil, append_assoc, length-append}
+use Rattle.std.proofs.Common.{◌≡◌, ◌⊎◌, inl, inr, ℕ, Bool, true, false, cond, List, [], ◌∷◌, ◌++◌, drop, Option, Some, None, refl, sym, ◌∙◌, ap, subst, append_assoc}
 use Rattle.std.specs.Prelude.{is_none, unwrap_or}
 use Rattle.std.proofs.lemmas.Option.{none-some, same_Some}
 use Rattle.rx_io.specs.Prefix.{Prefix}
-use Rattle.rx_io.specs.declared.bytes.Item.{Item}
 use Rattle.rx_io.specs.declared.journal.Entry.{Entry}
 use Rattle.rx_io.specs.declared.journal.Entry.TheVariants as entry
 use Rattle.rx_io.specs.declared.journal.LinkEvent.{LinkEvent}
@@ -12,7 +11,7 @@ use Rattle.rx_io.specs.declared.journal.LinkEvent.TheVariants.{Ends}
 use Rattle.rx_io.specs.Links.{events_in, last_taken, HasEnded}
 use Rattle.msg_frame.specs.declared.framing.Framing.{Framing}
 use Rattle.item_log.specs.Heard.{Heard, hear, first_items, items_from, items_of}
-use Rattle.session_history.specs.Heeding.{Bounds, refusal, heeded_behind, heeded, items_in}
+use Rattle.session_history.specs.Heeding.{Bounds, refusal, heeded_behind}
 use Rattle.session_history.proofs.Heeding.{events_in-append}
 
 -- the events that are heeded are the first ones
