@@ -54,8 +54,8 @@ ReplayGivesSends =
     (replayed : HasReplayed image recorded began now coming takes answer.Finished before after) →
     IsRecordOf image items state recorded → BringsFirst (bounds_of recorded) items replayed.entries → (replayed.replay.state ≡ state) × AreGiven state.sends (pieces_in replayed.entries)
 
--- An answer that isn't the run's doing: all was as recorded; or there was a fault of reading or writing, or want of memory; or the input was
--- refused, by its grammar or by what any session may have.
+-- An answer that says nothing against the record: all was as recorded; or there was a fault of reading or writing, or want of memory; or the
+-- input was refused, by its grammar or by what any session may have.
 abbrev pub IsNoMismatch : Recorded → List Entry → Option Coming → Answer → Type 0
 IsNoMismatch recorded entries coming answer.Finished = Unit {0}
 IsNoMismatch recorded entries coming answer.ReadFault = Unit {0}
@@ -67,7 +67,7 @@ IsNoMismatch recorded entries coming answer.LimitItems = AreHeeded (bounds_of re
 IsNoMismatch recorded entries coming answer.LimitEvents = AreHeeded (bounds_of recorded) entries → ⊥
 IsNoMismatch recorded entries coming _ = ⊥
 
--- It has no other answer.
+-- A replay of such a record has no other answer.
 abbrev pub OnlyFaults : Type 0
 OnlyFaults =
     (image : Image) (items : List Item) (state : State) (recorded : Recorded) (began now : Told) (coming : Option Coming) (takes : Bool) (end : Answer) (before after : ℕ)
@@ -82,7 +82,7 @@ pub record HasSession (rules : Rules) (session : Session) (recorded : Recorded) 
   pub steps : recorded.steps ≡ session.survivor.now.steps
   pub taken : recorded.taken ≡ session.survivor.now.state.machine.taken
 
--- It is a record of the session's run on the items that it received.
+-- Then it is a record of the session's run, on the items that the session received.
 abbrev pub SessionLeavesRecord : Type 0
 SessionLeavesRecord =
     (rules : Rules) (image : Image) (session : Session) (at_end : Bool) (recorded : Recorded) → IsAccount rules image session at_end → HasSession rules session recorded →

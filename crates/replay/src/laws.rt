@@ -6,17 +6,17 @@ pub fn record_is_replayed()
     ensures { RecordIsReplayed }
 {}
 
-/// At its end it stands where the recorded run ended, and has given the sends of that run.
+/// A replay that is Finished stands where the recorded run ended, and has given the sends of that run.
 pub fn replay_gives_sends()
     ensures { ReplayGivesSends }
 {}
 
-/// Else there was a fault or want of memory, or the input was refused.
+/// A replay of such a record is Finished, or there was a fault or want of memory, or the input was refused.
 pub fn only_faults()
     ensures { OnlyFaults }
 {}
 
-/// What a session knows of its run at any time is a record of it.
+/// What a session knows of its run is a record of it, at any time.
 pub fn session_leaves_record()
     ensures { SessionLeavesRecord }
 {}
