@@ -6,9 +6,9 @@ use Rattle.std.specs.List.{slice_index_or}
 use Rattle.std.specs.Str.{bytes_eq}
 use Rattle.std.proofs.lemmas.List.{take_rest}
 use Rattle.command_line.specs.Texts.{Text}
-use Rattle.command_line.specs.Table.{asm_form, run_form}
+use Rattle.command_line.specs.Table.{asm_form, replay_form, run_form}
 use Rattle.command_line.specs.Parts.{Parts, parts, texts_of}
-use Rattle.command_line.specs.Commands.{asm, asm_of, asm_value, command_of, is_asm, is_run, run, run_of, run_value}
+use Rattle.command_line.specs.Commands.{asm, asm_of, asm_value, command_of, is_asm, is_replay, is_run, replay, replay_of, replay_value, run, run_of, run_value}
 
 pub first_word : (ws : List (String Global)) (w : String Global) (t : Text) → 1 ≤ length ws → w ≡ slice_index_or ws 0 w → t ≡ string_bytes w
     → texts_of ws ≡ t ∷ texts_of (take (length ws - 1) (drop 1 ws))
@@ -23,8 +23,13 @@ pub of_asm : (ws : List Text) (t : Text) (rest : List Text) → ws ≡ t ∷ res
     → command_of ws ≡ asm_of (parts rest)
 of_asm ws t rest words other named = rw (words, other, named) refl
 
-pub of_none : (ws : List Text) (t : Text) (rest : List Text) → ws ≡ t ∷ rest → bytes_eq t run_form.name ≡ false → bytes_eq t asm_form.name ≡ false → command_of ws ≡ None
-of_none ws t rest words other neither = rw (words, other, neither) refl
+pub of_replay : (ws : List Text) (t : Text) (rest : List Text) → ws ≡ t ∷ rest → bytes_eq t run_form.name ≡ false → bytes_eq t asm_form.name ≡ false
+    → bytes_eq t replay_form.name ≡ true → command_of ws ≡ replay_of (parts rest)
+of_replay ws t rest words other second named = rw (words, other, second, named) refl
+
+pub of_none : (ws : List Text) (t : Text) (rest : List Text) → ws ≡ t ∷ rest → bytes_eq t run_form.name ≡ false → bytes_eq t asm_form.name ≡ false
+    → bytes_eq t replay_form.name ≡ false → command_of ws ≡ None
+of_none ws t rest words other second third = rw (words, other, second, third) refl
 
 pub run_asked : (p : Parts) → is_run p ≡ true → run_of p ≡ Some (run (run_value p))
 run_asked p e = rw e refl
@@ -32,8 +37,14 @@ run_asked p e = rw e refl
 pub asm_asked : (p : Parts) → is_asm p ≡ true → asm_of p ≡ Some (asm (asm_value p))
 asm_asked p e = rw e refl
 
+pub replay_asked : (p : Parts) → is_replay p ≡ true → replay_of p ≡ Some (replay (replay_value p))
+replay_asked p e = rw e refl
+
 pub run_refused : (p : Parts) → is_run p ≡ false → run_of p ≡ None
 run_refused p e = rw e refl
 
 pub asm_refused : (p : Parts) → is_asm p ≡ false → asm_of p ≡ None
 asm_refused p e = rw e refl
+
+pub replay_refused : (p : Parts) → is_replay p ≡ false → replay_of p ≡ None
+replay_refused p e = rw e refl

@@ -1,4 +1,4 @@
--- clap's commands of `run` and of `asm`, computed.
+-- clap's commands of `run`, of `asm` and of `replay`, computed.
 use Rattle.std.proofs.Common.{◌≡◌, ◌<◌, ℕ, refl, true, false, length, List, Some, None, [], ◌∷◌, codes, arith}
 use Rattle.clap.specs.Matches.{first_value, found_of}
 use Rattle.clap.specs.Simple.{built, matches_of}
@@ -7,7 +7,7 @@ use Rattle.clap.specs.Walk.{Text, rows_of}
 use Rattle.clap.specs.declared.parser.matches.ArgMatches.{ArgMatches}
 use Rattle.command_line.specs.Commands.{fits, positional}
 use Rattle.command_line.specs.Parts.{parts}
-use Rattle.command_line.specs.Table.{asm_form, run_form}
+use Rattle.command_line.specs.Table.{asm_form, replay_form, run_form}
 use Rattle.command_line.specs.Reading.{EachName, HasRead, app_of_form}
 use Rattle.command_line.proofs.Pieces.{is_row, plain_rule}
 use Rattle.command_line.proofs.Rows.{each_optional}
@@ -17,6 +17,19 @@ use Rattle.command_line.proofs.Finding.{NameAt}
 pub asm_readable : IsReadable asm_form (app_of_form asm_form) (built (app_of_form asm_form))
 unfolding asm_form
 asm_readable = record {
+  built_is = refl;
+  simple = refl;
+  no_subs = refl;
+  all_words = refl;
+  places = (record { by_index = refl; by_id = refl }, refl, refl, (record { by_index = refl; by_id = refl }, refl, refl, tt));
+  options = tt;
+  defaults = refl;
+  valid = λ rows. refl;
+}
+
+pub replay_readable : IsReadable replay_form (app_of_form replay_form) (built (app_of_form replay_form))
+unfolding replay_form
+replay_readable = record {
   built_is = refl;
   simple = refl;
   no_subs = refl;
@@ -49,6 +62,11 @@ asm_name : (NameAt (codes "SOURCE") asm_form.positionals 0 × (is_row (codes "SO
 unfolding asm_form
 asm_name = ((refl, refl, omega arith), ((refl, refl), refl, omega arith))
 
+replay_name : (NameAt (codes "PROGRAM") replay_form.positionals 0 × (is_row (codes "PROGRAM") replay_form.options ≡ false) × (0 < length replay_form.positionals))
+    × (NameAt (codes "RECORD") replay_form.positionals 1 × (is_row (codes "RECORD") replay_form.options ≡ false) × (1 < length replay_form.positionals))
+unfolding replay_form
+replay_name = ((refl, refl, omega arith), ((refl, refl), refl, omega arith))
+
 one_name : (P : ℕ → Text → Type 0) → P 0 (codes "PROGRAM") → EachName P 0 run_form.positionals
 unfolding run_form
 one_name P p = (p, tt)
@@ -56,6 +74,10 @@ one_name P p = (p, tt)
 two_names : (P : ℕ → Text → Type 0) → P 0 (codes "SOURCE") → P 1 (codes "OUT") → EachName P 0 asm_form.positionals
 unfolding asm_form
 two_names P p q = (p, (q, tt))
+
+replay_two_names : (P : ℕ → Text → Type 0) → P 0 (codes "PROGRAM") → P 1 (codes "RECORD") → EachName P 0 replay_form.positionals
+unfolding replay_form
+replay_two_names P p q = (p, (q, tt))
 
 run_names : (words : List Text) (m : ArgMatches) → fits run_form (parts words) ≡ true → rows_of (found_of m) ≡ matches_of (app_of_form run_form) words
     → EachName (λ place name. first_value (found_of m) name ≡ Some (positional place (parts words))) 0 run_form.positionals
@@ -70,11 +92,21 @@ asm_names words m taken rows =
     (name_value asm_form _ _ words asm_readable taken m rows 0 (codes "SOURCE") asm_name.0.0 asm_name.0.1 asm_name.0.2)
     (name_value asm_form _ _ words asm_readable taken m rows 1 (codes "OUT") asm_name.1.0 asm_name.1.1 asm_name.1.2)
 
+replay_names : (words : List Text) (m : ArgMatches) → fits replay_form (parts words) ≡ true → rows_of (found_of m) ≡ matches_of (app_of_form replay_form) words
+    → EachName (λ place name. first_value (found_of m) name ≡ Some (positional place (parts words))) 0 replay_form.positionals
+replay_names words m taken rows =
+    replay_two_names (λ place name. first_value (found_of m) name ≡ Some (positional place (parts words)))
+    (name_value replay_form _ _ words replay_readable taken m rows 0 (codes "PROGRAM") replay_name.0.0 replay_name.0.1 replay_name.0.2)
+    (name_value replay_form _ _ words replay_readable taken m rows 1 (codes "RECORD") replay_name.1.0 replay_name.1.1 replay_name.1.2)
+
 pub run_taken : (words : List Text) → fits run_form (parts words) ≡ true → takes (app_of_form run_form) words ≡ true
 run_taken words taken = clap_takes run_form _ _ words run_readable taken
 
 pub asm_taken : (words : List Text) → fits asm_form (parts words) ≡ true → takes (app_of_form asm_form) words ≡ true
 asm_taken words taken = clap_takes asm_form _ _ words asm_readable taken
+
+pub replay_taken : (words : List Text) → fits replay_form (parts words) ≡ true → takes (app_of_form replay_form) words ≡ true
+replay_taken words taken = clap_takes replay_form _ _ words replay_readable taken
 
 pub run_read : (words : List Text) (m : ArgMatches) → fits run_form (parts words) ≡ true → rows_of (found_of m) ≡ matches_of (app_of_form run_form) words
     → HasRead run_form (parts words) m
@@ -85,3 +117,8 @@ pub asm_read : (words : List Text) (m : ArgMatches) → fits asm_form (parts wor
     → HasRead asm_form (parts words) m
 asm_read words m taken rows =
     record { names = asm_names words m taken rows; options = options_value asm_form _ _ words asm_readable taken m rows }
+
+pub replay_read : (words : List Text) (m : ArgMatches) → fits replay_form (parts words) ≡ true → rows_of (found_of m) ≡ matches_of (app_of_form replay_form) words
+    → HasRead replay_form (parts words) m
+replay_read words m taken rows =
+    record { names = replay_names words m taken rows; options = options_value replay_form _ _ words replay_readable taken m rows }

@@ -9,11 +9,12 @@ use Rattle.command_line.specs.Options.{are_options, has_required, number_at, val
 use Rattle.command_line.specs.declared.run_words.Form.{Form}
 use Rattle.command_line.specs.declared.run_words.Form.TheVariants as form
 use Rattle.command_line.specs.declared.command.Command.{Command}
-use Rattle.command_line.specs.declared.command.Command.TheVariants.{Run, Asm}
+use Rattle.command_line.specs.declared.command.Command.TheVariants.{Run, Asm, Replay}
 use Rattle.command_line.specs.declared.run_words.RunCommand.{RunCommand}
 use Rattle.command_line.specs.declared.command.AsmCommand.{AsmCommand}
+use Rattle.command_line.specs.declared.command.ReplayCommand.{ReplayCommand}
 use Rattle.command_line.specs.declared.run_words.TheConstants as table
-use Rattle.command_line.specs.Table.{CommandForm, Row, static_row, run_form, asm_form, record_row, report_row, form_row, frame_row}
+use Rattle.command_line.specs.Table.{CommandForm, Row, static_row, run_form, asm_form, replay_form, record_row, report_row, form_row, frame_row}
 
 -- what a session of a program is asked for
 pub record RunValue : Type 0 where
@@ -34,10 +35,16 @@ pub record AsmValue : Type 0 where
   pub source : Text
   pub out : Text
 
+-- what a replay is asked for
+pub record ReplayValue : Type 0 where
+  pub program : Text
+  pub recording : Text
+
 -- a command with its names and numbers
 pub data CommandValue : Type 0 where
   run : RunValue → CommandValue
   asm : AsmValue → CommandValue
+  replay : ReplayValue → CommandValue
 
 -- the positionals are as many as the command has, all of them names, and the options are of its rows, each at most once,
 -- those without a default present
@@ -98,17 +105,29 @@ asm_value p = record { source = positional 0 p; out = positional 1 p }
 unfoldable pub is_asm : Parts → Bool
 is_asm p = fits asm_form p && not (bytes_eq (positional 0 p) (positional 1 p))
 
+-- the names of `replay`
+unfoldable pub replay_value : Parts → ReplayValue
+replay_value p = record { program = positional 0 p; recording = positional 1 p }
+
+-- the words are those of `replay`: its names may be any two texts
+unfoldable pub is_replay : Parts → Bool
+is_replay p = fits replay_form p
+
 abbrev pub run_of : Parts → Option CommandValue
 run_of p = if is_run p then Some (run (run_value p)) else None
 
 abbrev pub asm_of : Parts → Option CommandValue
 asm_of p = if is_asm p then Some (asm (asm_value p)) else None
 
+abbrev pub replay_of : Parts → Option CommandValue
+replay_of p = if is_replay p then Some (replay (replay_value p)) else None
+
 -- the command that the words behind the program's own name ask for: the first of them says which it is
 abbrev pub command_of : List Text → Option CommandValue
 command_of [] = None
 command_of (word ∷ rest) =
-    if bytes_eq word run_form.name then run_of (parts rest) else (if bytes_eq word asm_form.name then asm_of (parts rest) else None)
+    if bytes_eq word run_form.name then run_of (parts rest)
+    else (if bytes_eq word asm_form.name then asm_of (parts rest) else (if bytes_eq word replay_form.name then replay_of (parts rest) else None))
 
 -- a command of the code, as the value that definitions speak of
 abbrev pub run_shown : RunCommand → RunValue
@@ -129,6 +148,10 @@ run_shown c = record {
 abbrev pub asm_shown : AsmCommand → AsmValue
 asm_shown c = record { source = c.source.now; out = c.out.now }
 
+abbrev pub replay_shown : ReplayCommand → ReplayValue
+replay_shown c = record { program = c.program.now; recording = c.recording.now }
+
 abbrev pub shown : Command → CommandValue
 shown (Run c) = run (run_shown c)
 shown (Asm c) = asm (asm_shown c)
+shown (Replay c) = replay (replay_shown c)

@@ -3,7 +3,7 @@ use Rattle.std.specs.Prelude.{◌≡◌, ℕ, ◌≤◌, Bool, true, false, List
 use Rattle.command_line.specs.declared.options.TakesOf.TheVariants.{Name, OneOf, Number}
 use Rattle.command_line.specs.Texts.{Text}
 use Rattle.command_line.specs.Table.{Row, Takes, run_form}
-use Rattle.command_line.specs.Commands.{CommandValue, RunValue, asm, command_of, numbers, run}
+use Rattle.command_line.specs.Commands.{CommandValue, RunValue, asm, command_of, numbers, replay, run}
 
 -- a row takes numbers
 abbrev pub takes_numbers : Takes → Bool
@@ -26,10 +26,11 @@ EachInRange (number ∷ rest) = IsInRange number.0.takes number.1 × EachInRange
 abbrev pub AreInRange : RunValue → Type 0
 AreInRange value = EachInRange (numbers value)
 
--- the same of a command; `asm` has no numbers
+-- the same of a command; `asm` and `replay` have no numbers
 abbrev pub HasRanges : CommandValue → Type 0
 HasRanges (run value) = AreInRange value
 HasRanges (asm value) = Unit {0}
+HasRanges (replay value) = Unit {0}
 
 -- the numbers of words that are a `run` are in the ranges of their rows
 abbrev pub RangesOf : Type 0

@@ -73,6 +73,9 @@ run_form = static_form table.RUN
 unfoldable pub asm_form : CommandForm
 asm_form = static_form commands.ASM
 
+unfoldable pub replay_form : CommandForm
+replay_form = static_form commands.REPLAY
+
 unfoldable pub record_row : Row
 record_row = static_row table.RECORD
 

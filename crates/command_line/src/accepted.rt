@@ -3,10 +3,10 @@ ghost use Rattle.std.specs.Prelude.{◌≡◌, None, MatchOption, is_some};
 ghost use Rattle.command_line.specs.Meant.{Asks};
 ghost use Rattle.command_line.specs.Options.{value_of};
 ghost use Rattle.command_line.specs.Parts.{parts_of, texts_of};
-ghost use Rattle.command_line.specs.Table.{asm_form, record_row, report_row, run_form, form_read, row_read};
-ghost use Rattle.command_line.specs.Commands.{command_of, differ, fits, is_asm, is_run, positional};
+ghost use Rattle.command_line.specs.Table.{asm_form, record_row, replay_form, report_row, run_form, form_read, row_read};
+ghost use Rattle.command_line.specs.Commands.{command_of, differ, fits, is_asm, is_replay, is_run, positional};
 
-use crate::command::ASM;
+use crate::command::{ASM, REPLAY};
 use crate::options::{CommandRow, OptionRow};
 use crate::parts::{are_complete, are_names, are_taken, given, positional};
 use crate::run_words::{RECORD, REPORT, RUN};
@@ -57,6 +57,14 @@ fn fit_asm(words: &[String]) -> bool
     ensures { result ≡ fits asm_form (parts_of words.now) }
 {
     have_form(words, &ASM)
+}
+
+// Whether the words have the form of `replay`.
+#[tactic(auto, unfolding(crate::specs::Table::replay_form))]
+fn fit_replay(words: &[String]) -> bool
+    ensures { result ≡ fits replay_form (parts_of words.now) }
+{
+    have_form(words, &REPLAY)
 }
 
 // Where the record goes.
@@ -110,11 +118,20 @@ fn are_asm_words(words: &[String]) -> bool
     name_at(words, 0) != name_at(words, 1)
 }
 
+// Whether these are the words behind `replay`.
+#[tactic(auto, unfolding(crate::specs::Commands::is_replay))]
+fn are_replay_words(words: &[String]) -> bool
+    ensures { result ≡ is_replay (parts_of words.now) }
+{
+    fit_replay(words)
+}
+
 /// Which command the words ask for, with the words behind its name.
 #[derive(Clone, Copy)]
 pub enum Asked<'a> {
     Run(&'a [String]),
     Asm(&'a [String]),
+    Replay(&'a [String]),
 }
 
 /// The command that the words ask for, if they are those of one.
@@ -136,6 +153,12 @@ pub(crate) fn find_command<'a>(words: &'a [String]) -> Option<Asked<'a>>
         }
         return Some(Asked::Asm(rest));
     }
+    if command.as_str() == REPLAY.name {
+        if !are_replay_words(rest) {
+            return None;
+        }
+        return Some(Asked::Replay(rest));
+    }
     None
 }
 
@@ -147,5 +170,6 @@ pub fn is_command(words: &[String]) -> bool
         None => false,
         Some(Asked::Run(_)) => true,
         Some(Asked::Asm(_)) => true,
+        Some(Asked::Replay(_)) => true,
     }
 }

@@ -1,11 +1,14 @@
 // The commands, and what the words of one come to.
 use crate::options::{CommandOf, CommandRow, OptionRow};
-use crate::run_words::{RUN, RunCommand};
+use crate::run_words::{PROGRAM, RUN, RunCommand};
 
 /// The file of an assembler's text.
 pub const SOURCE: &str = "SOURCE";
 /// The file that is written.
 pub const OUT: &str = "OUT";
+
+/// The file of a record.
+pub const RECORDED: &str = "RECORD";
 
 /// The options of `asm`.
 pub const ASM_OPTIONS: [OptionRow; 0] = [];
@@ -17,8 +20,18 @@ pub const ASM: CommandRow = CommandOf {
     options: &ASM_OPTIONS,
 };
 
+/// The options of `replay`.
+pub const REPLAY_OPTIONS: [OptionRow; 0] = [];
+
+/// Replays a record.
+pub const REPLAY: CommandRow = CommandOf {
+    name: "replay",
+    positionals: &[PROGRAM, RECORDED],
+    options: &REPLAY_OPTIONS,
+};
+
 /// The commands.
-pub const COMMANDS: [CommandRow; 2] = [RUN, ASM];
+pub const COMMANDS: [CommandRow; 3] = [RUN, ASM, REPLAY];
 
 /// An assembly: the names of its source and of what it writes, not alike.
 #[derive(Clone, Copy, Debug)]
@@ -27,9 +40,17 @@ pub struct AsmCommand<'a> {
     pub out: &'a str,
 }
 
+/// A replay: the names of the program and of its record.
+#[derive(Clone, Copy, Debug)]
+pub struct ReplayCommand<'a> {
+    pub program: &'a str,
+    pub recording: &'a str,
+}
+
 /// What the words ask for.
 #[derive(Clone, Copy, Debug)]
 pub enum Command<'a> {
     Run(RunCommand<'a>),
     Asm(AsmCommand<'a>),
+    Replay(ReplayCommand<'a>),
 }

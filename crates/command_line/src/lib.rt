@@ -13,7 +13,9 @@ mod texts;
 mod wording;
 
 pub use accepted::is_command;
-pub use command::{ASM, ASM_OPTIONS, AsmCommand, COMMANDS, Command};
+pub use command::{
+    ASM, ASM_OPTIONS, AsmCommand, COMMANDS, Command, REPLAY, REPLAY_OPTIONS, ReplayCommand,
+};
 pub use laws::{numbers_of, ranges_of};
 pub use options::{CommandOf, CommandRow, OptionRow, RowOf, Takes, TakesOf, takes_value};
 pub use reading::read_command;

@@ -5,9 +5,9 @@ ghost use Rattle.clap.specs.declared.error.kind.ErrorKind.TheVariants.{OutOfMemo
 ghost use Rattle.command_line.specs.Commands.{fits};
 ghost use Rattle.command_line.specs.Parts.{parts_of};
 ghost use Rattle.command_line.specs.Reading.{HasRead, app_of_form, option_rule};
-ghost use Rattle.command_line.specs.Table.{asm_form, form_read, row_read, rows_read, run_form};
+ghost use Rattle.command_line.specs.Table.{asm_form, form_read, replay_form, row_read, rows_read, run_form};
 
-use crate::command::ASM;
+use crate::command::{ASM, REPLAY};
 use crate::options::{CommandRow, OptionRow};
 use crate::run_words::RUN;
 use clap::{Arg, ArgMatches, Error};
@@ -83,6 +83,16 @@ pub fn read_asm<'a>(alloc: Global, words: &'a [String]) -> Result<ArgMatches<'a>
     ensures faultless { IfErr result (λ e. kind_of e ≡ OutOfMemory) }
 {
     let command = parser(alloc, &ASM)?;
+    command.try_get_matches_from(words)
+}
+
+/// The words behind `replay`, read by clap. What our own check takes has no fault there: only memory may be wanted.
+pub fn read_replay<'a>(alloc: Global, words: &'a [String]) -> Result<ArgMatches<'a>, Error>
+    requires { fits replay_form (parts_of words.now) ≡ true }
+    ensures read { IfOk result (λ m. HasRead replay_form (parts_of words.now) m) }
+    ensures faultless { IfErr result (λ e. kind_of e ≡ OutOfMemory) }
+{
+    let command = parser(alloc, &REPLAY)?;
     command.try_get_matches_from(words)
 }
 

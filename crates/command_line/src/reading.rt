@@ -3,15 +3,15 @@ ghost use Rattle.std.specs.Prelude.{◌≡◌, true, Ok, None, IfOk, IfSome, opt
 ghost use Rattle.clap.specs.Words.{kind_of};
 ghost use Rattle.clap.specs.declared.error.kind.ErrorKind.TheVariants.{OutOfMemory};
 ghost use Rattle.command_line.specs.Parts.{Parts, parts_of, texts_of};
-ghost use Rattle.command_line.specs.Table.{asm_form};
-ghost use Rattle.command_line.specs.Commands.{asm_shown, asm_value, command_of, is_asm, is_run, run_shown, run_value, shown};
+ghost use Rattle.command_line.specs.Table.{asm_form, replay_form};
+ghost use Rattle.command_line.specs.Commands.{asm_shown, asm_value, command_of, is_asm, is_replay, is_run, replay_shown, replay_value, run_shown, run_value, shown};
 ghost use Rattle.command_line.specs.Ranges.{HasRanges};
 ghost use Rattle.command_line.specs.Reading.{HasRead};
 
 use crate::accepted::{Asked, find_command};
-use crate::command::{AsmCommand, Command, OUT, SOURCE};
-use crate::matching::{read_asm, read_run, value_in};
-use crate::run_words::{RunCommand, run_from};
+use crate::command::{AsmCommand, Command, OUT, RECORDED, ReplayCommand, SOURCE};
+use crate::matching::{read_asm, read_replay, read_run, value_in};
+use crate::run_words::{PROGRAM, RunCommand, run_from};
 use clap::{ArgMatches, Error};
 use std::alloc::{AllocError, Global};
 
@@ -47,6 +47,27 @@ fn asm_command<'a>(alloc: Global, words: &'a [String]) -> Result<AsmCommand<'a>,
     }
 }
 
+// The names of `replay`, once clap has read the words.
+fn replay_from<'a>(matches: &ArgMatches<'a>) -> ReplayCommand<'a>
+    ensures { (p : Parts) → HasRead replay_form p matches.now → replay_shown result ≡ replay_value p }
+{
+    ReplayCommand {
+        program: value_in(matches, PROGRAM),
+        recording: value_in(matches, RECORDED),
+    }
+}
+
+// The command that the words behind `replay` are.
+fn replay_command<'a>(alloc: Global, words: &'a [String]) -> Result<ReplayCommand<'a>, AllocError>
+    requires { is_replay (parts_of words.now) ≡ true }
+    ensures { IfOk result (λ replay. replay_shown replay ≡ replay_value (parts_of words.now)) }
+{
+    match read_replay(alloc, words) {
+        Ok(matches) => Ok(replay_from(&matches)),
+        Err(error) => Err(out_of_memory(error)),
+    }
+}
+
 // The one error that clap has at words that our own check takes.
 fn out_of_memory(error: Error) -> AllocError
     requires { kind_of error ≡ OutOfMemory }
@@ -73,6 +94,10 @@ pub fn read_command<'a>(
         },
         Some(Asked::Asm(rest)) => match asm_command(alloc, rest) {
             Ok(asm) => Ok(Some(Command::Asm(asm))),
+            Err(error) => Err(error),
+        },
+        Some(Asked::Replay(rest)) => match replay_command(alloc, rest) {
+            Ok(replay) => Ok(Some(Command::Replay(replay))),
             Err(error) => Err(error),
         },
     }

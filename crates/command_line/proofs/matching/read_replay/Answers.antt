@@ -1,0 +1,25 @@
+use Rattle.std.proofs.Common.{◌≡◌, ◌∙◌, ap}
+use Rattle.std.proofs.lemmas.Result.{IfErr-weaker, IfOk-weaker}
+use Rattle.clap.specs.Words.{App, app_of, is_simple, matches_of, takes}
+use Rattle.command_line.specs.Parts.{texts_of}
+use Rattle.command_line.specs.Reading.{app_of_form}
+use Rattle.command_line.specs.Table.{replay_form}
+use Rattle.command_line.proofs.Readable.{replay_read, replay_readable, replay_taken}
+use Rattle.command_line.proofs.matching.read_replay.Goals as goal
+
+pub returns-clause-read : goal.returns-clause-read
+unfolding replay_form
+returns-clause-read c =
+    let words = texts_of c.args.words.now in
+    let app_is : app_of c.in_ok-command.command ≡ app_of_form replay_form = c.in_ok-command.ensures in
+    IfOk-weaker c.try_get_matches_from.result _ _
+    (λ m h. replay_read words m c.requires ((h (ap is_simple app_is ∙ replay_readable.simple)).0 ∙ ap (λ (a : App). matches_of a words) app_is))
+    c.try_get_matches_from.ensures.matches
+
+pub returns-clause-faultless : goal.returns-clause-faultless
+unfolding replay_form
+returns-clause-faultless c =
+    let words = texts_of c.args.words.now in
+    let app_is : app_of c.in_ok-command.command ≡ app_of_form replay_form = c.in_ok-command.ensures in
+    IfErr-weaker c.try_get_matches_from.result _ _ (λ e h. h (ap (λ (a : App). takes a words) app_is ∙ replay_taken words c.requires))
+    c.try_get_matches_from.ensures.passes

@@ -1,0 +1,6 @@
+use Rattle.command_line.specs.Commands.{is_replay}
+use Rattle.command_line.proofs.reading.replay_command.Goals as goal
+
+pub read_replay-requires : goal.read_replay-requires
+unfolding is_replay
+read_replay-requires c = c.requires

@@ -1,0 +1,7 @@
+use Rattle.command_line.specs.Table.{replay_form}
+use Rattle.command_line.specs.Commands.{replay_value}
+use Rattle.command_line.proofs.reading.replay_from.Goals as goal
+
+pub returns : goal.returns
+unfolding replay_value replay_form
+returns c = λ p read i. record { program = c.value_in.ensures _ read.names.0 i; recording = c.value_in-2.ensures _ read.names.1.0 i }
