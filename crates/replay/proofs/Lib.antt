@@ -14,3 +14,4 @@ pub mod RecordLemmas
 pub mod RoomLemmas
 pub mod StreamLemmas
 pub mod SessionLemmas
+mod LeavingLemmas

@@ -1,5 +1,5 @@
 -- What holds while a record is replayed.
-use Rattle.std.specs.Prelude.{◌≡◌, ℕ, ◌<◌, ◌≤◌, Bool, true, false, List, [], ◌∷◌, ◌++◌, length, drop, Option, None, Result, Ok, Err, slice_get, unwrap_or, IsErrOf}
+use Rattle.std.specs.Prelude.{◌≡◌, ℕ, ◌<◌, ◌≤◌, Bool, true, false, List, [], ◌∷◌, ◌++◌, length, drop, Option, None, Result, Ok, Err, slice_get, unwrap_or, IsErrOf, IsSome}
 use Rattle.rx_io.specs.declared.bytes.Item.{Item}
 use Rattle.rx_io.specs.declared.journal.Entry.{Entry}
 use Rattle.rx_io.specs.Faults.{Rose}
@@ -19,7 +19,7 @@ use Rattle.session_history.specs.Keeping.{KeepsItems, KeepsPhases}
 use Rattle.schedule_file.specs.declared.recorded.Recorded.{Recorded}
 use Rattle.replay.specs.declared.player.Player.{Player}
 use Rattle.replay.specs.Giving.{found_gone, AreGiven}
-use Rattle.replay.specs.Replaying.{Replay, IsReplay, AreAsked, bounds_of, EndsBy, IsAsking}
+use Rattle.replay.specs.Replaying.{Replay, IsReplay, AreAsked, bounds_of, EndsBy, IsAsking, LeavesLink}
 
 -- the state of a guest that stands so, and has sent this
 abbrev pub state_of : List Send → Standing → State
@@ -132,6 +132,11 @@ abbrev pub WaitsBy : Image → Recorded → Told → Told → Phases → Option 
 WaitsBy image recorded began now phases coming takes stage (Ok done) = IsWaiting image recorded began now phases stage
 WaitsBy image recorded began now phases coming takes stage (Err end) = IsEnd image recorded began now coming takes stage end
 
+-- No call of the link has failed, and it tells what comes, if it did before; or the replay has ended.
+abbrev pub LeavesBy : Option Coming → Option Coming → Bool → Bool → Result (Unit {0}) Answer → Type 0
+LeavesBy before now takes gives (Ok done) = (takes ≡ true) × (gives ≡ true) × (IsSome before → IsSome now)
+LeavesBy before now takes gives (Err end) = LeavesLink before now takes gives end
+
 -- something holds for some image, since some time
 pub record Stands (P : Image → Told → Type 0) : Type 0 where
   pub image : Image
@@ -145,8 +150,9 @@ pub record HasCause {X : Type 0} (before now : Counts) (result : Result X Answer
   pub read_fault : IsErrOf result answer.ReadFault → Rose before.takes now.takes
   pub write_fault : IsErrOf result answer.WriteFault → Rose before.gives now.gives
 
--- no fault is answered
+-- no fault and no refusal is answered
 abbrev pub HasNoFault : Result (Unit {0}) Answer → Type 0
+HasNoFault (Err (answer.InputRefused kind offset)) = ⊥
 HasNoFault (Err answer.ReadFault) = ⊥
 HasNoFault (Err answer.WriteFault) = ⊥
 HasNoFault _ = Unit {0}

@@ -1,5 +1,5 @@
 -- What a replay of a record is: the run that the record tells of, over the events of a link, and its sends given again.
-use Rattle.std.specs.Prelude.{◌≡◌, ◌≢◌, ℕ, ◌+◌, ◌<◌, ◌≤◌, ◌^◌, List, ◌∷◌, ◌++◌, length, take, slice_get, false, None, Some, Option, IsSome, IfSome, ◌⊎◌, Bool}
+use Rattle.std.specs.Prelude.{◌≡◌, ◌≢◌, ℕ, ◌+◌, ◌<◌, ◌≤◌, ◌^◌, List, ◌∷◌, ◌++◌, length, take, slice_get, false, None, Some, Option, IsSome, IfSome, ◌⊎◌, Bool, true}
 use Rattle.rx_io.specs.declared.journal.Entry.{Entry}
 use Rattle.rx_io.specs.declared.journal.Entry.TheVariants as entry
 use Rattle.rx_io.specs.declared.journal.LinkEvent.{LinkEvent}
@@ -101,6 +101,15 @@ pub record HasReplayed (image : Image) (recorded : Recorded) (began now : Told) 
   pub ends : EndsBy image recorded entries coming replay end
   pub failed : takes ≡ false → IsAsking image recorded entries replay
   pub counted : after ≡ before + replay.steps
+
+-- Which calls of its link have failed where a replay has ended: none, but at a refusal and at a fault of reading the last take, at a fault of
+-- writing the last give, and at want of memory one of both at most. A link that told what its grammar has next tells its refusal too.
+abbrev pub LeavesLink : Option Coming → Option Coming → Bool → Bool → Answer → Type 0
+LeavesLink before now takes gives (answer.InputRefused kind offset) = (takes ≡ false) × (gives ≡ true) × (IsSome before → IsSome now)
+LeavesLink before now takes gives answer.ReadFault = gives ≡ true
+LeavesLink before now takes gives answer.WriteFault = takes ≡ true
+LeavesLink before now takes gives answer.Memory = (takes ≡ true) ⊎ (gives ≡ true)
+LeavesLink before now takes gives end = (takes ≡ true) × (gives ≡ true)
 
 -- no count of failed calls of a link falls, and a fault is answered only where its own rose
 pub record HasAnswerCause (before now : Counts) (end : Answer) : Type 0 where

@@ -3,7 +3,7 @@ ghost use Rattle.std.specs.Prelude.{◌≡◌, true, IfOk};
 ghost use Rattle.rx_io.specs.Links.{Told};
 ghost use Rattle.elf_image.specs.declared.image.Image.{Image};
 ghost use Rattle.schedule_file.specs.declared.recorded.Recorded.{Recorded};
-ghost use Rattle.replay.specs.Playing.{stage_of, IsSending, GoesOnBy, Stands, HasCause};
+ghost use Rattle.replay.specs.Playing.{stage_of, IsSending, GoesOnBy, Stands, HasCause, LeavesBy};
 
 use crate::hearing::answer_to;
 use crate::player::Player;
@@ -26,6 +26,7 @@ impl Player {
         ensures cpu { self.new.cpu ≡ self.old.cpu }
         ensures takes { K.takes link.new ≡ K.takes link.old }
         ensures gives { IfOk result (λ _. K.gives link.new ≡ true) }
+        ensures leaves { LeavesBy (K.coming link.old) (K.coming link.new) (K.takes link.new) (K.gives link.new) result }
         ensures cause { HasCause (K.counts link.old) (K.counts link.new) result }
         ensures went { K.Went link.old link.new }
     {

@@ -6,7 +6,7 @@ ghost use Rattle.schedule_file.specs.declared.recorded.Recorded.{Recorded};
 ghost use Rattle.item_log.specs.Connections.{in_order};
 ghost use Rattle.item_log.specs.Log.{received};
 ghost use Rattle.replay.specs.Hearing.{answer_of, refusal_answer, LogsEvent, HeedsEvent};
-ghost use Rattle.replay.specs.Playing.{stage_of, IsWaiting, WaitsBy, Stands, HasCause};
+ghost use Rattle.replay.specs.Playing.{stage_of, IsWaiting, WaitsBy, Stands, HasCause, LeavesBy};
 
 use crate::player::Player;
 use item_log::ItemRefusal;
@@ -44,12 +44,14 @@ impl Player {
     pub(crate) fn await_item<K: Link>(&mut self, link: &mut K) -> Result<(), Answer>
         requires waits { (recorded : Recorded) × Stands (λ image began. IsWaiting image recorded began (K.told link.old) (K.phases link.old) (stage_of self.old)) }
         requires takes { K.takes link.old ≡ true }
+        requires gives { K.gives link.old ≡ true }
         ensures hears { (image : Image) (recorded : Recorded) (began : Told) → IsWaiting image recorded began (K.told link.old) (K.phases link.old) (stage_of self.old)
             → WaitsBy image recorded began (K.told link.new) (K.phases link.new) (K.coming link.new) (K.takes link.new) (stage_of self.new) result }
         ensures there { IfOk result (λ _. self.new.cpu.slots.live.guest.machine.taken < received self.new.log) }
         ensures cpu { self.new.cpu ≡ self.old.cpu }
         ensures takes { IfOk result (λ _. K.takes link.new ≡ true) }
         ensures gives { K.gives link.new ≡ K.gives link.old }
+        ensures leaves { LeavesBy (K.coming link.old) (K.coming link.new) (K.takes link.new) (K.gives link.new) result }
         ensures cause { HasCause (K.counts link.old) (K.counts link.new) result }
         ensures went { K.Went link.old link.new }
     {
@@ -66,12 +68,14 @@ impl Player {
         requires waits { (recorded : Recorded) × Stands (λ image began. IsWaiting image recorded began (K.told link.old) (K.phases link.old) (stage_of self.old)) }
         requires none_left { received self.old.log ≤ self.old.cpu.slots.live.guest.machine.taken }
         requires takes { K.takes link.old ≡ true }
+        requires gives { K.gives link.old ≡ true }
         ensures hears { (image : Image) (recorded : Recorded) (began : Told) → IsWaiting image recorded began (K.told link.old) (K.phases link.old) (stage_of self.old)
             → WaitsBy image recorded began (K.told link.new) (K.phases link.new) (K.coming link.new) (K.takes link.new) (stage_of self.new) result }
         ensures later { IfOk result (λ _. (self.old.events < 2 ^ 32) × (self.new.events ≡ self.old.events + 1)) }
         ensures cpu { self.new.cpu ≡ self.old.cpu }
         ensures takes { IfOk result (λ _. K.takes link.new ≡ true) }
         ensures gives { K.gives link.new ≡ K.gives link.old }
+        ensures leaves { LeavesBy (K.coming link.old) (K.coming link.new) (K.takes link.new) (K.gives link.new) result }
         ensures cause { HasCause (K.counts link.old) (K.counts link.new) result }
         ensures went { K.Went link.old link.new }
     {

@@ -5,7 +5,7 @@ ghost use Rattle.block_book.specs.Heap.{is_bare};
 ghost use Rattle.run_history.specs.Machine.{Chooses, register};
 ghost use Rattle.run_history.specs.Run.{does};
 ghost use Rattle.elf_image.specs.declared.image.Image.{Image};
-ghost use Rattle.replay.specs.Playing.{stage_of, IsBetween, IsWaiting, IsWanting, GoesOnBy, Stands, HasCause, HasNoFault};
+ghost use Rattle.replay.specs.Playing.{stage_of, IsBetween, IsWaiting, IsWanting, GoesOnBy, Stands, HasCause, HasNoFault, LeavesBy};
 ghost use Rattle.replay.specs.Judging.{judged};
 
 use crate::player::Player;
@@ -41,6 +41,7 @@ impl Player {
         ensures counted { steps.new + self.old.cpu.slots.live.steps ≡ steps.old + self.new.cpu.slots.live.steps }
         ensures takes { IfOk result (λ _. K.takes link.new ≡ true) }
         ensures gives { IfOk result (λ _. K.gives link.new ≡ true) }
+        ensures leaves { LeavesBy (K.coming link.old) (K.coming link.new) (K.takes link.new) (K.gives link.new) result }
         ensures cause { HasCause (K.counts link.old) (K.counts link.new) result }
         ensures went { K.Went link.old link.new }
     {
@@ -65,12 +66,14 @@ impl Player {
         requires waits { Stands (λ image began. IsWaiting image recorded.now began (K.told link.old) (K.phases link.old) (stage_of self.old)) }
         requires short { recorded.now.steps < 2 ^ 63 }
         requires takes { K.takes link.old ≡ true }
+        requires gives { K.gives link.old ≡ true }
         ensures turns { (image : Image) (began : Told) → IsWaiting image recorded.now began (K.told link.old) (K.phases link.old) (stage_of self.old)
             → GoesOnBy image recorded.now began (K.told link.new) (K.phases link.new) (K.coming link.new) (K.takes link.new) (stage_of self.new) result }
         ensures later { IfOk result (λ _. self.old.cpu.slots.live.steps < self.new.cpu.slots.live.steps) }
         ensures counted { steps.new + self.old.cpu.slots.live.steps ≡ steps.old + self.new.cpu.slots.live.steps }
         ensures takes { IfOk result (λ _. K.takes link.new ≡ true) }
         ensures gives { K.gives link.new ≡ K.gives link.old }
+        ensures leaves { LeavesBy (K.coming link.old) (K.coming link.new) (K.takes link.new) (K.gives link.new) result }
         ensures cause { HasCause (K.counts link.old) (K.counts link.new) result }
         ensures went { K.Went link.old link.new }
     {

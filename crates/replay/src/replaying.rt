@@ -1,7 +1,7 @@
 // A record is replayed.
 ghost use Rattle.std.specs.Prelude.{◌≡◌, ◌*◌, ◌<◌, ◌^◌, true};
 ghost use Rattle.rx_io.specs.Links.{IsFresh};
-ghost use Rattle.replay.specs.Replaying.{HasReplayed, HasAnswerCause};
+ghost use Rattle.replay.specs.Replaying.{HasReplayed, HasAnswerCause, LeavesLink};
 
 use crate::player::Player;
 use elf_image::Image;
@@ -29,6 +29,7 @@ pub fn replay<K: Link, L: Ledger>(
     requires takes { K.takes link.old ≡ true }
     requires gives { K.gives link.old ≡ true }
     ensures replayed { HasReplayed image.now recorded.now (K.told link.old) (K.told link.new) (K.coming link.new) (K.takes link.new) result steps.old steps.new }
+    ensures leaves { LeavesLink (K.coming link.old) (K.coming link.new) (K.takes link.new) (K.gives link.new) result }
     ensures cause { HasAnswerCause (K.counts link.old) (K.counts link.new) result }
     ensures went { K.Went link.old link.new }
 {

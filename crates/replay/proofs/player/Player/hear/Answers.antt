@@ -1,9 +1,11 @@
-use Rattle.std.proofs.Common.{Bool, sym, subst}
+use Rattle.std.proofs.Common.{Bool, sym, subst, ◌∙◌}
 use Rattle.rx_io.specs.Links.{events_in}
 use Rattle.run_history.specs.declared.answer.Answer.{Answer}
 use Rattle.event_gate.proofs.Ordering.{in_order_shown}
+use Rattle.replay.specs.Replaying.{LeavesLink}
 use Rattle.replay.specs.Playing.{IsEnd, WaitsBy, stage_of}
 use Rattle.replay.proofs.HearLemmas.{heeds_event, takes_none}
+use Rattle.replay.proofs.LeavingLemmas.{heeds_none, leaves_both, leaves_untaken, taken_known}
 use Rattle.replay.proofs.player.Player.hear.Goals as goal
 
 pub heed-requires : goal.heed-requires
@@ -22,3 +24,15 @@ returns-in-Err-clause-hears g c image recording began waiting =
     subst (λ (end : Answer). IsEnd image recording began (g.K.Link.told c.next.new.self) (g.K.Link.coming c.next.new.self) (g.K.Link.takes c.next.new.self) (stage_of c.args.self.now) end) (sym c.answer_to.ensures)
     (takes_none image recording began (g.K.Link.told c.args.link.now) (g.K.Link.told c.next.new.self) (g.K.Link.phases c.args.link.now) (g.K.Link.phases c.next.new.self) (stage_of c.args.self.now) waiting c.requires.none_left
     (g.K.Link.coming c.next.new.self) (g.K.Link.coming c.args.link.now) (g.K.Link.takes c.next.new.self) c.in-Err.fault c.in-Err.ensures.told c.in-Err.ensures.grammar c.in-Err.ensures.last)
+
+pub returns-in-Ok-clause-leaves : goal.returns-in-Ok-clause-leaves
+returns-in-Ok-clause-leaves g c =
+    leaves_both (g.K.Link.coming c.args.link.now) (g.K.Link.coming c.next.new.self) (g.K.Link.takes c.next.new.self) (g.K.Link.gives c.next.new.self) c.heed.result c.in-Ok.ensures.takes (c.in-Ok.ensures.gives ∙ c.requires.gives)
+    (taken_known (g.K.Link.coming c.args.link.now) (g.K.Link.coming c.next.new.self) c.in-Ok.event c.in-Ok.ensures.coming)
+    (heeds_none c.in-Ok.event (stage_of c.args.self.now) (stage_of c.heed.new.self) c.heed.result c.heed.ensures.heeds)
+
+pub returns-in-Err-clause-leaves : goal.returns-in-Err-clause-leaves
+returns-in-Err-clause-leaves g c =
+    subst (λ (end : Answer). LeavesLink (g.K.Link.coming c.args.link.now) (g.K.Link.coming c.next.new.self) (g.K.Link.takes c.next.new.self) (g.K.Link.gives c.next.new.self) end) (sym c.answer_to.ensures)
+    (leaves_untaken (g.K.Link.coming c.args.link.now) (g.K.Link.coming c.next.new.self) (g.K.Link.takes c.next.new.self) (g.K.Link.gives c.next.new.self) c.in-Err.fault c.in-Err.ensures.takes (c.in-Err.ensures.gives ∙ c.requires.gives)
+    c.in-Err.ensures.grammar c.in-Err.ensures.coming)
