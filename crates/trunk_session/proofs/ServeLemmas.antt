@@ -32,11 +32,11 @@ use Rattle.trunk_session.proofs.PayloadLemmas.{carried}
 use Rattle.trunk_session.proofs.WriteLemmas.{Short, wrote_trunk, wrote_frames}
 
 -- what a link comes to
-abbrev upcoming : Intake → Option Coming
+abbrev pub upcoming : Intake → Option Coming
 upcoming intake = told_coming intake.told intake.took intake.phases intake.takes intake.refused
 
 -- what was taken, where the source tells its bytes
-has_taken : (old new : Intake) (before : Stream) (list : List LinkEvent) → old.told ≡ Some before → IsFresh old.phases → old.took ≡ 0 → Countable new.told → TookFrames old new
+pub has_taken : (old new : Intake) (before : Stream) (list : List LinkEvent) → old.told ≡ Some before → IsFresh old.phases → old.took ≡ 0 → Countable new.told → TookFrames old new
     → Grew (Some []) (told_events new.told new.took new.phases new.takes) list → HasTaken new before list
 has_taken old new before list told is_fresh none few went grew =
     let start : old.phases ≡ fresh = fun_ext is_fresh in
@@ -64,7 +64,7 @@ took_trunk new before list Asked few taken asked = record {
   asked = λ some. asked (tail_asked (phases_behind list fresh) (IsDrained new.told) (count_after 0 (length taken.whole)) new.takes new.refused taken.tail taken.is_tail some);
 }
 
-takes_trunk : (old new : Intake) (list : List LinkEvent) (Asked : Type 0) → (new.takes ≡ false → Asked) → IsFresh old.phases → old.took ≡ 0 → Countable new.told → TookFrames old new
+pub takes_trunk : (old new : Intake) (list : List LinkEvent) (Asked : Type 0) → (new.takes ≡ false → Asked) → IsFresh old.phases → old.took ≡ 0 → Countable new.told → TookFrames old new
     → Grew (option_map (λ _. []) old.told) (told_events new.told new.took new.phases new.takes) list → TakesTrunk old.told new.told list (upcoming new) Asked
 takes_trunk old new list Asked asked is_fresh none few went grew = by_told old.told refl grew
   where
@@ -73,7 +73,7 @@ takes_trunk old new list Asked asked is_fresh none few went grew = by_told old.t
     by_told (Some before) told grew = took_trunk new before list Asked few (has_taken old new before list told is_fresh none few went grew) asked
 
 -- what comes was told at the start, where the source tells its bytes
-known_still : (old : Intake) (before : Stream) (next : Option Coming) → old.told ≡ Some before → old.takes ≡ true → StaysKnown (upcoming old) next → IsSome next
+pub known_still : (old : Intake) (before : Stream) (next : Option Coming) → old.told ≡ Some before → old.takes ≡ true → StaysKnown (upcoming old) next → IsSome next
 known_still old before next told takes known =
     by_takes old.takes takes (subst (λ source. StaysKnown (told_coming source old.took old.phases old.takes old.refused) next) told known)
   where
@@ -98,7 +98,7 @@ wrote_told old new before bytes told wrote = subst (λ sink. Appends sink new.to
 wrote_count : (old new : Output) (bytes : List ℕ) → old.wrote ≡ 0 → new.wrote ≡ count_after old.wrote (length bytes) → new.wrote ≡ count_after 0 (length bytes)
 wrote_count old new bytes none count = count ∙ ap (λ n. count_after n (length bytes)) none
 
-writes_trunk : (old new : Output) (list : List Piece) → old.wrote ≡ 0 → Short new.told → WroteFrames old new → Grew (option_map (λ _. []) old.told) (told_pieces new.told new.wrote new.gives) list → WritesTrunk old.told new.told list
+pub writes_trunk : (old new : Output) (list : List Piece) → old.wrote ≡ 0 → Short new.told → WroteFrames old new → Grew (option_map (λ _. []) old.told) (told_pieces new.told new.wrote new.gives) list → WritesTrunk old.told new.told list
 writes_trunk old new list none few went grew = by_told old.told refl grew
   where
     by_told : (before : Option (List ℕ)) → old.told ≡ before → Grew (option_map (λ _. []) before) (told_pieces new.told new.wrote new.gives) list → WritesTrunk before new.told list
@@ -107,7 +107,7 @@ writes_trunk old new list none few went grew = by_told old.told refl grew
         wrote_trunk before new.told new.wrote new.gives list went.pieces went.tail few (wrote_told old new before (frames went.pieces ++ went.tail) told went.writes.wrote)
         (wrote_count old new (frames went.pieces ++ went.tail) none went.writes.count) went.framed went.cut grew
 
-writes_whole : (old new : Output) (list : List Piece) → old.wrote ≡ 0 → Short new.told → WroteFrames old new → new.gives ≡ true → Grew (option_map (λ _. []) old.told) (told_pieces new.told new.wrote new.gives) list → WritesWhole old.told new.told list
+pub writes_whole : (old new : Output) (list : List Piece) → old.wrote ≡ 0 → Short new.told → WroteFrames old new → new.gives ≡ true → Grew (option_map (λ _. []) old.told) (told_pieces new.told new.wrote new.gives) list → WritesWhole old.told new.told list
 writes_whole old new list none few went still grew = by_told old.told refl grew
   where
     by_told : (before : Option (List ℕ)) → old.told ≡ before → Grew (option_map (λ _. []) before) (told_pieces new.told new.wrote new.gives) list → WritesWhole before new.told list

@@ -85,7 +85,7 @@ pub record HasTaken (new : Intake) (before : Stream) (list : List LinkEvent) : T
   pub is_tail : IsTail (phases_behind list fresh) (IsDrained new.told) (count_after 0 (length whole)) new.takes new.refused tail
 
 -- while it takes events, no byte behind their frames
-took_whole : (new : Intake) (before : Stream) (list : List LinkEvent) → HasTaken new before list → new.takes ≡ true → TookWhole (Some before) new.told list
+pub took_whole : (new : Intake) (before : Stream) (list : List LinkEvent) → HasTaken new before list → new.takes ≡ true → TookWhole (Some before) new.told list
 took_whole new before list taken takes =
     let none : taken.tail ≡ [] = subst (λ b. IsTail (phases_behind list fresh) (IsDrained new.told) (count_after 0 (length taken.whole)) b new.refused taken.tail) takes taken.is_tail in
     record {
@@ -101,7 +101,7 @@ count_whole before (Some new) whole tail few took =
     let small = few_taken before new (whole ++ tail) took few in
     omega (arith, small, length-append whole tail)
 
-took_refused : (new : Intake) (before : Stream) (list : List LinkEvent) (kind offset : ℕ) → Countable new.told → HasTaken new before list → new.takes ≡ false
+pub took_refused : (new : Intake) (before : Stream) (list : List LinkEvent) (kind offset : ℕ) → Countable new.told → HasTaken new before list → new.takes ≡ false
     → IsSome (told_coming new.told new.took new.phases new.takes new.refused) → IfSome (told_coming new.told new.took new.phases new.takes new.refused) (λ next. next ≡ Refuses kind offset)
     → TookRefused (Some before) new.told list kind offset
 took_refused new before list kind offset few taken takes known next =

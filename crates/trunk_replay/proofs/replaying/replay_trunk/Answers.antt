@@ -1,0 +1,18 @@
+use Rattle.std.proofs.Common.{◌∙◌, rules, sym}
+use Rattle.trunk_wire.specs.Tellings.{told_nothing}
+use Rattle.trunk_wire.specs.TrunkLinks.{intake_of, output_of}
+use Rattle.trunk_replay.specs.Replaying.{ReplaysTrunk}
+use Rattle.trunk_replay.proofs.TrunkLemmas.{replays}
+use Rattle.trunk_replay.proofs.replaying.replay_trunk.Goals as goal
+
+pub returns-clause-replayed : goal.returns-clause-replayed
+returns-clause-replayed g c =
+    let went = c.replay.ensures.went in
+    let made = c.make-link.ensures in
+    let replayed : ReplaysTrunk c.args.image.now c.args.recorded.now (g.S.Source.told c.make-link.result.source.now) (g.S.Source.told c.replay.new.link.source.now)
+    (g.K.Sink.told c.make-link.result.sink.now) (g.K.Sink.told c.replay.new.link.sink.now) c.replay.result c.args.steps.now c.replay.new.steps =
+    replays c.args.image.now c.args.recorded.now (intake_of (λ s. g.S.Source.told s.now) c.make-link.result) (intake_of (λ s. g.S.Source.told s.now) c.replay.new.link)
+    (output_of (λ s. g.K.Sink.told s.now) c.make-link.result) (output_of (λ s. g.K.Sink.told s.now) c.replay.new.link) _ c.replay.result c.args.steps.now c.replay.new.steps
+    made.phases made.took made.wrote made.takes made.gives (g.met.S.Source.countable c.replay.new.link.source.now) (g.met.K.Sink.countable c.replay.new.link.sink.now)
+    (made.told ∙ (λ i. told_nothing (g.S.Source.told ((sym made.source) i).now) (g.K.Sink.told ((sym made.sink) i).now))) went.taken went.given c.replay.ensures.leaves c.replay.ensures.replayed in
+    search (rules, replayed)

@@ -1,0 +1,70 @@
+-- What a replay over a trunk leaves: the bytes that its source lost, and those that its sink gained.
+use Rattle.std.specs.Prelude.{◌≡◌, ◌+◌, ℕ, List, map, false, Option, None, Some}
+use Rattle.std.specs.Io.KnownBytes.{Appends}
+use Rattle.rx_io.specs.Links.{Coming, Piece, events_in, pieces_in}
+use Rattle.rx_io.specs.Outside.{Stream}
+use Rattle.rx_io.specs.Sends.{Send}
+use Rattle.rx_io.specs.declared.journal.Entry.{Entry}
+use Rattle.rx_io.specs.declared.journal.LinkEvent.{LinkEvent}
+use Rattle.elf_image.specs.declared.image.Image.{Image}
+use Rattle.run_history.specs.declared.answer.Answer.{Answer}
+use Rattle.run_history.specs.declared.answer.Answer.TheVariants as answer
+use Rattle.run_history.specs.Run.{Run}
+use Rattle.session_history.specs.Heeding.{items_in}
+use Rattle.schedule_file.specs.declared.recorded.Recorded.{Recorded}
+use Rattle.replay.specs.Giving.{piece_of}
+use Rattle.replay.specs.Replaying.{Replay, IsReplay, IsAsking, AreAsked, EndsBy, bounds_of}
+use Rattle.trunk_wire.specs.Frames.{frames}
+use Rattle.trunk_session.specs.Trunk.{TakesTrunk, TookWhole, TookRefused, WritesTrunk, BreaksTrunk}
+
+-- each send as one whole piece
+abbrev pub sent_pieces : List Send → List Piece
+sent_pieces sends = map (λ (send : Send). piece_of send.conn send.bytes false) sends
+
+-- the frames of these sends were written, and no byte more, where the sink tells its bytes
+abbrev pub WritesSends : Option (List ℕ) → Option (List ℕ) → List Send → Type 0
+WritesSends None new sends = Unit {0}
+WritesSends (Some old) new sends = Appends (Some old) new (frames (sent_pieces sends))
+
+-- What was written where a replay has ended: the frames of the sends of its run. At a fault of writing and want of memory it is the frames of
+-- pieces, of which the last one may be cut.
+abbrev pub WritesReplay : Option (List ℕ) → Option (List ℕ) → List Send → List Piece → Answer → Type 0
+WritesReplay old new sends pieces answer.WriteFault = WritesTrunk old new pieces
+WritesReplay old new sends pieces answer.Memory = WritesTrunk old new pieces
+WritesReplay old new sends pieces end = WritesSends old new sends
+
+-- What was taken there: the frames of events. At a refusal what is refused was taken too; at a fault of reading and want of memory perhaps a part of
+-- one frame more. At each other answer not one byte more was.
+abbrev pub TookReplay : Option Stream → Option Stream → List LinkEvent → Answer → Type 0
+TookReplay old new events (answer.InputRefused kind offset) = TookRefused old new events kind offset
+TookReplay old new events answer.ReadFault = Unit {0}
+TookReplay old new events answer.Memory = Unit {0}
+TookReplay old new events end = TookWhole old new events
+
+-- where the source tells its bytes
+abbrev pub TakesReplay : Option Stream → Option Stream → List LinkEvent → Answer → Type 0
+TakesReplay None new events end = Unit {0}
+TakesReplay (Some old) new events end = TookReplay (Some old) new events end
+
+-- at Finished there is the whole run that the record tells of
+abbrev pub IsRecordedRun : Image → Recorded → List Entry → Replay → Answer → Type 0
+IsRecordedRun image recorded entries replay answer.Finished =
+    Run image (items_in (bounds_of recorded) entries) recorded.choices recorded.steps replay.state × (replay.state.machine.taken ≡ recorded.taken)
+IsRecordedRun image recorded entries replay end = Unit {0}
+
+-- What a replay leaves that was done over a source and a sink: one account of it, what stands behind its answer, and its count of instructions. The bytes
+-- that the source lost are the frames of the account's events; a part of one more frame was asked for by the run. Those that the sink gained are
+-- the frames of its sends, of which a last one may be cut at a fault of writing and at want of memory. A frame was broken off on one side at most.
+pub record ReplaysTrunk (image : Image) (recorded : Recorded) (source source_later : Option Stream) (sink sink_later : Option (List ℕ)) (end : Answer) (before after : ℕ) : Type 0 where
+  pub entries : List Entry
+  pub replay : Replay
+  pub coming : Option Coming
+  pub asked : AreAsked image recorded entries
+  pub is : IsReplay image recorded entries replay
+  pub ends : EndsBy image recorded entries coming replay end
+  pub whole : IsRecordedRun image recorded entries replay end
+  pub counted : after ≡ before + replay.steps
+  pub took : TakesTrunk source source_later (events_in entries) coming (IsAsking image recorded entries replay)
+  pub takes : TakesReplay source source_later (events_in entries) end
+  pub writes : WritesReplay sink sink_later replay.state.sends (pieces_in entries) end
+  pub breaks : BreaksTrunk source source_later sink sink_later (events_in entries) (pieces_in entries) end

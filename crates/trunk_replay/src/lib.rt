@@ -1,0 +1,6 @@
+//! A record is replayed over a trunk of many connections.
+#![tactic(auto)]
+
+mod replaying;
+
+pub use replaying::replay_trunk;
