@@ -1,5 +1,5 @@
 -- What a replay over a trunk leaves, by what it leaves over a link.
-use Rattle.std.proofs.Common.{◌≡◌, ℕ, Bool, true, List, [], take, Option, None, Some, option_map, refl, subst, inl, inr, arith}
+use Rattle.std.proofs.Common.{◌≡◌, ◌+◌, ℕ, Bool, true, List, [], take, Option, None, Some, option_map, refl, subst, inl, inr, arith}
 use Rattle.std.proofs.lemmas.List.{take_all}
 use Rattle.std.specs.Prelude.{IsSome}
 use Rattle.block_book.specs.declared.choice.Choice.{Choice}
@@ -92,12 +92,12 @@ module _ (image : Image) (recording : Recorded) (entries : List Entry) (replay :
   breaks_by coming first now gives sink later _ ends leaves whole = tt
 
 -- a replay over a link that was made
-pub replays : (image : Image) (recording : Recorded) (old new : Intake) (out later : Output) (began : Told) (end : Answer) (before after : ℕ) → IsFresh old.phases → old.took ≡ 0 → out.wrote ≡ 0
+pub replays : (image : Image) (recording : Recorded) (old new : Intake) (out later : Output) (began : Told) (end : Answer) (before after counted : ℕ) → IsFresh old.phases → old.took ≡ 0 → out.wrote ≡ 0
     → old.takes ≡ true → out.gives ≡ true → Countable new.told → Short later.told → began ≡ told_nothing old.told out.told → TakesOn old.takes old new → GivesOn out.gives out later
     → LeavesLink (upcoming old) (upcoming new) new.takes later.gives end
     → HasReplayed image recording began (trunk_told (told_events new.told new.took new.phases new.takes) (told_pieces later.told later.wrote later.gives)) (upcoming new) new.takes end before after
-    → ReplaysTrunk image recording old.told new.told out.told later.told end before after
-replays image recording old new out later began end before after is_fresh none nothing takes gives few short start taken_on given_on leaves replayed =
+    → after ≡ before + counted → ReplaysTrunk image recording old.told new.told out.told later.told end counted
+replays image recording old new out later began end before after counted is_fresh none nothing takes gives few short start taken_on given_on leaves replayed count =
     let went : TookFrames old new = subst (λ b. TakesOn b old new) takes taken_on in
     let wrote : WroteFrames out later = subst (λ b. GivesOn b out later) gives given_on in
     let events = subst (λ (told : Told). Grew told.events (told_events new.told new.took new.phases new.takes) (events_in replayed.entries)) start replayed.tells.events in
@@ -112,7 +112,7 @@ replays image recording old new out later began end before after is_fresh none n
       is = replayed.is;
       ends = replayed.ends;
       whole = whole_run image recording replayed.entries replayed.replay (upcoming new) end replayed.is replayed.ends;
-      counted = replayed.counted;
+      all_counted = let all = replayed.counted in omega (arith, all, count);
       took = takes_trunk old new (events_in replayed.entries) (IsAsking image recording replayed.entries replayed.replay) replayed.failed is_fresh none few went events;
       takes = takes_replay image recording replayed.entries replayed.replay old new is_fresh none few went events later.gives end takes leaves replayed.ends;
       writes = writes_by image recording replayed.entries replayed.replay (upcoming new) out.told later.told (upcoming old) (upcoming new) new.takes later.gives end replayed.ends leaves part whole;

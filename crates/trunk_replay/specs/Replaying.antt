@@ -1,5 +1,5 @@
 -- What a replay over a trunk leaves: the bytes that its source lost, and those that its sink gained.
-use Rattle.std.specs.Prelude.{◌≡◌, ◌+◌, ℕ, List, map, false, Option, None, Some}
+use Rattle.std.specs.Prelude.{◌≡◌, ℕ, List, map, false, Option, None, Some}
 use Rattle.std.specs.Io.KnownBytes.{Appends}
 use Rattle.rx_io.specs.Links.{Coming, Piece, events_in, pieces_in}
 use Rattle.rx_io.specs.Outside.{Stream}
@@ -55,7 +55,7 @@ IsRecordedRun image recorded entries replay end = Unit {0}
 -- What a replay leaves that was done over a source and a sink: one account of it, what stands behind its answer, and its count of instructions. The bytes
 -- that the source lost are the frames of the account's events; a part of one more frame was asked for by the run. Those that the sink gained are
 -- the frames of its sends, of which a last one may be cut at a fault of writing and at want of memory. A frame was broken off on one side at most.
-pub record ReplaysTrunk (image : Image) (recorded : Recorded) (source source_later : Option Stream) (sink sink_later : Option (List ℕ)) (end : Answer) (before after : ℕ) : Type 0 where
+pub record ReplaysTrunk (image : Image) (recorded : Recorded) (source source_later : Option Stream) (sink sink_later : Option (List ℕ)) (end : Answer) (counted : ℕ) : Type 0 where
   pub entries : List Entry
   pub replay : Replay
   pub coming : Option Coming
@@ -63,7 +63,7 @@ pub record ReplaysTrunk (image : Image) (recorded : Recorded) (source source_lat
   pub is : IsReplay image recorded entries replay
   pub ends : EndsBy image recorded entries coming replay end
   pub whole : IsRecordedRun image recorded entries replay end
-  pub counted : after ≡ before + replay.steps
+  pub all_counted : replay.steps ≡ counted
   pub took : TakesTrunk source source_later (events_in entries) coming (IsAsking image recorded entries replay)
   pub takes : TakesReplay source source_later (events_in entries) end
   pub writes : WritesReplay sink sink_later replay.state.sends (pieces_in entries) end

@@ -1,5 +1,5 @@
 // A record is replayed over a trunk of many connections.
-ghost use Rattle.std.specs.Prelude.{◌≡◌, ◌*◌, ◌<◌, ◌≤◌, ◌^◌};
+ghost use Rattle.std.specs.Prelude.{◌≡◌, ℕ, ◌+◌, ◌*◌, ◌<◌, ◌≤◌, ◌^◌};
 ghost use Rattle.rx_io.specs.Faults.{Rose};
 ghost use Rattle.run_history.specs.declared.answer.Answer.TheVariants as answer;
 ghost use Rattle.trunk_replay.specs.Replaying.{ReplaysTrunk};
@@ -26,7 +26,8 @@ pub fn replay_trunk<S: Source, K: Sink, L: Ledger>(
 ) -> Answer
     requires window { image.now.window ≡ recorded.now.window * 1048576 }
     requires short { recorded.now.steps < 2 ^ 63 }
-    ensures replayed { ReplaysTrunk image.now recorded.now (S.told input.old) (S.told input.new) (K.told output.old) (K.told output.new) result steps.old steps.new }
+    ensures replayed { (counted : ℕ) → steps.new ≡ steps.old + counted → ReplaysTrunk image.now recorded.now (S.told input.old) (S.told input.new) (K.told output.old) (K.told output.new) result counted }
+    ensures counted_more { steps.old ≤ steps.new }
     ensures input { S.fixed input.new ≡ S.fixed input.old }
     ensures output { K.fixed output.new ≡ K.fixed output.old }
     ensures input_later { S.faults input.old ≤ S.faults input.new }
