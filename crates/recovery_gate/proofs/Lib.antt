@@ -7,3 +7,4 @@ pub mod WatchLemmas
 pub mod Recoveries
 pub mod TrimLemmas
 pub mod ForgetLemmas
+pub mod Handled

@@ -26,6 +26,7 @@ use Rattle.trial_plan.specs.Trying.{KeepsSaved, steps_of, HasWalked}
 use Rattle.trial_plan.specs.Walking.{IsEpisode, HasSameBytes}
 use Rattle.recovery_gate.specs.declared.recovering.Adopted.{Adopted}
 use Rattle.recovery_gate.specs.Rings.{IsInForce}
+use Rattle.recovery_gate.specs.Handling.{keeping_by}
 use Rattle.recovery_gate.specs.Recovering.{adopted_in, recovery_of, HasToRecover, HasAdoptedRun, Adopts}
 use Rattle.recovery_gate.proofs.RingLemmas.{as_many_stand, ring_beside, ring_adopts}
 use Rattle.recovery_gate.proofs.Forces.{in_force_from}
@@ -131,6 +132,7 @@ module _ {R : Type 0} where
         low = answers.low;
         front = answers.front;
         index = last.has.index;
+        from = last.has.checkpoint_is;
         ring =
             ring_beside failure.rules failure.image failure.entries (plan_of_trial failure.plan checkpoint.state.machine.taken trial.chance.env failure.failed.state.machine.taken) trial.path (drop last.has.index failure.ring) new dropped log log ledger later refl
             same.first
@@ -152,3 +154,7 @@ module _ {R : Type 0} where
   adopted_slots index old walked new standing same within kept cut =
       let many : length standing ≡ length old.slots.saved = ap length same ∙ length-map {A = Saved Standing} {B = Checkpoint} old.slots.saved (checkpoint_of taken_in) in
       (index, omega (arith, many, within), cut ∙ ap (λ (all : List (Saved Standing)). take (length all - index) all) kept)
+
+  -- a walk leaves pages and frames
+  pub walked_keeping : (every capacity : ℕ) (old walked : CpuState R) → KeepsSaved old walked → keeping_by capacity every walked.slots ≡ keeping_by capacity every old.slots
+  walked_keeping every capacity old walked keeps = λ i. record { ring = capacity; every = every; pages = keeps.pages i; frames = keeps.frames i }

@@ -83,7 +83,7 @@ saved_then capacity slot old new now ring m live is =
     subst (λ n. AreSaved new (take n (now ∷ ring))) (sym many) there
 
 -- and one at least
-some_saved : (saved : List (Saved Standing)) (slot : ℕ) → newest_slot saved ≡ Some slot → 0 < length saved
+pub some_saved : (saved : List (Saved Standing)) (slot : ℕ) → newest_slot saved ≡ Some slot → 0 < length saved
 some_saved [] slot is = absurd (none-some slot is)
 some_saved (one ∷ saved) slot is = omega arith
 

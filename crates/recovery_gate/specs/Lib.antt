@@ -1,3 +1,4 @@
 pub mod Rings
 pub mod Recovering
 pub mod Forgetting
+pub mod Handling

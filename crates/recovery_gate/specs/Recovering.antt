@@ -67,6 +67,7 @@ module _ {R : Type 0} where
     pub low : recorded ≤ length trial.path.choices
     pub front : take recorded trial.path.choices ≡ take recorded failure.failed.choices
     pub index : ℕ
+    pub from : slice_get failure.ring index ≡ Some trial.chance.checkpoint
     pub ring : KeepsRing failure.rules failure.image failure.entries (adopted_by recovery trial).plan trial.path (drop index failure.ring) cpu checkpoints log ledger
     pub in_force : IsInForce (adopted_by recovery trial).plan failure.failed.state.machine.taken adopted.env (failure.failed.state.machine.taken + 4)
     pub replies : KeepsReplies failure.rules.bounds failure.entries None trial.path.state.sends ledger

@@ -1,5 +1,5 @@
 // The checkpoints that a session makes.
-ghost use Rattle.std.specs.Prelude.{◌≡◌, ◌<◌, ◌≤◌, ℕ, List, [], ◌∷◌, length};
+ghost use Rattle.std.specs.Prelude.{◌≡◌, ◌<◌, ◌≤◌, ℕ, List, [], ◌∷◌, length, false};
 ghost use Rattle.rx_io.specs.declared.journal.Entry.{Entry};
 ghost use Rattle.elf_image.specs.declared.image.Image.{Image};
 ghost use Rattle.item_log.specs.Log.{Log};
@@ -8,7 +8,8 @@ ghost use Rattle.ckpt_ring.specs.Rings.{saved_in_ring};
 ghost use Rattle.run_history.specs.Served.{Override, Path, origin, AsksFor};
 ghost use Rattle.guest_cpu.specs.Serving.{standing_of};
 ghost use Rattle.session_history.specs.Lawful.{Rules};
-ghost use Rattle.trial_plan.specs.Sessions.{CanGoOn};
+ghost use Rattle.trial_plan.specs.Sessions.{CanGoOn, taken_in};
+ghost use Rattle.recovery_gate.specs.Handling.{alone, handle, stands_of, keeping_by};
 ghost use Rattle.recovery_gate.specs.Rings.{IsRingOf, KeepsRing, is_due, SavesIf, ring_if};
 
 use ckpt_ring::Ring;
@@ -24,6 +25,7 @@ pub fn begin_ring<R: AccessRule>(cpu: &mut Cpu<R>, ring: &mut Ring)
     ensures keeps { (rules : Rules) (image : Image) (log : Log) (ledger : Ledger) → cpu.old.slots.live ≡ standing_of (origin image) → log.first ≡ 0 → ledger.first ≡ 0
         → KeepsRing rules image [] [] (origin image) (origin image ∷ []) cpu.new ring.new log ledger }
     ensures saved { (slot : ℕ) × (cpu.new.slots ≡ saved_in_ring ring.old.capacity slot cpu.old.slots) }
+    ensures first { stands_of cpu.new.slots.saved ≡ alone (taken_in cpu.old.slots.live) cpu.old.slots.pages }
     ensures rule { cpu.new.rule ≡ cpu.old.rule }
     ensures base { cpu.new.base ≡ cpu.old.base }
     ensures capacity { ring.new.capacity ≡ ring.old.capacity }
@@ -38,6 +40,8 @@ pub fn checkpoint<R: AccessRule>(cpu: &mut Cpu<R>, ring: &mut Ring, taken: u64, 
     ensures keeps { (rules : Rules) (image : Image) (entries : List Entry) (plan : List Override) (now : Path) (paths : List Path) (log : Log) (ledger : Ledger) → KeepsRing rules image entries plan now paths cpu.old ring.old log ledger
         → cpu.old.slots.live ≡ standing_of now → AsksFor rules.limits plan now taken → 0 < every → CanGoOn rules entries now → log.first ≤ taken → ledger.first ≤ length now.state.sends
         → KeepsRing rules image entries plan now (ring_if (is_due every taken ring.old.standing) (length cpu.new.slots.saved) now paths) cpu.new ring.new log ledger }
+    ensures handles { taken_in cpu.old.slots.live ≡ taken → stands_of cpu.new.slots.saved ≡ handle (keeping_by ring.old.capacity every cpu.old.slots) taken cpu.old.slots.written (stands_of cpu.old.slots.saved) }
+    ensures none_due { taken_in cpu.old.slots.live ≡ taken → 0 < every → is_due every taken ring.new.standing ≡ false }
     ensures saved { SavesIf (is_due every taken ring.old.standing) ring.old.capacity cpu.old cpu.new }
     ensures live { cpu.new.slots.live ≡ cpu.old.slots.live }
     ensures rule { cpu.new.rule ≡ cpu.old.rule }

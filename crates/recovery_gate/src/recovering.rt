@@ -1,11 +1,12 @@
 // A recovery: what is tried after a failure, and the trial that is adopted.
-ghost use Rattle.std.specs.Prelude.{◌≡◌, ◌++◌, ◌+◌, ◌-◌, ◌/◌, ◌<◌, ◌≤◌, length, take, IfOk};
+ghost use Rattle.std.specs.Prelude.{◌≡◌, ℕ, ◌++◌, ◌+◌, ◌-◌, ◌/◌, ◌<◌, ◌≤◌, length, take, IfOk};
 ghost use Rattle.ckpt_ring.specs.Slots.{newest_slot, without_newer_slots};
 ghost use Rattle.ckpt_ring.specs.Rings.{checkpoints_of};
 ghost use Rattle.run_history.specs.Served.{Path};
 ghost use Rattle.trial_plan.specs.Sessions.{CanTry, Failure, FailedAt, IsUnder, taken_in};
 ghost use Rattle.trial_plan.specs.Trying.{KeepsSaved, StandsOn};
 ghost use Rattle.trial_plan.specs.Walking.{HasSameBytes, IsEpisode, StaysBy, WalksBy};
+ghost use Rattle.recovery_gate.specs.Handling.{keeping_by};
 ghost use Rattle.recovery_gate.specs.Recovering.{adopted_in, HasToRecover, CanRecover, RecoversBy, KeepsAtFault, KeepsSlots, AdoptsBy, WatchedBy};
 
 use alloc_env::Env;
@@ -174,6 +175,7 @@ pub fn recover<R: AccessRule, W: Watch, L: Ledger>(
     ensures watched { (failure : Failure) → IsUnder failure budget (R.rule cpu.old.rule) → HasToRecover point cause pc failure cpu.old ring.old recorded choices.old.items items.now replies.old
         → WatchedBy failure point (W.tables watch.old) (W.tables watch.new) result }
     ensures fault { KeepsAtFault ring.old ring.new choices.old.items choices.new.items result }
+    ensures keeping { IfOk result (λ _. (every : ℕ) → keeping_by ring.new.capacity every cpu.new.slots ≡ keeping_by ring.old.capacity every cpu.old.slots) }
     ensures slots { IfOk result (λ recovered. KeepsSlots recovered.adopted cpu.old cpu.new) }
     ensures rule { cpu.new.rule ≡ cpu.old.rule }
     ensures ledger { IfOk result (λ _. HasSameBytes replies.old replies.new) }

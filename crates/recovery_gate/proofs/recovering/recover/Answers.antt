@@ -4,7 +4,8 @@ use Rattle.ckpt_ring.specs.Rings.{from_newest}
 use Rattle.ckpt_ring.specs.Slots.{Slots, slot_numbers}
 use Rattle.guest_cpu.specs.Standing.{Standing}
 use Rattle.recovery_gate.specs.Recovering.{adopted_in, Adopts}
-use Rattle.recovery_gate.proofs.Recoveries.{recovers, episode_tells, none_survived, last_survived, can_adopt, adopts_run, adopted_slots}
+use Rattle.recovery_gate.proofs.Recoveries.{recovers, episode_tells, none_survived, last_survived, can_adopt, adopts_run, adopted_slots, walked_keeping}
+use Rattle.recovery_gate.specs.Handling.{keeping_by}
 use Rattle.recovery_gate.proofs.recovering.recover.Goals as goal
 
 pub returns-in-None-clause-recovers : goal.returns-in-None-clause-recovers
@@ -112,3 +113,10 @@ returns-in-None-clause-watched g c failure under has = c.in-Ok.ensures.watched f
 
 pub returns-in-Ok-adopt-clause-watched : goal.returns-in-Ok-adopt-clause-watched
 returns-in-Ok-adopt-clause-watched g c failure under has = c.in-Ok.ensures.watched failure under has.failed
+
+pub returns-in-None-clause-keeping : goal.returns-in-None-clause-keeping
+returns-in-None-clause-keeping g c = λ every. walked_keeping every c.args.ring.now.capacity c.args.cpu.now c.walk_watched.new.cpu c.in-Ok.ensures.saved
+
+pub returns-in-Ok-adopt-clause-keeping : goal.returns-in-Ok-adopt-clause-keeping
+returns-in-Ok-adopt-clause-keeping g c = λ every.
+    (λ i. keeping_by (c.in-Ok-adopt.ensures.adopts.capacity i) every (c.in-Ok-adopt.ensures.adopts.slots i)) ∙ walked_keeping every c.args.ring.now.capacity c.args.cpu.now c.walk_watched.new.cpu c.in-Ok.ensures.saved

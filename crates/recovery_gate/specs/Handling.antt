@@ -1,0 +1,104 @@
+-- Which checkpoints stand: what a session makes of the requests of its survivors.
+use Rattle.std.specs.Prelude.{◌≡◌, ℕ, ◌+◌, ◌-◌, ◌<◌, ◌&&◌, Bool, true, List, [], ◌∷◌, ◌++◌, length, map, sum, drop, nat_le, if◌then◌else◌, Option, Some, None, option_map, slice_get}
+use Rattle.ckpt_ring.specs.Slots.{Saved, Slots}
+use Rattle.ckpt_ring.specs.Rings.{from_newest, without_newer}
+use Rattle.run_history.specs.Served.{Path}
+use Rattle.guest_cpu.specs.Standing.{Standing}
+use Rattle.session_history.specs.Lawful.{Survivor}
+use Rattle.trial_history.specs.Tables.{Trial, survivor_in}
+use Rattle.trial_history.specs.Episodes.{Recovery}
+use Rattle.trial_plan.specs.Sessions.{taken_in}
+
+-- How a session keeps its checkpoints: how many stand at most, how many items lie between two at least, how many pages the program's window
+-- has, and how many frames hold the pages of all
+pub record Keeping : Type 0 where
+  pub ring : ℕ
+  pub every : ℕ
+  pub pages : ℕ
+  pub frames : ℕ
+
+-- a checkpoint that stands: how many items were taken there, and how many pages were written since the one before it
+pub record Stand : Type 0 where
+  pub taken : ℕ
+  pub written : ℕ
+
+-- One stands alone. Before the oldest one all pages count as written.
+abbrev pub alone : ℕ → ℕ → List Stand
+alone taken pages = record { taken = taken; written = pages } ∷ []
+
+-- so does the start at first
+abbrev pub first_stands : Keeping → List Stand
+first_stands keeping = alone 0 keeping.pages
+
+abbrev pub whole_oldest : ℕ → List Stand → List Stand
+whole_oldest pages [] = []
+whole_oldest pages (oldest ∷ later) = record oldest { written = pages } ∷ later
+
+-- Whether some, the oldest first, may stand: there are no more of them than may be, and the frames hold all pages of the oldest, those that were
+-- written between it and the newest, and all pages once more.
+abbrev pub may_stand : Keeping → List Stand → Bool
+may_stand keeping stands = nat_le (length stands) keeping.ring && nat_le (keeping.pages + sum (drop 1 (map (λ (one : Stand). one.written) stands)) + keeping.pages) keeping.frames
+
+-- the oldest are dropped as long as they may not
+abbrev pub stay : Keeping → List Stand → List Stand
+stay keeping [] = []
+stay keeping (oldest ∷ later) = if may_stand keeping (oldest ∷ later) then oldest ∷ later else stay keeping later
+
+-- whether enough items were taken since the newest one
+abbrev pub is_far : ℕ → ℕ → Option Stand → Bool
+is_far every taken None = true
+is_far every taken (Some newest) = nat_le every (taken - newest.taken)
+
+-- At a request for an item, with so many taken and so many pages written since the newest checkpoint, another one stands behind the others
+-- where enough items were taken since; and of them all the oldest are dropped that may not stand.
+abbrev pub handle : Keeping → ℕ → ℕ → List Stand → List Stand
+handle keeping taken written stands =
+    if is_far keeping.every taken (from_newest stands 0) then whole_oldest keeping.pages (stay keeping (stands ++ record { taken = taken; written = written } ∷ [])) else stands
+
+-- Requests one after another, the first one with so many items taken and each later one with one more. The numbers are those of the pages
+-- that were written before each, the latest first. They aren't tied to the stores of the run here.
+abbrev pub handled : Keeping → ℕ → List ℕ → List Stand → List Stand
+handled keeping from [] stands = stands
+handled keeping from (written ∷ earlier) stands = handle keeping (from + length earlier) written (handled keeping from earlier stands)
+
+-- the runs of a ring, from the newest to the oldest, took as many items as those that stand
+pub record HasRing (stands : List Stand) (ring : List Path) : Type 0 where
+  pub many : length stands ≡ length ring
+  pub each : (index : ℕ) → index < length ring → option_map (λ (one : Stand). one.taken) (from_newest stands index) ≡ option_map (λ (path : Path). path.state.machine.taken) (slice_get ring index)
+
+-- What stood at a recovery: the survivor's requests from where it began to where it failed were handled, each of them once, and its ring is of
+-- those that stand then. Of them those stand on that aren't newer than the checkpoint of the trial that was adopted.
+pub record IsRinged (keeping : Keeping) (recovery : Recovery) (written : List ℕ) (from next : List Stand) : Type 0 where
+  pub many : recovery.survivor.begun.state.machine.taken + length written ≡ recovery.survivor.now.state.machine.taken
+  pub ring : HasRing (handled keeping recovery.survivor.begun.state.machine.taken written from) recovery.ring
+  pub trial : Trial
+  pub adopted : survivor_in recovery.trials ≡ Some trial
+  pub index : ℕ
+  pub checkpoint_is : slice_get recovery.ring index ≡ Some trial.chance.checkpoint
+  pub next_is : next ≡ without_newer index (handled keeping recovery.survivor.begun.state.machine.taken written from)
+
+-- so it is at each of some recoveries, from those that stand before the first to those behind the last
+abbrev pub AreRinged : Keeping → List Stand → List Recovery → List (List ℕ) → List Stand → Type 0
+AreRinged keeping from [] [] last = last ≡ from
+AreRinged keeping from (recovery ∷ recoveries) (written ∷ others) last = (next : List Stand) × IsRinged keeping recovery written from next × AreRinged keeping next recoveries others last
+AreRinged keeping from _ _ last = ⊥
+
+-- What stands behind some recoveries, where so many requests were made before which the last survivor's were handled: those from where it began.
+pub record HasHandled (keeping : Keeping) (recoveries : List Recovery) (survivor : Survivor) (requests : ℕ) (stands : List Stand) : Type 0 where
+  pub earlier : List (List ℕ)
+  pub begun : List Stand
+  pub rings : AreRinged keeping (first_stands keeping) recoveries earlier begun
+  pub written : List ℕ
+  pub many : survivor.begun.state.machine.taken + length written ≡ requests
+  pub stands_are : stands ≡ handled keeping survivor.begun.state.machine.taken written begun
+
+-- saved slots as checkpoints that stand
+abbrev pub stand_of : Saved Standing → Stand
+stand_of one = record { taken = taken_in one.state; written = one.pages }
+
+abbrev pub stands_of : List (Saved Standing) → List Stand
+stands_of saved = map stand_of saved
+
+-- how a ring of a capacity keeps checkpoints in some slots
+abbrev pub keeping_by : ℕ → ℕ → Slots Standing → Keeping
+keeping_by ring every slots = record { ring = ring; every = every; pages = slots.pages; frames = slots.frames }
