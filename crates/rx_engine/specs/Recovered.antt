@@ -12,7 +12,7 @@ use Rattle.run_history.specs.declared.answer.Cause.{Cause}
 use Rattle.run_history.specs.Served.{Path}
 use Rattle.session_history.specs.Lawful.{Rules, Survivor, Chapter, entries_of, LeavesNothing}
 use Rattle.session_history.specs.Serving.{first_survivor}
-use Rattle.session_history.specs.Ends.{IsEnd, HasServed, before_end}
+use Rattle.session_history.specs.Ends.{IsEnd, HasServed}
 use Rattle.trial_history.specs.Tables.{Trial, survivor_in}
 use Rattle.episodes.specs.declared.episode.Episode.{Episode}
 use Rattle.episodes.specs.declared.episode.Try.{Try}
