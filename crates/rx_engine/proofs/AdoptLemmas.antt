@@ -135,6 +135,10 @@ discards_none ledger none = ap (λ t. record ledger { trial = t }) (sym none)
 some_counts : (before after lost began steps old failed to tried : ℕ) → after ≡ before + tried → lost + steps + before ≡ began + old + after → steps ≡ to → old ≡ failed → lost + to ≡ began + failed + tried
 some_counts before after lost began steps old failed to tried counted counts is same = omega (arith, counted, counts, is, same)
 
+-- the same by other words for the counts
+pub counts_seen : (lost began steps live old seen before after : ℕ) → lost + steps + before ≡ began + old + after → steps ≡ live → old ≡ seen → lost + live + before ≡ began + seen + after
+counts_seen lost began steps live old seen before after counts is same = omega (arith, counts, is, same)
+
 -- checkpoints that stand still have used so many answers of malloc
 behind_drop : (count index : ℕ) (ring : List Path) → AreBehind count ring → AreBehind count (drop index ring)
 behind_drop count zero ring behind = behind
@@ -402,6 +406,11 @@ module _ {R : Type 0} where
       → Adopting rules image began now phases coming one cause session recovered → Adopting rules image began now phases coming other cause session recovered
   adopting_at {rules = rules} {image = image} {began = began} {now = now} {phases = phases} {coming = coming} {cause = cause} {session = session} {recovered = recovered} same =
       subst (λ n. Adopting rules image began now phases coming n cause session recovered) same
+
+  -- a session that is seen in another way goes on so still
+  pub adopting_in : {rules : Rules} {image : Image} {began : Since} {now : Told} {phases : Phases} {coming : Option Coming} {point : ℕ} {cause : Cause} {recovered : Recovered} {s t : SessionState R} → s ≡ t → Adopting rules image began now phases coming point cause s recovered
+      → Adopting rules image began now phases coming point cause t recovered
+  adopting_in {rules = rules} {image = image} {began = began} {now = now} {phases = phases} {coming = coming} {point = point} {cause = cause} {recovered = recovered} same = subst (λ (s : SessionState R). Adopting rules image began now phases coming point cause s recovered) same
 
   -- what a recovery left of it
   abbrev pub Left : (rules : Rules) (image : Image) (began : Since) (now : Told) (phases : Phases) (cause : Cause) (old : SessionState R) → IsFailing rules image began now phases cause old → Recovered → CpuState R → Checkpoints → Ledger → List Choice → ℕ → ℕ → Type 0

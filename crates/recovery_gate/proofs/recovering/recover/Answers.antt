@@ -11,14 +11,14 @@ use Rattle.recovery_gate.proofs.recovering.recover.Goals as goal
 pub returns-in-None-clause-recovers : goal.returns-in-None-clause-recovers
 returns-in-None-clause-recovers g c failure begun under has =
     let w = c.in-Ok.ensures.walks failure under has.failed in
-    let none = none_survived c.args.point failure c.walk_watched.new.cpu c.walk_watched.new.choices.items c.args.replies.now c.walk_watched.new.replies (g.W.Watch.ran c.walk_watched.new.watch + c.args.steps.now) (g.W.Watch.ran c.args.watch.now + c.walk_watched.new.steps) c.in-Ok.episode.tries w (ap adopted_in (sym c.as_slice.ensures) ∙ sym c.in-None.ensures) in
+    let none = none_survived c.args.point failure c.walk_watched.new.cpu c.walk_watched.new.choices.items c.args.replies.now c.walk_watched.new.replies _ _ c.in-Ok.episode.tries w (ap adopted_in (sym c.as_slice.ensures) ∙ sym c.in-None.ensures) in
     record {
       trials = w.trials;
       episode_is =
-          episode_tells c.args.point c.args.cause c.args.pc failure begun c.args.cpu.now c.walk_watched.new.cpu c.args.ring.now c.args.recorded c.args.choices.now.items c.walk_watched.new.choices.items c.args.items.now c.args.replies.now c.walk_watched.new.replies (g.W.Watch.ran c.walk_watched.new.watch + c.args.steps.now) (g.W.Watch.ran c.args.watch.now + c.walk_watched.new.steps)
+          episode_tells c.args.point c.args.cause c.args.pc failure begun c.args.cpu.now c.walk_watched.new.cpu c.args.ring.now c.args.recorded c.args.choices.now.items c.walk_watched.new.choices.items c.args.items.now c.args.replies.now c.walk_watched.new.replies _ _
           c.in-Ok.episode has c.in-Ok.ensures.episode w;
       recovers =
-          recovers c.args.point c.args.cause c.args.pc failure begun c.args.cpu.now c.walk_watched.new.cpu c.args.ring.now c.args.recorded c.args.choices.now.items c.walk_watched.new.choices.items c.args.items.now c.args.replies.now c.walk_watched.new.replies (g.W.Watch.ran c.walk_watched.new.watch + c.args.steps.now) (g.W.Watch.ran c.args.watch.now + c.walk_watched.new.steps)
+          recovers c.args.point c.args.cause c.args.pc failure begun c.args.cpu.now c.walk_watched.new.cpu c.args.ring.now c.args.recorded c.args.choices.now.items c.walk_watched.new.choices.items c.args.items.now c.args.replies.now c.walk_watched.new.replies _ _
           c.in-Ok.episode.tries has w;
       counted = w.counted;
       leaves = (none.0, refl, refl, none.1);
@@ -28,7 +28,7 @@ pub index_of-index-requires : goal.index_of-index-requires
 index_of-index-requires g c =
     let can = c.requires.can in
     let w = c.in-Ok.ensures.walks can.failure can.under can.has.failed in
-    let last = last_survived c.args.point can.failure c.walk_watched.new.cpu c.walk_watched.new.choices.items c.args.replies.now c.walk_watched.new.replies (g.W.Watch.ran c.walk_watched.new.watch + c.args.steps.now) (g.W.Watch.ran c.args.watch.now + c.walk_watched.new.steps) c.in-Ok.episode.tries c.in-Some.adopted w
+    let last = last_survived c.args.point can.failure c.walk_watched.new.cpu c.walk_watched.new.choices.items c.args.replies.now c.walk_watched.new.replies _ _ c.in-Ok.episode.tries c.in-Some.adopted w
     (ap adopted_in (sym c.as_slice.ensures) ∙ sym c.in-Some.ensures) in
     let could = can_adopt c.args.point c.args.cause c.args.pc can.failure c.args.cpu.now c.walk_watched.new.cpu c.args.ring.now c.args.recorded c.args.choices.now.items c.walk_watched.new.choices.items c.args.items.now c.args.replies.now c.walk_watched.new.replies (length c.in-Ok.episode.tries) w.trials can.has last in
     subst (λ n. (n - 1) / 5 < length c.args.ring.now.standing) (sym (ap length c.as_slice-number.ensures)) could.within
@@ -37,7 +37,7 @@ pub adopt-requires-clause-within : goal.adopt-requires-clause-within
 adopt-requires-clause-within g c =
     let can = c.requires.can in
     let w = c.in-Ok.ensures.walks can.failure can.under can.has.failed in
-    let last = last_survived c.args.point can.failure c.walk_watched.new.cpu c.walk_watched.new.choices.items c.args.replies.now c.walk_watched.new.replies (g.W.Watch.ran c.walk_watched.new.watch + c.args.steps.now) (g.W.Watch.ran c.args.watch.now + c.walk_watched.new.steps) c.in-Ok.episode.tries c.in-Some.adopted w
+    let last = last_survived c.args.point can.failure c.walk_watched.new.cpu c.walk_watched.new.choices.items c.args.replies.now c.walk_watched.new.replies _ _ c.in-Ok.episode.tries c.in-Some.adopted w
     (ap adopted_in (sym c.as_slice.ensures) ∙ sym c.in-Some.ensures) in
     let could = can_adopt c.args.point c.args.cause c.args.pc can.failure c.args.cpu.now c.walk_watched.new.cpu c.args.ring.now c.args.recorded c.args.choices.now.items c.walk_watched.new.choices.items c.args.items.now c.args.replies.now c.walk_watched.new.replies (length c.in-Ok.episode.tries) w.trials can.has last in
     subst (λ n. n < length c.args.ring.now.standing) (sym (c.index_of-index.ensures ∙ ap (λ n. (n - 1) / 5) (ap length c.as_slice-number.ensures))) could.within
@@ -46,7 +46,7 @@ pub adopt-requires-clause-base : goal.adopt-requires-clause-base
 adopt-requires-clause-base g c =
     let can = c.requires.can in
     let w = c.in-Ok.ensures.walks can.failure can.under can.has.failed in
-    let last = last_survived c.args.point can.failure c.walk_watched.new.cpu c.walk_watched.new.choices.items c.args.replies.now c.walk_watched.new.replies (g.W.Watch.ran c.walk_watched.new.watch + c.args.steps.now) (g.W.Watch.ran c.args.watch.now + c.walk_watched.new.steps) c.in-Ok.episode.tries c.in-Some.adopted w
+    let last = last_survived c.args.point can.failure c.walk_watched.new.cpu c.walk_watched.new.choices.items c.args.replies.now c.walk_watched.new.replies _ _ c.in-Ok.episode.tries c.in-Some.adopted w
     (ap adopted_in (sym c.as_slice.ensures) ∙ sym c.in-Some.ensures) in
     let could = can_adopt c.args.point c.args.cause c.args.pc can.failure c.args.cpu.now c.walk_watched.new.cpu c.args.ring.now c.args.recorded c.args.choices.now.items c.walk_watched.new.choices.items c.args.items.now c.args.replies.now c.walk_watched.new.replies (length c.in-Ok.episode.tries) w.trials can.has last in
     subst (λ n. c.walk_watched.new.cpu.slots.base ≡ from_newest (slot_numbers c.walk_watched.new.cpu.slots.saved) n) (sym (c.index_of-index.ensures ∙ ap (λ n. (n - 1) / 5) (ap length c.as_slice-number.ensures))) could.base
@@ -55,7 +55,7 @@ pub adopt-requires-clause-own : goal.adopt-requires-clause-own
 adopt-requires-clause-own g c =
     let can = c.requires.can in
     let w = c.in-Ok.ensures.walks can.failure can.under can.has.failed in
-    let last = last_survived c.args.point can.failure c.walk_watched.new.cpu c.walk_watched.new.choices.items c.args.replies.now c.walk_watched.new.replies (g.W.Watch.ran c.walk_watched.new.watch + c.args.steps.now) (g.W.Watch.ran c.args.watch.now + c.walk_watched.new.steps) c.in-Ok.episode.tries c.in-Some.adopted w
+    let last = last_survived c.args.point can.failure c.walk_watched.new.cpu c.walk_watched.new.choices.items c.args.replies.now c.walk_watched.new.replies _ _ c.in-Ok.episode.tries c.in-Some.adopted w
     (ap adopted_in (sym c.as_slice.ensures) ∙ sym c.in-Some.ensures) in
     let could = can_adopt c.args.point c.args.cause c.args.pc can.failure c.args.cpu.now c.walk_watched.new.cpu c.args.ring.now c.args.recorded c.args.choices.now.items c.walk_watched.new.choices.items c.args.items.now c.args.replies.now c.walk_watched.new.replies (length c.in-Ok.episode.tries) w.trials can.has last in
     subst (λ (own : List Choice). c.args.recorded + length own ≤ c.walk_watched.new.cpu.slots.live.guest.machine.allocations) (sym c.as_slice-in-Some.ensures.value) could.few
@@ -64,7 +64,7 @@ pub adopt-requires-clause-first : goal.adopt-requires-clause-first
 adopt-requires-clause-first g c =
     let can = c.requires.can in
     let w = c.in-Ok.ensures.walks can.failure can.under can.has.failed in
-    let last = last_survived c.args.point can.failure c.walk_watched.new.cpu c.walk_watched.new.choices.items c.args.replies.now c.walk_watched.new.replies (g.W.Watch.ran c.walk_watched.new.watch + c.args.steps.now) (g.W.Watch.ran c.args.watch.now + c.walk_watched.new.steps) c.in-Ok.episode.tries c.in-Some.adopted w
+    let last = last_survived c.args.point can.failure c.walk_watched.new.cpu c.walk_watched.new.choices.items c.args.replies.now c.walk_watched.new.replies _ _ c.in-Ok.episode.tries c.in-Some.adopted w
     (ap adopted_in (sym c.as_slice.ensures) ∙ sym c.in-Some.ensures) in
     let could = can_adopt c.args.point c.args.cause c.args.pc can.failure c.args.cpu.now c.walk_watched.new.cpu c.args.ring.now c.args.recorded c.args.choices.now.items c.walk_watched.new.choices.items c.args.items.now c.args.replies.now c.walk_watched.new.replies (length c.in-Ok.episode.tries) w.trials can.has last in
     subst (λ (own : List Choice). c.walk_watched.new.cpu.slots.live.guest.machine.allocations ≤ c.args.recorded + length c.args.choices.now.items + length own) (sym c.as_slice-in-Some.ensures.value) could.first
@@ -73,17 +73,17 @@ pub returns-in-Ok-adopt-clause-recovers : goal.returns-in-Ok-adopt-clause-recove
 returns-in-Ok-adopt-clause-recovers g c failure begun under has =
     let w = c.in-Ok.ensures.walks failure under has.failed in
     let is = ap adopted_in (sym c.as_slice.ensures) ∙ sym c.in-Some.ensures in
-    let last = last_survived c.args.point failure c.walk_watched.new.cpu c.walk_watched.new.choices.items c.args.replies.now c.walk_watched.new.replies (g.W.Watch.ran c.walk_watched.new.watch + c.args.steps.now) (g.W.Watch.ran c.args.watch.now + c.walk_watched.new.steps) c.in-Ok.episode.tries c.in-Some.adopted w is in
+    let last = last_survived c.args.point failure c.walk_watched.new.cpu c.walk_watched.new.choices.items c.args.replies.now c.walk_watched.new.replies _ _ c.in-Ok.episode.tries c.in-Some.adopted w is in
     let by_number = c.index_of-index.ensures ∙ ap (λ n. (n - 1) / 5) (ap length c.as_slice-number.ensures) in
     let adopts = subst (λ n. Adopts n c.args.recorded c.walk_watched.new.choices.items c.walk_watched.new.cpu c.adopt.new.cpu c.args.ring.now c.adopt.new.ring c.args.choices.now.items c.adopt.new.choices.items) by_number
     (subst (λ (own : List Choice). Adopts c.index_of-index.result c.args.recorded own c.walk_watched.new.cpu c.adopt.new.cpu c.args.ring.now c.adopt.new.ring c.args.choices.now.items c.adopt.new.choices.items) c.as_slice-in-Some.ensures.value c.in-Ok-adopt.ensures.adopts) in
     record {
       trials = w.trials;
       episode_is =
-          episode_tells c.args.point c.args.cause c.args.pc failure begun c.args.cpu.now c.walk_watched.new.cpu c.args.ring.now c.args.recorded c.args.choices.now.items c.walk_watched.new.choices.items c.args.items.now c.args.replies.now c.walk_watched.new.replies (g.W.Watch.ran c.walk_watched.new.watch + c.args.steps.now) (g.W.Watch.ran c.args.watch.now + c.walk_watched.new.steps)
+          episode_tells c.args.point c.args.cause c.args.pc failure begun c.args.cpu.now c.walk_watched.new.cpu c.args.ring.now c.args.recorded c.args.choices.now.items c.walk_watched.new.choices.items c.args.items.now c.args.replies.now c.walk_watched.new.replies _ _
           c.in-Ok.episode has c.in-Ok.ensures.episode w;
       recovers =
-          recovers c.args.point c.args.cause c.args.pc failure begun c.args.cpu.now c.walk_watched.new.cpu c.args.ring.now c.args.recorded c.args.choices.now.items c.walk_watched.new.choices.items c.args.items.now c.args.replies.now c.walk_watched.new.replies (g.W.Watch.ran c.walk_watched.new.watch + c.args.steps.now) (g.W.Watch.ran c.args.watch.now + c.walk_watched.new.steps)
+          recovers c.args.point c.args.cause c.args.pc failure begun c.args.cpu.now c.walk_watched.new.cpu c.args.ring.now c.args.recorded c.args.choices.now.items c.walk_watched.new.choices.items c.args.items.now c.args.replies.now c.walk_watched.new.replies _ _
           c.in-Ok.episode.tries has w;
       counted = w.counted;
       leaves = (
@@ -101,7 +101,7 @@ pub returns-in-Ok-adopt-clause-slots : goal.returns-in-Ok-adopt-clause-slots
 returns-in-Ok-adopt-clause-slots g c =
     let can = c.requires.can in
     let w = c.in-Ok.ensures.walks can.failure can.under can.has.failed in
-    let last = last_survived c.args.point can.failure c.walk_watched.new.cpu c.walk_watched.new.choices.items c.args.replies.now c.walk_watched.new.replies (g.W.Watch.ran c.walk_watched.new.watch + c.args.steps.now) (g.W.Watch.ran c.args.watch.now + c.walk_watched.new.steps) c.in-Ok.episode.tries c.in-Some.adopted w
+    let last = last_survived c.args.point can.failure c.walk_watched.new.cpu c.walk_watched.new.choices.items c.args.replies.now c.walk_watched.new.replies _ _ c.in-Ok.episode.tries c.in-Some.adopted w
     (ap adopted_in (sym c.as_slice.ensures) ∙ sym c.in-Some.ensures) in
     let could = can_adopt c.args.point c.args.cause c.args.pc can.failure c.args.cpu.now c.walk_watched.new.cpu c.args.ring.now c.args.recorded c.args.choices.now.items c.walk_watched.new.choices.items c.args.items.now c.args.replies.now c.walk_watched.new.replies (length c.in-Ok.episode.tries) w.trials can.has last in
     let index : ℕ = c.index_of-index.result in

@@ -1,11 +1,11 @@
-use Rattle.std.proofs.Common.{◌≡◌, ◌+◌, ◌^◌, ◌<◌, ◌≤◌, sym, ap, subst, arith}
+use Rattle.std.proofs.Common.{◌≡◌, ◌+◌, ◌^◌, ◌<◌, ◌≤◌, refl, sym, ap, subst, arith}
 use Rattle.rv_exec.specs.Stepping.{limits_of}
 use Rattle.recovery_gate.specs.Recovering.{HasToRecover}
 use Rattle.rx_engine.specs.Options.{rules_of}
 use Rattle.rx_engine.specs.Sessions.{SessionState}
 use Rattle.rx_engine.specs.Standing.{Since}
 use Rattle.rx_engine.specs.Serving.{Adopting}
-use Rattle.rx_engine.proofs.AdoptLemmas.{failure_of, failing_moved, to_recover, adopt_none, adopting_at, adopt_some, adopt_least, adopt_breaks, adopted_later}
+use Rattle.rx_engine.proofs.AdoptLemmas.{counts_seen, adopting_in, failure_of, failing_moved, to_recover, adopt_none, adopting_at, adopt_some, adopt_least, adopt_breaks, adopted_later}
 use Rattle.rx_engine.proofs.session.Session.adopt.Goals as goal
 
 pub recover-requires : goal.recover-requires
@@ -30,11 +30,12 @@ returns-in-Some-clause-adopts g c image began now phases coming lost fails count
     let has = subst (λ n. HasToRecover c.self.inside.taken c.args.cause n (failure_of rules image f.going.story f.going.saved.paths) c.self.inside.cpu c.self.inside.ring c.self.inside.recorded c.self.inside.choices.items c.self.inside.log c.self.inside.replies) (sym c.pc-pc.ensures)
     (to_recover rules image before now phases c.args.cause _ f budget items) in
     let h = c.in-Ok.ensures.recovers (failure_of rules image f.going.story f.going.saved.paths) f.going.story.survivor.begun under has in
-    subst (λ (s : SessionState _). Adopting rules image (record began { lost = lost; tables = g.W.Watch.tables c.recover.new.watch }) now phases coming c.args.self.now.taken c.args.cause s c.in-Ok.recovered) (sym c.count_run.ensures)
+    let steps : c.count_run.new.self.steps ≡ c.recover.new.cpu.slots.live.steps = ap (λ (s : SessionState _). s.steps) c.count_run.ensures in
+    let seen : c.args.self.now.steps ≡ c.self.inside.steps = sym (ap (λ (s : SessionState _). s.steps) c.self.view_is) in
+    adopting_in (sym c.count_run.ensures)
     (adopting_at (ap (λ (s : SessionState _). s.taken) c.self.view_is)
-    (adopt_some rules image before now phases coming c.args.cause _ c.recover.new.cpu c.recover.new.ring c.recover.new.replies c.recover.new.choices.items c.in-Ok.recovered c.in-Some.adopted lost (g.W.Watch.ran c.recover.new.watch + c.args.steps.now) (g.W.Watch.ran c.args.watch.now + c.recover.new.steps) (g.W.Watch.tables c.recover.new.watch) f h c.in-Ok.ensures.ledger c.in-Some.is
-    (subst (λ n. lost + n + (g.W.Watch.ran c.recover.new.watch + c.args.steps.now) ≡ began.lost + c.self.inside.steps + (g.W.Watch.ran c.args.watch.now + c.recover.new.steps)) (ap (λ (s : SessionState _). s.steps) c.count_run.ensures)
-    (subst (λ n. lost + c.count_run.new.self.steps + (g.W.Watch.ran c.recover.new.watch + c.args.steps.now) ≡ began.lost + n + (g.W.Watch.ran c.args.watch.now + c.recover.new.steps)) (sym (ap (λ (s : SessionState _). s.steps) c.self.view_is)) counts)) (c.in-Ok.ensures.watched (failure_of rules image f.going.story f.going.saved.paths) under has)))
+    (adopt_some rules image before now phases coming c.args.cause _ c.recover.new.cpu c.recover.new.ring c.recover.new.replies c.recover.new.choices.items c.in-Ok.recovered c.in-Some.adopted lost _ _ _ f h c.in-Ok.ensures.ledger c.in-Some.is
+    (counts_seen lost began.lost c.count_run.new.self.steps c.recover.new.cpu.slots.live.steps c.args.self.now.steps c.self.inside.steps _ _ counts steps seen) (c.in-Ok.ensures.watched (failure_of rules image f.going.story f.going.saved.paths) under has)))
 
 pub returns-in-None-clause-adopts : goal.returns-in-None-clause-adopts
 returns-in-None-clause-adopts g c image began now phases coming lost fails counts =
@@ -47,9 +48,10 @@ returns-in-None-clause-adopts g c image began now phases coming lost fails count
     let has = subst (λ n. HasToRecover c.self.inside.taken c.args.cause n (failure_of rules image f.going.story f.going.saved.paths) c.self.inside.cpu c.self.inside.ring c.self.inside.recorded c.self.inside.choices.items c.self.inside.log c.self.inside.replies) (sym c.pc-pc.ensures)
     (to_recover rules image before now phases c.args.cause _ f budget items) in
     let h = c.in-Ok.ensures.recovers (failure_of rules image f.going.story f.going.saved.paths) f.going.story.survivor.begun under has in
+    let seen : c.args.self.now.steps ≡ c.self.inside.steps = sym (ap (λ (s : SessionState _). s.steps) c.self.view_is) in
     adopting_at (ap (λ (s : SessionState _). s.taken) c.self.view_is)
-    (adopt_none rules image before now phases coming c.args.cause _ c.recover.new.cpu c.recover.new.ring c.recover.new.replies c.recover.new.choices.items c.in-Ok.recovered lost (g.W.Watch.ran c.recover.new.watch + c.args.steps.now) (g.W.Watch.ran c.args.watch.now + c.recover.new.steps) (g.W.Watch.tables c.recover.new.watch) f h c.in-Ok.ensures.slots c.in-None.is
-    (subst (λ n. lost + c.self.inside.steps + (g.W.Watch.ran c.recover.new.watch + c.args.steps.now) ≡ began.lost + n + (g.W.Watch.ran c.args.watch.now + c.recover.new.steps)) (sym (ap (λ (s : SessionState _). s.steps) c.self.view_is)) counts) (c.in-Ok.ensures.watched (failure_of rules image f.going.story f.going.saved.paths) under has))
+    (adopt_none rules image before now phases coming c.args.cause _ c.recover.new.cpu c.recover.new.ring c.recover.new.replies c.recover.new.choices.items c.in-Ok.recovered lost _ _ _ f h c.in-Ok.ensures.slots c.in-None.is
+    (counts_seen lost began.lost c.self.inside.steps c.self.inside.steps c.args.self.now.steps c.self.inside.steps _ _ counts refl seen) (c.in-Ok.ensures.watched (failure_of rules image f.going.story f.going.saved.paths) under has))
 
 pub returns-in-Some-clause-least : goal.returns-in-Some-clause-least
 returns-in-Some-clause-least g c =
@@ -61,7 +63,7 @@ returns-in-Some-clause-least g c =
     let has = subst (λ n. HasToRecover c.self.inside.taken c.args.cause n (failure_of rules c.requires.fails.2.image f.going.story f.going.saved.paths) c.self.inside.cpu c.self.inside.ring c.self.inside.recorded c.self.inside.choices.items c.self.inside.log c.self.inside.replies) (sym c.pc-pc.ensures)
     (to_recover rules c.requires.fails.2.image c.requires.fails.2.began c.requires.fails.0 c.requires.fails.1 c.args.cause _ f budget items) in
     let h = c.in-Ok.ensures.recovers (failure_of rules c.requires.fails.2.image f.going.story f.going.saved.paths) f.going.story.survivor.begun under has in
-    let least = adopt_least rules c.requires.fails.2.image c.requires.fails.2.began c.requires.fails.0 c.requires.fails.1 c.args.cause _ c.recover.new.cpu c.recover.new.ring c.recover.new.replies c.recover.new.choices.items c.in-Ok.recovered c.in-Some.adopted (g.W.Watch.ran c.recover.new.watch + c.args.steps.now) (g.W.Watch.ran c.args.watch.now + c.recover.new.steps) f h c.in-Some.is in
+    let least = adopt_least rules c.requires.fails.2.image c.requires.fails.2.began c.requires.fails.0 c.requires.fails.1 c.args.cause _ c.recover.new.cpu c.recover.new.ring c.recover.new.replies c.recover.new.choices.items c.in-Ok.recovered c.in-Some.adopted _ _ f h c.in-Some.is in
     let steps : c.count_run.new.self.steps ≡ c.recover.new.cpu.slots.live.steps = ap (λ (s : SessionState _). s.steps) c.count_run.ensures in
     let before : c.self.inside.steps ≡ c.args.self.now.steps = ap (λ (s : SessionState _). s.steps) c.self.view_is in
     omega (arith, least, steps, before)
@@ -85,5 +87,5 @@ returns-in-Err-clause-adopts g c image began now phases coming lost fails none =
     let items = subst (λ (s : SessionState _). s.options.max_items ≤ 2 ^ 20) c.self.view_is c.self.invariant.few_items in
     let has = subst (λ n. HasToRecover c.self.inside.taken c.args.cause n (failure_of rules image f.going.story f.going.saved.paths) c.self.inside.cpu c.self.inside.ring c.self.inside.recorded c.self.inside.choices.items c.self.inside.log c.self.inside.replies) (sym c.pc-pc.ensures)
     (to_recover rules image before now phases c.args.cause _ f budget items) in
-    adopt_breaks rules image before now phases coming c.args.cause _ c.recover.new.cpu c.recover.new.ring c.recover.new.replies c.recover.new.choices.items lost (g.W.Watch.tables c.recover.new.watch) f c.in-Err.ensures.fault.1
+    adopt_breaks rules image before now phases coming c.args.cause _ c.recover.new.cpu c.recover.new.ring c.recover.new.replies c.recover.new.choices.items lost _ f c.in-Err.ensures.fault.1
     (c.in-Err.ensures.watched (failure_of rules image f.going.story f.going.saved.paths) under has)
