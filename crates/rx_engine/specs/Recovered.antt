@@ -87,14 +87,15 @@ pub record HasRecovered (rules : Rules) (image : Image) (began now : Told) (comi
 abbrev pub IsTable : Rules → List Entry → Recovery → List Try → Type 0
 IsTable rules entries recovery tries = IsWholeTable rules.limits (items_in rules.bounds entries) recovery.survivor.plan (passed_in rules.bounds entries) (point_of recovery) recovery.ring tries
 
--- tables of the recoveries of a session, one of each, in order: behind some entries, each behind those of its chapter
+-- the tables of a session's recoveries, one of each, in order: each behind all entries up to its failure, which are some entries and those of the
+-- chapters up to its own
 abbrev pub AreTables : Rules → List Entry → List Chapter → List Recovery → List (List Try) → Type 0
 AreTables rules before [] [] [] = Unit {0}
 AreTables rules before (chapter ∷ chapters) (recovery ∷ recoveries) (tries ∷ tables) = IsTable rules (before ++ chapter.entries) recovery tries × AreTables rules (before ++ chapter.entries) chapters recoveries tables
 AreTables rules before _ _ _ = ⊥
 
--- Tables behind those: where an episode tells of trials behind the last survivor, one of these trials' checkpoints; and else none, but that one
--- may stand where memory ran out.
+-- Tables behind those. Where an episode tells of trials behind the last survivor, there is one, that of its checkpoints. Else there is none; but
+-- where memory ran out one may stand there.
 abbrev pub AreLastTables : Rules → Image → List Entry → List Entry → Survivor → List Trial → List Episode → Answer → List (List Try) → Type 0
 AreLastTables rules image start since survivor trials [] end tables = (length tables ≤ 1) × (end ≢ answer.Memory → tables ≡ [])
 AreLastTables rules image start since survivor trials (episode ∷ more) end tables =
