@@ -9,7 +9,7 @@ use Rattle.episodes.specs.declared.episode.Episode.{Episode}
 use Rattle.episodes.specs.declared.episode.Try.{Try}
 use Rattle.trial_history.specs.Tables.{Trial}
 use Rattle.trial_plan.specs.Sessions.{Failure}
-use Rattle.trial_plan.specs.Trying.{steps_of, LeavesBy, HasWalked}
+use Rattle.trial_plan.specs.Trying.{steps_of, LeavesBy}
 use Rattle.trial_plan.specs.Walking.{StaysBy, WalksBy}
 use Rattle.trial_plan.specs.Watching.{TellsTable}
 use Rattle.trial_plan.proofs.WalkLemmas.{same_bytes_on}

@@ -5,7 +5,7 @@ use Rattle.rx_io.specs.declared.bytes.Item.{Item}
 use Rattle.rx_io.specs.Sends.{Send}
 use Rattle.run_history.specs.Served.{Limits, Override, Path}
 use Rattle.episodes.specs.declared.episode.Try.{Try}
-use Rattle.trial_history.specs.Tables.{Chance, Trial, try_of, table, IsRight}
+use Rattle.trial_history.specs.Tables.{Trial, try_of, table, IsRight}
 use Rattle.trial_plan.specs.Sessions.{Failure, items_of, pieces_of}
 
 -- the tries of a whole table: each chance of it was tried, in order, with the result that it has
