@@ -62,6 +62,13 @@ far_is every taken saved =
     by None = refl
     by (Some one) = refl
 
+pub far_none : (every taken : ℕ) (saved : List (Saved Standing)) (standing : List Checkpoint) → standing ≡ checkpoints_of taken_in saved → is_due every taken standing ≡ false → is_far every taken (from_newest (stands_of saved) 0) ≡ false
+far_none every taken saved standing same none = sym (ap (is_due every taken) same ∙ far_is every taken saved) ∙ none
+
+-- where none is due nothing changes
+pub near_handles : (keeping : Keeping) (taken written : ℕ) (stands : List Stand) → is_far keeping.every taken (from_newest stands 0) ≡ false → stands ≡ handle keeping taken written stands
+near_handles keeping taken written stands near = ap (λ b. cond b (whole_oldest keeping.pages (stay keeping (stands ++ record { taken = taken; written = written } ∷ []))) stands) (sym near)
+
 -- A request is handled: another checkpoint is saved, or none is due.
 pub handles_saved : (capacity every slot taken : ℕ) (slots new : Slots Standing) (standing : List Checkpoint) → standing ≡ checkpoints_of taken_in slots.saved → is_due every taken standing ≡ true → taken_in slots.live ≡ taken → new ≡ saved_in_ring capacity slot slots
     → stands_of new.saved ≡ handle (keeping_by capacity every slots) taken slots.written (stands_of slots.saved)
@@ -99,9 +106,9 @@ handled_more keeping recoveries survivor requests written stands next h is = rec
 }
 
 -- where none is due, the request is handled as it stands
-pub handled_none : (keeping : Keeping) (recoveries : List Recovery) (survivor : Survivor) (requests : ℕ) (saved : List (Saved Standing)) (standing : List Checkpoint) → standing ≡ checkpoints_of taken_in saved → is_due keeping.every requests standing ≡ false
-    → HasHandled keeping recoveries survivor requests (stands_of saved) → HasHandled keeping recoveries survivor (requests + 1) (stands_of saved)
-handled_none keeping recoveries survivor requests saved standing same none h = handled_more keeping recoveries survivor requests 0 (stands_of saved) (stands_of saved) h (handles_none keeping requests 0 saved standing same none)
+pub handled_near : (keeping : Keeping) (recoveries : List Recovery) (survivor : Survivor) (requests : ℕ) (stands : List Stand) → is_far keeping.every requests (from_newest stands 0) ≡ false → HasHandled keeping recoveries survivor requests stands
+    → HasHandled keeping recoveries survivor (requests + 1) stands
+handled_near keeping recoveries survivor requests stands near h = handled_more keeping recoveries survivor requests 0 stands stands h (near_handles keeping requests 0 stands near)
 
 -- the last survivor goes on
 pub handled_on : (keeping : Keeping) (recoveries : List Recovery) (first second : Survivor) (requests : ℕ) (stands : List Stand) → second.begun ≡ first.begun → HasHandled keeping recoveries first requests stands → HasHandled keeping recoveries second requests stands

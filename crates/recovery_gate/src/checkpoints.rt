@@ -4,12 +4,12 @@ ghost use Rattle.rx_io.specs.declared.journal.Entry.{Entry};
 ghost use Rattle.elf_image.specs.declared.image.Image.{Image};
 ghost use Rattle.item_log.specs.Log.{Log};
 ghost use Rattle.reply_ledger.specs.Ledger.{Ledger};
-ghost use Rattle.ckpt_ring.specs.Rings.{saved_in_ring};
+ghost use Rattle.ckpt_ring.specs.Rings.{saved_in_ring, from_newest};
 ghost use Rattle.run_history.specs.Served.{Override, Path, origin, AsksFor};
 ghost use Rattle.guest_cpu.specs.Serving.{standing_of};
 ghost use Rattle.session_history.specs.Lawful.{Rules};
 ghost use Rattle.trial_plan.specs.Sessions.{CanGoOn, taken_in};
-ghost use Rattle.recovery_gate.specs.Handling.{alone, handle, stands_of, keeping_by};
+ghost use Rattle.recovery_gate.specs.Handling.{alone, handle, is_far, stands_of, keeping_by};
 ghost use Rattle.recovery_gate.specs.Rings.{IsRingOf, KeepsRing, is_due, SavesIf, ring_if};
 
 use ckpt_ring::Ring;
@@ -41,7 +41,7 @@ pub fn checkpoint<R: AccessRule>(cpu: &mut Cpu<R>, ring: &mut Ring, taken: u64, 
         → cpu.old.slots.live ≡ standing_of now → AsksFor rules.limits plan now taken → 0 < every → CanGoOn rules entries now → log.first ≤ taken → ledger.first ≤ length now.state.sends
         → KeepsRing rules image entries plan now (ring_if (is_due every taken ring.old.standing) (length cpu.new.slots.saved) now paths) cpu.new ring.new log ledger }
     ensures handles { taken_in cpu.old.slots.live ≡ taken → stands_of cpu.new.slots.saved ≡ handle (keeping_by ring.old.capacity every cpu.old.slots) taken cpu.old.slots.written (stands_of cpu.old.slots.saved) }
-    ensures none_due { taken_in cpu.old.slots.live ≡ taken → 0 < every → is_due every taken ring.new.standing ≡ false }
+    ensures none_due { taken_in cpu.old.slots.live ≡ taken → 0 < every → is_far every taken (from_newest (stands_of cpu.new.slots.saved) 0) ≡ false }
     ensures saved { SavesIf (is_due every taken ring.old.standing) ring.old.capacity cpu.old cpu.new }
     ensures live { cpu.new.slots.live ≡ cpu.old.slots.live }
     ensures rule { cpu.new.rule ≡ cpu.old.rule }

@@ -1,5 +1,5 @@
 -- What a failure makes of a session: it goes on as a trial, or gives up.
-use Rattle.std.proofs.Common.{◌≡◌, inl, inr, ℕ, zero, suc, ◌+◌, ◌-◌, ◌^◌, ◌<◌, ◌≤◌, List, [], ◌∷◌, ◌++◌, length, map, take, drop, Option, None, Some, false, refl, sym, ◌∙◌, ap, subst, arith, append-nil, append_assoc}
+use Rattle.std.proofs.Common.{◌≡◌, inl, inr, ℕ, zero, suc, ◌+◌, ◌-◌, ◌^◌, ◌<◌, ◌≤◌, List, [], ◌∷◌, ◌++◌, length, map, take, drop, Option, None, Some, false, refl, sym, ◌∙◌, ap, subst, arith, append-nil, append_assoc, length-drop}
 use Rattle.std.specs.Prelude.{◌≢◌, ◌⊎◌, sum, option_map}
 use Rattle.std.proofs.lemmas.List.{map-append}
 use Rattle.std.proofs.lemmas.List.Sums.{sum_by-append}
@@ -40,7 +40,13 @@ use Rattle.recovery_gate.specs.declared.recovering.Adopted.{Adopted}
 use Rattle.recovery_gate.specs.Rings.{KeepsRing, AreBehind, IsInForce}
 use Rattle.recovery_gate.specs.Recovering.{recovery_of, HasToRecover, HasAdoptedRun, LeavesRun, HasRecovery, KeepsSlots}
 use Rattle.trial_history.specs.Chains.{AreChained}
-use Rattle.rx_engine.proofs.HeldLemmas.{held_by, held_of}
+use Rattle.std.proofs.lemmas.Option.{slice_get_within}
+use Rattle.std.proofs.lemmas.List.{length-take-le}
+use Rattle.ckpt_ring.specs.Rings.{without_newer}
+use Rattle.recovery_gate.specs.Handling.{Keeping, HasHandled, stands_of, keeping_by}
+use Rattle.recovery_gate.proofs.Handled.{handled_adopts, has_ring, stands_up_to}
+use Rattle.rx_engine.specs.Leaving.{keeping_of}
+use Rattle.rx_engine.proofs.HeldLemmas.{held_by, held_of, note_at_none}
 use Rattle.recovery_gate.specs.declared.recovering.Recovered.{Recovered}
 use Rattle.recovery_gate.proofs.RingLemmas.{ring_fails}
 use Rattle.rx_engine.specs.Recovered.{spent, told_of, HasGivenUp, IsNoteFault}
@@ -118,7 +124,7 @@ told_adopted rules image began now story recovery trial lost noted tables told l
     }
 
 -- a run that fails doesn't stand at its request
-asks_or_fails : (limits : Limits) (plan : List Override) (path : Path) (cause : Cause) (item : ℕ) → AsksFor limits [] path item → FailsBy limits plan path cause → ⊥
+pub asks_or_fails : (limits : Limits) (plan : List Override) (path : Path) (cause : Cause) (item : ℕ) → AsksFor limits [] path item → FailsBy limits plan path cause → ⊥
 asks_or_fails limits plan path cause item asks fails =
     let here : AsksFor limits plan path item = asks_under_all limits [] plan path item asks in
     let never : Wants ≡ Fails cause = sym here.asks ∙ fails.fails in absurd (cc)
@@ -200,11 +206,11 @@ module _ {R : Type 0} where
 
   -- no trial survived
   pub gives_up : (rules : Rules) (image : Image) (began : Since) (now : Told) (phases : Phases) (coming : Option Coming) (cause : Cause) (old : SessionState R) (cpu : CpuState R) (ring : Checkpoints) (replies : Ledger) (choices : List Choice)
-      (f : IsFailing rules image began now phases cause old) (trials : List Trial) (lost before after : ℕ) (noted : Noted) (tables : Option (List (List Try))) → cpu.slots.saved ≡ old.cpu.slots.saved → IsRecovery rules image (entries f.going.story) (recovery_of (failure_of rules image f.going.story f.going.saved.paths) f.going.story.survivor.begun cause trials)
+      (f : IsFailing rules image began now phases cause old) (trials : List Trial) (lost before after : ℕ) (noted : Noted) (tables : Option (List (List Try))) → cpu.slots.saved ≡ old.cpu.slots.saved → keeping_by ring.capacity old.options.every cpu.slots ≡ keeping_of old → IsRecovery rules image (entries f.going.story) (recovery_of (failure_of rules image f.going.story f.going.saved.paths) f.going.story.survivor.begun cause trials)
       → survivor_in trials ≡ None → replies ≡ discarded old.replies → choices ≡ old.choices → after ≡ before + steps_of trials → lost + old.steps + before ≡ began.lost + old.steps + after
       → HasNotedMore began.noted noted [] (told_of f.going.story.survivor cause trials ∷ []) → TellsOne rules (entries f.going.story) (recovery_of (failure_of rules image f.going.story f.going.saved.paths) f.going.story.survivor.begun cause trials) began.tables tables
       → IsEnding rules image (record began { lost = lost; noted = noted; tables = tables }) now coming (walked old cpu ring replies choices) (answer.GaveUp old.taken cause)
-  gives_up rules image began now phases coming cause old cpu ring replies choices f trials lost before after noted tables slots was none ledger chose counted counts more one =
+  gives_up rules image began now phases coming cause old cpu ring replies choices f trials lost before after noted tables slots keeping was none ledger chose counted counts more one =
       let g = f.going in
       let story : Story = g.story in
       let same : replies ≡ old.replies = ledger ∙ discards_none old.replies g.passed.no_trial in
@@ -224,7 +230,8 @@ module _ {R : Type 0} where
         replies = subst (λ (l : Ledger). KeepsReplies rules.bounds (entries story) None (sends story) l) (sym same) g.passed.replies;
         no_trial = ap (λ (l : Ledger). l.trial) same ∙ g.passed.no_trial;
         closed = λ send stands closing owed. g.passed.done send stands owed;
-        holds = held_by rules image (entries story) story.survivor old (walked old cpu ring replies choices) slots (held_of rules image story old g.saved);
+        holds = held_by rules image (entries story) story.recoveries story.survivor old (walked old cpu ring replies choices) slots keeping (held_of rules image story old g.saved);
+        handled = λ is. absurd is;
         live = tt;
         is_end = tt;
         stands = (f.fails, sym g.answers.taken);
@@ -232,15 +239,44 @@ module _ {R : Type 0} where
         gave_up = given_up;
       }
 
+  -- what stands behind a recovery that adopted a trial
+  adopted_requests : (rules : Rules) (image : Image) (began : Since) (now : Told) (phases : Phases) (cause : Cause) (old : SessionState R) (cpu : CpuState R) (ring : Checkpoints) (replies : Ledger) (choices : List Choice) (adopted : Adopted)
+      (f : IsFailing rules image began now phases cause old) (trials : List Trial) (trial : Trial) → survivor_in trials ≡ Some trial
+      → HasAdoptedRun (failure_of rules image f.going.story f.going.saved.paths) (recovery_of (failure_of rules image f.going.story f.going.saved.paths) f.going.story.survivor.begun cause trials) trial adopted cpu ring old.recorded choices old.log replies
+      → KeepsSlots (Some adopted) old.cpu cpu → keeping_by ring.capacity old.options.every cpu.slots ≡ keeping_of old
+      → HasHandled (keeping_by ring.capacity old.options.every cpu.slots) (f.going.story.recoveries ++ recovery_of (failure_of rules image f.going.story f.going.saved.paths) f.going.story.survivor.begun cause trials ∷ [])
+      (adopted_by (recovery_of (failure_of rules image f.going.story f.going.saved.paths) f.going.story.survivor.begun cause trials) trial) trial.path.state.machine.taken (stands_of cpu.slots.saved)
+  adopted_requests rules image began now phases cause old cpu ring replies choices adopted f trials trial found run slots keeping =
+      let g = f.going in
+      let story : Story = g.story in
+      let recovery : Recovery = recovery_of (failure_of rules image story g.saved.paths) story.survivor.begun cause trials in
+      let k = g.saved.ring in
+      let before : HasHandled (keeping_of old) story.recoveries story.survivor story.survivor.now.state.machine.taken (stands_of old.cpu.slots.saved) =
+      elim g.saved.requests [
+        | inl h ↦ h
+        | inr there ↦ absurd (asks_or_fails rules.limits story.survivor.plan story.survivor.now cause story.survivor.now.state.machine.taken there.0 f.fails)
+      ] in
+      let within : run.index < length g.saved.paths = slice_get_within g.saved.paths run.index trial.chance.checkpoint run.from in
+      let left : length (drop run.index g.saved.paths) ≡ length g.saved.paths - run.index = length-drop run.index g.saved.paths in
+      let cut : length cpu.slots.saved ≡ length old.cpu.slots.saved - slots.0 = ap length slots.2 ∙ length-take-le (length old.cpu.slots.saved - slots.0) old.cpu.slots.saved (omega arith) in
+      let as_many = run.ring.as_many in
+      let many = k.as_many in
+      let low = slots.1 in
+      let index : slots.0 ≡ run.index = omega (arith, within, left, cut, as_many, many, low) in
+      subst (λ (kept : Keeping). HasHandled kept (story.recoveries ++ recovery ∷ []) (adopted_by recovery trial) trial.path.state.machine.taken (stands_of cpu.slots.saved)) (sym keeping)
+      (handled_adopts (keeping_of old) story.recoveries recovery (adopted_by recovery trial) (stands_of old.cpu.slots.saved) (stands_of cpu.slots.saved) trial run.index before (has_ring old.cpu.slots.saved g.saved.paths k.as_many k.saved) found run.from
+      (stands_up_to run.index old.cpu.slots.saved cpu.slots.saved (slots.2 ∙ ap (λ n. without_newer n old.cpu.slots.saved) index)))
+
   -- the session goes on as a trial that asks for the next item
   pub adopts_going : (rules : Rules) (image : Image) (began : Since) (now : Told) (phases : Phases) (cause : Cause) (old : SessionState R) (cpu : CpuState R) (ring : Checkpoints) (replies : Ledger) (choices : List Choice) (adopted : Adopted)
       (f : IsFailing rules image began now phases cause old) (trials : List Trial) (trial : Trial) (lost : ℕ) → IsRecovery rules image (entries f.going.story) (recovery_of (failure_of rules image f.going.story f.going.saved.paths) f.going.story.survivor.begun cause trials)
       → survivor_in trials ≡ Some trial
       → HasAdoptedRun (failure_of rules image f.going.story f.going.saved.paths) (recovery_of (failure_of rules image f.going.story f.going.saved.paths) f.going.story.survivor.begun cause trials) trial adopted cpu ring old.recorded choices old.log replies
+      → KeepsSlots (Some adopted) old.cpu cpu → keeping_by ring.capacity old.options.every cpu.slots ≡ keeping_of old
       → HasSameBytes old.replies replies → adopted.code ≡ None → lost + trial.path.steps ≡ began.lost + f.going.story.survivor.now.steps + steps_of trials
       → (noted : Noted) → HasNotedMore began.noted noted [] (told_of f.going.story.survivor cause trials ∷ []) → (tables : Option (List (List Try))) → TellsOne rules (entries f.going.story) (recovery_of (failure_of rules image f.going.story f.going.saved.paths) f.going.story.survivor.begun cause trials) began.tables tables
       → IsGoing rules image (record began { lost = lost; noted = noted; tables = tables }) now phases (goes_as old cpu ring replies choices adopted.env (old.taken + 4))
-  adopts_going rules image began now phases cause old cpu ring replies choices adopted f trials trial lost was found run bytes asks counts noted more tables one =
+  adopts_going rules image began now phases cause old cpu ring replies choices adopted f trials trial lost was found run slots keeping bytes asks counts noted more tables one =
       let g = f.going in
       let story : Story = g.story in
       let recovery : Recovery = recovery_of (failure_of rules image story g.saved.paths) story.survivor.begun cause trials in
@@ -271,6 +307,7 @@ module _ {R : Type 0} where
           paths = drop run.index g.saved.paths;
           ring = subst (λ es. KeepsRing rules image es (adopted_by recovery trial).plan trial.path (drop run.index g.saved.paths) cpu ring old.log replies) (sym same) run.ring;
           early = behind_drop old.recorded run.index g.saved.paths g.saved.early;
+          requests = inl (adopted_requests rules image began now phases cause old cpu ring replies choices adopted f trials trial found run slots keeping);
           in_force =
               subst (λ n. IsInForce (adopted_by recovery trial).plan n adopted.env (old.taken + 4)) (sym taken)
               (subst (λ n. IsInForce (adopted_by recovery trial).plan story.survivor.now.state.machine.taken adopted.env n) (sym (ap (λ n. n + 4) point)) run.in_force);
@@ -289,10 +326,11 @@ module _ {R : Type 0} where
       (adopted : Adopted) (code : ℕ) (f : IsFailing rules image began now phases cause old) (trials : List Trial) (trial : Trial) (lost : ℕ)
       → IsRecovery rules image (entries f.going.story) (recovery_of (failure_of rules image f.going.story f.going.saved.paths) f.going.story.survivor.begun cause trials) → survivor_in trials ≡ Some trial
       → HasAdoptedRun (failure_of rules image f.going.story f.going.saved.paths) (recovery_of (failure_of rules image f.going.story f.going.saved.paths) f.going.story.survivor.begun cause trials) trial adopted cpu ring old.recorded choices old.log replies
+      → KeepsSlots (Some adopted) old.cpu cpu → keeping_by ring.capacity old.options.every cpu.slots ≡ keeping_of old
       → HasSameBytes old.replies replies → adopted.code ≡ Some code → lost + trial.path.steps ≡ began.lost + f.going.story.survivor.now.steps + steps_of trials
       → (noted : Noted) → HasNotedMore began.noted noted [] (told_of f.going.story.survivor cause trials ∷ []) → (tables : Option (List (List Try))) → TellsOne rules (entries f.going.story) (recovery_of (failure_of rules image f.going.story f.going.saved.paths) f.going.story.survivor.begun cause trials) began.tables tables
       → IsEnding rules image (record began { lost = lost; noted = noted; tables = tables }) now coming (goes_as old cpu ring replies choices adopted.env (old.taken + 4)) (answer.Exited code)
-  adopts_ending rules image began now phases coming cause old cpu ring replies choices adopted code f trials trial lost was found run bytes exits counts noted more tables one =
+  adopts_ending rules image began now phases coming cause old cpu ring replies choices adopted code f trials trial lost was found run slots keeping bytes exits counts noted more tables one =
       let g = f.going in
       let story : Story = g.story in
       let recovery : Recovery = recovery_of (failure_of rules image story g.saved.paths) story.survivor.begun cause trials in
@@ -322,7 +360,9 @@ module _ {R : Type 0} where
           are = run.ring.are;
           as_many = run.ring.as_many;
           saved = run.ring.saved;
+          requests = inl (adopted_requests rules image began now phases cause old cpu ring replies choices adopted f trials trial found run slots keeping);
         };
+        handled = λ is. absurd is;
         live = run.stands;
         is_end = tt;
         stands = sym run.code_is ∙ exits;
@@ -342,7 +382,7 @@ module _ {R : Type 0} where
       (broken_noting (λ account. Unit {0}) rules image (record began { lost = lost; tables = tables }) nobody nobody now coming session next fault then
       (tables_here rules image next.earlier next.since next.survivor next.recoveries [] fault began.tables_before tables (tables_then rules story recovery began.tables_before began.tables tables told.tables one))
       (notes_here (record began { lost = lost }) next session fault (map episode_of story.recoveries) (episode_of recovery ∷ []) told.episodes answers (map-append episode_of story.recoveries (recovery ∷ [])) (omega arith) (λ some. note)
-      (note_no_end fault note)) answers.taken answers.steps (note_ends rules coming (account_of next) fault note) (note_no_end fault note) (λ never. absurd (never note)) tt).0
+      (note_no_end fault note)) answers.taken answers.steps (note_ends rules coming (account_of next) fault note) (note_no_end fault note) (λ never. absurd (never note)) (λ is. absurd (note_at_none fault note is)) tt).0
 
   -- what is counted otherwise at want of memory isn't counted at all
   abbrev pub off_lost : (rules : Rules) (image : Image) (began : Since) (now : Told) (coming : Option Coming) (session : SessionState R) (end : Answer) (lost : ℕ) → (end ≢ answer.Memory → lost ≡ began.lost) → IsBrokenOff rules image began now coming session end
@@ -354,8 +394,9 @@ module _ {R : Type 0} where
     ends = off.ends;
     pieces = off.pieces;
     no_end = off.no_end;
-    holds = off.holds;
     recoveries = off.recoveries;
+    holds = off.holds;
+    handled = off.handled;
     recovered = off.recovered;
     trials = off.trials;
     last = off.last;
@@ -383,7 +424,7 @@ module _ {R : Type 0} where
         | inl same ↦ tables_here rules image story.earlier story.since story.survivor story.recoveries [] answer.Memory began.tables_before tables (subst (λ (t : Option (List (List Try))). TellsMore began.tables_before t (AreTables rules [] story.earlier story.recoveries)) (sym same) told.tables)
         | inr more ↦ tables_memory rules image story.earlier story.since story.survivor story.recoveries (recovery_of (failure_of rules image story f.going.saved.paths) story.survivor.begun cause []) [] began.tables_before began.tables tables told.tables (table_of rules image began now phases cause old f [] began.tables tables more)
       ])
-      (notes_here began story (walked old cpu ring replies choices) answer.Memory all [] told.episodes answers (sym (append-nil all)) (omega arith) (λ some. absurd (omega (arith, some))) (λ is. is)) answers.taken answers.steps tt (λ is. is) (λ never. absurd (never tt)) tt).0
+      (notes_here began story (walked old cpu ring replies choices) answer.Memory all [] told.episodes answers (sym (append-nil all)) (omega arith) (λ some. absurd (omega (arith, some))) (λ is. is)) answers.taken answers.steps tt (λ is. is) (λ never. absurd (never tt)) (λ is. absurd is) tt).0
 
   -- behind a failure the number is higher, up to which an environment is in force
   pub adopted_later : (rules : Rules) (image : Image) (began : Since) (now : Told) (phases : Phases) (cause : Cause) (old : SessionState R) → IsFailing rules image began now phases cause old → (old.until < old.taken + 4) × (old.taken ≤ rules.bounds.max_items)
@@ -430,8 +471,9 @@ module _ {R : Type 0} where
         ends = note_ends rules coming (account_of story) fault note;
         pieces = tt;
         no_end = note_no_end fault note;
-        holds = λ never. absurd (never note);
         recoveries = story.recoveries;
+        holds = λ never. absurd (never note);
+        handled = λ is. absurd (note_at_none fault note is);
         recovered = told.recovered;
         trials = trials;
         last = told_of story.survivor cause trials ∷ [];
@@ -445,9 +487,9 @@ module _ {R : Type 0} where
       }
 
   pub adopt_none : (rules : Rules) (image : Image) (began : Since) (now : Told) (phases : Phases) (coming : Option Coming) (cause : Cause) (old : SessionState R) (cpu : CpuState R) (ring : Checkpoints) (replies : Ledger) (choices : List Choice) (recovered : Recovered)
-      (lost before after : ℕ) (tables : Option (List (List Try))) (f : IsFailing rules image began now phases cause old) → Left rules image began now phases cause old f recovered cpu ring replies choices before after → KeepsSlots recovered.adopted old.cpu cpu → recovered.adopted ≡ None → lost + old.steps + before ≡ began.lost + old.steps + after
+      (lost before after : ℕ) (tables : Option (List (List Try))) (f : IsFailing rules image began now phases cause old) → Left rules image began now phases cause old f recovered cpu ring replies choices before after → KeepsSlots recovered.adopted old.cpu cpu → keeping_by ring.capacity old.options.every cpu.slots ≡ keeping_of old → recovered.adopted ≡ None → lost + old.steps + before ≡ began.lost + old.steps + after
       → TellsTable (failure_of rules image f.going.story f.going.saved.paths) old.taken began.tables tables → Adopting rules image (record began { lost = lost; tables = tables }) now phases coming old.taken cause (walked old cpu ring replies choices) recovered
-  adopt_none rules image began now phases coming cause old cpu ring replies choices recovered lost before after tables f h slots is counts told =
+  adopt_none rules image began now phases coming cause old cpu ring replies choices recovered lost before after tables f h slots keeping is counts told =
       let g = f.going in
       let story : Story = g.story in
       let failure : Failure = failure_of rules image story g.saved.paths in
@@ -460,7 +502,7 @@ module _ {R : Type 0} where
       record {
         goes = λ noted more.
             subst (AdoptsTo rules image (record began { lost = lost; noted = noted; tables = tables }) now phases coming (walked old cpu ring replies choices)) (sym end)
-            (gives_up rules image began now phases coming cause old cpu ring replies choices f h.trials lost before after noted tables stay h.recovers leaves.0 leaves.3 leaves.2 h.counted counts
+            (gives_up rules image began now phases coming cause old cpu ring replies choices f h.trials lost before after noted tables stay keeping h.recovers leaves.0 leaves.3 leaves.2 h.counted counts
             (subst (λ (e : Episode). HasNotedMore began.noted noted [] (e ∷ [])) h.episode_is more) one);
         breaks = λ fault note.
             gave_up_unnoted rules image began now coming cause story g.saved.paths h.trials lost (walked old cpu ring replies choices) fault tables g.told given_up (omega (arith, counted, counts))
@@ -468,10 +510,10 @@ module _ {R : Type 0} where
       }
 
   pub adopt_some : (rules : Rules) (image : Image) (began : Since) (now : Told) (phases : Phases) (coming : Option Coming) (cause : Cause) (old : SessionState R) (cpu : CpuState R) (ring : Checkpoints) (replies : Ledger) (choices : List Choice) (recovered : Recovered) (adopted : Adopted)
-      (lost before after : ℕ) (tables : Option (List (List Try))) (f : IsFailing rules image began now phases cause old) → Left rules image began now phases cause old f recovered cpu ring replies choices before after → HasSameBytes old.replies replies → recovered.adopted ≡ Some adopted
+      (lost before after : ℕ) (tables : Option (List (List Try))) (f : IsFailing rules image began now phases cause old) → Left rules image began now phases cause old f recovered cpu ring replies choices before after → KeepsSlots recovered.adopted old.cpu cpu → keeping_by ring.capacity old.options.every cpu.slots ≡ keeping_of old → HasSameBytes old.replies replies → recovered.adopted ≡ Some adopted
       → lost + cpu.slots.live.steps + before ≡ began.lost + old.steps + after → TellsTable (failure_of rules image f.going.story f.going.saved.paths) old.taken began.tables tables
       → Adopting rules image (record began { lost = lost; tables = tables }) now phases coming old.taken cause (goes_as old cpu ring replies choices adopted.env (old.taken + 4)) recovered
-  adopt_some rules image began now phases coming cause old cpu ring replies choices recovered adopted lost before after tables f h bytes is counts told =
+  adopt_some rules image began now phases coming cause old cpu ring replies choices recovered adopted lost before after tables f h slots keeping bytes is counts told =
       let g = f.going in
       let story : Story = g.story in
       let failure : Failure = failure_of rules image story g.saved.paths in
@@ -503,13 +545,13 @@ module _ {R : Type 0} where
           let failure : Failure = failure_of rules image f.going.story f.going.saved.paths in
           let leaves = subst (λ a. LeavesRun failure (recovery_of failure f.going.story.survivor.begun cause h.trials) cpu old.ring ring old.recorded old.choices choices old.log old.replies replies a) is h.leaves in
           subst (λ code. AdoptsTo rules image (record began { lost = lost; noted = noted; tables = tables }) now phases coming (goes_as old cpu ring replies choices adopted.env (old.taken + 4)) (option_map answer.Exited code)) (sym asks)
-          (adopts_going rules image began now phases cause old cpu ring replies choices adopted f h.trials leaves.0 lost h.recovers leaves.1 leaves.2 bytes asks
+          (adopts_going rules image began now phases cause old cpu ring replies choices adopted f h.trials leaves.0 lost h.recovers leaves.1 leaves.2 (subst (λ (a : Option Adopted). KeepsSlots a old.cpu cpu) is slots) keeping bytes asks
           (some_counts before after lost began.lost cpu.slots.live.steps old.steps f.going.story.survivor.now.steps leaves.0.path.steps (steps_of h.trials) h.counted counts (ap (λ (s : Standing). s.steps) leaves.2.stands) f.going.answers.steps) noted more tables (table_of rules image began now phases cause old f h.trials began.tables tables told))
       of_code (Some code) exits noted more =
           let failure : Failure = failure_of rules image f.going.story f.going.saved.paths in
           let leaves = subst (λ a. LeavesRun failure (recovery_of failure f.going.story.survivor.begun cause h.trials) cpu old.ring ring old.recorded old.choices choices old.log old.replies replies a) is h.leaves in
           subst (λ code. AdoptsTo rules image (record began { lost = lost; noted = noted; tables = tables }) now phases coming (goes_as old cpu ring replies choices adopted.env (old.taken + 4)) (option_map answer.Exited code)) (sym exits)
-          (adopts_ending rules image began now phases coming cause old cpu ring replies choices adopted code f h.trials leaves.0 lost h.recovers leaves.1 leaves.2 bytes exits
+          (adopts_ending rules image began now phases coming cause old cpu ring replies choices adopted code f h.trials leaves.0 lost h.recovers leaves.1 leaves.2 (subst (λ (a : Option Adopted). KeepsSlots a old.cpu cpu) is slots) keeping bytes exits
           (some_counts before after lost began.lost cpu.slots.live.steps old.steps f.going.story.survivor.now.steps leaves.0.path.steps (steps_of h.trials) h.counted counts (ap (λ (s : Standing). s.steps) leaves.2.stands) f.going.answers.steps) noted more tables (table_of rules image began now phases cause old f h.trials began.tables tables told))
 
   -- the run that is adopted has no more instructions than were counted

@@ -28,12 +28,12 @@ use Rattle.trial_plan.specs.Trying.{steps_of}
 use Rattle.rx_engine.specs.Recovered.{HasWatched, HasNoted, GivesUpBy, spent}
 use Rattle.rx_engine.proofs.TableLemmas.{tables_here, tables_fault}
 use Rattle.rx_engine.proofs.GuestLemmas.{notes_here}
-use Rattle.rx_engine.specs.Leaving.{HoldsCheckpoints}
+use Rattle.rx_engine.specs.Leaving.{HoldsCheckpoints, IsAtRequest}
 use Rattle.rx_engine.proofs.HeldLemmas.{held_given}
 use Rattle.rx_engine.proofs.NoteLemmas.{notes_fault}
 use Rattle.block_book.specs.declared.choice.Choice.{Choice}
 use Rattle.notes.specs.Noting.{Noted}
-use Rattle.trial_history.specs.Episodes.{episode_of}
+use Rattle.trial_history.specs.Episodes.{Recovery, episode_of}
 use Rattle.rx_engine.proofs.TellLemmas.{tells_on}
 use Rattle.rx_engine.proofs.PieceLemmas.{are_given, pieces}
 use Rattle.rx_engine.proofs.PieceLemmas as piece
@@ -162,11 +162,11 @@ module _ {R : Type 0} where
       subst (Tells began.told now) (append_assoc (entries_of story.earlier) story.since (more ++ broken)) (tells_on began.told before now (entries story) (more ++ broken) e.told.tells tells)
 
   -- all was passed
-  pub served_end : (P : Session → Type 0) (rules : Rules) (image : Image) (began : Since) (before now : Told) (coming later : Option Coming) (takes : Bool) (session : SessionState R) (end : Answer) (e : IsEnding rules image began before coming session end) (more : List Entry)
+  pub served_end : (P : List Recovery → Session → Type 0) (rules : Rules) (image : Image) (began : Since) (before now : Told) (coming later : Option Coming) (takes : Bool) (session : SessionState R) (end : Answer) (e : IsEnding rules image began before coming session end) (more : List Entry)
       → later ≡ coming → AreDuePieces rules (sends e.story) (end_of e.story) more → Tells before now more → OwesNothing rules.bounds rules.hold (then_entries (end_of e.story) more) (sends e.story)
       → (takes ≡ false → IsAsking rules e.story) → (noted : Noted) (recorded : ℕ) (tail : List Choice) → HasNoted began.noted_before noted end e.story.survivor.now.choices (map episode_of e.story.recoveries ++ e.last) recorded tail
-      → (first last : ℕ) → last ≡ first + (began.lost + session.steps) → P (ended_account e.story more [])
-      → (watched : HasWatched rules image began.told now later takes end began.noted_before noted recorded tail session.taken session.steps first last began.tables_before began.tables) × P watched.recovered.served.session
+      → (first last : ℕ) → last ≡ first + (began.lost + session.steps) → P e.story.recoveries (ended_account e.story more [])
+      → (watched : HasWatched rules image began.told now later takes end began.noted_before noted recorded tail session.taken session.steps first last began.tables_before began.tables) × P watched.recovered.recoveries watched.recovered.served.session
   served_end P rules image began before now coming later takes session end e more same due tells owes asked noted recorded tail notes first last all holds =
       let story : Story = e.story in
       let stands : StandsAt rules (entries story) later story.survivor end = subst (λ (c : Option Coming). StandsAt rules (entries story) c story.survivor end) (sym same) e.stands in (
@@ -203,11 +203,11 @@ module _ {R : Type 0} where
       )
 
   -- a fault came while it was passed
-  pub served_broken : (P : Session → Type 0) (rules : Rules) (image : Image) (began : Since) (before now : Told) (coming later : Option Coming) (takes : Bool) (session : SessionState R) (end fault : Answer) (e : IsEnding rules image began before coming session end) (more broken : List Entry)
+  pub served_broken : (P : List Recovery → Session → Type 0) (rules : Rules) (image : Image) (began : Since) (before now : Told) (coming later : Option Coming) (takes : Bool) (session : SessionState R) (end fault : Answer) (e : IsEnding rules image began before coming session end) (more broken : List Entry)
       → later ≡ coming → AreDuePieces rules (sends e.story) (end_of e.story) more → IsBroken rules (sends e.story) (then_entries (end_of e.story) more) broken → Tells before now (more ++ broken)
       → EndsBy rules later (ended_account e.story more broken) fault → (IsEnd fault → ⊥) → (takes ≡ false → IsAsking rules e.story)
-      → (noted : Noted) → noted.choices ≡ began.noted.choices → noted.episodes ≡ began.noted.episodes → (first last : ℕ) → last ≡ first + (began.lost + session.steps) → P (ended_account e.story more broken)
-      → (watched : HasWatched rules image began.told now later takes fault began.noted_before noted session.recorded session.choices session.taken session.steps first last began.tables_before began.tables) × P watched.recovered.served.session
+      → (noted : Noted) → noted.choices ≡ began.noted.choices → noted.episodes ≡ began.noted.episodes → (first last : ℕ) → last ≡ first + (began.lost + session.steps) → P e.story.recoveries (ended_account e.story more broken)
+      → (watched : HasWatched rules image began.told now later takes fault began.noted_before noted session.recorded session.choices session.taken session.steps first last began.tables_before began.tables) × P watched.recovered.recoveries watched.recovered.served.session
   served_broken P rules image began before now coming later takes session end fault e more broken same due part tells ends no_end asked noted same_choices same_episodes first last all holds =
       let story : Story = e.story in
       let stands : StandsAt rules (entries story) later story.survivor end = subst (λ (c : Option Coming). StandsAt rules (entries story) c story.survivor end) (sym same) e.stands in (
@@ -244,9 +244,9 @@ module _ {R : Type 0} where
       )
 
   -- a session that was broken off has served
-  pub served_off : (P : Session → Type 0) (rules : Rules) (image : Image) (began : Since) (now : Told) (coming : Option Coming) (takes : Bool) (session : SessionState R) (end : Answer) → (off : IsBrokenOff rules image began now coming session end) → (takes ≡ false → WasAsked rules off.account) → (first last : ℕ)
-      → (end ≢ answer.Memory → last ≡ first + (began.lost + session.steps)) → P off.account
-      → (watched : HasWatched rules image began.told now coming takes end began.noted_before began.noted session.recorded session.choices session.taken session.steps first last began.tables_before began.tables) × P watched.recovered.served.session
+  pub served_off : (P : List Recovery → Session → Type 0) (rules : Rules) (image : Image) (began : Since) (now : Told) (coming : Option Coming) (takes : Bool) (session : SessionState R) (end : Answer) → (off : IsBrokenOff rules image began now coming session end) → (takes ≡ false → WasAsked rules off.account) → (first last : ℕ)
+      → (end ≢ answer.Memory → last ≡ first + (began.lost + session.steps)) → P off.recoveries off.account
+      → (watched : HasWatched rules image began.told now coming takes end began.noted_before began.noted session.recorded session.choices session.taken session.steps first last began.tables_before began.tables) × P watched.recovered.recoveries watched.recovered.served.session
   served_off P rules image began now coming takes session end off asked first last all holds = (
     record {
       recovered = record {
@@ -282,8 +282,8 @@ module _ {R : Type 0} where
   -- a fault came while what is due was passed
   pub off_pieces : (rules : Rules) (image : Image) (began : Since) (before now : Told) (coming : Option Coming) (story : Story) (session : SessionState R) (fault : Answer) (more broken : List Entry) → IsTold rules image began before story → AnswersFor began story session
       → AreDuePieces rules (sends story) (moment story) more → IsBroken rules (sends story) (then_entries (moment story) more) broken → Tells before now (more ++ broken)
-      → EndsBy rules coming (off_account story more broken) fault → (IsEnd fault → ⊥) → HoldsCheckpoints rules image (entries story) story.survivor session → IsBrokenOff rules image began now coming session fault
-  off_pieces rules image began before now coming story session fault more broken told answers due part tells ends no_end held =
+      → EndsBy rules coming (off_account story more broken) fault → (IsEnd fault → ⊥) → HoldsCheckpoints rules image (entries story) story.recoveries story.survivor session → (IsAtRequest fault → ⊥) → IsBrokenOff rules image began now coming session fault
+  off_pieces rules image began before now coming story session fault more broken told answers due part tells ends no_end held no_request =
       let stood = pieces rules image story.earlier story.survivor story.since more (record { serving = told.serving; way = told.way }) due in
       record {
         account = off_account story more broken;
@@ -294,8 +294,9 @@ module _ {R : Type 0} where
         ends = ends;
         pieces = tt;
         no_end = no_end;
-        holds = λ never. held_given rules image story session more (are_given rules (sends story) (moment story) more due) held;
         recoveries = story.recoveries;
+        holds = λ never. held_given rules image story session more (are_given rules (sends story) (moment story) more due) held;
+        handled = λ is. absurd (no_request is);
         recovered = told.recovered;
         trials = [];
         last = [];

@@ -44,9 +44,10 @@ use Rattle.rx_engine.proofs.TableLemmas.{told_unwatched, tables_here}
 use Rattle.episodes.specs.declared.episode.Episode.{Episode}
 use Rattle.notes.specs.Noting.{Noted}
 use Rattle.trial_history.specs.Episodes.{episode_of}
-use Rattle.rx_engine.specs.Leaving.{HoldsCheckpoints}
+use Rattle.recovery_gate.specs.Handling.{HasHandled, stands_of}
+use Rattle.rx_engine.specs.Leaving.{HoldsCheckpoints, IsAtRequest, keeping_of}
 use Rattle.rx_engine.proofs.CheckpointLemmas.{HasSameSide, saved_on}
-use Rattle.rx_engine.proofs.HeldLemmas.{held_of, unless_gave_up}
+use Rattle.rx_engine.proofs.HeldLemmas.{held_of, requests_on, unless_gave_up}
 
 -- without trials nothing was counted for them
 pub none_lost : (lost : ℕ) → lost ≡ lost + steps_of []
@@ -166,7 +167,9 @@ module _ {R : Type 0} where
         told = told_on rules image began now g.story to g.told goes.served (still_received rules image began now g.story to g.told goes.taken);
         answers = answers_for began g.story old new to more g.answers same.side.recorded used chosen counted stands;
         goes = goes_with rules g.story old new phases to g.goes same.side.log same.side.events goes lives stands;
-        saved = saved_on rules image g.story old new to same.side (ap (λ (ledger : Ledger). ledger.first) same.replies) goes.served (let still = goes.taken in omega (arith, still)) g.saved;
+        saved =
+            saved_on rules image g.story old new to same.side (ap (λ (ledger : Ledger). ledger.first) same.replies) goes.served (let still = goes.taken in omega (arith, still))
+            (requests_on rules (items_in rules.bounds (entries g.story)) (keeping_of old) g.story.recoveries g.story.survivor to (stands_of old.cpu.slots.saved) goes.served goes.taken g.saved.requests) g.saved;
         passed = has_passed rules g.story old.replies new.replies to g.passed same.replies none;
         latest = subst (IsLatestBefore rules (moment g.story)) (sym goes.taken) g.latest;
       }
@@ -210,8 +213,9 @@ module _ {R : Type 0} where
   -- a session whose survivor has come to an end, and sent nothing on the way
   comes_ending : (rules : Rules) (image : Image) (began : Since) (now : Told) (phases : Phases) (coming : Option Coming) (old new : SessionState R) (g : IsGoing rules image began now phases old) (to : Path) (end : Answer) → HasSameParts old new
       → new.choices ≡ old.choices → IsCounted new → GoesOn rules.limits (items_in rules.bounds (entries g.story)) g.story.survivor.plan g.story.survivor.now to → IsSilent g.story.survivor.now to → new.cpu.slots.live ≡ standing_of to → IsEnd end
-      → StandsAt rules (entries g.story) coming (gone_on g.story.survivor to) end → GivesUpBy rules image (entries_of g.story.earlier) g.story.since (gone_on g.story.survivor to) [] end → IsEnding rules image began now coming new end
-  comes_ending rules image began now phases coming old new g to end same chosen counted goes silent stands is_end cause gave_up =
+      → StandsAt rules (entries g.story) coming (gone_on g.story.survivor to) end → GivesUpBy rules image (entries_of g.story.earlier) g.story.since (gone_on g.story.survivor to) [] end
+      → (IsAtRequest end → HasHandled (keeping_of new) g.story.recoveries (gone_on g.story.survivor to) (to.state.machine.taken + 1) (stands_of new.cpu.slots.saved)) → IsEnding rules image began now coming new end
+  comes_ending rules image began now phases coming old new g to end same chosen counted goes silent stands is_end cause gave_up at_request =
       let passed = has_passed rules g.story old.replies new.replies to g.passed same.replies silent.sends in
       record {
         story = on_story g.story to;
@@ -228,7 +232,9 @@ module _ {R : Type 0} where
         replies = passed.replies;
         no_trial = passed.no_trial;
         closed = λ send stands closing owed. passed.done send stands owed;
-        holds = held_of rules image (on_story g.story to) new (saved_on rules image g.story old new to same.side (ap (λ (ledger : Ledger). ledger.first) same.replies) goes.served (let still = goes.taken in omega (arith, still)) g.saved);
+        holds = held_of rules image (on_story g.story to) new (saved_on rules image g.story old new to same.side (ap (λ (ledger : Ledger). ledger.first) same.replies) goes.served (let still = goes.taken in omega (arith, still))
+            (requests_on rules (items_in rules.bounds (entries g.story)) (keeping_of old) g.story.recoveries g.story.survivor to (stands_of old.cpu.slots.saved) goes.served goes.taken g.saved.requests) g.saved);
+        handled = at_request;
         live = unless_gave_up end (new.cpu.slots.live ≡ standing_of to) stands;
         is_end = is_end;
         stands = cause;
@@ -241,7 +247,7 @@ module _ {R : Type 0} where
       → IsCounted new → RunsOn rules.limits (items_in rules.bounds (entries b.going.story)) b.going.story.survivor.plan b.going.story.survivor.now (Ok (event.Exits code)) new.cpu.slots.live
       → IsEnding rules image began now coming new (answer.Exited code)
   exits_ending rules image began now phases coming code old new b same chosen counted runs =
-      comes_ending rules image began now phases coming old new b.going runs.now (answer.Exited code) same chosen counted runs.goes runs.comes.0 (sym runs.stands) tt runs.comes.1 tt
+      comes_ending rules image began now phases coming old new b.going runs.now (answer.Exited code) same chosen counted runs.goes runs.comes.0 (sym runs.stands) tt runs.comes.1 tt (λ is. absurd is)
 
   -- it fails at its next instruction
   pub fails_failing : (rules : Rules) (image : Image) (began : Since) (now : Told) (phases : Phases) (cause : Cause) (old new : SessionState R) (b : IsBetween rules image began now phases old) → HasSameParts old new → new.choices ≡ old.choices → IsCounted new
@@ -277,8 +283,8 @@ module _ {R : Type 0} where
       → IsTold rules image (unwatched (record began { noted_before = before; noted = noted })) now story
       → TellsMore began.tables_before began.tables (AreAllTables rules image story.earlier story.since story.survivor story.recoveries [] [] end)
       → HasNoted began.noted_before began.noted end story.survivor.now.choices (map episode_of story.recoveries) session.recorded session.choices → session.taken ≡ story.survivor.now.state.machine.taken → session.steps ≡ story.survivor.now.steps
-      → EndsBy rules coming (account_of story) end → (IsEnd end → ⊥) → ((IsNoteFault end → ⊥) → HoldsCheckpoints rules image (entries story) story.survivor session) → P (account_of story) → (off : IsBrokenOff rules image began now coming session end) × P off.account
-  broken_noting P rules image began before noted now coming session story end told tables notes taken steps ends no_end held holds = (
+      → EndsBy rules coming (account_of story) end → (IsEnd end → ⊥) → ((IsNoteFault end → ⊥) → HoldsCheckpoints rules image (entries story) story.recoveries story.survivor session) → (IsAtRequest end → HasHandled (keeping_of session) story.recoveries story.survivor (story.survivor.now.state.machine.taken + 1) (stands_of session.cpu.slots.saved)) → P (account_of story) → (off : IsBrokenOff rules image began now coming session end) × P off.account
+  broken_noting P rules image began before noted now coming session story end told tables notes taken steps ends no_end held at_request holds = (
     record {
       account = account_of story;
       tells = subst (Tells began.told now) (sym (journal_of_story story)) told.tells;
@@ -286,8 +292,9 @@ module _ {R : Type 0} where
       ends = ends;
       pieces = tt;
       no_end = no_end;
-      holds = held;
       recoveries = story.recoveries;
+      holds = held;
+      handled = at_request;
       recovered = told.recovered;
       trials = [];
       last = [];
@@ -303,12 +310,12 @@ module _ {R : Type 0} where
   )
 
   pub broken_with : (P : Session → Type 0) (rules : Rules) (image : Image) (began : Since) (now : Told) (coming : Option Coming) (session : SessionState R) (story : Story) (end : Answer) → IsTold rules image began now story → AnswersFor began story session
-      → EndsBy rules coming (account_of story) end → (IsEnd end → ⊥) → ((IsNoteFault end → ⊥) → HoldsCheckpoints rules image (entries story) story.survivor session) → P (account_of story) → (off : IsBrokenOff rules image began now coming session end) × P off.account
-  broken_with P rules image began now coming session story end told answers ends no_end held holds =
+      → EndsBy rules coming (account_of story) end → (IsEnd end → ⊥) → ((IsNoteFault end → ⊥) → HoldsCheckpoints rules image (entries story) story.recoveries story.survivor session) → (IsAtRequest end → HasHandled (keeping_of session) story.recoveries story.survivor (story.survivor.now.state.machine.taken + 1) (stands_of session.cpu.slots.saved)) → P (account_of story) → (off : IsBrokenOff rules image began now coming session end) × P off.account
+  broken_with P rules image began now coming session story end told answers ends no_end held at_request holds =
       broken_noting P rules image began began.noted_before began.noted now coming session story end (told_unwatched rules image began now story told)
       (tables_here rules image story.earlier story.since story.survivor story.recoveries [] end began.tables_before began.tables told.tables)
-      (notes_here began story session end (map episode_of story.recoveries) [] told.episodes answers (sym (append-nil (map episode_of story.recoveries))) (omega arith) (λ some. absurd (omega (arith, some))) no_end) answers.taken answers.steps ends no_end held holds
+      (notes_here began story session end (map episode_of story.recoveries) [] told.episodes answers (sym (append-nil (map episode_of story.recoveries))) (omega arith) (λ some. absurd (omega (arith, some))) no_end) answers.taken answers.steps ends no_end held at_request holds
 
   pub broken_off : (rules : Rules) (image : Image) (began : Since) (now : Told) (coming : Option Coming) (session : SessionState R) (story : Story) (end : Answer) → IsTold rules image began now story → AnswersFor began story session
-      → EndsBy rules coming (account_of story) end → (IsEnd end → ⊥) → ((IsNoteFault end → ⊥) → HoldsCheckpoints rules image (entries story) story.survivor session) → IsBrokenOff rules image began now coming session end
-  broken_off rules image began now coming session story end told answers ends no_end held = (broken_with (λ account. Unit {0}) rules image began now coming session story end told answers ends no_end held tt).0
+      → EndsBy rules coming (account_of story) end → (IsEnd end → ⊥) → ((IsNoteFault end → ⊥) → HoldsCheckpoints rules image (entries story) story.recoveries story.survivor session) → (IsAtRequest end → HasHandled (keeping_of session) story.recoveries story.survivor (story.survivor.now.state.machine.taken + 1) (stands_of session.cpu.slots.saved)) → IsBrokenOff rules image began now coming session end
+  broken_off rules image began now coming session story end told answers ends no_end held at_request = (broken_with (λ account. Unit {0}) rules image began now coming session story end told answers ends no_end held at_request tt).0

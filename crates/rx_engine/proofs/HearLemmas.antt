@@ -19,6 +19,8 @@ use Rattle.session_history.specs.Hearing.{IsHeard}
 use Rattle.session_history.proofs.Heeding.{events_in-append}
 use Rattle.rx_engine.specs.Sessions.{SessionState}
 use Rattle.rx_engine.specs.Standing.{Since, Story, entries, sends, then_story, IsTold, AnswersFor, GoesWith, KeepsCheckpoints, IsWaitingFor}
+use Rattle.rx_engine.specs.Leaving.{keeping_of}
+use Rattle.rx_engine.proofs.HeldLemmas.{requests_by}
 use Rattle.rx_engine.proofs.CheckpointLemmas.{in_force_by}
 use Rattle.rx_engine.proofs.GuestLemmas.{answers_as}
 use Rattle.rx_engine.proofs.EventLemmas.{owes_nothing, told_event, opens_more}
@@ -46,6 +48,7 @@ module _ {R : Type 0} where
     pub ring : new.ring ≡ old.ring
     pub env : new.env ≡ old.env
     pub until : new.until ≡ old.until
+    pub options : new.options ≡ old.options
 
   answers_then : (began : Since) (story : Story) (session : SessionState R) (more : List Entry) → AnswersFor began story session → AnswersFor began (then_story story more) session
   answers_then began story session more answers = record { low = answers.low; recorded = answers.recorded; choices = answers.choices; taken = answers.taken; steps = answers.steps }
@@ -67,6 +70,9 @@ module _ {R : Type 0} where
     phases_are = knows;
   }
 
+  pub run_keeping : (old new : SessionState R) → HasSameRun old new → keeping_of new ≡ keeping_of old
+  run_keeping old new same = λ i. record { ring = (same.ring i).capacity; every = (same.options i).every; pages = (same.cpu i).slots.pages; frames = (same.cpu i).slots.frames }
+
   -- the checkpoints and the environment behind more entries
   pub saved_then : (rules : Rules) (image : Image) (story : Story) (old new : SessionState R) (more : List Entry) (items : List Item) → HasSameRun old new → new.replies.first ≡ old.replies.first
       → Brings rules (entries story) (entries (then_story story more)) items → KeepsCheckpoints rules image story old → KeepsCheckpoints rules image (then_story story more) new
@@ -80,6 +86,7 @@ module _ {R : Type 0} where
             (subst (λ (cpu : CpuState R). KeepsRing rules image (entries (then_story story more)) plan now k.paths cpu old.ring new.log new.replies) (sym same.cpu)
             (ring_more rules image (entries story) (entries (then_story story more)) items plan now k.paths old.cpu old.ring old.log new.log old.replies new.replies brings same.first kept k.ring));
         early = subst (λ n. AreBehind n k.paths) (sym same.recorded) k.early;
+        requests = requests_by rules story.recoveries story.survivor old new (ap (λ (cpu : CpuState R). cpu.slots.saved) same.cpu) (run_keeping old new same) k.requests;
         in_force = in_force_by plan now.state.machine.taken old.env new.env old.until new.until same.env same.until k.in_force;
         past = subst (λ n. (n < now.state.machine.taken + 4) ⊎ ((n ≡ now.state.machine.taken + 4) × AsksFor rules.limits [] now now.state.machine.taken)) (sym same.until) k.past;
       }

@@ -45,6 +45,7 @@ use Rattle.rx_engine.specs.declared.stop.Stop.TheVariants as stop
 use Rattle.rx_engine.specs.Options.{rules_of}
 use Rattle.rx_engine.specs.Sessions.{SessionState}
 use Rattle.rx_engine.specs.Standing.{Since, Story, entries, moment, sends, then_story, IsTold, KeepsCheckpoints, IsLatestBefore, HasPassed, HasPassedDue, IsHearing, IsWaitingFor, IsEnding}
+use Rattle.rx_engine.specs.Leaving.{IsHandled}
 use Rattle.rx_engine.specs.Serving.{IsStopAt, UnlessBroken, StaysKnown, CanGive, HasStopCause, HasSameGuest, CanPass, StopsBy, PassesStory, PassesDue, WaitsBy}
 use Rattle.rx_engine.proofs.StoryLemmas.{still_takes}
 use Rattle.rx_engine.proofs.EventLemmas.{IsNoEnd}
@@ -239,7 +240,7 @@ module _ {R : Type 0} where
       omega (arith, none_left, same, counts)
 
   pub run_of : (old : SessionState R) (log : Log) (ledger : Ledger) (events : ℕ) → log.first ≡ old.log.first → HasSameRun old (with_heard old log ledger events)
-  run_of old log ledger events first = record { cpu = refl; recorded = refl; choices = refl; taken = refl; steps = refl; first = first; ring = refl; env = refl; until = refl }
+  run_of old log ledger events first = record { cpu = refl; recorded = refl; choices = refl; taken = refl; steps = refl; first = first; ring = refl; env = refl; until = refl; options = refl }
 
   -- what is known behind an event
   pub story_heard : (rules : Rules) (image : Image) (began : Since) (before now : Told) (phases later : Phases) (old : SessionState R) (log : Log) (ledger : Ledger) (events : ℕ) (e : LinkEvent) (w : IsWaitingFor rules image began before phases old)
@@ -385,57 +386,57 @@ module _ {R : Type 0} where
   story_unless rules image began now coming story until session (Err (stop.Breaks end)) P passes h = tt
 
   -- an event that is refused, whatever it is
-  refused_any : (rules : Rules) (image : Image) (began : Since) (before now : Told) (phases : Phases) (coming : Option Coming) (old new : SessionState R) (w : IsWaitingFor rules image began before phases old) (e : LinkEvent) (cause : Unheeded) (end : Answer)
+  refused_any : (rules : Rules) (image : Image) (began : Since) (before now : Told) (phases : Phases) (coming : Option Coming) (old new : SessionState R) (w : IsWaitingFor rules image began before phases old) (e : LinkEvent) (cause : Unheeded) (end : Answer) → IsHandled old
       → received rules.bounds (entries w.hearing.story) ≤ w.hearing.story.survivor.now.state.machine.taken → Tells before now (entry.Took e ∷ []) → (u : IsUnheeded rules.bounds (entries w.hearing.story) (sends w.hearing.story) e cause new.replies)
       → HasSameRun old new → new.log ≡ old.log → new.replies.trial ≡ None → IsEnd end
       → (IsWaiting rules (entries (then_story w.hearing.story (entry.Took e ∷ []))) w.hearing.story.survivor → IsLastRefused rules.bounds (entries (then_story w.hearing.story (entry.Took e ∷ []))) cause
       → StandsAt rules (entries (then_story w.hearing.story (entry.Took e ∷ []))) coming w.hearing.story.survivor end)
       → GivesUpBy rules image (entries_of w.hearing.story.earlier) (w.hearing.story.since ++ entry.Took e ∷ []) w.hearing.story.survivor [] end → IsEnding rules image began now coming new end
-  refused_any rules image began before now phases coming old new w event.Ends cause end all tells u same log no_trial is_end stands gave_up = absurd (u.no_end refl)
-  refused_any rules image began before now phases coming old new w (event.Opens conn) cause end all tells u same log no_trial is_end stands gave_up = ending_refused rules image began before now phases coming old new w (event.Opens conn) cause end tt all tells u same log no_trial is_end stands gave_up
-  refused_any rules image began before now phases coming old new w (event.Piece conn bytes) cause end all tells u same log no_trial is_end stands gave_up = ending_refused rules image began before now phases coming old new w (event.Piece conn bytes) cause end tt all tells u same log no_trial is_end stands gave_up
-  refused_any rules image began before now phases coming old new w (event.Closes conn) cause end all tells u same log no_trial is_end stands gave_up = ending_refused rules image began before now phases coming old new w (event.Closes conn) cause end tt all tells u same log no_trial is_end stands gave_up
-  refused_any rules image began before now phases coming old new w event.Settles cause end all tells u same log no_trial is_end stands gave_up = ending_refused rules image began before now phases coming old new w event.Settles cause end tt all tells u same log no_trial is_end stands gave_up
+  refused_any rules image began before now phases coming old new w event.Ends cause end handled all tells u same log no_trial is_end stands gave_up = absurd (u.no_end refl)
+  refused_any rules image began before now phases coming old new w (event.Opens conn) cause end handled all tells u same log no_trial is_end stands gave_up = ending_refused rules image began before now phases coming old new w (event.Opens conn) cause end tt handled all tells u same log no_trial is_end stands gave_up
+  refused_any rules image began before now phases coming old new w (event.Piece conn bytes) cause end handled all tells u same log no_trial is_end stands gave_up = ending_refused rules image began before now phases coming old new w (event.Piece conn bytes) cause end tt handled all tells u same log no_trial is_end stands gave_up
+  refused_any rules image began before now phases coming old new w (event.Closes conn) cause end handled all tells u same log no_trial is_end stands gave_up = ending_refused rules image began before now phases coming old new w (event.Closes conn) cause end tt handled all tells u same log no_trial is_end stands gave_up
+  refused_any rules image began before now phases coming old new w event.Settles cause end handled all tells u same log no_trial is_end stands gave_up = ending_refused rules image began before now phases coming old new w event.Settles cause end tt handled all tells u same log no_trial is_end stands gave_up
 
   -- what stands behind a stop, by the fault
   pub stops_by : (rules : Rules) (image : Image) (began : Since) (before now : Told) (phases later : Phases) (coming was : Option Coming) (takes : Bool) (old : SessionState R) (log : Log) (ledger : Ledger) (events : ℕ) (why : HearFault) (stopped : Stop) (w : IsWaitingFor rules image began before phases old)
-      → logs.received old.log ≤ old.taken → log.first ≡ old.log.first → ledger.trial ≡ old.replies.trial → Stays old.log log old.replies ledger old.events events (Err why) → ComesLast coming (Err why)
+      → IsHandled old → logs.received old.log ≤ old.taken → log.first ≡ old.log.first → ledger.trial ≡ old.replies.trial → Stays old.log log old.replies ledger old.events events (Err why) → ComesLast coming (Err why)
       → HearsBy rules.bounds (entries w.hearing.story) (sends w.hearing.story) log ledger later events was before now (Err why) → TakesBehind before now takes (Err why) → IsStopAt why stopped → StopsBy rules image began now coming takes (with_heard old log ledger events) stopped
-  stops_by rules image began before now phases later coming was takes old log ledger events (fault.Refused kind offset) stopped w none_left first trial stays last h behind is =
+  stops_by rules image began before now phases later coming was takes old log ledger events (fault.Refused kind offset) stopped w handled none_left first trial stays last h behind is =
       subst (StopsBy rules image began now coming takes (with_heard old log ledger events)) (sym is)
-      (let stopped = ending_stopped rules image began before now phases coming kind offset old (with_heard old log ledger events) w (all_taken rules image began before phases old w none_left) h.0 (run_of old log ledger events first) stays.0 stays.1 last in (stopped.0, λ none. stopped.1))
-  stops_by rules image began before now phases later coming was takes old log ledger events fault.LimitEvents stopped w none_left first trial stays last h behind is =
+      (let stopped = ending_stopped rules image began before now phases coming kind offset old (with_heard old log ledger events) w handled (all_taken rules image began before phases old w none_left) h.0 (run_of old log ledger events first) stays.0 stays.1 last in (stopped.0, λ none. stopped.1))
+  stops_by rules image began before now phases later coming was takes old log ledger events fault.LimitEvents stopped w handled none_left first trial stays last h behind is =
       subst (StopsBy rules image began now coming takes (with_heard old log ledger events)) (sym is) (
-        (refused_any rules image began before now phases coming old (with_heard old log ledger events) w h.0 unheeded.LimitEvents answer.LimitEvents (all_taken rules image began before phases old w none_left) h.1 h.2 (run_of old log ledger events first) stays.0
+        (refused_any rules image began before now phases coming old (with_heard old log ledger events) w h.0 unheeded.LimitEvents answer.LimitEvents handled (all_taken rules image began before phases old w none_left) h.1 h.2 (run_of old log ledger events first) stays.0
             (trial ∙ w.hearing.passed.no_trial) tt (λ waits refused. (waits, refused)) tt),
         λ none. still_takes takes _ behind none,
       )
-  stops_by rules image began before now phases later coming was takes old log ledger events (fault.TooLong conn) stopped w none_left first trial stays last h behind is =
+  stops_by rules image began before now phases later coming was takes old log ledger events (fault.TooLong conn) stopped w handled none_left first trial stays last h behind is =
       subst (StopsBy rules image began now coming takes (with_heard old log ledger events)) (sym is) (
-        (refused_any rules image began before now phases coming old (with_heard old log ledger events) w h.0 unheeded.TooLong (answer.MessageTooLong conn) (all_taken rules image began before phases old w none_left) h.1 h.2 (run_of old log ledger events first) stays.0
+        (refused_any rules image began before now phases coming old (with_heard old log ledger events) w h.0 unheeded.TooLong (answer.MessageTooLong conn) handled (all_taken rules image began before phases old w none_left) h.1 h.2 (run_of old log ledger events first) stays.0
             (trial ∙ w.hearing.passed.no_trial) tt
             (λ waits refused. (waits, record { refused = record { before = entries w.hearing.story; event = h.0; last = sym (more_entries w.hearing.story (entry.Took h.0 ∷ [])); no_end = h.2.no_end; refused = h.2.refused }; piece = h.3 })) tt),
         λ none. still_takes takes _ behind none,
       )
-  stops_by rules image began before now phases later coming was takes old log ledger events fault.LimitItems stopped w none_left first trial stays last h behind is =
+  stops_by rules image began before now phases later coming was takes old log ledger events fault.LimitItems stopped w handled none_left first trial stays last h behind is =
       subst (StopsBy rules image began now coming takes (with_heard old log ledger events)) (sym is) (
-        (refused_any rules image began before now phases coming old (with_heard old log ledger events) w h.0 unheeded.LimitItems answer.LimitItems (all_taken rules image began before phases old w none_left) h.1 h.2 (run_of old log ledger events first) stays.0
+        (refused_any rules image began before now phases coming old (with_heard old log ledger events) w h.0 unheeded.LimitItems answer.LimitItems handled (all_taken rules image began before phases old w none_left) h.1 h.2 (run_of old log ledger events first) stays.0
             (trial ∙ w.hearing.passed.no_trial) tt (λ waits refused. (waits, refused)) tt),
         λ none. still_takes takes _ behind none,
       )
-  stops_by rules image began before now phases later coming was takes old log ledger events fault.ReadFault stopped w none_left first trial stays last h behind is =
+  stops_by rules image began before now phases later coming was takes old log ledger events fault.ReadFault stopped w handled none_left first trial stays last h behind is =
       subst (StopsBy rules image began now coming takes (with_heard old log ledger events)) (sym is)
-      (let off = off_read rules image began before now phases coming old (with_heard old log ledger events) w (all_taken rules image began before phases old w none_left) h.0 (run_of old log ledger events first) in (off, λ none. off.ends.0))
-  stops_by rules image began before now phases later coming was takes old log ledger events fault.Memory stopped w none_left first trial stays last h behind is =
+      (let off = off_read rules image began before now phases coming old (with_heard old log ledger events) w handled (all_taken rules image began before phases old w none_left) h.0 (run_of old log ledger events first) in (off, λ none. off.ends.0))
+  stops_by rules image began before now phases later coming was takes old log ledger events fault.Memory stopped w handled none_left first trial stays last h behind is =
       subst (StopsBy rules image began now coming takes (with_heard old log ledger events)) (sym is)
       (off_memory rules image began before now phases coming takes old (with_heard old log ledger events) w (all_taken rules image began before phases old w none_left) (run_of old log ledger events first) behind h)
 
   -- the link has ended
   pub ends_by : (rules : Rules) (image : Image) (began : Since) (before now : Told) (phases later : Phases) (coming : Option Coming) (old : SessionState R) (log : Log) (ledger : Ledger) (events : ℕ) (w : IsWaitingFor rules image began before phases old)
-      → logs.received old.log ≤ old.taken → log.first ≡ old.log.first → ledger.trial ≡ old.replies.trial → HeardEvent rules.bounds (entries w.hearing.story) (sends w.hearing.story) before now later log ledger events event.Ends
+      → IsHandled old → logs.received old.log ≤ old.taken → log.first ≡ old.log.first → ledger.trial ≡ old.replies.trial → HeardEvent rules.bounds (entries w.hearing.story) (sends w.hearing.story) before now later log ledger events event.Ends
       → ComesLast coming (Ok heard.Ends) → IsEnding rules image began now coming (with_heard old log ledger events) answer.Finished
-  ends_by rules image began before now phases later coming old log ledger events w none_left first trial h last =
-      ending_ended rules image began before now phases coming old (with_heard old log ledger events) w (all_taken rules image began before phases old w none_left) h.tells h.heard (run_of old log ledger events first) (trial ∙ w.hearing.passed.no_trial) last
+  ends_by rules image began before now phases later coming old log ledger events w handled none_left first trial h last =
+      ending_ended rules image began before now phases coming old (with_heard old log ledger events) w handled (all_taken rules image began before phases old w none_left) h.tells h.heard (run_of old log ledger events first) (trial ∙ w.hearing.passed.no_trial) last
 
   -- how far a session has come that heard its link, and still waits
   pub record HasAwaited (Went : Type 0) (rules : Rules) (before now : Told) (phases later : Phases) (coming upcoming : Option Coming) (from to : Counts) (takes gives : Bool) (gives_to : ℕ → Bool) (old new : SessionState R) : Type 0 where
@@ -460,6 +461,7 @@ module _ {R : Type 0} where
     until = second.until ∙ first.until;
     first = second.first ∙ first.first;
     sends = second.sends ∙ first.sends;
+    keeping = second.keeping ∙ first.keeping;
   }
 
   -- the same guest has the same rules

@@ -1,5 +1,5 @@
 -- The checkpoints that a session holds for the run that it answers for, and what it gave up.
-use Rattle.std.proofs.Common.{◌≡◌, ℕ, ◌-◌, ◌<◌, ◌≤◌, List, length, Option, None, Some, refl, sym, ◌∙◌, ap, subst}
+use Rattle.std.proofs.Common.{◌≡◌, inl, inr, false, [], ◌+◌, arith, ℕ, ◌-◌, ◌<◌, ◌≤◌, List, length, Option, None, Some, refl, sym, ◌∙◌, ap, subst}
 use Rattle.std.specs.Prelude.{IfSome, option_map, slice_get}
 use Rattle.rx_io.specs.declared.bytes.Item.{Item}
 use Rattle.rx_io.specs.declared.journal.Entry.{Entry}
@@ -18,7 +18,19 @@ use Rattle.session_history.specs.Giving.{AreGiven}
 use Rattle.trial_history.specs.Chains.{AreChained}
 use Rattle.rx_engine.specs.Sessions.{SessionState}
 use Rattle.rx_engine.specs.Standing.{Story, entries, then_story, KeepsCheckpoints}
-use Rattle.rx_engine.specs.Leaving.{UnlessGaveUp, HoldsCheckpoints, IsTrimmed, KeepsOldest}
+use Rattle.trial_history.specs.Episodes.{Recovery}
+use Rattle.run_history.specs.Served.{Path, Served, AsksFor}
+use Rattle.session_history.specs.Serving.{gone_on}
+use Rattle.trial_history.proofs.Planned.{past_request}
+use Rattle.recovery_gate.specs.Handling.{Keeping, Stand, is_far, handle, HasHandled, stand_of, stands_of, keeping_by}
+use Rattle.recovery_gate.proofs.Handled.{near_handles, handled_near, handled_on, handled_more}
+use Rattle.circular_buffer.proofs.Places.{slice_get-take}
+use Rattle.guest_cpu.specs.Cpus.{CpuState}
+use Rattle.recovery_gate.specs.declared.recovering.Adopted.{Adopted}
+use Rattle.recovery_gate.specs.Recovering.{KeepsSlots}
+use Rattle.rx_engine.specs.Serving.{HasSameGuest}
+use Rattle.rx_engine.specs.Recovered.{IsNoteFault}
+use Rattle.rx_engine.specs.Leaving.{UnlessGaveUp, IsAtRequest, HandlesRequests, keeping_of, IsHandled, HoldsCheckpoints, IsTrimmed, KeepsOldest}
 use Rattle.rx_engine.proofs.GivenLemmas.{events_in-story}
 
 -- what holds anyhow, holds unless a session gave up
@@ -27,41 +39,96 @@ unless_gave_up (answer.GaveUp point cause) P holds = tt
 unless_gave_up answer.Finished P holds = holds
 unless_gave_up _ P holds = holds
 
+-- a fault of notes comes at no request
+pub note_at_none : (end : Answer) → IsNoteFault end → IsAtRequest end → ⊥
+note_at_none answer.FileFault note is = is
+note_at_none answer.Memory note is = is
+note_at_none _ note is = absurd note
+
+-- the survivor goes on, and takes no item: its requests so far are those that were
+pub requests_on : (rules : Rules) (items : List Item) (keeping : Keeping) (recoveries : List Recovery) (survivor : Survivor) (to : Path) (stands : List Stand) → Served rules.limits items survivor.plan survivor.now to
+    → to.state.machine.taken ≡ survivor.now.state.machine.taken → HandlesRequests rules keeping recoveries survivor stands → HandlesRequests rules keeping recoveries (gone_on survivor to) stands
+requests_on rules items keeping recoveries survivor to stands served same (inl h) =
+    inl (subst (λ n. HasHandled keeping recoveries (gone_on survivor to) n stands) (sym same) (handled_on keeping recoveries survivor (gone_on survivor to) survivor.now.state.machine.taken stands refl h))
+requests_on rules items keeping recoveries survivor to stands served same (inr h) =
+    elim (past_request rules.limits items survivor.plan survivor.now to h.0 served) [
+      | inl stays ↦ subst (λ (p : Path). HandlesRequests rules keeping recoveries (gone_on survivor p) stands) stays (inr h)
+      | inr later ↦ absurd (omega (arith, later, same))
+    ]
+
+-- it takes the item of a request that was handled
+pub requests_taken : (rules : Rules) (keeping : Keeping) (recoveries : List Recovery) (survivor : Survivor) (to : Path) (stands : List Stand) → is_far keeping.every survivor.now.state.machine.taken (from_newest stands 0) ≡ false
+    → to.state.machine.taken ≡ survivor.now.state.machine.taken + 1 → HandlesRequests rules keeping recoveries survivor stands → HandlesRequests rules keeping recoveries (gone_on survivor to) stands
+requests_taken rules keeping recoveries survivor to stands near more (inl h) =
+    inl
+    (subst (λ n. HasHandled keeping recoveries (gone_on survivor to) n stands) (sym more)
+    (handled_on keeping recoveries survivor (gone_on survivor to) (survivor.now.state.machine.taken + 1) stands refl (handled_near keeping recoveries survivor survivor.now.state.machine.taken stands near h)))
+requests_taken rules keeping recoveries survivor to stands near more (inr h) =
+    inl (subst (λ n. HasHandled keeping recoveries (gone_on survivor to) n stands) (sym more) (handled_on keeping recoveries survivor (gone_on survivor to) (survivor.now.state.machine.taken + 1) stands refl h.1))
+
+-- at a request that was handled
+pub requests_handled : (rules : Rules) (keeping : Keeping) (recoveries : List Recovery) (survivor : Survivor) (stands : List Stand) → is_far keeping.every survivor.now.state.machine.taken (from_newest stands 0) ≡ false
+    → HandlesRequests rules keeping recoveries survivor stands → HasHandled keeping recoveries survivor (survivor.now.state.machine.taken + 1) stands
+requests_handled rules keeping recoveries survivor stands near (inl h) = handled_near keeping recoveries survivor survivor.now.state.machine.taken stands near h
+requests_handled rules keeping recoveries survivor stands near (inr h) = h.1
+
+-- a request is handled
+pub requests_saved : (rules : Rules) (keeping : Keeping) (recoveries : List Recovery) (survivor : Survivor) (written : ℕ) (stands next : List Stand) → AsksFor rules.limits [] survivor.now survivor.now.state.machine.taken
+    → next ≡ handle keeping survivor.now.state.machine.taken written stands → is_far keeping.every survivor.now.state.machine.taken (from_newest next 0) ≡ false → HandlesRequests rules keeping recoveries survivor stands → HandlesRequests rules keeping recoveries survivor next
+requests_saved rules keeping recoveries survivor written stands next asks is near (inl h) = inr (asks, handled_more keeping recoveries survivor survivor.now.state.machine.taken written stands next h is, near)
+requests_saved rules keeping recoveries survivor written stands next asks is near (inr h) =
+    inr (asks, subst (HasHandled keeping recoveries survivor (survivor.now.state.machine.taken + 1)) (near_handles keeping survivor.now.state.machine.taken written stands h.2 ∙ sym is) h.1, near)
+
 module _ {R : Type 0} where
+  -- what stands, by a guest with the same saved slots
+  abbrev pub requests_by : (rules : Rules) (recoveries : List Recovery) (survivor : Survivor) (old new : SessionState R) → new.cpu.slots.saved ≡ old.cpu.slots.saved → keeping_of new ≡ keeping_of old
+      → HandlesRequests rules (keeping_of old) recoveries survivor (stands_of old.cpu.slots.saved) → HandlesRequests rules (keeping_of new) recoveries survivor (stands_of new.cpu.slots.saved)
+  requests_by rules recoveries survivor old new same keeping h =
+      subst (λ (k : Keeping). HandlesRequests rules k recoveries survivor (stands_of new.cpu.slots.saved)) (sym keeping)
+      (subst (λ (saved : List (Saved Standing)). HandlesRequests rules (keeping_of old) recoveries survivor (stands_of saved)) (sym same) h)
+
+  pub handled_by : (recoveries : List Recovery) (survivor : Survivor) (requests : ℕ) (old new : SessionState R) → new.cpu.slots.saved ≡ old.cpu.slots.saved → keeping_of new ≡ keeping_of old
+      → HasHandled (keeping_of old) recoveries survivor requests (stands_of old.cpu.slots.saved) → HasHandled (keeping_of new) recoveries survivor requests (stands_of new.cpu.slots.saved)
+  handled_by recoveries survivor requests old new same keeping h =
+      subst (λ (k : Keeping). HasHandled k recoveries survivor requests (stands_of new.cpu.slots.saved)) (sym keeping)
+      (subst (λ (saved : List (Saved Standing)). HasHandled (keeping_of old) recoveries survivor requests (stands_of saved)) (sym same) h)
+
   -- by a guest with the same saved slots
-  abbrev pub held_by : (rules : Rules) (image : Image) (entries : List Entry) (survivor : Survivor) (old new : SessionState R) → new.cpu.slots.saved ≡ old.cpu.slots.saved
-      → HoldsCheckpoints rules image entries survivor old → HoldsCheckpoints rules image entries survivor new
-  held_by rules image entries survivor old new same h = record {
+  abbrev pub held_by : (rules : Rules) (image : Image) (entries : List Entry) (recoveries : List Recovery) (survivor : Survivor) (old new : SessionState R) → new.cpu.slots.saved ≡ old.cpu.slots.saved → keeping_of new ≡ keeping_of old
+      → HoldsCheckpoints rules image entries recoveries survivor old → HoldsCheckpoints rules image entries recoveries survivor new
+  held_by rules image entries recoveries survivor old new same keeping h = record {
     paths = h.paths;
     some = h.some;
     chained = h.chained;
     are = h.are;
     as_many = ap length same ∙ h.as_many;
     saved = λ index less. ap (λ (saved : List (Saved Standing)). option_map (λ (one : Saved Standing). one.state) (from_newest saved index)) same ∙ h.saved index less;
+    requests = requests_by rules recoveries survivor old new same keeping h.requests;
   }
 
   -- behind entries that brought the same items
-  pub held_as : (rules : Rules) (image : Image) (before after : List Entry) (survivor : Survivor) (session : SessionState R) → items_in rules.bounds after ≡ items_in rules.bounds before
-      → HoldsCheckpoints rules image before survivor session → HoldsCheckpoints rules image after survivor session
-  held_as rules image before after survivor session same h = record {
+  pub held_as : (rules : Rules) (image : Image) (before after : List Entry) (recoveries : List Recovery) (survivor : Survivor) (session : SessionState R) → items_in rules.bounds after ≡ items_in rules.bounds before
+      → HoldsCheckpoints rules image before recoveries survivor session → HoldsCheckpoints rules image after recoveries survivor session
+  held_as rules image before after recoveries survivor session same h = record {
     paths = h.paths;
     some = h.some;
     chained = subst (λ (items : List Item). AreChained rules.limits items survivor.plan image survivor.now h.paths) (sym same) h.chained;
     are = h.are;
     as_many = h.as_many;
     saved = h.saved;
+    requests = h.requests;
   }
 
   -- a session that keeps its checkpoints holds them
-  pub held_of : (rules : Rules) (image : Image) (story : Story) (session : SessionState R) → KeepsCheckpoints rules image story session → HoldsCheckpoints rules image (entries story) story.survivor session
+  pub held_of : (rules : Rules) (image : Image) (story : Story) (session : SessionState R) → KeepsCheckpoints rules image story session → HoldsCheckpoints rules image (entries story) story.recoveries story.survivor session
   held_of rules image story session k =
-      record { paths = k.paths; some = k.ring.some; chained = k.ring.chained; are = k.ring.are; as_many = k.ring.as_many; saved = k.ring.saved }
+      record { paths = k.paths; some = k.ring.some; chained = k.ring.chained; are = k.ring.are; as_many = k.ring.as_many; saved = k.ring.saved; requests = k.requests }
 
   -- behind pieces that were passed
   pub held_given : (rules : Rules) (image : Image) (story : Story) (session : SessionState R) (more : List Entry) → AreGiven more
-      → HoldsCheckpoints rules image (entries story) story.survivor session → HoldsCheckpoints rules image (entries (then_story story more)) story.survivor session
+      → HoldsCheckpoints rules image (entries story) story.recoveries story.survivor session → HoldsCheckpoints rules image (entries (then_story story more)) story.recoveries story.survivor session
   held_given rules image story session more given h =
-      held_as rules image (entries story) (entries (then_story story more)) story.survivor session
+      held_as rules image (entries story) (entries (then_story story more)) story.recoveries story.survivor session
       (ap (λ (es : List LinkEvent). items_of rules.bounds.framing (heeded rules.bounds es)) (events_in-story story more given)) h
 
   -- where the oldest checkpoint stands and nothing more was given up, all is given up still
@@ -79,7 +146,7 @@ module _ {R : Type 0} where
   }
 
   pub oldest_same : (session : SessionState R) → KeepsOldest session session
-  oldest_same session = record { oldest = refl; first = refl; recorded = refl; sends = refl }
+  oldest_same session = record { oldest = refl; first = refl; recorded = refl; sends = refl; keeping = refl }
 
   pub oldest_then : (old mid new : SessionState R) → KeepsOldest old mid → KeepsOldest mid new → KeepsOldest old new
   oldest_then old mid new first second = record {
@@ -87,4 +154,32 @@ module _ {R : Type 0} where
     first = second.first ∙ first.first;
     recorded = second.recorded ∙ first.recorded;
     sends = second.sends ∙ first.sends;
+    keeping = second.keeping ∙ first.keeping;
   }
+
+  -- the guest is as it was
+  pub guest_oldest : (old new : SessionState R) → HasSameGuest old new → KeepsOldest old new
+  guest_oldest old new same = record {
+    oldest = ap (λ (cpu : CpuState R). slice_get cpu.slots.saved 0) same.cpu;
+    first = same.first;
+    recorded = same.recorded;
+    sends = same.sends;
+    keeping = same.keeping;
+  }
+
+  -- pieces were passed
+  pub passed_oldest : (old new : SessionState R) → new ≡ record old { replies = new.replies } → new.replies.first ≡ old.replies.first → KeepsOldest old new
+  passed_oldest old new same first = record {
+    oldest = ap (λ (s : SessionState R). slice_get s.cpu.slots.saved 0) same;
+    first = ap (λ (s : SessionState R). s.log.first) same;
+    recorded = ap (λ (s : SessionState R). s.recorded) same;
+    sends = first;
+    keeping = ap (λ (s : SessionState R). keeping_of s) same;
+  }
+
+  -- a recovery leaves the oldest checkpoint
+  pub slots_oldest : (adopted : Option Adopted) (old new : CpuState R) → KeepsSlots adopted old new → slice_get new.slots.saved 0 ≡ slice_get old.slots.saved 0
+  slots_oldest None old new same = ap (λ (saved : List (Saved Standing)). slice_get saved 0) same
+  slots_oldest (Some adopted) old new slots =
+      let low = slots.1 in
+      ap (λ (saved : List (Saved Standing)). slice_get saved 0) slots.2 ∙ slice_get-take (length old.slots.saved - slots.0) old.slots.saved 0 (omega (arith, low))

@@ -1,5 +1,5 @@
 -- What a session leaves at its end: what it gave up, and what it keeps.
-use Rattle.std.proofs.Common.{◌≡◌, ℕ, zero, suc, ◌+◌, ◌-◌, ◌<◌, ◌≤◌, Bool, true, false, cond, not, min, max, List, [], ◌∷◌, ◌++◌, length, drop, Option, None, Some, refl, sym, ◌∙◌, ap, subst, arith, append-nil, append_assoc, length-drop}
+use Rattle.std.proofs.Common.{◌≡◌, ◌⊎◌, inl, inr, ℕ, zero, suc, ◌+◌, ◌-◌, ◌<◌, ◌≤◌, Bool, true, false, cond, not, min, max, List, [], ◌∷◌, ◌++◌, length, drop, Option, None, Some, refl, sym, ◌∙◌, ap, subst, arith, append-nil, append_assoc, length-drop}
 use Rattle.std.specs.Prelude.{◌&&◌, IfSome, slice_get}
 use Rattle.std.specs.List.{position_or_len}
 use Rattle.rx_io.specs.Sends.{Send}
@@ -32,10 +32,18 @@ use Rattle.recovery_gate.specs.Rings.{KeepsRing, AreBehind}
 use Rattle.recovery_gate.proofs.Walked.{behind_at}
 use Rattle.recovery_gate.proofs.ForgetLemmas.{HasOldest, has_oldest, after_oldest, oldest_of, oldest_used}
 use Rattle.rx_engine.specs.Sessions.{SessionState}
-use Rattle.rx_engine.specs.Leaving.{UnlessGaveUp, HoldsCheckpoints, IsRecorded, IsTrimmed, CanForgetSends, HasLeft}
+use Rattle.rx_io.specs.Links.{Coming}
+use Rattle.std.proofs.lemmas.Option.{none-some}
+use Rattle.session_history.specs.Ends.{StandsAt, EndsBy}
+use Rattle.trial_history.specs.Episodes.{Recovery}
+use Rattle.recovery_gate.specs.Handling.{Keeping, Stand, HasHandled, stands_of}
+use Rattle.rx_engine.proofs.AdoptLemmas.{asks_or_fails}
+use Rattle.rx_engine.specs.Leaving.{UnlessGaveUp, IsAtRequest, HandledAt, HandlesRequests, keeping_of, HoldsCheckpoints, IsRecorded, IsTrimmed, CanForgetSends, HasLeft}
 use Rattle.rx_engine.specs.Recovered.{IsNoteFault}
 use Rattle.rx_engine.proofs.HeldLemmas.{held_by}
-use Rattle.rx_engine.specs.Serving.{UnlessNoteFault}
+use Rattle.reply_gate.specs.declared.pass_fault.PassFault.{PassFault}
+use Rattle.reply_gate.specs.declared.pass_fault.PassFault.TheVariants as pass_fault
+use Rattle.rx_engine.specs.Serving.{UnlessNoteFault, IsAnswerTo}
 
 -- where each send fails a test of its part, none is the first that passes it
 none_passes : (p : Send → Bool) (C : List Connection) (front sends : List Send) → ((x : List Send) (y : Send) (z : List Send) → sends ≡ x ++ y ∷ z → p (unpassed C (front ++ x) y) ≡ false)
@@ -89,16 +97,72 @@ note_unless answer.FileFault P is = tt
 note_unless answer.Memory P is = tt
 note_unless _ P is = absurd is
 
+-- an answer of a session that is no end and no fault of its notes is a fault of its link
+abbrev pub IsOfLink : Answer → Type 0
+IsOfLink answer.ReadFault = Unit {0}
+IsOfLink answer.WriteFault = Unit {0}
+IsOfLink _ = ⊥
+
+-- what stands at a fault of the link
+pub off_requests : (rules : Rules) (keeping : Keeping) (recoveries : List Recovery) (survivor : Survivor) (stands : List Stand) (end : Answer) → (IsEnd end → ⊥) → HandlesRequests rules keeping recoveries survivor stands
+    → (IsAtRequest end → HasHandled keeping recoveries survivor (survivor.now.state.machine.taken + 1) stands) → (IsNoteFault end → ⊥) → IsOfLink end
+    → HandledAt end (HasHandled keeping recoveries survivor survivor.now.state.machine.taken stands) (HasHandled keeping recoveries survivor (survivor.now.state.machine.taken + 1) stands)
+off_requests rules keeping recoveries survivor stands answer.ReadFault no_end h handled never of_link = handled tt
+off_requests rules keeping recoveries survivor stands answer.WriteFault no_end (inl h) handled never of_link = inl h
+off_requests rules keeping recoveries survivor stands answer.WriteFault no_end (inr h) handled never of_link = inr h.1
+off_requests rules keeping recoveries survivor stands _ no_end h handled never of_link = absurd of_link
+
+pub of_link : (rules : Rules) (coming : Option Coming) (session : Session) (end : Answer) → EndsBy rules coming session end → (IsEnd end → ⊥) → (IsNoteFault end → ⊥) → IsOfLink end
+of_link rules coming session answer.ReadFault ends no_end never = tt
+of_link rules coming session answer.WriteFault ends no_end never = tt
+of_link rules coming session answer.FileFault ends no_end never = never tt
+of_link rules coming session answer.Memory ends no_end never = never tt
+of_link rules coming session answer.Finished ends no_end never = no_end tt
+of_link rules coming session (answer.Exited code) ends no_end never = no_end tt
+of_link rules coming session (answer.GaveUp point cause) ends no_end never = no_end tt
+of_link rules coming session (answer.InputRefused kind offset) ends no_end never = no_end tt
+of_link rules coming session (answer.MessageTooLong conn) ends no_end never = no_end tt
+of_link rules coming session answer.LimitItems ends no_end never = no_end tt
+of_link rules coming session answer.LimitEvents ends no_end never = no_end tt
+of_link rules coming session _ ends no_end never = ends.0
+
+-- and at a fault of passing at an end
+pub passing_requests : (rules : Rules) (keeping : Keeping) (recoveries : List Recovery) (survivor : Survivor) (stands : List Stand) (why : PassFault) (end : Answer) → IsAnswerTo why end → (IsNoteFault end → ⊥) → HandlesRequests rules keeping recoveries survivor stands
+    → HandledAt end (HasHandled keeping recoveries survivor survivor.now.state.machine.taken stands) (HasHandled keeping recoveries survivor (survivor.now.state.machine.taken + 1) stands)
+passing_requests rules keeping recoveries survivor stands pass_fault.WriteFault end is never h =
+    subst (λ (a : Answer). HandledAt a (HasHandled keeping recoveries survivor survivor.now.state.machine.taken stands) (HasHandled keeping recoveries survivor (survivor.now.state.machine.taken + 1) stands)) (sym is) (either h)
+  where
+    either : HandlesRequests rules keeping recoveries survivor stands
+        → HasHandled keeping recoveries survivor survivor.now.state.machine.taken stands ⊎ HasHandled keeping recoveries survivor (survivor.now.state.machine.taken + 1) stands
+    either (inl h) = inl h
+    either (inr h) = inr h.1
+passing_requests rules keeping recoveries survivor stands pass_fault.Memory end is never h = absurd (never (subst IsNoteFault (sym is) tt))
+
+-- what stands at an end
+pub end_requests : (rules : Rules) (entries : List Entry) (coming : Option Coming) (keeping : Keeping) (recoveries : List Recovery) (survivor : Survivor) (stands : List Stand) (end : Answer) → IsEnd end → StandsAt rules entries coming survivor end
+    → HandlesRequests rules keeping recoveries survivor stands → (IsAtRequest end → HasHandled keeping recoveries survivor (survivor.now.state.machine.taken + 1) stands)
+    → HandledAt end (HasHandled keeping recoveries survivor survivor.now.state.machine.taken stands) (HasHandled keeping recoveries survivor (survivor.now.state.machine.taken + 1) stands)
+end_requests rules entries coming keeping recoveries survivor stands answer.Finished is where_at h handled = handled tt
+end_requests rules entries coming keeping recoveries survivor stands (answer.InputRefused kind offset) is where_at h handled = handled tt
+end_requests rules entries coming keeping recoveries survivor stands (answer.MessageTooLong conn) is where_at h handled = handled tt
+end_requests rules entries coming keeping recoveries survivor stands answer.LimitItems is where_at h handled = handled tt
+end_requests rules entries coming keeping recoveries survivor stands answer.LimitEvents is where_at h handled = handled tt
+end_requests rules entries coming keeping recoveries survivor stands (answer.Exited code) is where_at (inl h) handled = h
+end_requests rules entries coming keeping recoveries survivor stands (answer.Exited code) is where_at (inr h) handled = absurd (none-some code (sym h.0.lives ∙ where_at))
+end_requests rules entries coming keeping recoveries survivor stands (answer.GaveUp point cause) is where_at (inl h) handled = h
+end_requests rules entries coming keeping recoveries survivor stands (answer.GaveUp point cause) is where_at (inr h) handled = absurd (asks_or_fails rules.limits survivor.plan survivor.now cause survivor.now.state.machine.taken h.0 where_at.0)
+end_requests rules entries coming keeping recoveries survivor stands _ is where_at h handled = absurd is
+
 module _ {R : Type 0} where
   -- the oldest of the checkpoints that a session holds
-  pub oldest_held : (rules : Rules) (image : Image) (entries : List Entry) (survivor : Survivor) (session : SessionState R) (h : HoldsCheckpoints rules image entries survivor session) → HasOldest h.paths session.cpu.slots.saved
-  oldest_held rules image entries survivor session h = has_oldest h.paths session.cpu.slots.saved h.some h.as_many h.saved
+  pub oldest_held : (rules : Rules) (image : Image) (entries : List Entry) (recoveries : List Recovery) (survivor : Survivor) (session : SessionState R) (h : HoldsCheckpoints rules image entries recoveries survivor session) → HasOldest h.paths session.cpu.slots.saved
+  oldest_held rules image entries recoveries survivor session h = has_oldest h.paths session.cpu.slots.saved h.some h.as_many h.saved
 
   -- what is asked for before sends are given up
-  pub can_forget_sends : (rules : Rules) (image : Image) (entries : List Entry) (survivor : Survivor) (session : SessionState R) (h : HoldsCheckpoints rules image entries survivor session) (ledger : Ledger)
+  pub can_forget_sends : (rules : Rules) (image : Image) (entries : List Entry) (recoveries : List Recovery) (survivor : Survivor) (session : SessionState R) (h : HoldsCheckpoints rules image entries recoveries survivor session) (ledger : Ledger)
       → ledger.kept ≡ drop ledger.first survivor.now.state.sends → ledger.first ≤ length survivor.now.state.sends → ledger.trial ≡ None → CanForgetSends (record session { replies = ledger })
-  can_forget_sends rules image entries survivor session h ledger kept counted none =
-      let o = oldest_held rules image entries survivor session h in
+  can_forget_sends rules image entries recoveries survivor session h ledger kept counted none =
+      let o = oldest_held rules image entries recoveries survivor session h in
       let before = (after_oldest rules.limits (items_in rules.bounds entries) survivor.plan image survivor.now h.paths o.oldest h.chained o.last).0 in
       let all : length ledger.kept ≡ length survivor.now.state.sends - ledger.first = ap length kept ∙ length-drop ledger.first survivor.now.state.sends in
       let there : o.slot.state.sends ≤ ledger.first + length ledger.kept = omega (arith, ap (λ (s : Standing). s.sends) o.stands, before.sends, all, counted) in
@@ -163,9 +227,11 @@ module _ {R : Type 0} where
       }
 
   -- what a session that was broken off leaves
-  pub left_off : (rules : Rules) (image : Image) (account : Session) (session : SessionState R) (end : Answer) → (IsEnd end → ⊥) → IsTrimmed session → HoldsCheckpoints rules image (before_end account) account.survivor session → HasLeft rules image account session end
-  left_off rules image account session end no_end trimmed h =
-      let o = oldest_held rules image (before_end account) account.survivor session h in
+  pub left_off : (rules : Rules) (image : Image) (recoveries : List Recovery) (account : Session) (session : SessionState R) (end : Answer) → (IsEnd end → ⊥) → IsTrimmed session → HoldsCheckpoints rules image (before_end account) recoveries account.survivor session
+      → HandledAt end (HasHandled (keeping_of session) recoveries account.survivor account.survivor.now.state.machine.taken (stands_of session.cpu.slots.saved)) (HasHandled (keeping_of session) recoveries account.survivor (account.survivor.now.state.machine.taken + 1) (stands_of session.cpu.slots.saved))
+      → HasLeft rules image recoveries account session end
+  left_off rules image recoveries account session end no_end trimmed h requests =
+      let o = oldest_held rules image (before_end account) recoveries account.survivor session h in
       let used : o.oldest.state.machine.allocations ≡ length o.oldest.choices = oldest_used rules.limits (items_in rules.bounds (before_end account)) account.survivor.plan image account.survivor.now h.paths o.oldest h.chained o.last in
       let items : session.log.first ≡ o.slot.state.guest.machine.taken = subst (λ (s : Option (Saved Standing)). IfSome s (λ oldest. session.log.first ≡ oldest.state.guest.machine.taken)) o.first trimmed.items in
       let recorded : session.recorded ≡ o.slot.state.guest.machine.allocations = subst (λ (s : Option (Saved Standing)). IfSome s (λ oldest. session.recorded ≡ oldest.state.guest.machine.allocations)) o.first trimmed.recorded in
@@ -177,16 +243,18 @@ module _ {R : Type 0} where
         sends = λ is. absurd (no_end is);
         stands = λ is. absurd (no_end is);
         recorded = λ never. recorded ∙ (ap (λ (s : Standing). s.guest.machine.allocations) o.stands ∙ used);
+        requests = requests;
       }
 
   -- and one that came to its end, where nothing that was sent waits
-  pub left_end : (rules : Rules) (image : Image) (account : Session) (old new : SessionState R) (ledger : Ledger) (end : Answer) (until : ℕ) → IsEnd end → IsTrimmed old → HoldsCheckpoints rules image (before_end account) account.survivor old
-      → UnlessGaveUp end (old.cpu.slots.live ≡ standing_of account.survivor.now) → new.cpu ≡ old.cpu → new.log ≡ old.log → ledger.first ≡ old.replies.first
+  pub left_end : (rules : Rules) (image : Image) (recoveries : List Recovery) (account : Session) (old new : SessionState R) (ledger : Ledger) (end : Answer) (until : ℕ) → IsEnd end → IsTrimmed old → HoldsCheckpoints rules image (before_end account) recoveries account.survivor old
+      → HandledAt end (HasHandled (keeping_of new) recoveries account.survivor account.survivor.now.state.machine.taken (stands_of new.cpu.slots.saved)) (HasHandled (keeping_of new) recoveries account.survivor (account.survivor.now.state.machine.taken + 1) (stands_of new.cpu.slots.saved))
+      → UnlessGaveUp end (old.cpu.slots.live ≡ standing_of account.survivor.now) → new.cpu ≡ old.cpu → keeping_of new ≡ keeping_of old → new.log ≡ old.log → ledger.first ≡ old.replies.first
       → ledger.kept ≡ drop ledger.first account.survivor.now.state.sends → ledger.first ≤ length account.survivor.now.state.sends → AreBetween 0 account.survivor.now.state.machine.taken account.survivor.now.state.sends → account.survivor.now.state.machine.taken ≤ until → next_part ledger until ≡ None
-      → IfSome (slice_get old.cpu.slots.saved 0) (λ oldest. new.replies ≡ ledgers.trimmed ledger oldest.state.sends) → HasLeft rules image account new end
-  left_end rules image account old new ledger end until is trimmed h live guest log first kept counted timed low none less =
+      → IfSome (slice_get old.cpu.slots.saved 0) (λ oldest. new.replies ≡ ledgers.trimmed ledger oldest.state.sends) → HasLeft rules image recoveries account new end
+  left_end rules image recoveries account old new ledger end until is trimmed h requests live guest keeping log first kept counted timed low none less =
       let items : List Item = items_in rules.bounds (before_end account) in
-      let o = oldest_held rules image (before_end account) account.survivor old h in
+      let o = oldest_held rules image (before_end account) recoveries account.survivor old h in
       let before = (after_oldest rules.limits items account.survivor.plan image account.survivor.now h.paths o.oldest h.chained o.last).0 in
       let whole : old.log.first ≡ o.slot.state.guest.machine.taken = subst (λ (s : Option (Saved Standing)). IfSome s (λ oldest. old.log.first ≡ oldest.state.guest.machine.taken)) o.first trimmed.items in
       let early : old.replies.first ≤ o.slot.state.sends = subst (λ (s : Option (Saved Standing)). IfSome s (λ oldest. old.replies.first ≤ oldest.state.sends)) o.first trimmed.sends in
@@ -197,13 +265,14 @@ module _ {R : Type 0} where
       let sent : o.slot.state.sends ≡ length o.oldest.state.sends = ap (λ (s : Standing). s.sends) o.stands in
       let most = before.sends in
       record {
-        holds = held_by rules image (before_end account) account.survivor old new (ap (λ (cpu : CpuState R). cpu.slots.saved) guest) h;
+        holds = held_by rules image (before_end account) recoveries account.survivor old new (ap (λ (cpu : CpuState R). cpu.slots.saved) guest) keeping h;
         oldest = o.oldest;
         oldest_is = o.last;
         items = ap (λ (l : Log). l.first) log ∙ (whole ∙ ap (λ (s : Standing). s.guest.machine.taken) o.stands);
         sends = λ ends. omega (arith, first, early, first_send, all, many, sent, most);
         stands = λ ends. live_by end old.cpu new.cpu account.survivor.now guest live;
         recorded = λ never. absurd (never is);
+        requests = requests;
       }
     where
       live_by : (end : Answer) (old new : CpuState R) (now : Path) → new ≡ old → UnlessGaveUp end (old.slots.live ≡ standing_of now) → UnlessGaveUp end (new.slots.live ≡ standing_of now)

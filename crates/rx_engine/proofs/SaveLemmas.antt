@@ -16,6 +16,13 @@ use Rattle.item_log.specs.Log.{Log}
 use Rattle.reply_ledger.specs.Ledger.{Ledger}
 use Rattle.recovery_gate.proofs.RingLemmas.{is_ring_of}
 use Rattle.recovery_gate.proofs.Chains.{survivor_goes}
+use Rattle.ckpt_ring.specs.Rings.{from_newest}
+use Rattle.trial_history.proofs.Asking.{asks_under_all}
+use Rattle.trial_plan.specs.Sessions.{taken_in}
+use Rattle.recovery_gate.specs.Rings.{SavesIf}
+use Rattle.recovery_gate.specs.Handling.{Keeping, handle, is_far, stands_of, keeping_by}
+use Rattle.rx_engine.specs.Leaving.{HandlesRequests, keeping_of}
+use Rattle.rx_engine.proofs.HeldLemmas.{requests_saved}
 use Rattle.rx_engine.specs.Sessions.{SessionState}
 use Rattle.rx_engine.specs.Standing.{Since, entries, IsWaitingFor}
 use Rattle.rx_engine.specs.Serving.{IsCounted}
@@ -73,8 +80,10 @@ module _ {R : Type 0} where
 
   -- with another ring of its checkpoints it waits on
   pub waits_saved : (rules : Rules) (image : Image) (began : Since) (now : Told) (phases : Phases) (old : SessionState R) (cpu : CpuState R) (ring : Checkpoints) (paths : List Path) (w : IsWaitingFor rules image began now phases old) → cpu.slots.live ≡ old.cpu.slots.live
-      → KeepsRing rules image (entries w.hearing.story) w.hearing.story.survivor.plan w.hearing.story.survivor.now paths cpu ring old.log old.replies → AreBehind old.recorded paths → IsWaitingFor rules image began now phases (record old { cpu = cpu; ring = ring })
-  waits_saved rules image began now phases old cpu ring paths w live keeps early =
+      → KeepsRing rules image (entries w.hearing.story) w.hearing.story.survivor.plan w.hearing.story.survivor.now paths cpu ring old.log old.replies → AreBehind old.recorded paths
+      → keeping_by ring.capacity old.options.every cpu.slots ≡ keeping_of old → stands_of cpu.slots.saved ≡ handle (keeping_of old) old.taken old.cpu.slots.written (stands_of old.cpu.slots.saved) → is_far old.options.every old.taken (from_newest (stands_of cpu.slots.saved) 0) ≡ false
+      → IsWaitingFor rules image began now phases (record old { cpu = cpu; ring = ring })
+  waits_saved rules image began now phases old cpu ring paths w live keeps early keeping handles near =
       let h = w.hearing in
       record {
         hearing = record {
@@ -91,13 +100,33 @@ module _ {R : Type 0} where
             events = h.goes.events;
             phases_are = h.goes.phases_are;
           };
-          saved = record { paths = paths; ring = keeps; early = early; in_force = h.saved.in_force; past = h.saved.past };
+          saved = record {
+            paths = paths;
+            ring = keeps;
+            early = early;
+            requests =
+                subst (λ (k : Keeping). HandlesRequests rules k h.story.recoveries h.story.survivor (stands_of cpu.slots.saved)) (sym keeping)
+                (requests_saved rules (keeping_of old) h.story.recoveries h.story.survivor old.cpu.slots.written (stands_of old.cpu.slots.saved) (stands_of cpu.slots.saved)
+                (asks_under_all rules.limits h.story.survivor.plan [] h.story.survivor.now h.story.survivor.now.state.machine.taken h.asks)
+                (subst (λ n. stands_of cpu.slots.saved ≡ handle (keeping_of old) n old.cpu.slots.written (stands_of old.cpu.slots.saved)) h.answers.taken handles)
+                (subst (λ n. is_far old.options.every n (from_newest (stands_of cpu.slots.saved) 0) ≡ false) h.answers.taken near) h.saved.requests);
+            in_force = h.saved.in_force; past = h.saved.past;
+          };
           passed = h.passed;
           asks = h.asks;
           latest = h.latest;
         };
         due = w.due;
       }
+
+  -- a save changes nothing of how checkpoints are kept
+  pub saves_keeping : (due : Bool) (capacity ring every : ℕ) (old new : CpuState R) → SavesIf due capacity old new → keeping_by ring every new.slots ≡ keeping_by ring every old.slots
+  saves_keeping true capacity ring every old new saves = ap (keeping_by ring every) saves.1
+  saves_keeping false capacity ring every old new saves = ap (λ (cpu : CpuState R). keeping_by ring every cpu.slots) saves
+
+  -- the guest has taken as many items as the session
+  pub waits_live : (rules : Rules) (image : Image) (began : Since) (now : Told) (phases : Phases) (session : SessionState R) → IsWaitingFor rules image began now phases session → taken_in session.cpu.slots.live ≡ session.taken
+  waits_live rules image began now phases session w = ap taken_in w.hearing.goes.guest ∙ sym w.hearing.answers.taken
 
   -- its counts are still those of its guest
   pub counted_saved : (old new : SessionState R) → new ≡ record old { cpu = new.cpu; ring = new.ring } → new.cpu.slots.live ≡ old.cpu.slots.live → IsCounted old → IsCounted new

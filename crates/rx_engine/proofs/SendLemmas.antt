@@ -1,5 +1,5 @@
 -- The guest sent, or took an item: what that makes of a session.
-use Rattle.std.proofs.Common.{◌≡◌, ℕ, ◌<◌, ◌≤◌, true, List, [], ◌∷◌, ◌++◌, length, Option, None, Some, Ok, refl, sym, ◌∙◌, ap, subst, arith, length-append}
+use Rattle.std.proofs.Common.{◌≡◌, false, ℕ, ◌<◌, ◌≤◌, true, List, [], ◌∷◌, ◌++◌, length, Option, None, Some, Ok, refl, sym, ◌∙◌, ap, subst, arith, length-append}
 use Rattle.std.specs.Prelude.{slice_get, is_some, IsSome}
 use Rattle.rx_io.specs.declared.bytes.Item.{Item}
 use Rattle.rx_io.specs.declared.journal.LinkEvent.TheVariants as event
@@ -24,6 +24,10 @@ use Rattle.session_history.specs.Keeping.{IsSendable, KeepsReplies, KeepsItems}
 use Rattle.reply_gate.proofs.ReplyLemmas.{sent_keeps}
 use Rattle.rx_engine.specs.Sessions.{SessionState}
 use Rattle.rx_engine.specs.Standing.{Since, Story, entries, moment, sends, GoesWith, IsLatestDone, IsLatestBefore, HasPassed, IsGoing, IsBetween, IsWaitingFor}
+use Rattle.ckpt_ring.specs.Rings.{from_newest}
+use Rattle.recovery_gate.specs.Handling.{is_far, stands_of}
+use Rattle.rx_engine.specs.Leaving.{keeping_of, IsHandled}
+use Rattle.rx_engine.proofs.HeldLemmas.{requests_on, requests_taken}
 use Rattle.rx_engine.specs.Serving.{IsCounted}
 use Rattle.rx_engine.proofs.StoryLemmas.{on_story, told_on}
 use Rattle.rx_engine.proofs.CheckpointLemmas.{HasSameSide, saved_on}
@@ -91,7 +95,8 @@ module _ {R : Type 0} where
         told = told_on rules image began now story to b.going.told runs.goes.served (still_received rules image began now story to b.going.told runs.goes.taken);
         answers = answers_for began story old new to [] b.going.answers side.recorded (none_more comes.0) (none_more chosen) counted (sym runs.stands);
         goes = goes_with rules story old new phases to b.going.goes side.log side.events runs.goes comes.5 (sym runs.stands);
-        saved = saved_on rules image story old new to side (ap (λ (ledger : Ledger). ledger.first) replies) runs.goes.served (let still = runs.goes.taken in omega (arith, still)) b.going.saved;
+        saved = saved_on rules image story old new to side (ap (λ (ledger : Ledger). ledger.first) replies) runs.goes.served (let still = runs.goes.taken in omega (arith, still))
+            (requests_on rules (items_in rules.bounds (entries story)) (keeping_of old) story.recoveries story.survivor to (stands_of old.cpu.slots.saved) runs.goes.served runs.goes.taken b.going.saved.requests) b.going.saved;
         passed = record {
           replies =
               subst (λ (ledger : Ledger). KeepsReplies rules.bounds (entries story) None to.state.sends ledger) (sym replies)
@@ -107,8 +112,8 @@ module _ {R : Type 0} where
   pub takes_going : (rules : Rules) (image : Image) (began : Since) (now : Told) (phases : Phases) (item : Item) (old new : SessionState R) (w : IsWaitingFor rules image began now phases old) → HasSameParts old new → new.choices ≡ old.choices → IsCounted new
       → new.cpu.slots.live ≡ taken_standing item old.cpu.slots.live → slice_get (items_in rules.bounds (entries w.hearing.story)) w.hearing.story.survivor.now.state.machine.taken ≡ Some item
       → w.hearing.story.survivor.now.state.machine.taken < received rules.bounds (entries w.hearing.story) → received rules.bounds (entries w.hearing.story) ≤ rules.bounds.max_items
-      → (item.kind ≡ 1 → opens item.conn (heeded rules.bounds (events_in (entries w.hearing.story))) ≡ true) → IsGoing rules image began now phases new
-  takes_going rules image began now phases item old new w same chosen counted live is_item low few opened =
+      → (item.kind ≡ 1 → opens item.conn (heeded rules.bounds (events_in (entries w.hearing.story))) ≡ true) → IsHandled old → IsGoing rules image began now phases new
+  takes_going rules image began now phases item old new w same chosen counted live is_item low few opened handled =
       let story : Story = w.hearing.story in
       let t : TakesOn rules.limits (items_in rules.bounds (entries story)) story.survivor.plan story.survivor.now item = takes_serve rules.limits (items_in rules.bounds (entries story)) story.survivor.plan story.survivor.now item w.hearing.asks is_item in
       let to : Path = t.now in
@@ -132,7 +137,8 @@ module _ {R : Type 0} where
           events = same.side.events ∙ goes.events;
           phases_are = goes.phases_are;
         };
-        saved = saved_on rules image story old new to same.side (ap (λ (ledger : Ledger). ledger.first) same.replies) t.served (let more = t.taken in omega (arith, more)) w.hearing.saved;
+        saved = saved_on rules image story old new to same.side (ap (λ (ledger : Ledger). ledger.first) same.replies) t.served (let more = t.taken in omega (arith, more))
+            (requests_taken rules (keeping_of old) story.recoveries story.survivor to (stands_of old.cpu.slots.saved) (subst (λ n. is_far old.options.every n (from_newest (stands_of old.cpu.slots.saved) 0) ≡ false) w.hearing.answers.taken handled) (let more = t.taken in omega (arith, more)) w.hearing.saved.requests) w.hearing.saved;
         passed = has_passed rules story old.replies new.replies to w.hearing.passed same.replies t.silent.sends;
         latest = subst (IsLatestBefore rules (moment story)) (sym t.taken) w.hearing.latest;
       }

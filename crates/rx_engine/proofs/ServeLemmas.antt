@@ -33,7 +33,7 @@ module _ {R : Type 0} where
       let going = h.between.going in
       broken_off rules image began now coming after going.story answer.Memory going.told
       (answers_as began going.story h.before after (recorded ∙ ap (λ (s : SessionState R). s.recorded) h.same) (choices ∙ ap (λ (s : SessionState R). s.choices) h.same) (taken ∙ ap (λ (s : SessionState R). s.taken) h.same)
-      (steps ∙ ap (λ (s : SessionState R). s.steps) h.same) going.answers) tt (λ is. is) (λ never. absurd (never tt))
+      (steps ∙ ap (λ (s : SessionState R). s.steps) h.same) going.answers) tt (λ is. is) (λ never. absurd (never tt)) (λ is. absurd is)
 
   -- all but the replies, the answers of malloc and the counts is the same
   abbrev pub IsSameBut : SessionState R → SessionState R → Type 0
@@ -51,6 +51,7 @@ module _ {R : Type 0} where
         ring = ap (λ (s : SessionState R). s.ring) same ∙ ap (λ (s : SessionState R). s.ring) h.same;
         env = ap (λ (s : SessionState R). s.env) same ∙ ap (λ (s : SessionState R). s.env) h.same;
         until = ap (λ (s : SessionState R). s.until) same ∙ ap (λ (s : SessionState R). s.until) h.same;
+        options = ap (λ (s : SessionState R). s.options) same ∙ ap (λ (s : SessionState R). s.options) h.same;
       }
 
   run_parts : (rules : Rules) (image : Image) (began : Since) (now : Told) (phases : Phases) (happened : Event) (session after : SessionState R) (h : HasRun rules image began now phases happened session) → IsSameBut session after → after.replies ≡ session.replies

@@ -41,7 +41,9 @@ use Rattle.rx_engine.proofs.GuestLemmas.{none_noted}
 use Rattle.rx_engine.specs.Standing.{Since, Story, IsBetween, told_since}
 use Rattle.rx_engine.proofs.CheckpointLemmas.{in_force_by}
 use Rattle.rx_engine.proofs.TellLemmas.{tells_same}
-use Rattle.rx_engine.specs.Leaving.{IsTrimmed}
+use Rattle.recovery_gate.specs.Handling.{alone, stands_of, keeping_by}
+use Rattle.recovery_gate.proofs.Handled.{handled_first}
+use Rattle.rx_engine.specs.Leaving.{IsTrimmed, keeping_of}
 use Rattle.rx_engine.proofs.LeavingLemmas.{start_trimmed}
 use Rattle.rx_engine.specs.Serving.{CanGive, StaysKnown, IsCounted, HasSameFrame}
 
@@ -96,12 +98,16 @@ module _ {R : Type 0} where
   pub starts_at : (image : Image) (session : SessionState R) → IsBegun image session.options session.cpu.rule session → session.cpu.slots.live ≡ standing_of (origin image)
   starts_at image session begun = let start : IsStart image 0 = runs_start image 0 in begun.cpu.live_is ∙ sym start.stands
 
+  pub starts_none : (image : Image) (session : SessionState R) → IsBegun image session.options session.cpu.rule session → session.cpu.slots.live.guest.machine.taken ≡ 0
+  unfolding M.start M.start_machine
+  starts_none image session begun = ap (λ (s : Standing). s.guest.machine.taken) begun.cpu.live_is
+
   -- it begins with its start as its first checkpoint
   starts_saved : (permits : R → Heap → ℕ → ℕ → Bool) (image : Image) (now : Told) (noted : Noted) (tables : Option (List (List Try))) (phases : Phases) (session : SessionState R) (cpu : CpuState R) (ring : Checkpoints) → IsBegun image session.options session.cpu.rule session → IsFresh phases
       → KeepsRing (rules_of session.options (permits session.cpu.rule)) image [] [] (origin image) (origin image ∷ []) cpu ring session.log session.replies → cpu.slots.live ≡ session.cpu.slots.live
-      → IsBetween (rules_of session.options (permits session.cpu.rule)) image (told_since now noted noted tables tables 0) now phases (record session { cpu = cpu; ring = ring })
+      → stands_of cpu.slots.saved ≡ alone 0 cpu.slots.pages → IsBetween (rules_of session.options (permits session.cpu.rule)) image (told_since now noted noted tables tables 0) now phases (record session { cpu = cpu; ring = ring })
   unfolding M.start M.start_machine H.heeded_behind
-  starts_saved permits image now noted tables phases session cpu ring begun fresh keeps live =
+  starts_saved permits image now noted tables phases session cpu ring begun fresh keeps live stands =
       let rules : Rules = rules_of session.options (permits session.cpu.rule) in
       let start : IsStart image rules.limits.budget = runs_start image rules.limits.budget in
       record {
@@ -133,7 +139,7 @@ module _ {R : Type 0} where
             events = begun.no_events;
             phases_are = fresh;
           };
-          saved = record { paths = origin image ∷ []; ring = keeps; early = (omega (arith, begun.none_recorded), tt); in_force = in_force_by [] 0 Plain session.env 0 session.until begun.plain begun.until_none (in_force_none 0); past = inl (let none : session.until ≡ 0 = begun.until_none in omega (arith, none)) };
+          saved = record { paths = origin image ∷ []; ring = keeps; early = (omega (arith, begun.none_recorded), tt); requests = inl (handled_first (keeping_by ring.capacity session.options.every cpu.slots) (first_story image).survivor (stands_of cpu.slots.saved) stands); in_force = in_force_by [] 0 Plain session.env 0 session.until begun.plain begun.until_none (in_force_none 0); past = inl (let none : session.until ≡ 0 = begun.until_none in omega (arith, none)) };
           passed = record { replies = subst (λ (ledger : Ledger). KeepsReplies rules.bounds [] None [] ledger) (sym begun.replies) (first_replies rules.bounds); no_trial = ap (λ (ledger : Ledger). ledger.trial) begun.replies; done = λ send stands due. absurd due };
           latest = λ last found. absurd (let no : ⊥ = cc in no);
         };
@@ -142,10 +148,10 @@ module _ {R : Type 0} where
 
   pub starts_between : (permits : R → Heap → ℕ → ℕ → Bool) (image : Image) (now : Told) (noted : Noted) (tables : Option (List (List Try))) (phases : Phases) (session after : SessionState R) → IsBegun image session.options session.cpu.rule session → IsFresh phases
       → ((rules : Rules) → KeepsRing rules image [] [] (origin image) (origin image ∷ []) after.cpu after.ring session.log session.replies) → after ≡ record session { cpu = after.cpu; ring = after.ring } → after.cpu.slots.live ≡ session.cpu.slots.live
-      → IsBetween (rules_of session.options (permits session.cpu.rule)) image (told_since now noted noted tables tables 0) now phases after
-  starts_between permits image now noted tables phases session after begun fresh keeps same live =
+      → stands_of after.cpu.slots.saved ≡ alone 0 after.cpu.slots.pages → IsBetween (rules_of session.options (permits session.cpu.rule)) image (told_since now noted noted tables tables 0) now phases after
+  starts_between permits image now noted tables phases session after begun fresh keeps same live stands =
       subst (λ (s : SessionState R). IsBetween (rules_of session.options (permits session.cpu.rule)) image (told_since now noted noted tables tables 0) now phases s) (sym same)
-      (starts_saved permits image now noted tables phases session after.cpu after.ring begun fresh (keeps (rules_of session.options (permits session.cpu.rule))) live)
+      (starts_saved permits image now noted tables phases session after.cpu after.ring begun fresh (keeps (rules_of session.options (permits session.cpu.rule))) live stands)
 
   -- how far a session has come that serves
   pub record HasTurned (Went Fixed Works : Type 0) (permits : R → Heap → ℕ → ℕ → Bool) (before now : Told) (noted_before noted : Noted) (tables_before tables : Option (List (List Try))) (faults_before faults : ℕ) (phases : Phases) (coming upcoming : Option Coming) (from to : Counts) (takes gives : Bool) (gives_to : ℕ → Bool) (first last : ℕ) (old new : SessionState R) : Type 0 where
@@ -157,6 +163,7 @@ module _ {R : Type 0} where
     pub can_give : CanGive gives gives_to new.replies
     pub marked : IsCounted new
     pub trimmed : IsTrimmed new
+    pub keeping : keeping_of new ≡ keeping_of old
     pub counted : last ≡ first + (lost + new.cpu.slots.live.steps)
     pub no_takes_fell : from.takes ≤ to.takes
     pub no_gives_fell : from.gives ≤ to.gives

@@ -1,5 +1,5 @@
 -- The session stops where its guest waits: at the end of its link, at an event that is refused, at a fault.
-use Rattle.std.proofs.Common.{◌≡◌, ℕ, ◌≤◌, Bool, true, false, List, [], ◌∷◌, ◌++◌, length, Option, None, Some, refl, sym, ◌∙◌, ap, subst, inl, inr, ◌⊎◌, arith, append-nil}
+use Rattle.std.proofs.Common.{◌≡◌, ℕ, ◌+◌, ◌≤◌, Bool, true, false, List, [], ◌∷◌, ◌++◌, length, Option, None, Some, refl, sym, ◌∙◌, ap, subst, inl, inr, ◌⊎◌, arith, append-nil}
 use Rattle.std.specs.Prelude.{◌&&◌, ◌==◌, not, unwrap_or, IfSome}
 use Rattle.std.proofs.lemmas.Bool.{eqb-true, true≢false}
 use Rattle.rx_io.specs.declared.bytes.Item.{Item}
@@ -39,10 +39,12 @@ use Rattle.rx_engine.proofs.GuestLemmas.{received_is, answers_as, none_noted, br
 use Rattle.rx_engine.specs.Recovered.{GivesUpBy}
 use Rattle.guest_cpu.specs.Cpus.{CpuState}
 use Rattle.guest_cpu.specs.Serving.{standing_of}
-use Rattle.rx_engine.specs.Leaving.{HoldsCheckpoints}
-use Rattle.rx_engine.proofs.HeldLemmas.{held_by, held_as, held_of, unless_gave_up}
+use Rattle.ckpt_ring.specs.Rings.{from_newest}
+use Rattle.recovery_gate.specs.Handling.{is_far, HasHandled, stands_of}
+use Rattle.rx_engine.specs.Leaving.{HoldsCheckpoints, IsHandled, keeping_of}
+use Rattle.rx_engine.proofs.HeldLemmas.{held_by, held_as, held_of, handled_by, requests_handled, unless_gave_up}
 use Rattle.rx_engine.proofs.EventLemmas.{IsNoEnd, owes_nothing, told_event, latest-took, latest-ended}
-use Rattle.rx_engine.proofs.HearLemmas.{HasSameRun, answers_still, more_entries}
+use Rattle.rx_engine.proofs.HearLemmas.{HasSameRun, run_keeping, answers_still, more_entries}
 
 -- what was taken last
 pub last_taken-took : (es : List Entry) (e : LinkEvent) → last_taken (es ++ entry.Took e ∷ []) ≡ Some e
@@ -147,9 +149,16 @@ module _ {R : Type 0} where
 
   -- its guest is as it was, with its checkpoints
   held_here : (rules : Rules) (image : Image) (began : Since) (before : Told) (phases : Phases) (old new : SessionState R) (w : IsWaitingFor rules image began before phases old) → HasSameRun old new
-      → HoldsCheckpoints rules image (entries w.hearing.story) w.hearing.story.survivor new
+      → HoldsCheckpoints rules image (entries w.hearing.story) w.hearing.story.recoveries w.hearing.story.survivor new
   held_here rules image began before phases old new w same =
-      held_by rules image (entries w.hearing.story) w.hearing.story.survivor old new (ap (λ (cpu : CpuState R). cpu.slots.saved) same.cpu) (held_of rules image w.hearing.story old w.hearing.saved)
+      held_by rules image (entries w.hearing.story) w.hearing.story.recoveries w.hearing.story.survivor old new (ap (λ (cpu : CpuState R). cpu.slots.saved) same.cpu) (run_keeping old new same) (held_of rules image w.hearing.story old w.hearing.saved)
+
+  handled_here : (rules : Rules) (image : Image) (began : Since) (before : Told) (phases : Phases) (old new : SessionState R) (w : IsWaitingFor rules image began before phases old) → HasSameRun old new → IsHandled old
+      → HasHandled (keeping_of new) w.hearing.story.recoveries w.hearing.story.survivor (w.hearing.story.survivor.now.state.machine.taken + 1) (stands_of new.cpu.slots.saved)
+  handled_here rules image began before phases old new w same handled =
+      let h = w.hearing in
+      handled_by h.story.recoveries h.story.survivor (h.story.survivor.now.state.machine.taken + 1) old new (ap (λ (cpu : CpuState R). cpu.slots.saved) same.cpu) (run_keeping old new same)
+      (requests_handled rules (keeping_of old) h.story.recoveries h.story.survivor (stands_of old.cpu.slots.saved) (subst (λ n. is_far old.options.every n (from_newest (stands_of old.cpu.slots.saved) 0) ≡ false) h.answers.taken handled) h.saved.requests)
 
   lives_here : (rules : Rules) (image : Image) (began : Since) (before : Told) (phases : Phases) (old new : SessionState R) (w : IsWaitingFor rules image began before phases old) → HasSameRun old new
       → new.cpu.slots.live ≡ standing_of w.hearing.story.survivor.now
@@ -159,13 +168,13 @@ module _ {R : Type 0} where
   answers_here began story old new same answers = answers_as began story old new same.recorded same.choices same.taken same.steps answers
 
   -- an event that is refused ends the session
-  pub ending_refused : (rules : Rules) (image : Image) (began : Since) (before now : Told) (phases : Phases) (coming : Option Coming) (old new : SessionState R) (w : IsWaitingFor rules image began before phases old) (e : LinkEvent) (cause : Unheeded) (end : Answer) → IsNoEnd e
+  pub ending_refused : (rules : Rules) (image : Image) (began : Since) (before now : Told) (phases : Phases) (coming : Option Coming) (old new : SessionState R) (w : IsWaitingFor rules image began before phases old) (e : LinkEvent) (cause : Unheeded) (end : Answer) → IsNoEnd e → IsHandled old
       → received rules.bounds (entries w.hearing.story) ≤ w.hearing.story.survivor.now.state.machine.taken → Tells before now (entry.Took e ∷ []) → (u : IsUnheeded rules.bounds (entries w.hearing.story) (sends w.hearing.story) e cause new.replies)
       → HasSameRun old new → new.log ≡ old.log → new.replies.trial ≡ None → IsEnd end
       → (IsWaiting rules (entries (then_story w.hearing.story (entry.Took e ∷ []))) w.hearing.story.survivor → IsLastRefused rules.bounds (entries (then_story w.hearing.story (entry.Took e ∷ []))) cause
       → StandsAt rules (entries (then_story w.hearing.story (entry.Took e ∷ []))) coming w.hearing.story.survivor end)
       → GivesUpBy rules image (entries_of w.hearing.story.earlier) (w.hearing.story.since ++ entry.Took e ∷ []) w.hearing.story.survivor [] end → IsEnding rules image began now coming new end
-  ending_refused rules image began before now phases coming old new w e cause end no_end all tells u same log no_trial is_end stands gave_up =
+  ending_refused rules image began before now phases coming old new w e cause end no_end handled all tells u same log no_trial is_end stands gave_up =
       let story : Story = w.hearing.story in
       let es = more_entries story (entry.Took e ∷ []) in
       let none : items_in rules.bounds (entries (then_story story (entry.Took e ∷ []))) ≡ items_in rules.bounds (entries story) = ap (items_in rules.bounds) (sym es) ∙ u.brings_none in
@@ -187,7 +196,8 @@ module _ {R : Type 0} where
         replies = subst (λ (all : List Entry). KeepsReplies rules.bounds all None (sends story) new.replies) es u.replies;
         no_trial = no_trial;
         closed = λ send stands closing owed. absurd (refused_closes rules.bounds story e no_end heeds u.first_close send.conn closing);
-        holds = held_as rules image (entries story) (entries (then_story story (entry.Took e ∷ []))) story.survivor new none (held_here rules image began before phases old new w same);
+        holds = held_as rules image (entries story) (entries (then_story story (entry.Took e ∷ []))) story.recoveries story.survivor new none (held_here rules image began before phases old new w same);
+        handled = λ is. handled_here rules image began before phases old new w same handled;
         live = unless_gave_up end (new.cpu.slots.live ≡ standing_of story.survivor.now) (lives_here rules image began before phases old new w same);
         is_end = is_end;
         stands = stands waits (record { before = entries story; event = e; last = sym es; no_end = u.no_end; refused = u.refused });
@@ -196,10 +206,10 @@ module _ {R : Type 0} where
       }
 
   -- the link has ended
-  pub ending_ended : (rules : Rules) (image : Image) (began : Since) (before now : Told) (phases : Phases) (coming : Option Coming) (old new : SessionState R) (w : IsWaitingFor rules image began before phases old)
+  pub ending_ended : (rules : Rules) (image : Image) (began : Since) (before now : Told) (phases : Phases) (coming : Option Coming) (old new : SessionState R) (w : IsWaitingFor rules image began before phases old) → IsHandled old
       → received rules.bounds (entries w.hearing.story) ≤ w.hearing.story.survivor.now.state.machine.taken → Tells before now (entry.Took event.Ends ∷ []) → IsHeard rules.bounds (entries w.hearing.story) (sends w.hearing.story) event.Ends new.log new.replies
       → HasSameRun old new → new.replies.trial ≡ None → IfSome coming (λ next. next ≡ Comes event.Ends) → IsEnding rules image began now coming new answer.Finished
-  ending_ended rules image began before now phases coming old new w all tells heard same no_trial last =
+  ending_ended rules image began before now phases coming old new w handled all tells heard same no_trial last =
       let story : Story = w.hearing.story in
       let es = more_entries story (entry.Took event.Ends ∷ []) in
       let none : items_in rules.bounds (entries story ++ entry.Took event.Ends ∷ []) ≡ items_in rules.bounds (entries story) = ap (λ (evs : List LinkEvent). items_of rules.bounds.framing (heeded rules.bounds evs)) (events_ended (entries story)) in
@@ -218,7 +228,8 @@ module _ {R : Type 0} where
         replies = subst (λ (all : List Entry). KeepsReplies rules.bounds all None (sends story) new.replies) es heard.replies;
         no_trial = no_trial;
         closed = λ send stands closing owed. done_ended rules story w.hearing.passed.done send stands owed;
-        holds = held_as rules image (entries story) (entries (then_story story (entry.Took event.Ends ∷ []))) story.survivor new (ap (items_in rules.bounds) (sym es) ∙ none) (held_here rules image began before phases old new w same);
+        holds = held_as rules image (entries story) (entries (then_story story (entry.Took event.Ends ∷ []))) story.recoveries story.survivor new (ap (items_in rules.bounds) (sym es) ∙ none) (held_here rules image began before phases old new w same);
+        handled = λ is. handled_here rules image began before phases old new w same handled;
         live = lives_here rules image began before phases old new w same;
         is_end = tt;
         stands = (waits_still rules image began before phases old w (entry.Took event.Ends ∷ []) all none, subst HasEnded es (last_taken-took (entries story) event.Ends), last);
@@ -227,10 +238,10 @@ module _ {R : Type 0} where
       }
 
   -- the link has no event there
-  pub ending_stopped : (rules : Rules) (image : Image) (began : Since) (before now : Told) (phases : Phases) (coming : Option Coming) (kind offset : ℕ) (old new : SessionState R) (w : IsWaitingFor rules image began before phases old)
+  pub ending_stopped : (rules : Rules) (image : Image) (began : Since) (before now : Told) (phases : Phases) (coming : Option Coming) (kind offset : ℕ) (old new : SessionState R) (w : IsWaitingFor rules image began before phases old) → IsHandled old
       → received rules.bounds (entries w.hearing.story) ≤ w.hearing.story.survivor.now.state.machine.taken → Tells before now [] → HasSameRun old new → new.log ≡ old.log → new.replies ≡ old.replies
       → IfSome coming (λ next. next ≡ Refuses kind offset) → (ending : IsEnding rules image began now coming new (answer.InputRefused kind offset)) × IsAsking rules ending.story
-  ending_stopped rules image began before now phases coming kind offset old new w all tells same log replies stops =
+  ending_stopped rules image began before now phases coming kind offset old new w handled all tells same log replies stops =
       let story : Story = w.hearing.story in
       let told : IsTold rules image began now story = told_nothing rules image began before now story w.hearing.told tells in
       let waits = waits_here rules image began before phases old w all in (
@@ -250,6 +261,7 @@ module _ {R : Type 0} where
           no_trial = ap (λ (ledger : Ledger). ledger.trial) replies ∙ w.hearing.passed.no_trial;
           closed = λ send stands closing owed. w.hearing.passed.done send stands owed;
           holds = held_here rules image began before phases old new w same;
+          handled = λ is. handled_here rules image began before phases old new w same handled;
           live = lives_here rules image began before phases old new w same;
           is_end = tt;
           stands = (waits, w.hearing.goes.items.all_heeded, stops);
@@ -260,13 +272,13 @@ module _ {R : Type 0} where
       )
 
   -- no event could be taken
-  pub off_read : (rules : Rules) (image : Image) (began : Since) (before now : Told) (phases : Phases) (coming : Option Coming) (old new : SessionState R) (w : IsWaitingFor rules image began before phases old)
+  pub off_read : (rules : Rules) (image : Image) (began : Since) (before now : Told) (phases : Phases) (coming : Option Coming) (old new : SessionState R) (w : IsWaitingFor rules image began before phases old) → IsHandled old
       → received rules.bounds (entries w.hearing.story) ≤ w.hearing.story.survivor.now.state.machine.taken → Tells before now [] → HasSameRun old new → IsBrokenOff rules image began now coming new answer.ReadFault
-  off_read rules image began before now phases coming old new w all tells same =
+  off_read rules image began before now phases coming old new w handled all tells same =
       let story : Story = w.hearing.story in
       broken_off rules image began now coming new story answer.ReadFault (told_nothing rules image began before now story w.hearing.told tells) (answers_here began story old new same w.hearing.answers)
       ((waits_here rules image began before phases old w all, owes_nothing rules story w.due w.hearing.passed.done, w.hearing.goes.items.all_heeded), (refl, refl)) (λ is. is)
-      (λ never. held_here rules image began before phases old new w same)
+      (λ never. held_here rules image began before phases old new w same) (λ is. handled_here rules image began before phases old new w same handled)
 
   -- memory ran out, before an event was taken or behind one that is heeded
   pub off_memory : (rules : Rules) (image : Image) (began : Since) (before now : Told) (phases : Phases) (coming : Option Coming) (takes : Bool) (old new : SessionState R) (w : IsWaitingFor rules image began before phases old)
@@ -275,12 +287,12 @@ module _ {R : Type 0} where
       → (off : IsBrokenOff rules image began now coming new answer.Memory) × (takes ≡ false → WasAsked rules off.account)
   off_memory rules image began before now phases coming takes old new w all same (inl tells) took =
       let story : Story = w.hearing.story in
-      broken_with (λ account. takes ≡ false → WasAsked rules account) rules image began now coming new story answer.Memory (told_nothing rules image began before now story w.hearing.told tells) (answers_here began story old new same w.hearing.answers) tt (λ is. is) (λ never. absurd (never tt))
+      broken_with (λ account. takes ≡ false → WasAsked rules account) rules image began now coming new story answer.Memory (told_nothing rules image began before now story w.hearing.told tells) (answers_here began story old new same w.hearing.answers) tt (λ is. is) (λ never. absurd (never tt)) (λ is. absurd is)
       (λ none. (waits_here rules image began before phases old w all, owes_nothing rules story w.due w.hearing.passed.done, w.hearing.goes.items.all_heeded))
   off_memory rules image began before now phases coming takes old new w all same (inr still) (inl tells) =
-      broken_with (λ account. takes ≡ false → WasAsked rules account) rules image began now coming new w.hearing.story answer.Memory (told_nothing rules image began before now w.hearing.story w.hearing.told tells) (answers_here began w.hearing.story old new same w.hearing.answers) tt (λ is. is) (λ never. absurd (never tt))
+      broken_with (λ account. takes ≡ false → WasAsked rules account) rules image began now coming new w.hearing.story answer.Memory (told_nothing rules image began before now w.hearing.story w.hearing.told tells) (answers_here began w.hearing.story old new same w.hearing.answers) tt (λ is. is) (λ never. absurd (never tt)) (λ is. absurd is)
       (λ none. still_takes takes _ still none)
   off_memory rules image began before now phases coming takes old new w all same (inr still) (inr took) =
       broken_with (λ account. takes ≡ false → WasAsked rules account) rules image began now coming new (then_story w.hearing.story (entry.Took took.0 ∷ [])) answer.Memory
-      (waits_took rules image began before now phases old w took.0 all took.1 took.2.more took.2.brings) (answers_still began w.hearing.story old new (entry.Took took.0 ∷ []) same w.hearing.answers) tt (λ is. is) (λ never. absurd (never tt))
+      (waits_took rules image began before now phases old w took.0 all took.1 took.2.more took.2.brings) (answers_still began w.hearing.story old new (entry.Took took.0 ∷ []) same w.hearing.answers) tt (λ is. is) (λ never. absurd (never tt)) (λ is. absurd is)
       (λ none. still_takes takes _ still none)

@@ -111,11 +111,11 @@ tables_fault rules image earlier since survivor recoveries trials last end fault
     (λ more are. record { each = are.each; behind = are.behind; all = are.all; each_right = are.each_right; behind_right = last_fault rules image (entries_of earlier) since survivor trials last end fault are.behind other are.behind_right })
 
 -- where a watch counts nothing, what is counted is the session's
-pub counted_alone : (P : Session → Type 0) (rules : Rules) (image : Image) (began now : Told) (coming : Option Coming) (takes : Bool) (end : Answer) (noted_before noted_now : Noted) (recorded : ℕ) (tail : List Choice) (taken steps before after : ℕ)
-    → (recovered : HasRecovered rules image began now coming takes end noted_before noted_now recorded tail taken steps (0 + before) (0 + after)) × P recovered.served.session
-    → (recovered : HasRecovered rules image began now coming takes end noted_before noted_now recorded tail taken steps before after) × P recovered.served.session
+pub counted_alone : (P : List Recovery → Session → Type 0) (rules : Rules) (image : Image) (began now : Told) (coming : Option Coming) (takes : Bool) (end : Answer) (noted_before noted_now : Noted) (recorded : ℕ) (tail : List Choice) (taken steps before after : ℕ)
+    → (recovered : HasRecovered rules image began now coming takes end noted_before noted_now recorded tail taken steps (0 + before) (0 + after)) × P recovered.recoveries recovered.served.session
+    → (recovered : HasRecovered rules image began now coming takes end noted_before noted_now recorded tail taken steps before after) × P recovered.recoveries recovered.served.session
 counted_alone P rules image began now coming takes end noted_before noted_now recorded tail taken steps before after h =
     let first : 0 + before ≡ before = omega arith in
     let last : 0 + after ≡ after = omega arith in
-    subst (λ n. (recovered : HasRecovered rules image began now coming takes end noted_before noted_now recorded tail taken steps before n) × P recovered.served.session) last
-    (subst (λ n. (recovered : HasRecovered rules image began now coming takes end noted_before noted_now recorded tail taken steps n (0 + after)) × P recovered.served.session) first h)
+    subst (λ n. (recovered : HasRecovered rules image began now coming takes end noted_before noted_now recorded tail taken steps before n) × P recovered.recoveries recovered.served.session) last
+    (subst (λ n. (recovered : HasRecovered rules image began now coming takes end noted_before noted_now recorded tail taken steps n (0 + after)) × P recovered.recoveries recovered.served.session) first h)

@@ -19,6 +19,7 @@ use Rattle.guest_runs.proofs.TakeLemmas.{asks_wants}
 use Rattle.session_history.specs.Heeding.{Bounds, Unheeded, LimitEvents, TooLong, LimitItems, refusal, heeded, heeded_behind, items_in, received}
 use Rattle.session_history.specs.Lawful.{Rules}
 use Rattle.event_gate.proofs.ItemLemmas.{item_is, item_fits, opened_items}
+use Rattle.rx_engine.specs.Leaving.{IsHandled}
 use Rattle.rx_engine.specs.Sessions.{SessionState}
 use Rattle.rx_engine.specs.Standing.{Since, entries, IsGoing, IsWaitingFor}
 use Rattle.rx_engine.proofs.GuestLemmas.{received_is}
@@ -73,10 +74,10 @@ module _ {R : Type 0} where
       item_fits rules.bounds.framing (heeded rules.bounds (events_in (entries h.story))) session.taken item (item_is rules.bounds (entries h.story) session.log session.taken item h.goes.items is)
 
   -- it takes the item, and its counts are those of the guest
-  pub taken_going : (rules : Rules) (image : Image) (began : Since) (now : Told) (phases : Phases) (item : Item) (old inside after : SessionState R) (cpu : CpuState R) → IsWaitingFor rules image began now phases old → inside ≡ old → IsItemOf inside.log inside.taken item
+  pub taken_going : (rules : Rules) (image : Image) (began : Since) (now : Told) (phases : Phases) (item : Item) (old inside after : SessionState R) (cpu : CpuState R) → IsWaitingFor rules image began now phases old → IsHandled old → inside ≡ old → IsItemOf inside.log inside.taken item
       → old.taken < logs.received old.log → cpu ≡ with_live (live_of cpu) inside.cpu → cpu.slots.live ≡ taken_standing item inside.cpu.slots.live
       → after ≡ record inside { cpu = cpu; taken = cpu.slots.live.guest.machine.taken; steps = cpu.slots.live.steps } → IsGoing rules image began now phases after
-  taken_going rules image began now phases item old inside after cpu w same is there kept live becomes =
+  taken_going rules image began now phases item old inside after cpu w handled same is there kept live becomes =
       let h = w.hearing in
       let number : old.taken ≡ h.story.survivor.now.state.machine.taken = h.answers.taken in
       let count : logs.received old.log ≡ received rules.bounds (entries h.story) = received_is rules.bounds (entries h.story) old.log h.goes.items in
@@ -95,8 +96,9 @@ module _ {R : Type 0} where
           ring = ap (λ (s : SessionState R). s.ring) same;
           env = ap (λ (s : SessionState R). s.env) same;
           until = ap (λ (s : SessionState R). s.until) same;
+          options = ap (λ (s : SessionState R). s.options) same;
         };
         replies = ap (λ (s : SessionState R). s.replies) same;
       })
       (ap (λ (s : SessionState R). s.choices) same) (record { taken = refl; steps = refl }) (live ∙ ap (λ (s : SessionState R). taken_standing item s.cpu.slots.live) same)
-      (ap (slice_get (items_in rules.bounds (entries h.story))) (sym number) ∙ found) (omega (arith, number, count, there)) few (opened_items rules.bounds (entries h.story) old.taken item found))
+      (ap (slice_get (items_in rules.bounds (entries h.story))) (sym number) ∙ found) (omega (arith, number, count, there)) few (opened_items rules.bounds (entries h.story) old.taken item found) handled)

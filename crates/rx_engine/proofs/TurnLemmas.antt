@@ -138,7 +138,7 @@ module _ {R : Type 0} where
   breaks_now rules image began now phases coming old inside cpu same b =
       broken_off rules image began now coming (record inside { cpu = cpu }) b.going.story answer.Memory b.going.told
       (answers_as began b.going.story old (record inside { cpu = cpu }) (ap (λ (s : SessionState R). s.recorded) same) (ap (λ (s : SessionState R). s.choices) same) (ap (λ (s : SessionState R). s.taken) same) (ap (λ (s : SessionState R). s.steps) same)
-      b.going.answers) tt (λ is. is) (λ never. absurd (never tt))
+      b.going.answers) tt (λ is. is) (λ never. absurd (never tt)) (λ is. absurd is)
 
   -- by other rules that are the same
   pub comes_under : (image : Image) (began : Since) (now : Told) (phases : Phases) (coming : Option Coming) (takes : Bool) (session : SessionState R) (result : Result (Unit {0}) Stop) (first second : Rules) → first ≡ second

@@ -37,6 +37,7 @@ use Rattle.rx_engine.specs.declared.stop.Stop.{Stop}
 use Rattle.rx_engine.specs.declared.stop.Stop.TheVariants as stop
 use Rattle.rx_engine.specs.Sessions.{SessionState, IsBegun}
 use Rattle.rx_engine.specs.Recovered.{IsNoteFault}
+use Rattle.rx_engine.specs.Leaving.{keeping_of}
 use Rattle.rx_engine.specs.Standing.{Since, Story, entries, moment, sends, then_story, IsTold, HasPassed, HasPassedDue, IsGoing, IsBetween, IsAsking, IsWaitingFor, IsFailing, IsEnding, IsBrokenOff, HasNotedMore}
 
 -- a fault of passing is this answer
@@ -235,6 +236,7 @@ module _ {R : Type 0} where
     pub until : new.until ≡ old.until
     pub first : new.log.first ≡ old.log.first
     pub sends : new.replies.first ≡ old.replies.first
+    pub keeping : keeping_of new ≡ keeping_of old
 
   -- its guest ran from where the session stood between two events to this event
   pub record HasRun (rules : Rules) (image : Image) (began : Since) (now : Told) (phases : Phases) (happened : Event) (session : SessionState R) : Type 0 where

@@ -25,7 +25,8 @@ use Rattle.session_history.specs.Ends.{IsEnd, IsWaiting, StandsAt, EndsBy, befor
 use Rattle.trial_history.specs.Tables.{Trial}
 use Rattle.trial_plan.specs.Trying.{steps_of}
 use Rattle.rx_engine.specs.Recovered.{spent, GivesUpBy, AreLastTrials, HasNoted, IsNoteFault, AreTables, AreAllTables}
-use Rattle.rx_engine.specs.Leaving.{HoldsCheckpoints, UnlessGaveUp}
+use Rattle.recovery_gate.specs.Handling.{HasHandled, stands_of}
+use Rattle.rx_engine.specs.Leaving.{HoldsCheckpoints, UnlessGaveUp, IsAtRequest, HandlesRequests, keeping_of}
 use Rattle.trial_plan.specs.Watching.{TellsMore}
 use Rattle.trial_history.specs.Episodes.{Recovery, episode_of, AreRecovered}
 use Rattle.recovery_gate.specs.Rings.{KeepsRing, AreBehind, IsInForce}
@@ -108,11 +109,12 @@ module _ {R : Type 0} where
     pub events : session.events ≡ length (events_in (entries story))
     pub phases_are : KeepsPhases (entries story) phases
 
-  -- it has the survivor's checkpoints, before which all answers of malloc were used that are noted, and the environment in which the survivor runs: past the failure behind which it was adopted, or there
+  -- it has the survivor's checkpoints, those that its requests left, before which all answers of malloc were used that are noted, and the environment in which the survivor runs: past the failure behind which it was adopted, or there
   pub record KeepsCheckpoints (rules : Rules) (image : Image) (story : Story) (session : SessionState R) : Type 0 where
     pub paths : List Path
     pub ring : KeepsRing rules image (entries story) story.survivor.plan story.survivor.now paths session.cpu session.ring session.log session.replies
     pub early : AreBehind session.recorded paths
+    pub requests : HandlesRequests rules (keeping_of session) story.recoveries story.survivor (stands_of session.cpu.slots.saved)
     pub in_force : IsInForce story.survivor.plan story.survivor.now.state.machine.taken session.env session.until
     pub past : (session.until < story.survivor.now.state.machine.taken + 4) ⊎ ((session.until ≡ story.survivor.now.state.machine.taken + 4) × AsksFor rules.limits [] story.survivor.now story.survivor.now.state.machine.taken)
 
@@ -199,7 +201,8 @@ module _ {R : Type 0} where
     pub replies : KeepsReplies rules.bounds (entries story) None (sends story) session.replies
     pub no_trial : session.replies.trial ≡ None
     pub closed : IsCloseDone rules (moment story) (sends story)
-    pub holds : HoldsCheckpoints rules image (entries story) story.survivor session
+    pub holds : HoldsCheckpoints rules image (entries story) story.recoveries story.survivor session
+    pub handled : IsAtRequest end → HasHandled (keeping_of session) story.recoveries story.survivor (story.survivor.now.state.machine.taken + 1) (stands_of session.cpu.slots.saved)
     pub live : UnlessGaveUp end (session.cpu.slots.live ≡ standing_of story.survivor.now)
     pub is_end : IsEnd end
     pub stands : StandsAt rules (entries story) coming story.survivor end
@@ -214,8 +217,9 @@ module _ {R : Type 0} where
     pub ends : EndsBy rules coming account end
     pub pieces : AreGiven account.ending
     pub no_end : IsEnd end → ⊥
-    pub holds : (IsNoteFault end → ⊥) → HoldsCheckpoints rules image (before_end account) account.survivor session
     pub recoveries : List Recovery
+    pub holds : (IsNoteFault end → ⊥) → HoldsCheckpoints rules image (before_end account) recoveries account.survivor session
+    pub handled : IsAtRequest end → HasHandled (keeping_of session) recoveries account.survivor (account.survivor.now.state.machine.taken + 1) (stands_of session.cpu.slots.saved)
     pub recovered : AreRecovered rules image [] (first_survivor image) account.earlier recoveries account.survivor
     pub trials : List Trial
     pub last : List Episode

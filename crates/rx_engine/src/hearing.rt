@@ -5,6 +5,7 @@ ghost use Rattle.elf_image.specs.declared.image.Image.{Image};
 ghost use Rattle.item_log.specs.Log.{received};
 ghost use Rattle.rx_engine.specs.Options.{rules_of};
 ghost use Rattle.rx_engine.specs.Standing.{Since, IsWaitingFor};
+ghost use Rattle.rx_engine.specs.Leaving.{IsHandled};
 ghost use Rattle.rx_engine.specs.Serving.{IsStopAt, CanGive, HasStopCause, UnlessBroken, TakesBy, StaysKnown, BreaksOnce, HasSameGuest, StandsWaiting, WaitsBy, IsUnnoted};
 
 use crate::Session;
@@ -33,6 +34,7 @@ impl<R: AccessRule> Session<R> {
     pub(crate) fn hear<K: Link>(&mut self, link: &mut K) -> Result<(), Stop>
         requires waits { StandsWaiting (rules_of self.old.options (R.rule self.old.cpu.rule)) (K.told link.old) (K.phases link.old) self.old }
         requires none_left { received self.old.log ≤ self.old.taken }
+        requires handled { IsHandled self.old }
         requires takes { K.takes link.old ≡ true }
         requires gives { CanGive (K.gives link.old) (K.gives_to link.old) self.old.replies }
         ensures hears { (image : Image) (began : Since) → IsWaitingFor (rules_of self.old.options (R.rule self.old.cpu.rule)) image began (K.told link.old) (K.phases link.old) self.old
@@ -66,6 +68,7 @@ impl<R: AccessRule> Session<R> {
     /// Hears the link until the item is there that the guest waits for.
     pub(crate) fn await_item<K: Link>(&mut self, link: &mut K) -> Result<(), Stop>
         requires waits { StandsWaiting (rules_of self.old.options (R.rule self.old.cpu.rule)) (K.told link.old) (K.phases link.old) self.old }
+        requires handled { IsHandled self.old }
         requires takes { K.takes link.old ≡ true }
         requires gives { CanGive (K.gives link.old) (K.gives_to link.old) self.old.replies }
         ensures hears { (image : Image) (began : Since) → IsWaitingFor (rules_of self.old.options (R.rule self.old.cpu.rule)) image began (K.told link.old) (K.phases link.old) self.old

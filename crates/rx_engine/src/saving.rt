@@ -8,10 +8,11 @@ ghost use Rattle.elf_image.specs.declared.image.Image.{Image};
 ghost use Rattle.run_history.specs.Served.{origin};
 ghost use Rattle.session_history.specs.Lawful.{Rules};
 ghost use Rattle.recovery_gate.specs.Rings.{KeepsRing, SavesIf, is_due};
+ghost use Rattle.recovery_gate.specs.Handling.{alone, stands_of};
 ghost use Rattle.rx_engine.specs.Options.{rules_of};
 ghost use Rattle.rx_engine.specs.Sessions.{IsBegun};
 ghost use Rattle.rx_engine.specs.Standing.{Since, IsWaitingFor};
-ghost use Rattle.rx_engine.specs.Leaving.{IsRecorded, IsTrimmed, CanForgetSends};
+ghost use Rattle.rx_engine.specs.Leaving.{IsHandled, keeping_of, IsRecorded, IsTrimmed, CanForgetSends};
 ghost use Rattle.rx_engine.specs.Serving.{IsReadyToServe, StandsWaiting, WaitsBy, BreaksNoting, HasNoteStop, NotesRest, HasNoteRest, UnlessNoteStop};
 
 use crate::Session;
@@ -30,6 +31,8 @@ impl<R: AccessRule> Session<R> {
         ensures keeps { (rules : Rules) (image : Image) → IsBegun image self.old.options self.old.cpu.rule self.old
             → KeepsRing rules image [] [] (origin image) (origin image ∷ []) self.new.cpu self.new.ring self.old.log self.old.replies }
         ensures same { self.new ≡ record self.old { cpu = self.new.cpu; ring = self.new.ring } }
+        ensures first { stands_of self.new.cpu.slots.saved ≡ alone 0 self.new.cpu.slots.pages }
+        ensures keeping { keeping_of self.new ≡ keeping_of self.old }
         ensures live { self.new.cpu.slots.live ≡ self.old.cpu.slots.live }
         ensures rule { self.new.cpu.rule ≡ self.old.cpu.rule }
     {
@@ -41,6 +44,8 @@ impl<R: AccessRule> Session<R> {
         requires waits { (told : Told) × (phases : Phases) × StandsWaiting (rules_of self.old.options (R.rule self.old.cpu.rule)) told phases self.old }
         ensures waits { (image : Image) (began : Since) (now : Told) (phases : Phases) → IsWaitingFor (rules_of self.old.options (R.rule self.old.cpu.rule)) image began now phases self.old
             → IsWaitingFor (rules_of self.old.options (R.rule self.old.cpu.rule)) image began now phases self.new }
+        ensures handled { IsHandled self.new }
+        ensures keeping { keeping_of self.new ≡ keeping_of self.old }
         ensures saved { SavesIf (is_due self.old.options.every self.old.taken self.old.ring.standing) self.old.ring.capacity self.old.cpu self.new.cpu }
         ensures same { self.new ≡ record self.old { cpu = self.new.cpu; ring = self.new.ring } }
         ensures live { self.new.cpu.slots.live ≡ self.old.cpu.slots.live }

@@ -11,7 +11,7 @@ ghost use Rattle.rx_engine.specs.Options.{rules_of};
 ghost use Rattle.rx_engine.specs.Sessions.{IsBegun};
 ghost use Rattle.rx_engine.specs.Standing.{Since, IsGoing, IsBetween, IsAsking, IsWaitingFor, IsEnding};
 ghost use Rattle.rx_engine.specs.Recovered.{HasRecovered, HasWatched};
-ghost use Rattle.rx_engine.specs.Leaving.{IsTrimmed, KeepsOldest, HasLeft};
+ghost use Rattle.rx_engine.specs.Leaving.{IsHandled, keeping_of, IsTrimmed, KeepsOldest, HasLeft};
 ghost use Rattle.rx_engine.specs.Serving.{CanGive, HasStopCause, HasNoteStop, HasAnswerCause, HasNoteCause, UnlessBroken, UnlessMemory, TakesAtEnd, TakesBy, BreaksPassing, BreaksAt, BreaksOnce, StaysKnown, IsCounted, IsOkOrMemory, HasSameFrame, HasRun, GoesFurther, StandsBetween, StandsWaiting, StandsEmitting, StandsEnding, ComesBetween, IsReadyToServe, IsUnnoted, UnlessNoteStop, UnlessNoteFault};
 
 use crate::Session;
@@ -43,7 +43,8 @@ impl<R: AccessRule> Session<R> {
         requires gives { K.gives link.old ≡ true }
         ensures served { (image : Image) → IsBegun image self.old.options self.old.cpu.rule self.old
             → (recovered : HasRecovered (rules_of self.old.options (R.rule self.old.cpu.rule)) image (K.told link.old) (K.told link.new) (K.coming link.new) (K.takes link.new) result (noted (N.told_choices notes.old) (N.told_episodes notes.old)) (noted (N.told_choices notes.new) (N.told_episodes notes.new)) self.new.recorded self.new.choices self.new.taken self.new.steps steps.old steps.new)
-            × UnlessNoteFault result (HasLeft (rules_of self.old.options (R.rule self.old.cpu.rule)) image recovered.served.session self.new result) }
+            × UnlessNoteFault result (HasLeft (rules_of self.old.options (R.rule self.old.cpu.rule)) image recovered.recoveries recovered.served.session self.new result) }
+        ensures keeping { UnlessNoteFault result (keeping_of self.new ≡ keeping_of self.old) }
         ensures cause { HasAnswerCause (K.counts link.old) (K.counts link.new) result }
         ensures noted { HasNoteCause (N.faults notes.old) (N.faults notes.new) result }
         ensures works { UnlessNoteFault result (N.works notes.new ≡ N.works notes.old) }
@@ -76,7 +77,7 @@ impl<R: AccessRule> Session<R> {
         requires gives { K.gives link.old ≡ true }
         ensures served { (image : Image) → IsBegun image self.old.options self.old.cpu.rule self.old
             → (watched : HasWatched (rules_of self.old.options (R.rule self.old.cpu.rule)) image (K.told link.old) (K.told link.new) (K.coming link.new) (K.takes link.new) result (noted (N.told_choices notes.old) (N.told_episodes notes.old)) (noted (N.told_choices notes.new) (N.told_episodes notes.new)) self.new.recorded self.new.choices self.new.taken self.new.steps (W.ran watch.new + steps.old) (W.ran watch.old + steps.new) (W.tables watch.old) (W.tables watch.new))
-            × UnlessNoteFault result (HasLeft (rules_of self.old.options (R.rule self.old.cpu.rule)) image watched.recovered.served.session self.new result) }
+            × UnlessNoteFault result (HasLeft (rules_of self.old.options (R.rule self.old.cpu.rule)) image watched.recovered.recoveries watched.recovered.served.session self.new result) }
         ensures cause { HasAnswerCause (K.counts link.old) (K.counts link.new) result }
         ensures noted { HasNoteCause (N.faults notes.old) (N.faults notes.new) result }
         ensures works { UnlessNoteFault result (N.works notes.new ≡ N.works notes.old) }
@@ -106,7 +107,7 @@ impl<R: AccessRule> Session<R> {
             → (K.takes link.old ≡ false → IsAsking (rules_of self.old.options (R.rule self.old.cpu.rule)) ending.story) → (before after : ℕ) → after ≡ before + (began.lost + self.old.steps)
             → IsTrimmed self.old
             → (watched : HasWatched (rules_of self.old.options (R.rule self.old.cpu.rule)) image began.told (K.told link.new) (K.coming link.new) (K.takes link.new) result began.noted_before (noted (N.told_choices notes.new) (N.told_episodes notes.new)) self.new.recorded self.new.choices self.new.taken self.new.steps before after began.tables_before began.tables)
-            × UnlessNoteFault result (HasLeft (rules_of self.old.options (R.rule self.old.cpu.rule)) image watched.recovered.served.session self.new result) }
+            × UnlessNoteFault result (HasLeft (rules_of self.old.options (R.rule self.old.cpu.rule)) image watched.recovered.recoveries watched.recovered.served.session self.new result) }
         ensures cause { HasAnswerCause (K.counts link.old) (K.counts link.new) result }
         ensures noted { HasNoteCause (N.faults notes.old) (N.faults notes.new) result }
         ensures works { UnlessNoteFault result (N.works notes.new ≡ N.works notes.old) }
@@ -144,6 +145,7 @@ impl<R: AccessRule> Session<R> {
             → UnlessMemory result (lost + self.new.steps + (W.ran watch.new + steps.old) ≡ began.lost + self.old.cpu.slots.live.steps + (W.ran watch.old + steps.new))
             → ComesBetween (rules_of self.old.options (R.rule self.old.cpu.rule)) image (record began { lost = lost; noted = noted (N.told_choices notes.new) (N.told_episodes notes.new); tables = W.tables watch.new }) (K.told link.new) (K.phases link.new) (K.coming link.new) (K.takes link.new) self.new result }
         ensures frame { HasSameFrame self.old self.new }
+        ensures keeping { UnlessNoteStop result (keeping_of self.new ≡ keeping_of self.old) }
         ensures trimmed { IsTrimmed self.old → UnlessNoteStop result (IsTrimmed self.new) }
         ensures takes { TakesBy (K.takes link.new) result }
         ensures gives { UnlessBroken result (CanGive (K.gives link.new) (K.gives_to link.new) self.new.replies) }
@@ -197,6 +199,7 @@ impl<R: AccessRule> Session<R> {
             → ComesBetween (rules_of self.old.options (R.rule self.old.cpu.rule)) image (record began { noted = noted (N.told_choices notes.new) (N.told_episodes notes.new) }) (K.told link.new) (K.phases link.new) (K.coming link.new) (K.takes link.new) self.new result }
         ensures until { self.new.until ≡ self.old.until }
         ensures frame { HasSameFrame self.old self.new }
+        ensures keeping { UnlessNoteStop result (keeping_of self.new ≡ keeping_of self.old) }
         ensures trimmed { UnlessNoteStop result (IsTrimmed self.new) }
         ensures takes { TakesBy (K.takes link.new) result }
         ensures gives { UnlessBroken result (CanGive (K.gives link.new) (K.gives_to link.new) self.new.replies) }
@@ -226,6 +229,7 @@ impl<R: AccessRule> Session<R> {
         steps: &mut Steps<L>,
     ) -> Result<(), Stop>
         requires waits { StandsWaiting (rules_of self.old.options (R.rule self.old.cpu.rule)) (K.told link.old) (K.phases link.old) self.old }
+        requires handled { IsHandled self.old }
         requires takes { K.takes link.old ≡ true }
         requires gives { CanGive (K.gives link.old) (K.gives_to link.old) self.old.replies }
         requires marked { IsCounted self.old }
@@ -255,6 +259,7 @@ impl<R: AccessRule> Session<R> {
     // The guest takes the item that it waits for, which is there.
     fn take<L: Ledger>(&mut self, steps: &mut Steps<L>)
         requires waits { (told : Told) × (phases : Phases) × StandsWaiting (rules_of self.old.options (R.rule self.old.cpu.rule)) told phases self.old }
+        requires handled { IsHandled self.old }
         requires there { self.old.taken < received self.old.log }
         ensures going { (image : Image) (began : Since) (now : Told) (phases : Phases) → IsWaitingFor (rules_of self.old.options (R.rule self.old.cpu.rule)) image began now phases self.old
             → IsGoing (rules_of self.old.options (R.rule self.old.cpu.rule)) image began now phases self.new }

@@ -4,7 +4,7 @@ use Rattle.recovery_gate.specs.Rings.{KeepsRing, is_due, ring_if}
 use Rattle.trial_plan.specs.Sessions.{taken_in}
 use Rattle.recovery_gate.specs.Handling.{keeping_by}
 use Rattle.recovery_gate.proofs.RingLemmas.{ring_saves, due_when, due_unless}
-use Rattle.recovery_gate.proofs.Handled.{handles_saved, handles_none, due_no_more, newest_by}
+use Rattle.recovery_gate.proofs.Handled.{far_none, handles_saved, handles_none, due_no_more, newest_by}
 use Rattle.recovery_gate.proofs.checkpoints.checkpoint.Goals as goal
 
 pub returns-clause-keeps : goal.returns-clause-keeps
@@ -25,7 +25,13 @@ returns-clause-handles g c live =
     handles_saved c.args.ring.now.capacity c.args.every c.save.ensures.saved.0 c.args.taken c.args.cpu.now.slots c.save.new.t.slots c.args.ring.now.standing c.requires.ring.standing due live c.save.ensures.saved.1
 
 pub returns-clause-none_due : goal.returns-clause-none_due
-returns-clause-none_due g c live often = due_no_more c.args.every c.args.taken (from_newest c.save.new.self.standing 0) (newest_by (from_newest c.save.new.self.standing 0) (taken_in c.args.cpu.now.slots.live) c.args.taken live c.save.ensures.newest) often
+returns-clause-none_due g c live often =
+    far_none c.args.every c.args.taken c.save.new.t.slots.saved c.save.new.self.standing c.save.ensures.same (due_no_more c.args.every c.args.taken (from_newest c.save.new.self.standing 0) (newest_by (from_newest c.save.new.self.standing 0) (taken_in c.args.cpu.now.slots.live) c.args.taken live c.save.ensures.newest) often)
+
+pub returns-then-saturating_sub-from-clause-none_due : goal.returns-then-saturating_sub-from-clause-none_due
+returns-then-saturating_sub-from-clause-none_due g c live often =
+    let few : c.args.taken - c.taken_at.result < c.args.every = omega arith in
+    far_none c.args.every c.args.taken c.args.cpu.now.slots.saved c.args.ring.now.standing c.requires.ring.standing (due_unless c.args.every c.args.taken c.taken_at.result (from_newest c.args.ring.now.standing 0) c.taken_at.ensures few)
 
 pub returns-then-saturating_sub-from-clause-handles : goal.returns-then-saturating_sub-from-clause-handles
 returns-then-saturating_sub-from-clause-handles g c live =

@@ -1,4 +1,7 @@
-use Rattle.std.proofs.Common.{◌≡◌, ◌+◌, ◌^◌, ◌<◌, ◌≤◌, refl, sym, ap, subst, arith}
+use Rattle.std.specs.Prelude.{slice_get}
+use Rattle.rx_engine.specs.Leaving.{keeping_of}
+use Rattle.rx_engine.proofs.HeldLemmas.{slots_oldest}
+use Rattle.std.proofs.Common.{◌∙◌, ◌≡◌, ◌+◌, ◌^◌, ◌<◌, ◌≤◌, refl, sym, ap, subst, arith}
 use Rattle.rv_exec.specs.Stepping.{limits_of}
 use Rattle.recovery_gate.specs.Recovering.{HasToRecover}
 use Rattle.rx_engine.specs.Options.{rules_of}
@@ -34,7 +37,7 @@ returns-in-Some-clause-adopts g c image began now phases coming lost fails count
     let seen : c.args.self.now.steps ≡ c.self.inside.steps = sym (ap (λ (s : SessionState _). s.steps) c.self.view_is) in
     adopting_in (sym c.count_run.ensures)
     (adopting_at (ap (λ (s : SessionState _). s.taken) c.self.view_is)
-    (adopt_some rules image before now phases coming c.args.cause _ c.recover.new.cpu c.recover.new.ring c.recover.new.replies c.recover.new.choices.items c.in-Ok.recovered c.in-Some.adopted lost _ _ _ f h c.in-Ok.ensures.ledger c.in-Some.is
+    (adopt_some rules image before now phases coming c.args.cause _ c.recover.new.cpu c.recover.new.ring c.recover.new.replies c.recover.new.choices.items c.in-Ok.recovered c.in-Some.adopted lost _ _ _ f h c.in-Ok.ensures.slots (c.in-Ok.ensures.keeping c.self.inside.options.every) c.in-Ok.ensures.ledger c.in-Some.is
     (counts_seen lost began.lost c.count_run.new.self.steps c.recover.new.cpu.slots.live.steps c.args.self.now.steps c.self.inside.steps _ _ counts steps seen) (c.in-Ok.ensures.watched (failure_of rules image f.going.story f.going.saved.paths) under has)))
 
 pub returns-in-None-clause-adopts : goal.returns-in-None-clause-adopts
@@ -50,7 +53,7 @@ returns-in-None-clause-adopts g c image began now phases coming lost fails count
     let h = c.in-Ok.ensures.recovers (failure_of rules image f.going.story f.going.saved.paths) f.going.story.survivor.begun under has in
     let seen : c.args.self.now.steps ≡ c.self.inside.steps = sym (ap (λ (s : SessionState _). s.steps) c.self.view_is) in
     adopting_at (ap (λ (s : SessionState _). s.taken) c.self.view_is)
-    (adopt_none rules image before now phases coming c.args.cause _ c.recover.new.cpu c.recover.new.ring c.recover.new.replies c.recover.new.choices.items c.in-Ok.recovered lost _ _ _ f h c.in-Ok.ensures.slots c.in-None.is
+    (adopt_none rules image before now phases coming c.args.cause _ c.recover.new.cpu c.recover.new.ring c.recover.new.replies c.recover.new.choices.items c.in-Ok.recovered lost _ _ _ f h c.in-Ok.ensures.slots (c.in-Ok.ensures.keeping c.self.inside.options.every) c.in-None.is
     (counts_seen lost began.lost c.self.inside.steps c.self.inside.steps c.args.self.now.steps c.self.inside.steps _ _ counts refl seen) (c.in-Ok.ensures.watched (failure_of rules image f.going.story f.going.saved.paths) under has))
 
 pub returns-in-Some-clause-least : goal.returns-in-Some-clause-least
@@ -89,3 +92,23 @@ returns-in-Err-clause-adopts g c image began now phases coming lost fails none =
     (to_recover rules image before now phases c.args.cause _ f budget items) in
     adopt_breaks rules image before now phases coming c.args.cause _ c.recover.new.cpu c.recover.new.ring c.recover.new.replies c.recover.new.choices.items lost _ f c.in-Err.ensures.fault.1
     (c.in-Err.ensures.watched (failure_of rules image f.going.story f.going.saved.paths) under has)
+
+pub returns-in-Some-clause-oldest : goal.returns-in-Some-clause-oldest
+returns-in-Some-clause-oldest g c = record {
+  oldest =
+      ap (λ (s : SessionState _). slice_get s.cpu.slots.saved 0) c.count_run.ensures
+      ∙ (slots_oldest c.in-Ok.recovered.adopted c.self.inside.cpu c.recover.new.cpu c.in-Ok.ensures.slots ∙ ap (λ (s : SessionState _). slice_get s.cpu.slots.saved 0) c.self.view_is);
+  first = ap (λ (s : SessionState _). s.log.first) c.count_run.ensures ∙ ap (λ (s : SessionState _). s.log.first) c.self.view_is;
+  recorded = ap (λ (s : SessionState _). s.recorded) c.count_run.ensures ∙ ap (λ (s : SessionState _). s.recorded) c.self.view_is;
+  sends = ap (λ (s : SessionState _). s.replies.first) c.count_run.ensures ∙ (c.in-Ok.ensures.ledger.first ∙ ap (λ (s : SessionState _). s.replies.first) c.self.view_is);
+  keeping = ap (λ (s : SessionState _). keeping_of s) c.count_run.ensures ∙ (c.in-Ok.ensures.keeping c.self.inside.options.every ∙ ap (λ (s : SessionState _). keeping_of s) c.self.view_is);
+}
+
+pub returns-in-None-clause-oldest : goal.returns-in-None-clause-oldest
+returns-in-None-clause-oldest g c = record {
+  oldest = slots_oldest c.in-Ok.recovered.adopted c.self.inside.cpu c.recover.new.cpu c.in-Ok.ensures.slots ∙ ap (λ (s : SessionState _). slice_get s.cpu.slots.saved 0) c.self.view_is;
+  first = ap (λ (s : SessionState _). s.log.first) c.self.view_is;
+  recorded = ap (λ (s : SessionState _). s.recorded) c.self.view_is;
+  sends = c.in-Ok.ensures.ledger.first ∙ ap (λ (s : SessionState _). s.replies.first) c.self.view_is;
+  keeping = c.in-Ok.ensures.keeping c.self.inside.options.every ∙ ap (λ (s : SessionState _). keeping_of s) c.self.view_is;
+}

@@ -8,7 +8,7 @@ use Rattle.rx_engine.proofs.session.Session.await_item.Goals as goal
 pub waits-init : goal.waits-init
 waits-init g c = record {
   hears = λ image began waits. waits;
-  same = record { options = refl; cpu = refl; recorded = refl; choices = refl; taken = refl; steps = refl; until = refl; first = refl; sends = refl };
+  same = record { options = refl; cpu = refl; recorded = refl; choices = refl; taken = refl; steps = refl; until = refl; first = refl; sends = refl; keeping = refl };
   known = known_same _ _ refl;
   takes_still = c.requires.takes;
   can_give = c.requires.gives;

@@ -7,6 +7,7 @@ use Rattle.session_history.specs.Lawful.{Rules}
 use Rattle.run_history.specs.declared.answer.Answer.TheVariants as answer
 use Rattle.rx_engine.specs.declared.stop.Stop.TheVariants as stop
 use Rattle.rx_engine.specs.Sessions.{SessionState}
+use Rattle.rx_engine.specs.Leaving.{IsHandled}
 use Rattle.rx_engine.specs.Options.{rules_of}
 use Rattle.rx_engine.specs.Standing.{Story, entries, sends, then_story}
 use Rattle.rx_engine.proofs.GuestLemmas.{received_is}
@@ -194,6 +195,7 @@ returns-in-Ok-Settles-clause-later g c =
 
 pub returns-in-Ok-Ends-clause-hears : goal.returns-in-Ok-Ends-clause-hears
 returns-in-Ok-Ends-clause-hears g c image began waits =
+    let handled = subst (λ (s : SessionState _). IsHandled s) (sym c.self.view_is) c.requires.handled in
     let rules : Rules = rules_of c.args.self.now.options (g.R.AccessRule.rule c.args.self.now.cpu.rule) in
     let w = moved (sym c.self.view_is) waits in
     let none_left = subst (λ (s : SessionState _). received s.log ≤ s.taken) (sym c.self.view_is) c.requires.none_left in
@@ -201,20 +203,21 @@ returns-in-Ok-Ends-clause-hears g c image began waits =
     let h = c.in-Ok-Ends.ensures.hears rules.bounds (entries w.hearing.story) (sends w.hearing.story) limit w.hearing.goes.events w.hearing.goes.items w.hearing.passed.replies w.hearing.goes.phases_are in
     let last : ComesLast (g.K.Link.coming c.hear.new.link) (Ok c.in-Ok-Ends.field-0) = c.in-Ok-Ends.ensures.last in
     let e = end_heard rules.bounds _ _ (g.K.Link.told c.args.link.now) (g.K.Link.told c.hear.new.link) (g.K.Link.phases c.hear.new.link) (g.K.Link.coming c.args.link.now) c.hear.new.log c.hear.new.replies c.hear.new.events _ h c.in-Ok-Ends.field-0-is in (
-      ends_by rules image began (g.K.Link.told c.args.link.now) (g.K.Link.told c.hear.new.link) (g.K.Link.phases c.args.link.now) (g.K.Link.phases c.hear.new.link) (g.K.Link.coming c.hear.new.link) _ c.hear.new.log c.hear.new.replies c.hear.new.events w none_left c.in-Ok-Ends.ensures.first c.in-Ok-Ends.ensures.replies.trial e
+      ends_by rules image began (g.K.Link.told c.args.link.now) (g.K.Link.told c.hear.new.link) (g.K.Link.phases c.args.link.now) (g.K.Link.phases c.hear.new.link) (g.K.Link.coming c.hear.new.link) _ c.hear.new.log c.hear.new.replies c.hear.new.events w handled none_left c.in-Ok-Ends.ensures.first c.in-Ok-Ends.ensures.replies.trial e
           (subst (λ shown. ComesLast (g.K.Link.coming c.hear.new.link) (Ok shown)) c.in-Ok-Ends.field-0-is last),
       λ none. still_takes (g.K.Link.takes c.hear.new.link) _ c.in-Ok-Ends.ensures.takes none,
     )
 
 pub returns-in-Err-clause-hears : goal.returns-in-Err-clause-hears
 returns-in-Err-clause-hears g c image began waits =
+    let handled = subst (λ (s : SessionState _). IsHandled s) (sym c.self.view_is) c.requires.handled in
     let rules : Rules = rules_of c.args.self.now.options (g.R.AccessRule.rule c.args.self.now.cpu.rule) in
     let w = moved (sym c.self.view_is) waits in
     let none_left = subst (λ (s : SessionState _). received s.log ≤ s.taken) (sym c.self.view_is) c.requires.none_left in
     let limit = ap (λ (s : SessionState _). s.options.max_events) (sym c.self.view_is) in
     let h = c.in-Err.ensures.hears rules.bounds (entries w.hearing.story) (sends w.hearing.story) limit w.hearing.goes.events w.hearing.goes.items w.hearing.passed.replies w.hearing.goes.phases_are in
     let last : ComesLast (g.K.Link.coming c.hear.new.link) (Err c.in-Err.fault) = c.in-Err.ensures.last in
-    stops_by rules image began (g.K.Link.told c.args.link.now) (g.K.Link.told c.hear.new.link) (g.K.Link.phases c.args.link.now) (g.K.Link.phases c.hear.new.link) (g.K.Link.coming c.hear.new.link) (g.K.Link.coming c.args.link.now) (g.K.Link.takes c.hear.new.link) _ c.hear.new.log c.hear.new.replies c.hear.new.events c.in-Err.fault c.stop_at.result w none_left c.in-Err.ensures.first c.in-Err.ensures.replies.trial c.in-Err.ensures.stays last h c.in-Err.ensures.takes c.stop_at.ensures
+    stops_by rules image began (g.K.Link.told c.args.link.now) (g.K.Link.told c.hear.new.link) (g.K.Link.phases c.args.link.now) (g.K.Link.phases c.hear.new.link) (g.K.Link.coming c.hear.new.link) (g.K.Link.coming c.args.link.now) (g.K.Link.takes c.hear.new.link) _ c.hear.new.log c.hear.new.replies c.hear.new.events c.in-Err.fault c.stop_at.result w handled none_left c.in-Err.ensures.first c.in-Err.ensures.replies.trial c.in-Err.ensures.stays last h c.in-Err.ensures.takes c.stop_at.ensures
 
 pub returns-in-Ok-Items-clause-coming : goal.returns-in-Ok-Items-clause-coming
 returns-in-Ok-Items-clause-coming g c =

@@ -4,7 +4,7 @@ use Rattle.rx_engine.specs.Options.{rules_of}
 use Rattle.rx_engine.specs.Standing.{IsGoing, IsWaitingFor, entries}
 use Rattle.rx_engine.proofs.GuestLemmas.{received_is}
 use Rattle.rx_engine.proofs.NeedLemmas.{going_can}
-use Rattle.rx_engine.proofs.HeldLemmas.{held_of}
+use Rattle.rx_engine.proofs.HeldLemmas.{held_of, guest_oldest, passed_oldest, oldest_then}
 use Rattle.rx_engine.proofs.DueLemmas.{comes_between, unless_due}
 use Rattle.rx_engine.proofs.FrameLemmas.{guest_frame, same_rules}
 use Rattle.rx_engine.proofs.KnownLemmas.{known_on, counted_same, takes_given, once_given}
@@ -60,3 +60,11 @@ returns-clause-takes g c = takes_given (g.K.Link.takes c.await_item.new.link) (g
 pub returns-clause-once : goal.returns-clause-once
 returns-clause-once g c =
     once_given (g.K.Link.coming c.args.link.now) (g.K.Link.coming c.await_item.new.link) (g.K.Link.coming c.pass_due.new.link) (g.K.Link.gives c.pass_due.new.link) c.pass_due.result c.in_default.ensures.coming c.pass_due.ensures.only.coming_still c.pass_due.ensures.broken
+
+pub returns-in-Err-clause-oldest : goal.returns-in-Err-clause-oldest
+returns-in-Err-clause-oldest g c = guest_oldest c.args.self.now c.await_item.new.self c.await_item.ensures.same
+
+pub returns-clause-oldest : goal.returns-clause-oldest
+returns-clause-oldest g c =
+    oldest_then c.args.self.now c.await_item.new.self c.pass_due.new.self (guest_oldest c.args.self.now c.await_item.new.self c.await_item.ensures.same)
+    (oldest_then c.await_item.new.self c.take.new.self c.pass_due.new.self c.take.ensures.oldest (passed_oldest c.take.new.self c.pass_due.new.self c.pass_due.ensures.same c.pass_due.ensures.first))

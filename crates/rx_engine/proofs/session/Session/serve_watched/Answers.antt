@@ -12,8 +12,8 @@ use Rattle.rx_engine.specs.Serving.{CanGive, StopsBy, IsCounted, UnlessNoteFault
 use Rattle.rx_engine.proofs.EndLemmas.{served_off}
 use Rattle.rx_engine.proofs.FrameLemmas.{same_rules}
 use Rattle.rx_engine.proofs.HearingLemmas.{cause_then, stops_under}
-use Rattle.rx_engine.specs.Leaving.{IsTrimmed, HasLeft}
-use Rattle.rx_engine.proofs.LeavingLemmas.{unless_note, trimmed_unless, left_off}
+use Rattle.rx_engine.specs.Leaving.{keeping_of, IsTrimmed, HasLeft}
+use Rattle.rx_engine.proofs.LeavingLemmas.{unless_note, trimmed_unless, left_off, off_requests, of_link}
 use Rattle.rx_engine.proofs.StartLemmas.{starts_trimmed, starts_between, starts_counted, starts_giving, frame_then, between_under, lost_then, lost_counts, lost_all}
 use Rattle.rx_engine.proofs.KnownLemmas.{known_same, known_then, known_ended, takes_ended, takes_no_end, once_at, once_broke}
 use Rattle.rx_engine.proofs.session.Session.serve_watched.Goals as goal
@@ -26,7 +26,7 @@ turns-init g c =
     record {
       stands = λ image is.
           starts_between g.R.AccessRule.rule image (g.K.Link.told c.args.link.now) (noted (g.N.Notes.told_choices c.args.notes.now) (g.N.Notes.told_episodes c.args.notes.now)) (g.W.Watch.tables c.args.watch.now) (g.K.Link.phases c.args.link.now) c.args.self.now c.save_start.new.self is c.requires.fresh (λ rules. c.save_start.ensures.keeps rules image is) c.save_start.ensures.same
-          c.save_start.ensures.live;
+          c.save_start.ensures.live c.save_start.ensures.first;
       frame = record { options = ap (λ (s : SessionState _). s.options) c.save_start.ensures.same; rule = c.save_start.ensures.rule };
       known = known_same _ _ refl;
       takes_still = c.requires.takes;
@@ -35,6 +35,7 @@ turns-init g c =
           (starts_giving c.requires.begun.image c.args.self.now _ _ begun c.requires.gives);
       marked = marked;
       trimmed = starts_trimmed (rules_of c.args.self.now.options (g.R.AccessRule.rule c.args.self.now.cpu.rule)) c.requires.begun.image c.args.self.now c.save_start.new.self begun (c.save_start.ensures.keeps _ c.requires.begun.image begun) c.save_start.ensures.same;
+      keeping = c.save_start.ensures.keeping;
       lost = 0;
       counted = omega (arith, none);
       no_takes_fell = omega arith;
@@ -69,6 +70,7 @@ turns-preserved g c =
       can_give = c.in-Ok.ensures.gives;
       marked = marked;
       trimmed = c.in-Ok.ensures.trimmed c.turns.invariant.trimmed;
+      keeping = c.in-Ok.ensures.keeping ∙ c.turns.invariant.keeping;
       lost = lost_then c.turns.invariant.lost c.turns.self.cpu.slots.live.steps c.turn.new.self.steps (g.W.Watch.ran c.turn.new.watch + c.turns.steps) (g.W.Watch.ran c.turns.watch + c.turn.new.steps);
       counted = omega (arith, all, steps);
       no_takes_fell = cause.takes;
@@ -87,10 +89,11 @@ returns-in-Err-Breaks-clause-served g c image is =
     let off = stops_under image (told_since (g.K.Link.told c.args.link.now) (noted (g.N.Notes.told_choices c.args.notes.now) (g.N.Notes.told_episodes c.args.notes.now)) (noted (g.N.Notes.told_choices c.turn.new.notes) (g.N.Notes.told_episodes c.turn.new.notes)) (g.W.Watch.tables c.args.watch.now) (g.W.Watch.tables c.turn.new.watch) (lost_then c.turns.invariant.lost c.turns.self.cpu.slots.live.steps c.turn.new.self.steps (g.W.Watch.ran c.turn.new.watch + c.turns.steps) (g.W.Watch.ran c.turns.watch + c.turn.new.steps))) (g.K.Link.told c.turn.new.link) (g.K.Link.coming c.turn.new.link) (g.K.Link.takes c.turn.new.link) c.turn.new.self (Breaks c.in-Err-Breaks.answer) here rules same
     (subst (λ why. StopsBy here image (told_since (g.K.Link.told c.args.link.now) (noted (g.N.Notes.told_choices c.args.notes.now) (g.N.Notes.told_episodes c.args.notes.now)) (noted (g.N.Notes.told_choices c.turn.new.notes) (g.N.Notes.told_episodes c.turn.new.notes)) (g.W.Watch.tables c.args.watch.now) (g.W.Watch.tables c.turn.new.watch) (lost_then c.turns.invariant.lost c.turns.self.cpu.slots.live.steps c.turn.new.self.steps (g.W.Watch.ran c.turn.new.watch + c.turns.steps) (g.W.Watch.ran c.turns.watch + c.turn.new.steps))) (g.K.Link.told c.turn.new.link) (g.K.Link.coming c.turn.new.link) (g.K.Link.takes c.turn.new.link) c.turn.new.self why) c.in-Err-Breaks.field-0-is
     (c.in-Err-Breaks.ensures.turns image (told_since (g.K.Link.told c.args.link.now) (noted (g.N.Notes.told_choices c.args.notes.now) (g.N.Notes.told_episodes c.args.notes.now)) (noted (g.N.Notes.told_choices c.turns.notes) (g.N.Notes.told_episodes c.turns.notes)) (g.W.Watch.tables c.args.watch.now) (g.W.Watch.tables c.turns.watch) c.turns.invariant.lost) (lost_then c.turns.invariant.lost c.turns.self.cpu.slots.live.steps c.turn.new.self.steps (g.W.Watch.ran c.turn.new.watch + c.turns.steps) (g.W.Watch.ran c.turns.watch + c.turn.new.steps)) (between_under rules here (sym same) (c.turns.invariant.stands image is)) (λ others. lost_counts c.turns.invariant.lost c.turns.self.cpu.slots.live.steps c.turn.new.self.steps (g.W.Watch.ran c.turn.new.watch + c.turns.steps) (g.W.Watch.ran c.turns.watch + c.turn.new.steps) c.in-Err-Breaks.ensures.least))) in
-    served_off (λ account. UnlessNoteFault c.in-Err-Breaks.answer (HasLeft rules image account c.turn.new.self c.in-Err-Breaks.answer)) rules image (told_since (g.K.Link.told c.args.link.now) (noted (g.N.Notes.told_choices c.args.notes.now) (g.N.Notes.told_episodes c.args.notes.now)) (noted (g.N.Notes.told_choices c.turn.new.notes) (g.N.Notes.told_episodes c.turn.new.notes)) (g.W.Watch.tables c.args.watch.now) (g.W.Watch.tables c.turn.new.watch) (lost_then c.turns.invariant.lost c.turns.self.cpu.slots.live.steps c.turn.new.self.steps (g.W.Watch.ran c.turn.new.watch + c.turns.steps) (g.W.Watch.ran c.turns.watch + c.turn.new.steps))) (g.K.Link.told c.turn.new.link) (g.K.Link.coming c.turn.new.link) (g.K.Link.takes c.turn.new.link) c.turn.new.self c.in-Err-Breaks.answer off.0 off.1 (g.W.Watch.ran c.turn.new.watch + c.args.steps.now) (g.W.Watch.ran c.args.watch.now + c.turn.new.steps) (λ others. (lost_all c.args.steps.now c.turns.invariant.lost c.turns.self.cpu.slots.live.steps c.turn.new.self.steps c.turns.steps c.turn.new.steps (g.W.Watch.ran c.args.watch.now) (g.W.Watch.ran c.turns.watch) (g.W.Watch.ran c.turn.new.watch) c.turns.invariant.counted c.in-Err-Breaks.ensures.least))
+    served_off (λ recoveries account. UnlessNoteFault c.in-Err-Breaks.answer (HasLeft rules image recoveries account c.turn.new.self c.in-Err-Breaks.answer)) rules image (told_since (g.K.Link.told c.args.link.now) (noted (g.N.Notes.told_choices c.args.notes.now) (g.N.Notes.told_episodes c.args.notes.now)) (noted (g.N.Notes.told_choices c.turn.new.notes) (g.N.Notes.told_episodes c.turn.new.notes)) (g.W.Watch.tables c.args.watch.now) (g.W.Watch.tables c.turn.new.watch) (lost_then c.turns.invariant.lost c.turns.self.cpu.slots.live.steps c.turn.new.self.steps (g.W.Watch.ran c.turn.new.watch + c.turns.steps) (g.W.Watch.ran c.turns.watch + c.turn.new.steps))) (g.K.Link.told c.turn.new.link) (g.K.Link.coming c.turn.new.link) (g.K.Link.takes c.turn.new.link) c.turn.new.self c.in-Err-Breaks.answer off.0 off.1 (g.W.Watch.ran c.turn.new.watch + c.args.steps.now) (g.W.Watch.ran c.args.watch.now + c.turn.new.steps) (λ others. (lost_all c.args.steps.now c.turns.invariant.lost c.turns.self.cpu.slots.live.steps c.turn.new.self.steps c.turns.steps c.turn.new.steps (g.W.Watch.ran c.args.watch.now) (g.W.Watch.ran c.turns.watch) (g.W.Watch.ran c.turn.new.watch) c.turns.invariant.counted c.in-Err-Breaks.ensures.least))
     (unless_note c.in-Err-Breaks.answer _ (λ never.
-    left_off rules image off.0.account c.turn.new.self c.in-Err-Breaks.answer off.0.no_end
-    (trimmed_unless c.in-Err-Breaks.answer (IsTrimmed c.turn.new.self) never (subst (λ (why : Stop). UnlessNoteStop (Err why) (IsTrimmed c.turn.new.self)) c.in-Err-Breaks.field-0-is (c.in-Err-Breaks.ensures.trimmed c.turns.invariant.trimmed))) (off.0.holds never)))
+    left_off rules image off.0.recoveries off.0.account c.turn.new.self c.in-Err-Breaks.answer off.0.no_end
+    (trimmed_unless c.in-Err-Breaks.answer (IsTrimmed c.turn.new.self) never (subst (λ (why : Stop). UnlessNoteStop (Err why) (IsTrimmed c.turn.new.self)) c.in-Err-Breaks.field-0-is (c.in-Err-Breaks.ensures.trimmed c.turns.invariant.trimmed))) (off.0.holds never)
+    (off_requests rules (keeping_of c.turn.new.self) off.0.recoveries off.0.account.survivor _ c.in-Err-Breaks.answer off.0.no_end (off.0.holds never).requests off.0.handled never (of_link rules (g.K.Link.coming c.turn.new.link) off.0.account c.in-Err-Breaks.answer off.0.ends off.0.no_end never))))
 
 pub finish-requires-clause-ends : goal.finish-requires-clause-ends
 finish-requires-clause-ends g c =
@@ -122,7 +125,7 @@ returns-in-Err-Ends-clause-served g c image is =
     (c.in-Err-Ends.ensures.turns image (told_since (g.K.Link.told c.args.link.now) (noted (g.N.Notes.told_choices c.args.notes.now) (g.N.Notes.told_episodes c.args.notes.now)) (noted (g.N.Notes.told_choices c.turns.notes) (g.N.Notes.told_episodes c.turns.notes)) (g.W.Watch.tables c.args.watch.now) (g.W.Watch.tables c.turns.watch) c.turns.invariant.lost) (lost_then c.turns.invariant.lost c.turns.self.cpu.slots.live.steps c.turn.new.self.steps (g.W.Watch.ran c.turn.new.watch + c.turns.steps) (g.W.Watch.ran c.turns.watch + c.turn.new.steps)) (between_under rules here (sym same) (c.turns.invariant.stands image is)) (λ others. lost_counts c.turns.invariant.lost c.turns.self.cpu.slots.live.steps c.turn.new.self.steps (g.W.Watch.ran c.turn.new.watch + c.turns.steps) (g.W.Watch.ran c.turns.watch + c.turn.new.steps) c.in-Err-Ends.ensures.least))) in
     subst
     (λ (r : Rules). (watched : HasWatched r image began.told (g.K.Link.told c.finish.new.link) (g.K.Link.coming c.finish.new.link) (g.K.Link.takes c.finish.new.link) c.finish.result (noted (g.N.Notes.told_choices c.args.notes.now) (g.N.Notes.told_episodes c.args.notes.now)) (noted (g.N.Notes.told_choices c.finish.new.notes) (g.N.Notes.told_episodes c.finish.new.notes)) c.finish.new.self.recorded c.finish.new.self.choices c.finish.new.self.taken c.finish.new.self.steps (g.W.Watch.ran c.turn.new.watch + c.args.steps.now) (g.W.Watch.ran c.args.watch.now + c.turn.new.steps) (g.W.Watch.tables c.args.watch.now) (g.W.Watch.tables c.turn.new.watch))
-    × UnlessNoteFault c.finish.result (HasLeft r image watched.recovered.served.session c.finish.new.self c.finish.result))
+    × UnlessNoteFault c.finish.result (HasLeft r image watched.recovered.recoveries watched.recovered.served.session c.finish.new.self c.finish.result))
     (then ∙ same) (c.finish.ensures.served image began stops.0 stops.1 (g.W.Watch.ran c.turn.new.watch + c.args.steps.now) (g.W.Watch.ran c.args.watch.now + c.turn.new.steps) (lost_all c.args.steps.now c.turns.invariant.lost c.turns.self.cpu.slots.live.steps c.turn.new.self.steps c.turns.steps c.turn.new.steps (g.W.Watch.ran c.args.watch.now) (g.W.Watch.ran c.turns.watch) (g.W.Watch.ran c.turn.new.watch) c.turns.invariant.counted c.in-Err-Ends.ensures.least)
     (subst (λ (why : Stop). UnlessNoteStop (Err why) (IsTrimmed c.turn.new.self)) c.in-Err-Ends.field-0-is (c.in-Err-Ends.ensures.trimmed c.turns.invariant.trimmed)))
 
