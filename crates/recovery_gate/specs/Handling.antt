@@ -83,6 +83,12 @@ AreRinged keeping from [] [] last = last ≡ from
 AreRinged keeping from (recovery ∷ recoveries) (written ∷ others) last = (next : List Stand) × IsRinged keeping recovery written from next × AreRinged keeping next recoveries others last
 AreRinged keeping from _ _ last = ⊥
 
+-- each of some recoveries had the ring that the requests before it left, from the start on
+pub record HaveRings (keeping : Keeping) (recoveries : List Recovery) : Type 0 where
+  pub written : List (List ℕ)
+  pub last : List Stand
+  pub rings : AreRinged keeping (first_stands keeping) recoveries written last
+
 -- What stands behind some recoveries, where so many requests were made before which the last survivor's were handled: those from where it began.
 pub record HasHandled (keeping : Keeping) (recoveries : List Recovery) (survivor : Survivor) (requests : ℕ) (stands : List Stand) : Type 0 where
   pub earlier : List (List ℕ)

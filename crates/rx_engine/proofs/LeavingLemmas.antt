@@ -36,7 +36,7 @@ use Rattle.rx_io.specs.Links.{Coming}
 use Rattle.std.proofs.lemmas.Option.{none-some}
 use Rattle.session_history.specs.Ends.{StandsAt, EndsBy}
 use Rattle.trial_history.specs.Episodes.{Recovery}
-use Rattle.recovery_gate.specs.Handling.{Keeping, Stand, HasHandled, stands_of}
+use Rattle.recovery_gate.specs.Handling.{Keeping, Stand, HaveRings, HasHandled, stands_of}
 use Rattle.rx_engine.proofs.AdoptLemmas.{asks_or_fails}
 use Rattle.rx_engine.specs.Leaving.{UnlessGaveUp, IsAtRequest, HandledAt, HandlesRequests, keeping_of, HoldsCheckpoints, IsRecorded, IsTrimmed, CanForgetSends, HasLeft}
 use Rattle.rx_engine.specs.Recovered.{IsNoteFault}
@@ -125,6 +125,18 @@ of_link rules coming session (answer.MessageTooLong conn) ends no_end never = no
 of_link rules coming session answer.LimitItems ends no_end never = no_end tt
 of_link rules coming session answer.LimitEvents ends no_end never = no_end tt
 of_link rules coming session _ ends no_end never = ends.0
+
+-- so each recovery had its ring
+rings_of : (keeping : Keeping) (recoveries : List Recovery) (survivor : Survivor) (requests : ℕ) (stands : List Stand) → HasHandled keeping recoveries survivor requests stands → HaveRings keeping recoveries
+rings_of keeping recoveries survivor requests stands h = record { written = h.earlier; last = h.begun; rings = h.rings }
+
+pub rings_at : (keeping : Keeping) (recoveries : List Recovery) (survivor : Survivor) (first second : ℕ) (stands : List Stand) (end : Answer) → HandledAt end (HasHandled keeping recoveries survivor first stands) (HasHandled keeping recoveries survivor second stands)
+    → HaveRings keeping recoveries
+rings_at keeping recoveries survivor first second stands (answer.Exited code) h = rings_of keeping recoveries survivor first stands h
+rings_at keeping recoveries survivor first second stands (answer.GaveUp point cause) h = rings_of keeping recoveries survivor first stands h
+rings_at keeping recoveries survivor first second stands answer.WriteFault (inl h) = rings_of keeping recoveries survivor first stands h
+rings_at keeping recoveries survivor first second stands answer.WriteFault (inr h) = rings_of keeping recoveries survivor second stands h
+rings_at keeping recoveries survivor first second stands _ h = rings_of keeping recoveries survivor second stands h
 
 -- and at a fault of passing at an end
 pub passing_requests : (rules : Rules) (keeping : Keeping) (recoveries : List Recovery) (survivor : Survivor) (stands : List Stand) (why : PassFault) (end : Answer) → IsAnswerTo why end → (IsNoteFault end → ⊥) → HandlesRequests rules keeping recoveries survivor stands

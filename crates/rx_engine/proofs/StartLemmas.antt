@@ -1,5 +1,5 @@
 -- Where a session stands at its begin, and after each turn.
-use Rattle.std.proofs.Common.{inl, ◌-◌, ◌≡◌, ℕ, zero, suc, ◌+◌, ◌≤◌, Bool, true, false, List, [], ◌∷◌, ◌++◌, length, take, drop, Option, None, refl, sym, ◌∙◌, ap, subst, arith}
+use Rattle.std.proofs.Common.{inl, ◌-◌, ◌≡◌, ℕ, zero, suc, ◌+◌, ◌*◌, ◌/◌, ◌≤◌, Bool, true, false, List, [], ◌∷◌, ◌++◌, length, take, drop, Option, None, refl, sym, ◌∙◌, ap, subst, arith}
 use Rattle.block_book.specs.Heap.{Heap}
 use Rattle.rx_io.specs.Links.{Phases, Told, Grew, Coming, IsFresh, Counts}
 use Rattle.elf_image.specs.declared.image.Image.{Image}
@@ -31,7 +31,7 @@ use Rattle.session_history.specs.Owing.{Stands}
 use Rattle.session_history.specs.Lawful.{Rules}
 use Rattle.session_history.proofs.Paths.{served_same}
 use Rattle.session_history.proofs.Sessions.{serving_first}
-use Rattle.rx_engine.specs.Options.{rules_of}
+use Rattle.rx_engine.specs.Options.{rules_of, keeping_for}
 use Rattle.rx_engine.specs.Sessions.{SessionState, IsBegun}
 use Rattle.notes.specs.Noting.{Noted}
 use Rattle.episodes.specs.declared.episode.Try.{Try}
@@ -97,6 +97,14 @@ module _ {R : Type 0} where
   -- its guest stands at the start
   pub starts_at : (image : Image) (session : SessionState R) → IsBegun image session.options session.cpu.rule session → session.cpu.slots.live ≡ standing_of (origin image)
   starts_at image session begun = let start : IsStart image 0 = runs_start image 0 in begun.cpu.live_is ∙ sym start.stands
+
+  -- it keeps its checkpoints as its options say
+  pub begun_keeping : (image : Image) (session : SessionState R) → IsBegun image session.options session.cpu.rule session → keeping_of session ≡ keeping_for session.options
+  begun_keeping image session begun =
+      let same : image.window / 4096 ≡ session.options.window / 4096 = ap (λ n. n / 4096) (sym begun.window) in
+      let pages : session.cpu.slots.pages ≡ session.options.window / 4096 = begun.cpu.pages_are ∙ same in
+      let frames : session.cpu.slots.frames ≡ session.options.frames * (session.options.window / 4096) = begun.cpu.frames_are ∙ ap (λ n. session.options.frames * n) same in
+      λ i. record { ring = (begun.ring i).capacity; every = session.options.every; pages = pages i; frames = frames i }
 
   pub starts_none : (image : Image) (session : SessionState R) → IsBegun image session.options session.cpu.rule session → session.cpu.slots.live.guest.machine.taken ≡ 0
   unfolding M.start M.start_machine

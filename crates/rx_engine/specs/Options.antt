@@ -1,8 +1,9 @@
 -- What a session is asked for.
-use Rattle.std.specs.Prelude.{ℕ, ◌≤◌, ◌^◌, Bool}
+use Rattle.std.specs.Prelude.{ℕ, ◌*◌, ◌/◌, ◌≤◌, ◌^◌, Bool}
 use Rattle.block_book.specs.Heap.{Heap}
 use Rattle.rv_exec.specs.Stepping.{limits_of}
 use Rattle.session_history.specs.Lawful.{Rules}
+use Rattle.recovery_gate.specs.Handling.{Keeping}
 use Rattle.rx_engine.specs.declared.options.Options.{Options}
 
 -- each number is in its range
@@ -20,6 +21,10 @@ pub record AreInRange (options : Options) : Type 0 where
   pub few_items : options.max_items ≤ 2 ^ 20
   pub some_events : 1 ≤ options.max_events
   pub few_events : options.max_events ≤ 2 ^ 32
+
+-- how a session with these options keeps its checkpoints
+abbrev pub keeping_for : Options → Keeping
+keeping_for options = record { ring = options.ring; every = options.every; pages = options.window / 4096; frames = options.frames * (options.window / 4096) }
 
 -- what a session with these options allows its guest, by an access rule, and its link
 abbrev pub rules_of : Options → (Heap → ℕ → ℕ → Bool) → Rules

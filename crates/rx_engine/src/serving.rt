@@ -7,7 +7,7 @@ ghost use Rattle.run_history.specs.declared.answer.Answer.TheVariants as answer;
 ghost use Rattle.guest_cpu.specs.declared.event.Event.TheVariants as event;
 ghost use Rattle.session_history.specs.Ends.{IsEnd};
 ghost use Rattle.notes.specs.Noting.{noted};
-ghost use Rattle.rx_engine.specs.Options.{rules_of};
+ghost use Rattle.rx_engine.specs.Options.{rules_of, keeping_for};
 ghost use Rattle.rx_engine.specs.Sessions.{IsBegun};
 ghost use Rattle.rx_engine.specs.Standing.{Since, IsGoing, IsBetween, IsAsking, IsWaitingFor, IsEnding};
 ghost use Rattle.rx_engine.specs.Recovered.{HasRecovered, HasWatched};
@@ -44,7 +44,7 @@ impl<R: AccessRule> Session<R> {
         ensures served { (image : Image) → IsBegun image self.old.options self.old.cpu.rule self.old
             → (recovered : HasRecovered (rules_of self.old.options (R.rule self.old.cpu.rule)) image (K.told link.old) (K.told link.new) (K.coming link.new) (K.takes link.new) result (noted (N.told_choices notes.old) (N.told_episodes notes.old)) (noted (N.told_choices notes.new) (N.told_episodes notes.new)) self.new.recorded self.new.choices self.new.taken self.new.steps steps.old steps.new)
             × UnlessNoteFault result (HasLeft (rules_of self.old.options (R.rule self.old.cpu.rule)) image recovered.recoveries recovered.served.session self.new result) }
-        ensures keeping { UnlessNoteFault result (keeping_of self.new ≡ keeping_of self.old) }
+        ensures keeping { (image : Image) → IsBegun image self.old.options self.old.cpu.rule self.old → UnlessNoteFault result (keeping_of self.new ≡ keeping_for self.old.options) }
         ensures cause { HasAnswerCause (K.counts link.old) (K.counts link.new) result }
         ensures noted { HasNoteCause (N.faults notes.old) (N.faults notes.new) result }
         ensures works { UnlessNoteFault result (N.works notes.new ≡ N.works notes.old) }
@@ -78,6 +78,7 @@ impl<R: AccessRule> Session<R> {
         ensures served { (image : Image) → IsBegun image self.old.options self.old.cpu.rule self.old
             → (watched : HasWatched (rules_of self.old.options (R.rule self.old.cpu.rule)) image (K.told link.old) (K.told link.new) (K.coming link.new) (K.takes link.new) result (noted (N.told_choices notes.old) (N.told_episodes notes.old)) (noted (N.told_choices notes.new) (N.told_episodes notes.new)) self.new.recorded self.new.choices self.new.taken self.new.steps (W.ran watch.new + steps.old) (W.ran watch.old + steps.new) (W.tables watch.old) (W.tables watch.new))
             × UnlessNoteFault result (HasLeft (rules_of self.old.options (R.rule self.old.cpu.rule)) image watched.recovered.recoveries watched.recovered.served.session self.new result) }
+        ensures keeping { (image : Image) → IsBegun image self.old.options self.old.cpu.rule self.old → UnlessNoteFault result (keeping_of self.new ≡ keeping_for self.old.options) }
         ensures cause { HasAnswerCause (K.counts link.old) (K.counts link.new) result }
         ensures noted { HasNoteCause (N.faults notes.old) (N.faults notes.new) result }
         ensures works { UnlessNoteFault result (N.works notes.new ≡ N.works notes.old) }

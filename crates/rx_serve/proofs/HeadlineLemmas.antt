@@ -16,6 +16,7 @@ use Rattle.run_history.specs.Machine.{State, start, Effect, Goes, Emits, Ends, W
 use Rattle.run_history.specs.Run.{Run, run, next, after, effect, output}
 use Rattle.run_history.proofs.Runs.{next_parts}
 use Rattle.session_history.specs.Owing.{OwesNothing}
+use Rattle.recovery_gate.specs.Handling.{Keeping}
 use Rattle.session_history.specs.Lawful.{Rules, entries_of}
 use Rattle.rx_io.specs.declared.journal.Entry.{Entry}
 use Rattle.session_history.specs.Heeding.{received}
@@ -112,11 +113,11 @@ recorded_in session end ended recording told episodes has = record {
       ∙ ap (λ list. recording ++ list) (sym has.tail_is);
 }
 
-pub headline : (rules : Rules) (image : Image) (source source_later : Option Stream) (sink sink_later : Option (List ℕ)) (ended : Answer) (end : End) (recording : List Choice) (told : List Episode)
+pub headline : (rules : Rules) (keeping : Keeping) (image : Image) (source source_later : Option Stream) (sink sink_later : Option (List ℕ)) (ended : Answer) (end : End) (recording : List Choice) (told : List Episode)
     → (IsEnd end.answer → end.answer ≡ ended) → (counted : ℕ)
-    (s : ServesTrunk rules image source source_later sink sink_later ended (noted (Some []) (Some [])) (noted (Some recording) (Some told)) end.recorded end.tail end.taken end.steps counted)
+    (s : ServesTrunk rules keeping image source source_later sink sink_later ended (noted (Some []) (Some [])) (noted (Some recording) (Some told)) end.recorded end.tail end.taken end.steps counted)
     → Headline rules image s.session recording source source_later sink sink_later end
-headline rules image source source_later sink sink_later ended end recording told same counted s =
+headline rules keeping image source source_later sink sink_later ended end recording told same counted s =
     let session : Session = s.session in
     let items : List Item = received_items rules session in
     let state : State = session.survivor.now.state in

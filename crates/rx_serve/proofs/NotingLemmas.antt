@@ -11,9 +11,10 @@ use Rattle.file_notes.specs.Names.{Names}
 use Rattle.file_notes.specs.Standing.{Stands}
 use Rattle.notes.specs.Noting.{noted}
 use Rattle.run_report.specs.declared.form.Form.{Form}
+use Rattle.recovery_gate.specs.Handling.{Keeping}
 use Rattle.session_history.specs.Lawful.{Rules}
 use Rattle.trunk_session.specs.Serving.{ServesTrunk}
-use Rattle.rx_engine.specs.Options.{AreInRange, rules_of}
+use Rattle.rx_engine.specs.Options.{AreInRange, rules_of, keeping_for}
 use Rattle.rx_engine.specs.Serving.{IsNoteAnswer, UnlessNoteFault}
 use Rattle.rx_engine.specs.declared.options.Options.{Options}
 use Rattle.rx_io.specs.Named.{Contents}
@@ -118,19 +119,19 @@ unless_whole answer.ReadFault left is = nothing_left left is
 unless_whole answer.WriteFault left is = nothing_left left is
 
 -- a session served with notes that were new, and that stand in its files
-pub serves_noted : (rules : Rules) (image : Image) (value : RunValue) (files files_later : Option Contents) (source source_later : Option Stream) (sink sink_later : Option (List ℕ)) (ended : Answer) (recorded : ℕ) (tail : List Choice) (taken steps counted : ℕ)
+pub serves_noted : (rules : Rules) (keeping : Keeping) (image : Image) (value : RunValue) (files files_later : Option Contents) (source source_later : Option Stream) (sink sink_later : Option (List ℕ)) (ended : Answer) (recorded : ℕ) (tail : List Choice) (taken steps counted : ℕ)
     → (names : Names) (wanted : Form) (told : Option Contents) (choices_before choices : List Choice) (episodes_before episodes : List Episode) (left_before left : Left)
     → choices_before ≡ [] → episodes_before ≡ [] → left_before ≡ Nothing
-    → ServesTrunk rules image source source_later sink sink_later ended (noted (Some choices_before) (Some episodes_before)) (noted (Some choices) (Some episodes)) recorded tail taken steps counted
+    → ServesTrunk rules keeping image source source_later sink sink_later ended (noted (Some choices_before) (Some episodes_before)) (noted (Some choices) (Some episodes)) recorded tail taken steps counted
     → names ≡ names_of value → wanted ≡ report_form value.form → told ≡ files → Stands names wanted told files_later choices episodes left → UnlessNoteFault ended (is_whole left ≡ is_whole left_before)
-    → ServesNoted rules image value files files_later source source_later sink sink_later ended recorded tail taken steps counted
-serves_noted rules image value files files_later source source_later sink sink_later ended recorded tail taken steps counted names wanted told choices_before choices episodes_before episodes left_before left none none_told none_left serves names_are form_is told_is stands works = record {
+    → ServesNoted rules keeping image value files files_later source source_later sink sink_later ended recorded tail taken steps counted
+serves_noted rules keeping image value files files_later source source_later sink sink_later ended recorded tail taken steps counted names wanted told choices_before choices episodes_before episodes left_before left none none_told none_left serves names_are form_is told_is stands works = record {
   choices = choices;
   episodes = episodes;
   left = left;
   serves =
-      subst (λ list. ServesTrunk rules image source source_later sink sink_later ended (noted (Some []) (Some list)) (noted (Some choices) (Some episodes)) recorded tail taken steps counted) none_told
-      (subst (λ list. ServesTrunk rules image source source_later sink sink_later ended (noted (Some list) (Some episodes_before)) (noted (Some choices) (Some episodes)) recorded tail taken steps counted) none serves);
+      subst (λ list. ServesTrunk rules keeping image source source_later sink sink_later ended (noted (Some []) (Some list)) (noted (Some choices) (Some episodes)) recorded tail taken steps counted) none_told
+      (subst (λ list. ServesTrunk rules keeping image source source_later sink sink_later ended (noted (Some list) (Some episodes_before)) (noted (Some choices) (Some episodes)) recorded tail taken steps counted) none serves);
   stands =
       subst (λ before. Stands (names_of value) (report_form value.form) before files_later choices episodes left) told_is
       (subst (λ f. Stands (names_of value) f told files_later choices episodes left) form_is (subst (λ n. Stands n wanted told files_later choices episodes left) names_are stands));
@@ -141,7 +142,7 @@ serves_noted rules image value files files_later source source_later sink sink_l
 
 -- an account of a session within its bounds: few items were taken, and few instructions done
 pub few_counts : (options : Options) → AreInRange options → (permits : Heap → ℕ → ℕ → Bool) (image : Image) (value : RunValue) (files files_later : Option Contents) (source source_later : Option Stream) (sink sink_later : Option (List ℕ)) (ended : Answer) (recorded : ℕ) (tail : List Choice) (taken steps counted : ℕ)
-    → ServesNoted (rules_of options permits) image value files files_later source source_later sink sink_later ended recorded tail taken steps counted → (taken ≤ MAX_TAKEN) × (steps < 2 ^ 63)
+    → ServesNoted (rules_of options permits) (keeping_for options) image value files files_later source source_later sink sink_later ended recorded tail taken steps counted → (taken ≤ MAX_TAKEN) × (steps < 2 ^ 63)
 few_counts options ranges permits image value files files_later source source_later sink sink_later ended recorded tail taken steps counted noted =
     let s = noted.serves in
     let few : s.session.survivor.now.state.machine.taken ≤ 2 ^ 20 =

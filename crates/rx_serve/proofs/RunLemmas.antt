@@ -8,7 +8,7 @@ use Rattle.rx_io.specs.Outside.{Stream}
 use Rattle.elf_image.specs.declared.image.Image.{Image}
 use Rattle.run_history.specs.declared.answer.Answer.{Answer}
 use Rattle.run_history.specs.declared.answer.Answer.TheVariants as answer
-use Rattle.rx_engine.specs.Options.{AreInRange, rules_of}
+use Rattle.rx_engine.specs.Options.{AreInRange, rules_of, keeping_for}
 use Rattle.rx_engine.specs.Sessions.{SessionState, IsBegun}
 use Rattle.rx_engine.specs.Serving.{IsReadyToServe, IsNoteAnswer}
 use Rattle.rx_engine.specs.declared.options.Options.{Options}
@@ -71,18 +71,18 @@ module _ {R : Type 0} where
   pub run_ends : (value : RunValue) (files started served files_later : Option Contents) (image : Image) (options : Options) (rule : R) (session : SessionState R) (source source_later : Option Stream) (sink sink_later : Option (List ℕ))
       (end : End) (ended answer : Answer) (recorded : ℕ) (tail : List Choice) (taken steps counted : ℕ) → options ≡ options_of value → HasImage files value.program options.window image → IsBegun image options rule session
       → StartsFiles value files started (Ok tt)
-      → ((i : Image) → IsBegun i session.options session.cpu.rule session → ServesNoted (rules_of session.options all_permitted) i value started served source source_later sink sink_later ended recorded tail taken steps counted)
+      → ((i : Image) → IsBegun i session.options session.cpu.rule session → ServesNoted (rules_of session.options all_permitted) (keeping_for session.options) i value started served source source_later sink sink_later ended recorded tail taken steps counted)
       → (taken_told steps_told : ℕ) → taken_told ≡ taken → steps_told ≡ steps → ClosesFiles value taken_told steps_told served files_later ended answer
       → end.answer ≡ answer → end.recorded ≡ recorded → end.tail ≡ tail → end.taken ≡ taken → end.steps ≡ steps → RunEnds value files files_later source source_later sink sink_later end counted
   run_ends value files started served files_later image options rule session source source_later sink sink_later end ended answer recorded tail taken steps counted is program begun starts serves taken_told steps_told same_taken same_steps closes answered recorded_is tail_is taken_is steps_is =
       let settings : session.options ≡ options_of value = begun.options_are ∙ is in
-      let Noted : Options → ℕ → List Choice → ℕ → ℕ → Type 0 = λ o r l t n. ServesNoted (rules_of o all_permitted) image value started served source source_later sink sink_later ended r l t n counted in
+      let Noted : Options → ℕ → List Choice → ℕ → ℕ → Type 0 = λ o r l t n. ServesNoted (rules_of o all_permitted) (keeping_for o) image value started served source source_later sink sink_later ended r l t n counted in
       let here : Noted session.options recorded tail taken steps = serves image (begun_own image options rule session begun) in
       let by_value : Noted (options_of value) recorded tail taken steps = subst (λ o. Noted o recorded tail taken steps) settings here in
       let by_recorded : Noted (options_of value) end.recorded tail taken steps = subst (λ r. Noted (options_of value) r tail taken steps) (sym recorded_is) by_value in
       let by_tail : Noted (options_of value) end.recorded end.tail taken steps = subst (λ l. Noted (options_of value) end.recorded l taken steps) (sym tail_is) by_recorded in
       let by_taken : Noted (options_of value) end.recorded end.tail end.taken steps = subst (λ t. Noted (options_of value) end.recorded end.tail t steps) (sym taken_is) by_tail in
-      let noted : ServesNoted (rules_of_run value) image value started served source source_later sink sink_later ended end.recorded end.tail end.taken end.steps counted = subst (λ n. Noted (options_of value) end.recorded end.tail end.taken n) (sym steps_is) by_taken in
+      let noted : ServesNoted (rules_of_run value) (keeping_for (options_of value)) image value started served source source_later sink sink_later ended end.recorded end.tail end.taken end.steps counted = subst (λ n. Noted (options_of value) end.recorded end.tail end.taken n) (sym steps_is) by_taken in
       let closed : ClosesFiles value end.taken end.steps served files_later ended end.answer =
       subst (λ a. ClosesFiles value end.taken end.steps served files_later ended a) (sym answered)
       (subst (λ t. ClosesFiles value t end.steps served files_later ended answer) (same_taken ∙ sym taken_is) (subst (λ n. ClosesFiles value taken_told n served files_later ended answer) (same_steps ∙ sym steps_is) closes)) in
@@ -96,13 +96,13 @@ module _ {R : Type 0} where
         noted = noted;
         closes = closed;
         texts = closes_whole value noted.choices noted.episodes noted.left end.taken end.steps files started served files_later ended end.answer starts noted.stands noted.whole closed;
-        headline = headline (rules_of_run value) image source source_later sink sink_later ended end noted.choices noted.episodes (closes_same value end.taken end.steps served files_later ended end.answer closed) counted noted.serves;
+        headline = headline (rules_of_run value) (keeping_for (options_of value)) image source source_later sink sink_later ended end noted.choices noted.episodes (closes_same value end.taken end.steps served files_later ended end.answer closed) counted noted.serves;
       })
 
   -- how many items were taken, and how many instructions done, fit into a record
   pub counts_fit : (value : RunValue) (started served : Option Contents) (image : Image) (options : Options) (rule : R) (session : SessionState R) (source source_later : Option Stream) (sink sink_later : Option (List ℕ))
       (ended : Answer) (recorded : ℕ) (tail : List Choice) (taken steps counted : ℕ) → AreInRange options → IsBegun image options rule session
-      → ((i : Image) → IsBegun i session.options session.cpu.rule session → ServesNoted (rules_of session.options all_permitted) i value started served source source_later sink sink_later ended recorded tail taken steps counted)
+      → ((i : Image) → IsBegun i session.options session.cpu.rule session → ServesNoted (rules_of session.options all_permitted) (keeping_for session.options) i value started served source source_later sink sink_later ended recorded tail taken steps counted)
       → (taken ≤ MAX_TAKEN) × (steps < 2 ^ 63)
   counts_fit value started served image options rule session source source_later sink sink_later ended recorded tail taken steps counted ranges begun serves =
       few_counts session.options (subst AreInRange (sym begun.options_are) ranges) all_permitted image value started served source source_later sink sink_later ended recorded tail taken steps counted

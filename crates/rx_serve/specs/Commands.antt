@@ -15,7 +15,8 @@ use Rattle.rx_serve.specs.Ended.{HasNoSession, IsUntouched}
 use Rattle.rx_serve.specs.Headline.{Headline}
 use Rattle.rx_serve.specs.Loading.{HasImage, HasLoadCause}
 use Rattle.rx_serve.specs.Noting.{StartsFiles, ServesNoted, ClosesFiles, HaveTexts}
-use Rattle.rx_serve.specs.Settings.{window_of, rules_of_run}
+use Rattle.rx_engine.specs.Options.{keeping_for}
+use Rattle.rx_serve.specs.Settings.{window_of, options_of, rules_of_run}
 
 -- what the files have where no session began: nothing of them was touched; or a fault or want of memory came as the two were started; or they were
 -- started, and there was no memory for a session
@@ -42,7 +43,7 @@ pub record HasServed (value : RunValue) (files files_later : Option Contents) (s
   pub files_served : Option Contents
   pub ended : Answer
   pub starts : StartsFiles value files files_started (Ok tt)
-  pub noted : ServesNoted (rules_of_run value) image value files_started files_served source source_later sink sink_later ended end.recorded end.tail end.taken end.steps counted
+  pub noted : ServesNoted (rules_of_run value) (keeping_for (options_of value)) image value files_started files_served source source_later sink sink_later ended end.recorded end.tail end.taken end.steps counted
   pub closes : ClosesFiles value end.taken end.steps files_served files_later ended end.answer
   pub texts : IsEnd end.answer → HaveTexts value noted.choices noted.episodes end.answer end.taken end.steps files files_later
   pub headline : Headline (rules_of_run value) image noted.serves.session noted.choices source source_later sink sink_later end

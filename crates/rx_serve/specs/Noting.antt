@@ -22,6 +22,7 @@ use Rattle.rx_io.specs.Outside.{Stream}
 use Rattle.rx_io.specs.declared.fault.IoFault.{IoFault}
 use Rattle.schedule_file.specs.Lines as recording
 use Rattle.session_history.specs.Ends.{IsEnd}
+use Rattle.recovery_gate.specs.Handling.{Keeping}
 use Rattle.session_history.specs.Lawful.{Rules}
 use Rattle.trunk_session.specs.Serving.{ServesTrunk}
 use Rattle.rx_serve.specs.Status.{status_of}
@@ -49,11 +50,11 @@ HaveTexts value choices episodes ended taken steps files files_later =
 
 -- A session served a trunk, and what it noted stands in its two files behind their first lines: a line of each answer of malloc that can't be rolled
 -- back, and the text of each episode. Where it wasn't broken off by its notes, no part of a text stands there.
-pub record ServesNoted (rules : Rules) (image : Image) (value : RunValue) (files files_later : Option Contents) (source source_later : Option Stream) (sink sink_later : Option (List ℕ)) (ended : Answer) (recorded : ℕ) (tail : List Choice) (taken steps counted : ℕ) : Type 0 where
+pub record ServesNoted (rules : Rules) (keeping : Keeping) (image : Image) (value : RunValue) (files files_later : Option Contents) (source source_later : Option Stream) (sink sink_later : Option (List ℕ)) (ended : Answer) (recorded : ℕ) (tail : List Choice) (taken steps counted : ℕ) : Type 0 where
   pub choices : List Choice
   pub episodes : List Episode
   pub left : Left
-  pub serves : ServesTrunk rules image source source_later sink sink_later ended (noted (Some []) (Some [])) (noted (Some choices) (Some episodes)) recorded tail taken steps counted
+  pub serves : ServesTrunk rules keeping image source source_later sink sink_later ended (noted (Some []) (Some [])) (noted (Some choices) (Some episodes)) recorded tail taken steps counted
   pub stands : Stands (names_of value) (report_form value.form) files files_later choices episodes left
   pub whole : UnlessNoteFault ended (left ≡ Nothing)
 

@@ -5,7 +5,7 @@ ghost use Rattle.command_line.specs.Commands.{run_shown};
 ghost use Rattle.command_line.specs.Ranges.{AreInRange};
 ghost use Rattle.elf_image.specs.declared.image.Image.{Image};
 ghost use Rattle.file_notes.specs.Names.{AreTwo};
-ghost use Rattle.rx_engine.specs.Options.{rules_of};
+ghost use Rattle.rx_engine.specs.Options.{rules_of, keeping_for};
 ghost use Rattle.rx_engine.specs.Serving.{IsReadyToServe, IsNoteAnswer};
 ghost use Rattle.rx_engine.specs.Sessions.{IsBegun};
 ghost use Rattle.rx_io.specs.Faults.{Rose, HasCause};
@@ -98,7 +98,7 @@ pub(crate) fn serve_noted<R: AccessRule, F: Files, S: Source, K: Sink, L: Ledger
     requires two { AreTwo (names_of (run_shown run.now)) }
     requires begun { IsReadyToServe session.old }
     ensures serves { (image : Image) → IsBegun image session.old.options session.old.cpu.rule session.old
-        → (counted : ℕ) → steps.new ≡ steps.old + counted → ServesNoted (rules_of session.old.options (R.rule session.old.cpu.rule)) image (run_shown run.now) (F.told files.old) (F.told files.new) (S.told input.old) (S.told input.new) (K.told output.old) (K.told output.new) result session.new.recorded session.new.choices session.new.taken session.new.steps counted }
+        → (counted : ℕ) → steps.new ≡ steps.old + counted → ServesNoted (rules_of session.old.options (R.rule session.old.cpu.rule)) (keeping_for session.old.options) image (run_shown run.now) (F.told files.old) (F.told files.new) (S.told input.old) (S.told input.new) (K.told output.old) (K.told output.new) result session.new.recorded session.new.choices session.new.taken session.new.steps counted }
     ensures later { F.faults files.old ≤ F.faults files.new }
     ensures file_fault { result ≡ answer.FileFault → Rose (F.faults files.old) (F.faults files.new) }
     ensures read_fault { result ≡ answer.ReadFault → Rose (S.faults input.old) (S.faults input.new) }

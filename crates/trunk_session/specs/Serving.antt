@@ -16,6 +16,8 @@ use Rattle.episodes.specs.declared.episode.Episode.{Episode}
 use Rattle.notes.specs.Noting.{Noted}
 use Rattle.trial_history.specs.Episodes.{Recovery, episode_of, AreRecovered}
 use Rattle.trial_plan.specs.Trying.{steps_of}
+use Rattle.recovery_gate.specs.Handling.{Keeping, HaveRings}
+use Rattle.rx_engine.specs.Serving.{UnlessNoteFault}
 use Rattle.rx_engine.specs.Recovered.{spent, AreLastTrials, GivesUpBy, HasNoted}
 use Rattle.trunk_session.specs.Trunk.{TakesTrunk, StopsTrunk, WritesTrunk, WritesWhole, BreaksTrunk, Carries}
 
@@ -28,17 +30,18 @@ IsOfSession answer.Memory = Unit {0}
 IsOfSession end = IsEnd end
 
 -- What a session leaves that served a trunk over a source and a sink: one account of it, told by survivors of which each later one
--- was adopted behind a failure, what stands behind its answer, what its notes tell, and its counts: all instructions were counted, those of
+-- was adopted behind a failure from a checkpoint that stood there, what stands behind its answer, what its notes tell, and its counts: all instructions were counted, those of
 -- trials too. The bytes that the source lost are the frames of the account's events, and at an end no more than its answer says; a part of a frame behind them was asked for. Those that the sink gained are the frames of its pieces, of which a last one may be
 -- cut, but not at an end; and for each connection they carry what the account says was passed to it. A frame was broken off on one
 -- side at most.
-pub record ServesTrunk (rules : Rules) (image : Image) (source source_later : Option Stream) (sink sink_later : Option (List ℕ)) (end : Answer) (noted_before noted_now : Noted) (recorded : ℕ) (tail : List Choice) (taken steps counted : ℕ) : Type 0 where
+pub record ServesTrunk (rules : Rules) (keeping : Keeping) (image : Image) (source source_later : Option Stream) (sink sink_later : Option (List ℕ)) (end : Answer) (noted_before noted_now : Noted) (recorded : ℕ) (tail : List Choice) (taken steps counted : ℕ) : Type 0 where
   pub session : Session
   pub at_end : Bool
   pub coming : Option Coming
   pub account : IsAccount rules image session at_end
   pub recoveries : List Recovery
   pub recovered : AreRecovered rules image [] (first_survivor image) session.earlier recoveries session.survivor
+  pub ringed : UnlessNoteFault end (HaveRings keeping recoveries)
   pub trials : List Trial
   pub last : List Episode
   pub tried : AreLastTrials rules image (entries_of session.earlier) session.since session.survivor trials last

@@ -4,7 +4,7 @@ ghost use Rattle.rx_io.specs.Faults.{Rose};
 ghost use Rattle.elf_image.specs.declared.image.Image.{Image};
 ghost use Rattle.run_history.specs.declared.answer.Answer.TheVariants as answer;
 ghost use Rattle.notes.specs.Noting.{noted};
-ghost use Rattle.rx_engine.specs.Options.{rules_of};
+ghost use Rattle.rx_engine.specs.Options.{rules_of, keeping_for};
 ghost use Rattle.rx_engine.specs.Serving.{IsReadyToServe, HasNoteCause, UnlessNoteFault};
 ghost use Rattle.rx_engine.specs.Sessions.{IsBegun};
 ghost use Rattle.trunk_session.specs.Serving.{IsOfSession, ServesTrunk};
@@ -31,7 +31,7 @@ pub fn serve_trunk<R: AccessRule, S: Source, K: Sink, N: Notes, L: Ledger>(
 ) -> Answer
     requires begun { IsReadyToServe session.old }
     ensures served { (image : Image) → IsBegun image session.old.options session.old.cpu.rule session.old
-        → (counted : ℕ) → steps.new ≡ steps.old + counted → ServesTrunk (rules_of session.old.options (R.rule session.old.cpu.rule)) image (S.told input.old) (S.told input.new) (K.told output.old) (K.told output.new) result (noted (N.told_choices notes.old) (N.told_episodes notes.old)) (noted (N.told_choices notes.new) (N.told_episodes notes.new)) session.new.recorded session.new.choices session.new.taken session.new.steps counted }
+        → (counted : ℕ) → steps.new ≡ steps.old + counted → ServesTrunk (rules_of session.old.options (R.rule session.old.cpu.rule)) (keeping_for session.old.options) image (S.told input.old) (S.told input.new) (K.told output.old) (K.told output.new) result (noted (N.told_choices notes.old) (N.told_episodes notes.old)) (noted (N.told_choices notes.new) (N.told_episodes notes.new)) session.new.recorded session.new.choices session.new.taken session.new.steps counted }
     ensures only { IsOfSession result }
     ensures input { S.fixed input.new ≡ S.fixed input.old }
     ensures output { K.fixed output.new ≡ K.fixed output.old }

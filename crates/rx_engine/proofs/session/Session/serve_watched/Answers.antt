@@ -14,7 +14,7 @@ use Rattle.rx_engine.proofs.FrameLemmas.{same_rules}
 use Rattle.rx_engine.proofs.HearingLemmas.{cause_then, stops_under}
 use Rattle.rx_engine.specs.Leaving.{keeping_of, IsTrimmed, HasLeft}
 use Rattle.rx_engine.proofs.LeavingLemmas.{unless_note, trimmed_unless, left_off, off_requests, of_link}
-use Rattle.rx_engine.proofs.StartLemmas.{starts_trimmed, starts_between, starts_counted, starts_giving, frame_then, between_under, lost_then, lost_counts, lost_all}
+use Rattle.rx_engine.proofs.StartLemmas.{starts_trimmed, begun_keeping, starts_between, starts_counted, starts_giving, frame_then, between_under, lost_then, lost_counts, lost_all}
 use Rattle.rx_engine.proofs.KnownLemmas.{known_same, known_then, known_ended, takes_ended, takes_no_end, once_at, once_broke}
 use Rattle.rx_engine.proofs.session.Session.serve_watched.Goals as goal
 
@@ -201,3 +201,16 @@ returns-in-Err-Ends-clause-once g c =
     let turned = g.K.Link.coming c.turn.new.link in
     once_at old turned (g.K.Link.coming c.finish.new.link) (g.K.Link.gives c.finish.new.link) c.finish.result
     (known_then old before turned c.turns.invariant.known (known_ended before turned c.in-Err-Ends.field-0 c.in-Err-Ends.answer c.in-Err-Ends.field-0-is c.in-Err-Ends.ensures.coming)) c.finish.ensures.once
+
+pub returns-in-Err-Breaks-clause-keeping : goal.returns-in-Err-Breaks-clause-keeping
+returns-in-Err-Breaks-clause-keeping g c image begun =
+    unless_note c.in-Err-Breaks.answer _ (λ never.
+    trimmed_unless c.in-Err-Breaks.answer (keeping_of c.turn.new.self ≡ keeping_of c.turns.self) never (subst (λ (why : Stop). UnlessNoteStop (Err why) (keeping_of c.turn.new.self ≡ keeping_of c.turns.self)) c.in-Err-Breaks.field-0-is c.in-Err-Breaks.ensures.keeping)
+    ∙ (c.turns.invariant.keeping ∙ begun_keeping image c.args.self.now begun))
+
+pub returns-in-Err-Ends-clause-keeping : goal.returns-in-Err-Ends-clause-keeping
+returns-in-Err-Ends-clause-keeping g c image begun =
+    unless_note c.finish.result _ (λ never.
+    ap (λ (s : SessionState _). keeping_of s) c.finish.ensures.same
+    ∙ (subst (λ (why : Stop). UnlessNoteStop (Err why) (keeping_of c.turn.new.self ≡ keeping_of c.turns.self)) c.in-Err-Ends.field-0-is c.in-Err-Ends.ensures.keeping
+    ∙ (c.turns.invariant.keeping ∙ begun_keeping image c.args.self.now begun)))
