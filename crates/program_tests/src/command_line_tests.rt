@@ -78,7 +78,9 @@ const ACCEPTED: &str = "\
     run run --record asm --report = => Some(Run(RunCommand { program: \"run\", recording: \"asm\", report: \"=\", form: Text, frame: Line, window: 4, hold: 0, ring: 8, every: 1, frames: 4, budget: 1000000 }))\n\
     run 0 --record a-b --report c--d --frames 3 --budget 999 => Some(Run(RunCommand { program: \"0\", recording: \"a-b\", report: \"c--d\", form: Text, frame: Line, window: 4, hold: 0, ring: 8, every: 1, frames: 3, budget: 999 }))\n\
     asm a b => Some(Asm(AsmCommand { source: \"a\", out: \"b\" }))\n\
-    asm asm run => Some(Asm(AsmCommand { source: \"asm\", out: \"run\" }))\n";
+    asm asm run => Some(Asm(AsmCommand { source: \"asm\", out: \"run\" }))\n\
+    replay p r => Some(Replay(ReplayCommand { program: \"p\", recording: \"r\" }))\n\
+    replay run run => Some(Replay(ReplayCommand { program: \"run\", recording: \"run\" }))\n";
 
 // Refused behind `run p --record r --report t `.
 const REFUSED_ENDS: &str = "\
@@ -163,7 +165,15 @@ const REFUSED: &str = "\n \n\
     asm a b c\n\
     asm a b --ring 2\n\
     asm -a b\n\
-    asm a b --\n";
+    asm a b --\n\
+    replay\n\
+    replay p\n\
+    replay p r q\n\
+    replay p r --ring 2\n\
+    replay p --record r\n\
+    replay -p r\n\
+    replay p -r\n\
+    replay p \n";
 
 #[test]
 fn words_are_read(rt: HostRuntime) -> Result<(), Fail> {
@@ -176,8 +186,8 @@ fn words_are_read(rt: HostRuntime) -> Result<(), Fail> {
     are_refused(&rt, alloc, "", REFUSED)
 }
 
-const COMPLAINTS: &str = " => word 1: the command is missing, run or asm\n\
-    serve p => word 1: the command is run or asm, not serve\n\
+const COMPLAINTS: &str = " => word 1: the command is missing, run or asm or replay\n\
+    serve p => word 1: the command is run or asm or replay, not serve\n\
     run p --ring 08 --record r --report t => word 4: --ring is 1 to 16, not 08\n\
     run p --hold=2 => word 3: --hold=2 is no option of run\n\
     run --hold 1001 => word 3: --hold is 0 to 1000, not 1001\n\
@@ -195,7 +205,10 @@ const COMPLAINTS: &str = " => word 1: the command is missing, run or asm\n\
     run p --record r --report r => word 6: --record and --report are two names, not r twice\n\
     run p --record p --report t => word 4: PROGRAM and --record are two names, not p twice\n\
     asm a a => word 3: SOURCE and OUT are two names, not a twice\n\
-    asm a b => \n";
+    asm a b => \n\
+    replay p => word 3: RECORD is missing\n\
+    replay p r --ring 2 => word 4: --ring is no option of replay\n\
+    replay p p => \n";
 
 const RUN_USAGE: &str = "run PROGRAM and in any place, each once:
   --record a name, always
@@ -218,7 +231,8 @@ fn a_person_is_told(rt: HostRuntime) -> Result<(), Fail> {
     assert!(rt; run.as_str() == RUN_USAGE);
     let asm = usage(alloc, "asm")?;
     assert!(rt; asm.as_str() == "asm SOURCE OUT\n");
-    let both = usage(alloc, "serve")?;
-    assert!(rt; both.as_str().strip_prefix(RUN_USAGE) == Some(asm.as_str()));
+    let all = usage(alloc, "serve")?;
+    let others = all.as_str().strip_prefix(RUN_USAGE).ok_or("no run")?;
+    assert!(rt; others == "asm SOURCE OUT\nreplay PROGRAM RECORD\n");
     Ok(())
 }

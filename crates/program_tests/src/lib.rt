@@ -6,6 +6,8 @@ mod command_line_tests;
 #[cfg(test)]
 mod files_tests;
 #[cfg(test)]
+mod replaying_tests;
+#[cfg(test)]
 mod rx_serve_tests;
 #[cfg(test)]
 mod rx_tests;

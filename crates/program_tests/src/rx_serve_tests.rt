@@ -20,7 +20,7 @@ pub const RUN: &str = "run p --record r --report t";
 pub const OPEN: [u8; 5] = [1, 0, 0, 0, 0];
 
 // Opens connection 0, and brings `hi` with a line feed there.
-const OPEN_AND_HI: [u8; 13] = [1, 0, 0, 0, 0, 2, 0, 0, 3, 0, b'h', b'i', b'\n'];
+pub const OPEN_AND_HI: [u8; 13] = [1, 0, 0, 0, 0, 2, 0, 0, 3, 0, b'h', b'i', b'\n'];
 
 // A command and what stands outside: the file `p`, what `r` and `t` have, which aren't there where it is empty, the input, how many
 // bytes a call on the source and on the sink moves at most, and the numbers of the calls that fail on the files, the source

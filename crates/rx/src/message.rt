@@ -2,7 +2,7 @@
 use elf_image::{ElfRefusal, RefusedField};
 use msg_frame::MAX_MESSAGE;
 use run_history::{Answer, Cause};
-use rx_serve::{MAX_EVENTS, MAX_ITEMS, MAX_PROGRAM, MAX_SOURCE};
+use rx_serve::{MAX_EVENTS, MAX_ITEMS, MAX_PROGRAM, MAX_RECORD, MAX_SOURCE};
 use std::fmt;
 
 /// The sentence for an answer to `run`.
@@ -28,6 +28,16 @@ pub struct AsmMessage<'a> {
     pub explanation: Option<String>,
 }
 
+/// The sentence for an answer to `replay`.
+#[derive(Debug, Drop)]
+pub struct ReplayMessage<'a> {
+    pub answer: Answer,
+    pub program: &'a str,
+    pub recording: &'a str,
+    /// The field that the program file is refused for, where it was found.
+    pub field: Option<RefusedField>,
+}
+
 // What is wrong with a frame of the input, by the number of the refusal.
 fn frame_flaw(kind: u8) -> &'static str {
     match kind {
@@ -46,17 +56,54 @@ fn frame_flaw(kind: u8) -> &'static str {
     }
 }
 
-impl RunMessage<'_> {
-    fn refused<W: fmt::Write>(&self, f: &mut fmt::Formatter<W>, kind: u8) -> fmt::Result {
-        let program = self.program;
-        let refusal = ElfRefusal::Refused(kind);
-        write!(f, "the program file {program} isn't run: {refusal}")?;
-        match &self.field {
-            Some(field) => write!(f, "; {field}"),
-            None => Ok(()),
-        }
+// A program file that is refused.
+fn write_refused<W: fmt::Write>(
+    f: &mut fmt::Formatter<W>,
+    program: &str,
+    kind: u8,
+    field: &Option<RefusedField>,
+) -> fmt::Result {
+    let refusal = ElfRefusal::Refused(kind);
+    write!(f, "the program file {program} isn't run: {refusal}")?;
+    match field {
+        Some(field) => write!(f, "; {field}"),
+        None => Ok(()),
     }
+}
 
+// What ended a session or a replay from without.
+fn write_outside<W: fmt::Write>(f: &mut fmt::Formatter<W>, answer: Answer) -> fmt::Result {
+    match answer {
+        Answer::InputRefused { kind, offset } => {
+            let flaw = frame_flaw(kind);
+            write!(f, "the input's frame at byte {offset} is refused: {flaw}")
+        }
+        Answer::MessageTooLong { conn } => write!(
+            f,
+            "a message of more than {MAX_MESSAGE} bytes, which is the limit, came on connection {conn}"
+        ),
+        Answer::LimitItems => write!(
+            f,
+            "more than {MAX_ITEMS} items came, which is the limit of a session"
+        ),
+        Answer::LimitEvents => write!(
+            f,
+            "more than {MAX_EVENTS} events came, which is the limit of a session"
+        ),
+        Answer::ReadFault => write!(
+            f,
+            "standard input can't be read: it has to be open for reading"
+        ),
+        Answer::WriteFault => write!(
+            f,
+            "standard output can't be written: it has to be open, and its reader still there"
+        ),
+        Answer::Memory => write!(f, "memory ran out"),
+        _ => write!(f, "the command ended with {answer:?}"),
+    }
+}
+
+impl RunMessage<'_> {
     fn cause<W: fmt::Write>(&self, f: &mut fmt::Formatter<W>, cause: Cause) -> fmt::Result {
         let budget = self.budget;
         match cause {
@@ -99,38 +146,6 @@ impl RunMessage<'_> {
             "the program file {program} can't be read, or the record {recording} or the report {report} can't be written"
         )
     }
-
-    // What ended a session from without.
-    fn outside<W: fmt::Write>(&self, f: &mut fmt::Formatter<W>) -> fmt::Result {
-        match self.answer {
-            Answer::InputRefused { kind, offset } => {
-                let flaw = frame_flaw(kind);
-                write!(f, "the input's frame at byte {offset} is refused: {flaw}")
-            }
-            Answer::MessageTooLong { conn } => write!(
-                f,
-                "a message of more than {MAX_MESSAGE} bytes, which is the limit, came on connection {conn}"
-            ),
-            Answer::LimitItems => write!(
-                f,
-                "more than {MAX_ITEMS} items came, which is the limit of a session"
-            ),
-            Answer::LimitEvents => write!(
-                f,
-                "more than {MAX_EVENTS} events came, which is the limit of a session"
-            ),
-            Answer::ReadFault => write!(
-                f,
-                "standard input can't be read: it has to be open for reading"
-            ),
-            Answer::WriteFault => write!(
-                f,
-                "standard output can't be written: it has to be open, and its reader still there"
-            ),
-            Answer::Memory => write!(f, "memory ran out"),
-            _ => write!(f, "the command ended with {:?}", self.answer),
-        }
-    }
 }
 
 impl fmt::Display for RunMessage<'_> {
@@ -142,13 +157,40 @@ impl fmt::Display for RunMessage<'_> {
                 f,
                 "the program file {program} has more than {MAX_PROGRAM} bytes, which is the limit"
             ),
-            Answer::ElfRefused(kind) => self.refused(f, kind),
+            Answer::ElfRefused(kind) => write_refused(f, program, kind, &self.field),
             Answer::GaveUp { point, cause } => self.gave_up(f, point, cause),
             Answer::Exited(code) => write!(
                 f,
                 "the program {program} ended itself with the code {code}"
             ),
-            _ => self.outside(f),
+            _ => write_outside(f, self.answer),
+        }
+    }
+}
+
+impl fmt::Display for ReplayMessage<'_> {
+    fn fmt<W: fmt::Write>(&self, f: &mut fmt::Formatter<W>) -> fmt::Result {
+        let program = self.program;
+        let recording = self.recording;
+        match self.answer {
+            Answer::FileFault => write!(
+                f,
+                "the program file {program} or the record {recording} can't be read"
+            ),
+            Answer::TooLarge => write!(
+                f,
+                "the program file {program} has more than {MAX_PROGRAM} bytes, or the record {recording} more than {MAX_RECORD}: these are the limits"
+            ),
+            Answer::RecordRefused { line } => write!(
+                f,
+                "the record {recording} isn't replayed: line {line} isn't of its form"
+            ),
+            Answer::Mismatch { step } => write!(
+                f,
+                "the program {program} doesn't go on as the record {recording} says: it went as recorded for {step} instructions"
+            ),
+            Answer::ElfRefused(kind) => write_refused(f, program, kind, &self.field),
+            _ => write_outside(f, self.answer),
         }
     }
 }

@@ -1,16 +1,19 @@
 // Standard error: what was wrong, where, and what would be right.
-ghost use Rattle.std.specs.Prelude.{◌≡◌};
+ghost use Rattle.std.specs.Prelude.{◌≡◌, IfSome};
 ghost use Rattle.elf_image.specs.Layout.{IsWindow};
 ghost use Rattle.command_line.specs.Commands.{run_shown};
 ghost use Rattle.command_line.specs.Ranges.{AreInRange};
 
-use crate::message::{AsmMessage, RunMessage};
-use command_line::{AsmCommand, Command, RunCommand, complaint, read_command, usage};
+use crate::message::{AsmMessage, ReplayMessage, RunMessage};
+use command_line::{
+    AsmCommand, Command, ReplayCommand, RunCommand, complaint, read_command, usage,
+};
 use elf_image::{RefusedField, field_of_refusal};
 use run_history::Answer;
 use rv_asm::explain;
 use rx_io::{Files, StdFiles};
-use rx_serve::{MAX_PROGRAM, MAX_SOURCE};
+use rx_serve::{MAX_PROGRAM, MAX_RECORD, MAX_SOURCE};
+use schedule_file::read_record;
 
 /// Tells that memory ran out.
 pub fn tell_memory(rt: &HostRuntime) {
@@ -75,6 +78,20 @@ fn refused_field(
         .flatten()
 }
 
+// The bytes of a record's window.
+fn recorded_window(rt: &HostRuntime, recording: &str) -> Option<u32>
+    ensures { IfSome result (λ window. IsWindow window) }
+{
+    let text = match StdFiles::make(rt).load(rt.alloc(), recording, MAX_RECORD) {
+        Ok(text) => text,
+        Err(_) => return None,
+    };
+    match read_record(rt.alloc(), text.as_slice()) {
+        Ok(recorded) => Some(recorded.window << 20),
+        Err(_) => None,
+    }
+}
+
 // What is wrong with the text, where that was the answer.
 fn explanation(rt: &HostRuntime, answer: Answer, source: &str) -> Option<String> {
     let Answer::AsmRefused { kind, line } = answer else {
@@ -100,6 +117,20 @@ fn tell_run(rt: &HostRuntime, answer: Answer, run: &RunCommand<'_>)
     let _ = eprintln!(rt; "rx: {message}");
 }
 
+fn tell_replay(rt: &HostRuntime, answer: Answer, replay: &ReplayCommand<'_>) {
+    let field = match recorded_window(rt, replay.recording) {
+        Some(window) => refused_field(rt, answer, replay.program, window),
+        None => None,
+    };
+    let message = ReplayMessage {
+        answer,
+        program: replay.program,
+        recording: replay.recording,
+        field,
+    };
+    let _ = eprintln!(rt; "rx: {message}");
+}
+
 fn tell_asm(rt: &HostRuntime, answer: Answer, asm: &AsmCommand<'_>) {
     let message = AsmMessage {
         answer,
@@ -115,6 +146,7 @@ pub fn tell(rt: &HostRuntime, answer: Answer, words: &[String]) {
     match read_command(rt.alloc(), words) {
         Ok(Some(Command::Run(run))) => tell_run(rt, answer, &run),
         Ok(Some(Command::Asm(asm))) => tell_asm(rt, answer, &asm),
+        Ok(Some(Command::Replay(replay))) => tell_replay(rt, answer, &replay),
         Ok(None) => tell_words(rt, words),
         Err(_) => tell_memory(rt),
     }

@@ -6,3 +6,5 @@ pub mod NamesLemmas
 pub mod NotingLemmas
 pub mod HeadlineLemmas
 pub mod RunLemmas
+mod RecordLemmas
+mod ReplayLemmas

@@ -4,11 +4,12 @@ use Rattle.std.proofs.lemmas.Bool.{and_parts}
 use Rattle.std.proofs.lemmas.Slice.Eq.{bytes_eq-Decides}
 use Rattle.std.specs.Str.{bytes_eq}
 use Rattle.command_line.specs.Texts.{Text}
-use Rattle.command_line.specs.Table.{asm_form, record_row, report_row, run_form}
+use Rattle.command_line.specs.Table.{record_row, report_row, run_form}
 use Rattle.command_line.specs.Options.{value_of}
-use Rattle.command_line.specs.Parts.{Parts, parts}
-use Rattle.command_line.specs.Commands.{RunValue, CommandValue, asm, asm_of, asm_value, command_of, differ, fits, is_asm, is_run, positional, run, run_of, run_value}
+use Rattle.command_line.specs.Parts.{Parts}
+use Rattle.command_line.specs.Commands.{RunValue, command_of, differ, fits, is_run, positional, run, run_value}
 use Rattle.file_notes.specs.Names.{AreTwo}
+use Rattle.command_line.proofs.Ranges.{asked_run}
 use Rattle.rx_serve.specs.Noting.{names_of}
 
 not_alike : (a b : Text) → not (bytes_eq a b) ≡ true → a ≢ b
@@ -27,27 +28,7 @@ of_value p is =
     let others = (and_parts (not (bytes_eq program recording)) (not (bytes_eq program report) && not (bytes_eq recording report)) apart).1 in
     not_alike recording report (and_parts (not (bytes_eq program report)) (not (bytes_eq recording report)) others).1
 
-of_parts : (p : Parts) (value : RunValue) → run_of p ≡ Some (run value) → AreTwo (names_of value)
-of_parts p value asked =
-    elim (is_run p) as (λ b. is_run p ≡ b → cond b (Some (run (run_value p))) None ≡ Some (run value) → AreTwo (names_of value)) [
-      | true ↦ λ e some. let same_value : run_value p ≡ value = cc in subst (λ v. AreTwo (names_of v)) same_value (of_value p e)
-      | false ↦ λ e none. absurd (let no_such : None ≡ Some (run value) = none in cc)
-    ] refl asked
-
-not_asm : (p : Parts) (value : RunValue) → asm_of p ≡ Some (run value) → ⊥
-not_asm p value asked =
-    elim (is_asm p) as (λ b. cond b (Some (asm (asm_value p))) None ≡ Some (run value) → ⊥) [
-      | true ↦ λ some. let other_kind : Some (asm (asm_value p)) ≡ Some (run value) = some in cc
-      | false ↦ λ none. let no_such : None ≡ Some (run value) = none in cc
-    ] asked
-
 pub names_differ : (words : List Text) (value : RunValue) → command_of words ≡ Some (run value) → AreTwo (names_of value)
-names_differ [] value asked = absurd (let no_such : None ≡ Some (run value) = asked in cc)
-names_differ (word ∷ rest) value asked =
-    elim (bytes_eq word run_form.name) as (λ b. cond b (run_of (parts rest)) (cond (bytes_eq word asm_form.name) (asm_of (parts rest)) None) ≡ Some (run value) → AreTwo (names_of value)) [
-      | true ↦ λ some. of_parts (parts rest) value some
-      | false ↦ λ some. elim (bytes_eq word asm_form.name) as (λ b. cond b (asm_of (parts rest)) None ≡ Some (run value) → AreTwo (names_of value)) [
-        | true ↦ λ more. absurd (not_asm (parts rest) value more)
-        | false ↦ λ none. absurd (let no_such : None ≡ Some (run value) = none in cc)
-      ] some
-    ] asked
+names_differ words value asked =
+    let found = asked_run words value asked in
+    subst (λ v. AreTwo (names_of v)) found.value_is (of_value found.parts_are found.is)

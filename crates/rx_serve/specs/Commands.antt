@@ -1,6 +1,6 @@
 -- What each command leaves.
 use Rattle.std.specs.Prelude.{◌≡◌, ◌⊎◌, ℕ, List, Option, Ok, Err}
-use Rattle.command_line.specs.Commands.{RunValue, AsmValue}
+use Rattle.command_line.specs.Commands.{RunValue, AsmValue, ReplayValue}
 use Rattle.rx_io.specs.Named.{Contents}
 use Rattle.rx_io.specs.Outside.{Stream}
 use Rattle.elf_image.specs.declared.image.Image.{Image}
@@ -16,6 +16,7 @@ use Rattle.rx_serve.specs.Headline.{Headline}
 use Rattle.rx_serve.specs.Loading.{HasImage, HasLoadCause}
 use Rattle.rx_serve.specs.Noting.{StartsFiles, ServesNoted, ClosesFiles, HaveTexts}
 use Rattle.rx_engine.specs.Options.{keeping_for}
+use Rattle.rx_serve.specs.Replaying.{ReplaysFile}
 use Rattle.rx_serve.specs.Settings.{window_of, options_of, rules_of_run}
 
 -- what the files have where no session began: nothing of them was touched; or a fault or want of memory came as the two were started; or they were
@@ -58,4 +59,10 @@ pub record AsmEnds (value : AsmValue) (files files_later : Option Contents) (sou
   pub assembles : Assembles files files_later value.source value.out end.answer
   pub cause : HasAsmCause files value.source end.answer
   pub untouched : IsUntouched source source_later sink sink_later
+  pub nothing : HasNoSession end
+
+-- What `replay` leaves, where so many instructions were counted: a replay of the record, or why none began. No file was touched.
+pub record ReplayEnds (value : ReplayValue) (files files_later : Option Contents) (source source_later : Option Stream) (sink sink_later : Option (List ℕ)) (end : End) (counted : ℕ) : Type 0 where
+  pub replays : ReplaysFile value files source source_later sink sink_later end.answer counted
+  pub same_files : files_later ≡ files
   pub nothing : HasNoSession end

@@ -6,4 +6,5 @@ pub mod Settings
 pub mod Ended
 pub mod Noting
 pub mod Headline
+pub mod Replaying
 pub mod Commands

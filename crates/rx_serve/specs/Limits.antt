@@ -2,10 +2,15 @@
 use Rattle.std.specs.Prelude.{ℕ}
 use Rattle.rx_serve.specs.declared.loading.TheConstants.{MAX_PROGRAM}
 use Rattle.rx_serve.specs.declared.assembly.TheConstants.{MAX_SOURCE, ASSEMBLY_WINDOW}
+use Rattle.rx_serve.specs.declared.replaying.TheConstants.{MAX_RECORD}
 
 -- the greatest number of bytes of a program file
 abbrev pub program_limit : ℕ
 program_limit = MAX_PROGRAM
+
+-- of a record
+abbrev pub record_limit : ℕ
+record_limit = MAX_RECORD
 
 -- and of an assembler's text
 abbrev pub source_limit : ℕ

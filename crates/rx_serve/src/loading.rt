@@ -1,8 +1,8 @@
-// The program of a session.
+// The files that a command loads, and the program of a session.
 ghost use Rattle.std.specs.Prelude.{◌≡◌, ◌≤◌};
 ghost use Rattle.elf_image.specs.Layout.{IsWindow};
 ghost use Rattle.rx_io.specs.Faults.{Rose};
-ghost use Rattle.rx_serve.specs.Loading.{LoadsImage};
+ghost use Rattle.rx_serve.specs.Loading.{LoadsFile, ReadsImage, LoadsImage};
 
 use elf_image::{ElfRefusal, Image, read_image};
 use run_history::Answer;
@@ -11,6 +11,38 @@ use std::alloc::Global;
 
 /// The greatest number of bytes of a program file: 16 MiB.
 pub const MAX_PROGRAM: u64 = 16 << 20;
+
+/// Loads a file of no more than so many bytes.
+pub(crate) fn load_file<F: Files>(
+    alloc: Global,
+    files: &mut F,
+    name: &str,
+    limit: u64,
+) -> Result<Vec<u8>, Answer>
+    ensures loads { LoadsFile (F.told files.old) name.now limit result }
+    ensures same { F.told files.new ≡ F.told files.old }
+    ensures later { F.faults files.old ≤ F.faults files.new }
+    ensures file_fault { result ≡ Err Answer.FileFault → Rose (F.faults files.old) (F.faults files.new) }
+{
+    match files.load(alloc, name, limit) {
+        Ok(file) => Ok(file),
+        Err(LoadFault::Failed) => Err(Answer::FileFault),
+        Err(LoadFault::TooLarge) => Err(Answer::TooLarge),
+        Err(LoadFault::Memory) => Err(Answer::Memory),
+    }
+}
+
+/// Reads the image of a program file in a window of so many bytes.
+pub(crate) fn image_in(alloc: Global, file: &[u8], window: u32) -> Result<Image, Answer>
+    requires { IsWindow window }
+    ensures { ReadsImage file.now window result }
+{
+    match read_image(alloc, file, window) {
+        Ok(image) => Ok(image),
+        Err(ElfRefusal::Refused(kind)) => Err(Answer::ElfRefused(kind)),
+        Err(ElfRefusal::Memory) => Err(Answer::Memory),
+    }
+}
 
 /// Loads a program file, and reads its image in a window of so many bytes.
 pub fn load_image<F: Files>(

@@ -1,14 +1,15 @@
 // The top call: the words in, the answer and its status out.
 ghost use Rattle.std.specs.Prelude.{◌≡◌, ℕ, ◌+◌, ◌≤◌, ◌↔◌, Some, None};
 ghost use Rattle.command_line.specs.Parts.{texts_of};
-ghost use Rattle.command_line.specs.Commands.{RunValue, AsmValue, command_of, run, asm};
+ghost use Rattle.command_line.specs.Commands.{RunValue, AsmValue, ReplayValue, command_of, run, asm, replay};
 ghost use Rattle.rx_io.specs.Faults.{Rose};
-ghost use Rattle.rx_serve.specs.Commands.{RunEnds, AsmEnds};
+ghost use Rattle.rx_serve.specs.Commands.{RunEnds, AsmEnds, ReplayEnds};
 ghost use Rattle.rx_serve.specs.Ended.{HasNoSession, IsUntouched};
 ghost use Rattle.rx_serve.specs.Status.{status_of};
 
 use crate::assembly::assemble_file;
 use crate::ending::End;
+use crate::replaying::replay_file;
 use crate::serving::run_program;
 use command_line::{Command, read_command};
 use run_history::Answer;
@@ -21,7 +22,8 @@ use std::sync::ledger::Ledger;
 /// `run PROGRAM --record RECORD --report REPORT` loads the program, and lets it serve the trunk of `input` and `output`: its
 /// events are taken as the program asks for them, and its sends are passed as frames. The record has each answer of malloc of the
 /// run that the session answers for, the report each failure and what was tried after it. `asm SOURCE OUT` loads a text,
-/// assembles it in a window of 1 MiB, and writes its executable.
+/// assembles it in a window of 1 MiB, and writes its executable. `replay PROGRAM RECORD` loads a program and a record of it, and does
+/// the recorded run again over the trunk of `input` and `output`: its sends are frames, and events are taken only where it asks for an item.
 pub fn run_rx<F: Files, S: Source, K: Sink, N: Listener, L: Ledger>(
     alloc: Global,
     words: &[String],
@@ -39,6 +41,10 @@ pub fn run_rx<F: Files, S: Source, K: Sink, N: Listener, L: Ledger>(
     ensures assembles { (value : AsmValue) → command_of (texts_of words.now) ≡ Some (asm value)
         → AsmEnds value (F.told files.old) (F.told files.new) (S.told input.old) (S.told input.new) (K.told output.old) (K.told output.new) result }
 
+    // `replay` does the recorded run again, or no replay began, by its cause: nothing was read or written. No file is touched.
+    ensures replays { (value : ReplayValue) → command_of (texts_of words.now) ≡ Some (replay value)
+        → (counted : ℕ) → steps.new ≡ steps.old + counted → ReplayEnds value (F.told files.old) (F.told files.new) (S.told input.old) (S.told input.new) (K.told output.old) (K.told output.new) result counted }
+
     // Words of no command are refused, and nothing is touched.
     ensures bad_words { (result.answer ≡ Answer.BadWords) ↔ (command_of (texts_of words.now) ≡ None) }
     ensures untouched { command_of (texts_of words.now) ≡ None → IsUntouched (S.told input.old) (S.told input.new) (K.told output.old) (K.told output.new) }
@@ -54,7 +60,8 @@ pub fn run_rx<F: Files, S: Source, K: Sink, N: Listener, L: Ledger>(
     ensures listener { listener.new ≡ listener.old }
 
     ensures status { result.status ≡ status_of result.answer }
-    ensures uncounted { ((value : RunValue) → command_of (texts_of words.now) ≡ Some (run value) → ⊥) → steps.new ≡ steps.old }
+    ensures uncounted { ((value : RunValue) → command_of (texts_of words.now) ≡ Some (run value) → ⊥)
+        → ((value : ReplayValue) → command_of (texts_of words.now) ≡ Some (replay value) → ⊥) → steps.new ≡ steps.old }
     ensures counted_at_least { steps.old + result.steps ≤ steps.new }
 {
     // `run` has one trunk, its input and output: no command of today listens.
@@ -63,6 +70,10 @@ pub fn run_rx<F: Files, S: Source, K: Sink, N: Listener, L: Ledger>(
         Ok(Some(Command::Run(run))) => run_program(alloc, &run, files, input, output, steps),
         Ok(Some(Command::Asm(asm))) => {
             let answer = assemble_file(alloc, files, asm.source, asm.out);
+            End::without_session(alloc, answer)
+        }
+        Ok(Some(Command::Replay(replay))) => {
+            let answer = replay_file(alloc, &replay, files, input, output, steps);
             End::without_session(alloc, answer)
         }
         Ok(None) => End::without_session(alloc, Answer::BadWords),

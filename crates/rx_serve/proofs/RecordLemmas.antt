@@ -1,0 +1,45 @@
+-- A line at which a record is refused is one of its lines, or the one behind them.
+use Rattle.std.proofs.Common.{◌≡◌, ◌≤◌, ◌+◌, ◌<◌, ℕ, Bool, true, false, List, [], ◌∷◌, length, Option, Some, None, suc, arith}
+use Rattle.std.specs.Prelude.{is_some, if◌then◌else◌, ◌==◌}
+use Rattle.schedule_file.specs.Telling.{head_of, choice_of, end_of}
+use Rattle.schedule_file.specs.Refusals.{onto, lines_of, refused_behind, refused_from, refused_lines, refused_line}
+
+behind_few : (number line : ℕ) (lines : List (List ℕ)) → refused_behind number lines ≡ Some line → line ≤ number
+behind_few number line [] is = let none : None ≡ Some line = is in absurd (cc)
+behind_few number line (first ∷ lines) is = let same : number ≡ line = cc in omega (arith, same)
+
+from_few : (number line : ℕ) (lines : List (List ℕ)) → refused_from number lines ≡ Some line → line ≤ number + length lines
+from_few number line [] is = let same : number ≡ line = cc in omega (arith, same)
+from_few number line (first ∷ lines) is = by (is_some (choice_of first)) (is_some (end_of first)) (from_few (number + 1) line lines) is
+  where
+    by : (choice end : Bool) → (refused_from (number + 1) lines ≡ Some line → line ≤ number + 1 + length lines)
+        → (if choice then refused_from (number + 1) lines else if end then refused_behind (number + 1) lines else Some number) ≡ Some line → line ≤ number + length (first ∷ lines)
+    by true end rest is = let few = rest is in omega (arith, few)
+    by false true rest is = let few = behind_few (number + 1) line lines is in omega (arith, few)
+    by false false rest is = let same : number ≡ line = cc in omega (arith, same)
+
+onto_few : (byte : ℕ) (lines : List (List ℕ)) → length (onto byte lines) ≤ length lines + 1
+onto_few byte [] = omega arith
+onto_few byte (line ∷ lines) = omega arith
+
+lines_few : (text : List ℕ) → length (lines_of text) ≤ length text
+lines_few [] = omega arith
+lines_few (byte ∷ bytes) = by (byte == 10) (lines_few bytes)
+  where
+    by : (last : Bool) → length (lines_of bytes) ≤ length bytes → length (if last then (byte ∷ []) ∷ lines_of bytes else onto byte (lines_of bytes)) ≤ length (byte ∷ bytes)
+    by true few = omega (arith, few)
+    by false few = let more = onto_few byte (lines_of bytes) in omega (arith, few, more)
+
+refused_few : (line : ℕ) (lines : List (List ℕ)) → refused_lines lines ≡ Some line → line ≤ 2 + length lines
+refused_few line [] is = let same : 1 ≡ line = cc in omega (arith, same)
+refused_few line (first ∷ lines) is = by (is_some (head_of first)) is
+  where
+    by : (head : Bool) → (if head then refused_from 2 lines else Some 1) ≡ Some line → line ≤ 2 + length (first ∷ lines)
+    by true is = let few = from_few 2 line lines is in omega (arith, few)
+    by false is = let same : 1 ≡ line = cc in omega (arith, same)
+
+pub line_few : (text : List ℕ) (line : ℕ) → refused_line text ≡ Some line → line ≤ 2 + length text
+line_few text line is =
+    let few = refused_few line (lines_of text) is in
+    let all = lines_few text in
+    omega (arith, few, all)

@@ -1,0 +1,42 @@
+-- The command `replay`: what it leaves, from the calls that make it.
+use Rattle.std.proofs.Common.{◌≡◌, ℕ, ◌*◌, ◌^◌, List, Option, subst, inl, inr}
+use Rattle.command_line.specs.Commands.{ReplayValue}
+use Rattle.rx_io.specs.Named.{Contents}
+use Rattle.rx_io.specs.Outside.{Stream}
+use Rattle.elf_image.specs.declared.image.Image.{Image}
+use Rattle.elf_image.specs.Refusals.{IsImage}
+use Rattle.run_history.specs.declared.answer.Answer.{Answer}
+use Rattle.run_history.specs.declared.answer.Answer.TheVariants as answer
+use Rattle.schedule_file.specs.declared.recorded.Recorded.{Recorded}
+use Rattle.replay.specs.Replaying.{EndsBy}
+use Rattle.trunk_replay.specs.Replaying.{ReplaysTrunk}
+use Rattle.rx_serve.specs.Limits.{program_limit}
+use Rattle.rx_serve.specs.Loading.{HasFile}
+use Rattle.rx_serve.specs.Replaying.{HasRecord, HasReplayCause, ReplaysFile, window_in}
+
+-- a record was replayed
+pub has_replayed : (value : ReplayValue) (files mid : Option Contents) (program slice : List ℕ) (recording : Recorded) (image : Image) (window : ℕ) (source source_later : Option Stream) (sink sink_later : Option (List ℕ)) (end : Answer) (counted : ℕ)
+    → HasFile files value.program program_limit program → mid ≡ files → HasRecord mid value.recording recording → slice ≡ program → window ≡ window_in recording → IsImage slice window image
+    → ReplaysTrunk image recording source source_later sink sink_later end counted → ReplaysFile value files source source_later sink sink_later end counted
+has_replayed value files mid program slice recording image window source source_later sink sink_later end counted file same record_is bytes window_is is replays = inr (record {
+  program = program;
+  image = image;
+  recorded = recording;
+  file = file;
+  recording = subst (λ told. HasRecord told value.recording recording) same record_is;
+  is = subst (λ (n : ℕ). IsImage program n image) window_is (subst (λ (l : List ℕ). IsImage l window image) bytes is);
+  replays = replays;
+})
+
+-- no replay is answered by a fault of the files
+pub no_file_fault : (image : Image) (recording : Recorded) (source source_later : Option Stream) (sink sink_later : Option (List ℕ)) (end : Answer) (counted : ℕ)
+    → ReplaysTrunk image recording source source_later sink sink_later end counted → end ≡ answer.FileFault → ⊥
+no_file_fault image recording source source_later sink sink_later end counted replays is =
+    subst (λ (a : Answer). EndsBy image recording replays.entries replays.coming replays.replay a) is replays.ends
+
+-- nor by bad words
+pub not_bad_words : (value : ReplayValue) (files : Option Contents) (source source_later : Option Stream) (sink sink_later : Option (List ℕ)) (end : Answer) (counted : ℕ)
+    → ReplaysFile value files source source_later sink sink_later end counted → end ≡ answer.BadWords → ⊥
+not_bad_words value files source source_later sink sink_later end counted (inl begun) is = subst (λ (a : Answer). HasReplayCause files value a) is begun.cause
+not_bad_words value files source source_later sink sink_later end counted (inr done) is =
+    subst (λ (a : Answer). EndsBy done.image done.recorded done.replays.entries done.replays.coming done.replays.replay a) is done.replays.ends

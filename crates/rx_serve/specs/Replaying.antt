@@ -1,0 +1,83 @@
+-- The command `replay`: a program and a record of it are loaded, and the recorded run is done again.
+use Rattle.std.specs.Prelude.{◌≡◌, ◌⊎◌, ℕ, ◌*◌, ◌^◌, List, Option, Some, Result, Ok, Err}
+use Rattle.command_line.specs.Commands.{ReplayValue}
+use Rattle.rx_io.specs.Named.{Contents}
+use Rattle.rx_io.specs.Outside.{Stream}
+use Rattle.elf_image.specs.declared.image.Image.{Image}
+use Rattle.elf_image.specs.Refusals.{refusal, IsImage}
+use Rattle.run_history.specs.declared.answer.Answer.{Answer}
+use Rattle.run_history.specs.declared.answer.Answer.TheVariants.{RecordRefused, ElfRefused, TooLarge, FileFault, Memory}
+use Rattle.schedule_file.specs.Records.{IsReading}
+use Rattle.schedule_file.specs.Refusals.{refused_line}
+use Rattle.schedule_file.specs.declared.recorded.Recorded.{Recorded}
+use Rattle.trunk_replay.specs.Replaying.{ReplaysTrunk}
+use Rattle.rx_serve.specs.Ended.{IsUntouched}
+use Rattle.rx_serve.specs.Limits.{program_limit, record_limit}
+use Rattle.rx_serve.specs.Loading.{HasFile, IsTooLarge}
+
+-- the file of a name is the text of this record
+pub record HasRecord (told : Option Contents) (name : List ℕ) (recorded : Recorded) : Type 0 where
+  pub text : List ℕ
+  pub file : HasFile told name record_limit text
+  pub is : IsReading text recorded
+
+-- and here it is that of none: this line is the first one, from 1, that isn't of its form
+pub record HasNoRecord (told : Option Contents) (name : List ℕ) (line : ℕ) : Type 0 where
+  pub text : List ℕ
+  pub file : HasFile told name record_limit text
+  pub refused : refused_line text ≡ Some line
+  pub none : (recorded : Recorded) → IsReading text recorded → ⊥
+
+-- the record of a name, or why there is none
+abbrev pub LoadsRecord : Option Contents → List ℕ → Result Recorded Answer → Type 0
+LoadsRecord told name (Ok recorded) = HasRecord told name recorded
+LoadsRecord told name (Err (RecordRefused line)) = HasNoRecord told name line
+LoadsRecord told name (Err TooLarge) = IsTooLarge told name record_limit
+LoadsRecord told name (Err FileFault) = Unit {0}
+LoadsRecord told name (Err Memory) = Unit {0}
+LoadsRecord told name (Err _) = ⊥
+
+-- the bytes of a record's window
+abbrev pub window_in : Recorded → ℕ
+window_in recorded = recorded.window * 2 ^ 20
+
+-- a program file was loaded, and behind it this holds
+pub record IsBehindProgram (told : Option Contents) (value : ReplayValue) (P : List ℕ → Type 0) : Type 0 where
+  pub program : List ℕ
+  pub file : HasFile told value.program program_limit program
+  pub behind : P program
+
+-- the program file is refused in the window of its record, by the number of the first refusal that holds
+pub record HasWindowRefusal (told : Option Contents) (name : List ℕ) (kind : ℕ) (program : List ℕ) : Type 0 where
+  pub recorded : Recorded
+  pub recording : HasRecord told name recorded
+  pub refused : refusal program (window_in recorded) ≡ Some kind
+
+-- Why no replay began, of the files as they are. The program is loaded first, then its record; the record is read first, then the image.
+abbrev pub HasReplayCause : Option Contents → ReplayValue → Answer → Type 0
+HasReplayCause told value TooLarge = IsTooLarge told value.program program_limit ⊎ IsBehindProgram told value (λ _. IsTooLarge told value.recording record_limit)
+HasReplayCause told value (RecordRefused line) = IsBehindProgram told value (λ _. HasNoRecord told value.recording line)
+HasReplayCause told value (ElfRefused kind) = IsBehindProgram told value (HasWindowRefusal told value.recording kind)
+HasReplayCause told value FileFault = Unit {0}
+HasReplayCause told value Memory = Unit {0}
+HasReplayCause told value _ = ⊥
+
+-- no replay began: a file can't be loaded or is refused, or memory ran out. Nothing was read, written or run
+pub record HasNotReplayed (value : ReplayValue) (files : Option Contents) (source source_later : Option Stream) (sink sink_later : Option (List ℕ)) (end : Answer) (counted : ℕ) : Type 0 where
+  pub cause : HasReplayCause files value end
+  pub untouched : IsUntouched source source_later sink sink_later
+  pub none_counted : counted ≡ 0
+
+-- the record was replayed over the trunk, with the image of the program in the record's window
+pub record HasBeenReplayed (value : ReplayValue) (files : Option Contents) (source source_later : Option Stream) (sink sink_later : Option (List ℕ)) (end : Answer) (counted : ℕ) : Type 0 where
+  pub program : List ℕ
+  pub image : Image
+  pub recorded : Recorded
+  pub file : HasFile files value.program program_limit program
+  pub recording : HasRecord files value.recording recorded
+  pub is : IsImage program (window_in recorded) image
+  pub replays : ReplaysTrunk image recorded source source_later sink sink_later end counted
+
+abbrev pub ReplaysFile : ReplayValue → Option Contents → Option Stream → Option Stream → Option (List ℕ) → Option (List ℕ) → Answer → ℕ → Type 0
+ReplaysFile value files source source_later sink sink_later end counted =
+    HasNotReplayed value files source source_later sink sink_later end counted ⊎ HasBeenReplayed value files source source_later sink sink_later end counted

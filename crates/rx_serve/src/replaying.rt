@@ -1,0 +1,66 @@
+// The command `replay`: a program and a record of it are loaded, and the recorded run is done again over the trunk of input and output.
+ghost use Rattle.std.specs.Prelude.{◌≡◌, ℕ, ◌+◌, ◌≤◌};
+ghost use Rattle.command_line.specs.Commands.{replay_shown};
+ghost use Rattle.rx_io.specs.Faults.{Rose};
+ghost use Rattle.rx_serve.specs.Replaying.{LoadsRecord, ReplaysFile};
+
+use crate::loading::{MAX_PROGRAM, image_in, load_file};
+use command_line::ReplayCommand;
+use run_history::Answer;
+use rx_io::{Files, Sink, Source, Steps};
+use schedule_file::{RecordRefusal, Recorded, read_record};
+use std::alloc::Global;
+use std::sync::ledger::Ledger;
+use trunk_replay::replay_trunk;
+
+/// The greatest number of bytes of a record: 64 MiB.
+pub const MAX_RECORD: u64 = 64 << 20;
+
+// Loads a record and reads it.
+fn load_record<F: Files>(alloc: Global, files: &mut F, name: &str) -> Result<Recorded, Answer>
+    ensures loads { LoadsRecord (F.told files.old) name.now result }
+    ensures same { F.told files.new ≡ F.told files.old }
+    ensures later { F.faults files.old ≤ F.faults files.new }
+    ensures file_fault { result ≡ Err Answer.FileFault → Rose (F.faults files.old) (F.faults files.new) }
+{
+    let text = match load_file(alloc, files, name, MAX_RECORD) {
+        Ok(text) => text,
+        Err(answer) => return Err(answer),
+    };
+    match read_record(alloc, text.as_slice()) {
+        Ok(recorded) => Ok(recorded),
+        Err(RecordRefusal::Refused { line }) => Err(Answer::RecordRefused { line: line as u32 }),
+        Err(RecordRefusal::Memory) => Err(Answer::Memory),
+    }
+}
+
+/// Loads a program, then its record, reads the record, then the image in the record's window, and replays it.
+pub(crate) fn replay_file<F: Files, S: Source, K: Sink, L: Ledger>(
+    alloc: Global,
+    replay: &ReplayCommand<'_>,
+    files: &mut F,
+    input: &mut S,
+    output: &mut K,
+    steps: &mut Steps<L>,
+) -> Answer
+    ensures replays { (counted : ℕ) → steps.new ≡ steps.old + counted → ReplaysFile (replay_shown replay.now) (F.told files.old) (S.told input.old) (S.told input.new) (K.told output.old) (K.told output.new) result counted }
+    ensures same { F.told files.new ≡ F.told files.old }
+    ensures counted_more { steps.old ≤ steps.new }
+    ensures file_fault { result ≡ Answer.FileFault → Rose (F.faults files.old) (F.faults files.new) }
+    ensures read_fault { result ≡ Answer.ReadFault → Rose (S.faults input.old) (S.faults input.new) }
+    ensures write_fault { result ≡ Answer.WriteFault → Rose (K.faults output.old) (K.faults output.new) }
+{
+    let program = match load_file(alloc, files, replay.program, MAX_PROGRAM) {
+        Ok(program) => program,
+        Err(answer) => return answer,
+    };
+    let recorded = match load_record(alloc, files, replay.recording) {
+        Ok(recorded) => recorded,
+        Err(answer) => return answer,
+    };
+    let image = match image_in(alloc, program.as_slice(), recorded.window << 20) {
+        Ok(image) => image,
+        Err(answer) => return answer,
+    };
+    replay_trunk(alloc, &image, &recorded, input, output, steps)
+}
