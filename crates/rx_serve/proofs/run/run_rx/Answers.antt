@@ -19,10 +19,10 @@ run_program-requires-clause-two g c =
 
 pub returns-in-Ok-Some-Replay-clause-bad_words : goal.returns-in-Ok-Some-Replay-clause-bad_words
 returns-in-Ok-Some-Replay-clause-bad_words g c =
-    let more = c.replay_file.ensures.counted_more in
-    let ends = c.replay_file.ensures.replays (c.replay_file.new.steps - c.args.steps.now) (omega (arith, more)) in
+    let more = c.replay_file-answer.ensures.counted_more in
+    let ends = c.replay_file-answer.ensures.replays (c.replay_file-answer.new.steps - c.args.steps.now) (omega (arith, more)) in
     let read = c.in-Ok-Some-Replay.ensures.read in
-    let asked : command_of (texts_of c.args.words.now) ≡ Some (replay (replay_shown c.in-Ok-Some-Replay.replay')) = search (rules, read) in (
-      λ is. absurd (not_bad_words _ _ _ _ _ _ c.replay_file.result (c.replay_file.new.steps - c.args.steps.now) ends (sym c.without_session-in-Ok-Some-Replay.ensures.answer ∙ is)),
-      λ none. absurd (let never : None ≡ Some (replay (replay_shown c.in-Ok-Some-Replay.replay')) = sym none ∙ asked in cc),
+    let asked : command_of (texts_of c.args.words.now) ≡ Some (replay (replay_shown c.in-Ok-Some-Replay.replay)) = search (rules, read) in (
+      λ is. absurd (not_bad_words _ _ _ _ _ _ c.replay_file-answer.result (c.replay_file-answer.new.steps - c.args.steps.now) ends (sym c.without_session-in-Ok-Some-Replay.ensures.answer ∙ is)),
+      λ none. absurd (let never : None ≡ Some (replay (replay_shown c.in-Ok-Some-Replay.replay)) = sym none ∙ asked in cc),
     )
