@@ -1,3 +1,4 @@
 pub mod WritingLemmas
 pub mod TextLemmas
 pub mod NotesLemmas
+pub mod LawLemmas

@@ -1,10 +1,8 @@
 -- What notes are after an episode was noted.
-use Rattle.std.proofs.Common.{◌≡◌, ℕ, ◌+◌, List, [], ◌∷◌, ◌++◌, length, length-append, Bool, true, Option, None, Some, Result, Ok, Err, sym, ap, ◌∙◌, append_assoc, append-nil, zero-add, unwrap_or, subst}
+use Rattle.std.proofs.Common.{◌≡◌, ℕ, ◌+◌, List, [], ◌∷◌, ◌++◌, length, length-append, Bool, true, Option, None, Some, Ok, sym, ap, ◌∙◌, append_assoc, append-nil, zero-add, unwrap_or, subst}
 use Rattle.std.proofs.lemmas.Bool.{false≢true}
 use Rattle.block_book.specs.declared.choice.Choice.{Choice}
 use Rattle.episodes.specs.declared.episode.Episode.{Episode}
-use Rattle.notes.specs.Noting.{IsNoted, with_noted}
-use Rattle.rx_io.specs.declared.fault.IoFault.{IoFault}
 use Rattle.rx_io.specs.Named.{Contents, Adds, AddsFront}
 use Rattle.run_report.specs.declared.form.Form.{Form}
 use Rattle.run_report.specs.Report.{episode_text}
@@ -12,7 +10,7 @@ use Rattle.file_notes.specs.Names.{Names, AreTwo, bytes_in}
 use Rattle.file_notes.specs.Past.{Past, Had, with_episode}
 use Rattle.file_notes.specs.Left.{Left, Nothing, InRecord, InReport}
 use Rattle.file_notes.specs.Invariant.{IsNotes, Keeps, HasKept}
-use Rattle.file_notes.specs.Standing.{Stands, in_report}
+use Rattle.file_notes.specs.Standing.{in_report}
 use Rattle.file_notes.specs.Left.{is_whole}
 use Rattle.file_notes.specs.Texts.{episode_texts}
 use Rattle.file_notes.proofs.TextLemmas.{one_more}
@@ -58,19 +56,3 @@ noted_episode names form old new past after number broken e whole after_is added
       broken_is = notes.broken_is;
       keeps = keeps_more names form past.had old new past.choices past.episodes past.left e notes.are_two whole text notes.keeps;
     })
-
--- what was noted, by the answer
-pub noted_by : {T : Type 0} (old new more : List T) (result : Result (Unit {0}) IoFault) → IsNoted (Some old) (Some new) more result → new ≡ with_noted old more result
-noted_by old new more (Ok done) noted = noted
-noted_by old new more (Err fault) noted = ap (λ o. unwrap_or o []) noted
-
--- what stands in files is told in other words
-pub stands_as : (names names' : Names) (form form' : Form) (before before' now : Option Contents) (choices choices' : List Choice) (episodes episodes' : List Episode) (left : Left)
-    → names ≡ names' → form ≡ form' → before ≡ before' → choices ≡ choices' → episodes ≡ episodes'
-    → Stands names form before now choices episodes left → Stands names' form' before' now choices' episodes' left
-stands_as names names' form form' before before' now choices choices' episodes episodes' left names_is form_is before_is choices_is episodes_is stands =
-    subst (λ (n : Names). Stands n form' before' now choices' episodes' left) names_is
-    (subst (λ (f : Form). Stands names f before' now choices' episodes' left) form_is
-    (subst (λ (b : Option Contents). Stands names form b now choices' episodes' left) before_is
-    (subst (λ (c : List Choice). Stands names form before now c episodes' left) choices_is
-    (subst (λ (e : List Episode). Stands names form before now choices e left) episodes_is stands))))

@@ -6,7 +6,6 @@ mod ends;
 mod file_names;
 mod file_notes;
 pub mod laws;
-mod lent;
 mod past;
 mod writing;
 

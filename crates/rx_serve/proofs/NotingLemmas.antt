@@ -1,5 +1,5 @@
 -- What stands in a session's files at its end, and that the counts of it fit into a record.
-use Rattle.std.proofs.Common.{◌≡◌, ℕ, ◌+◌, ◌*◌, ◌^◌, ◌<◌, ◌≤◌, List, [], ◌++◌, length, Bool, true, true≢false, refl, Option, None, Some, Result, Ok, Err, unwrap_or, inl, inr, sym, ◌∙◌, ap, subst, append_assoc, append-nil, arith}
+use Rattle.std.proofs.Common.{◌≡◌, ℕ, ◌+◌, ◌*◌, ◌^◌, ◌<◌, ◌≤◌, List, [], length, Bool, true, true≢false, refl, Option, None, Some, Result, Ok, Err, inl, inr, sym, subst, arith}
 use Rattle.std.proofs.lemmas.Nat.{mul-le}
 use Rattle.block_book.specs.Heap.{Heap}
 use Rattle.block_book.specs.declared.choice.Choice.{Choice}
@@ -9,6 +9,7 @@ use Rattle.episodes.specs.declared.episode.Episode.{Episode}
 use Rattle.file_notes.specs.Left.{Left, Nothing, InRecord, InReport, is_whole}
 use Rattle.file_notes.specs.Names.{Names}
 use Rattle.file_notes.specs.Standing.{Stands}
+use Rattle.file_notes.proofs.LawLemmas.{whole_texts}
 use Rattle.notes.specs.Noting.{noted}
 use Rattle.run_report.specs.declared.form.Form.{Form}
 use Rattle.recovery_gate.specs.Handling.{Keeping}
@@ -27,25 +28,11 @@ use Rattle.schedule_file.specs.declared.recorded.TheConstants.{MAX_TAKEN}
 use Rattle.session_history.specs.Account.{journal_of}
 use Rattle.session_history.specs.Ends.{IsEnd}
 use Rattle.rx_serve.specs.Noting.{StartsFiles, EndsFiles, HaveTexts, ServesNoted, ClosesFiles, names_of, report_form}
+use Rattle.rx_serve.specs.Status.{status_of}
 use Rattle.rx_serve.proofs.FewItems.{few_items}
 use Rattle.rx_serve.proofs.FewSteps.{few_steps}
 
 -- ---- the texts
-
--- first a file was started, then it grew, and last it was ended
-whole_of : (first middle last : List ℕ) (started noted now : Option (List ℕ)) → started ≡ Some first → unwrap_or noted [] ≡ unwrap_or started [] ++ (middle ++ []) → now ≡ Some (unwrap_or noted [] ++ last)
-    → now ≡ Some (first ++ (middle ++ last))
-whole_of first middle last started noted now start grew ended =
-    ended ∙ ap (λ text. Some (text ++ last)) (grew ∙ ap (λ file. unwrap_or file [] ++ (middle ++ [])) start ∙ ap (λ more. first ++ more) (append-nil middle)) ∙ ap Some (append_assoc first middle last)
-
-texts_known : (value : RunValue) (choices : List Choice) (episodes : List Episode) (ended : Answer) (taken steps : ℕ) (before started noted now : Contents)
-    → StartsFiles value (Some before) (Some started) (Ok tt) → Stands (names_of value) (report_form value.form) (Some started) (Some noted) choices episodes Nothing → EndsFiles value ended taken steps (Some noted) (Some now) (Ok tt)
-    → HaveTexts value choices episodes ended taken steps (Some before) (Some now)
-texts_known value choices episodes ended taken steps before started noted now starts stands ends = record {
-  record_has = whole_of _ _ _ (started value.recording) (noted value.recording) (now value.recording) starts.record_has stands.record_has ends.record_has;
-  report_has = whole_of _ _ _ (started value.report) (noted value.report) (now value.report) starts.report_has stands.report_has ends.report_has;
-  others = λ other a b. ends.others other a b ∙ stands.others other a b ∙ starts.others other a b;
-}
 
 texts : (value : RunValue) (choices : List Choice) (episodes : List Episode) (ended : Answer) (taken steps : ℕ) (before started noted now : Option Contents)
     → StartsFiles value before started (Ok tt) → Stands (names_of value) (report_form value.form) started noted choices episodes Nothing → EndsFiles value ended taken steps noted now (Ok tt)
@@ -54,7 +41,7 @@ texts value choices episodes ended taken steps None started noted now starts sta
 texts value choices episodes ended taken steps (Some before) None noted now starts stands ends = absurd starts
 texts value choices episodes ended taken steps (Some before) (Some started) None now starts stands ends = absurd stands
 texts value choices episodes ended taken steps (Some before) (Some started) (Some noted) None starts stands ends = absurd ends
-texts value choices episodes ended taken steps (Some before) (Some started) (Some noted) (Some now) starts stands ends = texts_known value choices episodes ended taken steps before started noted now starts stands ends
+texts value choices episodes ended taken steps (Some before) (Some started) (Some noted) (Some now) starts stands ends = whole_texts (names_of value) value.window value.frame (report_form value.form) before started noted now choices episodes (status_of ended) taken steps starts stands ends
 
 -- ---- the ends
 

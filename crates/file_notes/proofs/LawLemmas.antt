@@ -1,0 +1,16 @@
+-- What stands in the two files at the end.
+use Rattle.std.proofs.Common.{◌≡◌, List, [], ◌++◌, ℕ, Option, Some, unwrap_or, ◌∙◌, ap, append_assoc, append-nil}
+use Rattle.file_notes.specs.Laws.{WholeTexts}
+
+-- first a file was started, then it grew, and last it was ended
+whole_of : (first middle last : List ℕ) (started noted now : Option (List ℕ)) → started ≡ Some first → unwrap_or noted [] ≡ unwrap_or started [] ++ (middle ++ []) → now ≡ Some (unwrap_or noted [] ++ last)
+    → now ≡ Some (first ++ (middle ++ last))
+whole_of first middle last started noted now start grew ended =
+    ended ∙ ap (λ text. Some (text ++ last)) (grew ∙ ap (λ file. unwrap_or file [] ++ (middle ++ [])) start ∙ ap (λ more. first ++ more) (append-nil middle)) ∙ ap Some (append_assoc first middle last)
+
+pub whole_texts : WholeTexts
+whole_texts names window frame form before started noted now choices episodes status taken steps starts has ends = record {
+  record_has = whole_of _ _ _ (started names.record_name) (noted names.record_name) (now names.record_name) starts.record_has has.record_has ends.record_has;
+  report_has = whole_of _ _ _ (started names.report_name) (noted names.report_name) (now names.report_name) starts.report_has has.report_has ends.report_has;
+  others = λ other a b. ends.others other a b ∙ has.others other a b ∙ starts.others other a b;
+}
