@@ -4,11 +4,11 @@ ghost use Rattle.std.specs.Prelude.{◌≡◌, ◌<◌, ◌^◌, length, true, N
 ghost use Rattle.run_history.specs.Machine.{Wants};
 ghost use Rattle.run_history.specs.Run.{does};
 
-use crate::played::image_of;
 use alloc_env::Env;
 use guest_cpu::{Cpu, Event};
 use guest_space::AllMapped;
 use rx_io::{Bytes, Item, Steps};
+use session_rows::image_of;
 use std::alloc::Global;
 use std::marker::Brand;
 use std::process::Abort;

@@ -1,5 +1,5 @@
-use Rattle.engine_tests.proofs.Quiet.{gives_quietly, gives_none}
-use Rattle.engine_tests.proofs.short_link.ShortLinkLink.give.Goals as goal
+use Rattle.session_rows.proofs.Quiet.{gives_quietly, gives_none}
+use Rattle.session_rows.proofs.short_link.ShortLinkLink.give.Goals as goal
 
 pub returns-then-self-eq0-clause-told : goal.returns-then-self-eq0-clause-told
 returns-then-self-eq0-clause-told g c = gives_none c.args.conn c.args.bytes.now

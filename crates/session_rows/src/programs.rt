@@ -1,7 +1,13 @@
-// Programs that the example guests lack.
+// Programs that the example guests lack, by their names.
+use crate::rows::WINDOW;
+use elf_image::Image;
+use example_guests::source_of;
+use rv_asm::assemble;
+use std::alloc::Global;
+use std::test::Fail;
 
 // Sends each message to connection 0 and then to connection 1, from wherever it came.
-pub const TELLS_BOTH: &str = r#"receive:
+const TELLS_BOTH: &str = r#"receive:
     la   a0, buffer
     li   a1, 4096
     li   a7, 1                  # recv
@@ -23,7 +29,7 @@ buffer:
 "#;
 
 // Sends the first message back, and exits with its length.
-pub const ANSWERS_ONCE: &str = r#"receive:
+const ANSWERS_ONCE: &str = r#"receive:
     la   a0, buffer
     li   a1, 4096
     li   a7, 1                  # recv
@@ -46,7 +52,7 @@ buffer:
 "#;
 
 // Asks for blocks of 17 bytes, of none, of 1 MiB and of 1 byte, frees the second, asks for 3 bytes, and exits.
-pub const ASKS_FOR_BLOCKS: &str = r#"
+const ASKS_FOR_BLOCKS: &str = r#"
     li   a7, 3                  # malloc
     li   a0, 17
     ecall
@@ -69,7 +75,7 @@ pub const ASKS_FOR_BLOCKS: &str = r#"
 "#;
 
 // Frees a block twice at the first message, sends the message back, and exits with its length.
-pub const FREES_TWICE_AND_EXITS: &str = r#"receive:
+const FREES_TWICE_AND_EXITS: &str = r#"receive:
     la   a0, buffer
     li   a1, 4096
     li   a7, 1                  # recv
@@ -100,7 +106,7 @@ buffer:
 
 // At the start it makes a block of 1024 bytes and frees it. At each message it makes a block, writes all of the old one, looks at a word of the
 // new one (assertion 4), and sends the message back.
-pub const WRITES_TO_AN_OLD_BLOCK: &str = r#"
+const WRITES_TO_AN_OLD_BLOCK: &str = r#"
     li   a0, 1024
     li   a7, 3                  # malloc
     ecall
@@ -148,7 +154,7 @@ buffer:
 
 // At each message it makes two blocks of 16 bytes, writes 40 into the first one, looks at a word of the second (assertion 1), frees the first
 // one twice, and sends the message back.
-pub const OVERRUNS_AND_FREES_TWICE: &str = r#"receive:
+const OVERRUNS_AND_FREES_TWICE: &str = r#"receive:
     la   a0, buffer
     li   a1, 4096
     li   a7, 1                  # recv
@@ -192,3 +198,25 @@ word_holds:
 buffer:
     .space 4096
 "#;
+
+// The text of a program of this crate.
+fn own_source_of(name: &str) -> Option<&'static str> {
+    match name {
+        "tells_both" => Some(TELLS_BOTH),
+        "answers_once" => Some(ANSWERS_ONCE),
+        "asks_for_blocks" => Some(ASKS_FOR_BLOCKS),
+        "frees_twice_and_exits" => Some(FREES_TWICE_AND_EXITS),
+        "writes_to_an_old_block" => Some(WRITES_TO_AN_OLD_BLOCK),
+        "overruns_and_frees_twice" => Some(OVERRUNS_AND_FREES_TWICE),
+        _ => None,
+    }
+}
+
+/// The image of an example guest, or of a program of this crate, by its name. Its window has 1 MiB.
+pub fn image_of(alloc: Global, name: &str) -> Result<Image, Fail> {
+    let text = match source_of(name) {
+        Some(text) => text,
+        None => own_source_of(name).ok_or("no such program")?,
+    };
+    Ok(assemble(alloc, text.as_bytes(), WINDOW)?)
+}
