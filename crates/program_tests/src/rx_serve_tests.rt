@@ -219,13 +219,19 @@ pub fn bytes_of(alloc: Global, hex: &str) -> Result<Vec<u8>, AllocError> {
     Ok(bytes)
 }
 
-// A row of a table: a guest, the options behind the words that run it, the input, the end, the output, and what the input
-// has left, parted by `;`.
-fn expect_row(rt: &impl Abort, alloc: Global, row: &str, most: usize) -> Result<(), Fail> {
+// The cells of a row, parted by `;`.
+pub fn cells_of(alloc: Global, row: &str) -> Result<Vec<&str>, Fail> {
     let mut cells = Vec::new(alloc);
     for cell in row.split(';') {
         cells.push(cell.trim())?;
     }
+    Ok(cells)
+}
+
+// A row of a table: a guest, the options behind the words that run it, the input, the end, the output, and what the input
+// has left.
+fn expect_row(rt: &impl Abort, alloc: Global, row: &str, most: usize) -> Result<(), Fail> {
+    let cells = cells_of(alloc, row)?;
     let [guest, options, input, end, output, left] = cells.as_slice() else {
         return Err("not six cells".into());
     };
