@@ -11,7 +11,7 @@ use Rattle.guest_cpu.specs.Cpus.{CpuState, live_of, with_live}
 use Rattle.guest_cpu.specs.Standing.{Standing}
 use Rattle.ckpt_ring.specs.Slots.{Saved}
 use Rattle.session_history.specs.Serving.{gone_on}
-use Rattle.recovery_gate.specs.Handling.{Keeping, stands_of, keeping_by}
+use Rattle.recovery_gate.specs.Handling.{Keeping, stands_of}
 use Rattle.rx_engine.specs.Leaving.{HandlesRequests, keeping_of}
 use Rattle.session_history.specs.Heeding.{items_in}
 use Rattle.session_history.specs.Lawful.{Rules}

@@ -1,5 +1,5 @@
 -- The checkpoints that a session holds for the run that it answers for, and what it gave up.
-use Rattle.std.proofs.Common.{◌≡◌, inl, inr, false, [], ◌+◌, arith, ℕ, ◌-◌, ◌<◌, ◌≤◌, List, length, Option, None, Some, refl, sym, ◌∙◌, ap, subst}
+use Rattle.std.proofs.Common.{◌≡◌, inl, inr, false, [], ◌+◌, arith, ℕ, ◌-◌, ◌≤◌, List, length, Option, None, Some, refl, sym, ◌∙◌, ap, subst}
 use Rattle.std.specs.Prelude.{IfSome, option_map, slice_get}
 use Rattle.rx_io.specs.declared.bytes.Item.{Item}
 use Rattle.rx_io.specs.declared.journal.Entry.{Entry}
@@ -11,7 +11,6 @@ use Rattle.ckpt_ring.specs.Rings.{from_newest}
 use Rattle.run_history.specs.declared.answer.Answer.{Answer}
 use Rattle.run_history.specs.declared.answer.Answer.TheVariants as answer
 use Rattle.guest_cpu.specs.Standing.{Standing}
-use Rattle.guest_cpu.specs.Serving.{standing_of}
 use Rattle.session_history.specs.Heeding.{heeded, items_in}
 use Rattle.session_history.specs.Lawful.{Rules, Survivor}
 use Rattle.session_history.specs.Giving.{AreGiven}
@@ -22,7 +21,7 @@ use Rattle.trial_history.specs.Episodes.{Recovery}
 use Rattle.run_history.specs.Served.{Path, Served, AsksFor}
 use Rattle.session_history.specs.Serving.{gone_on}
 use Rattle.trial_history.proofs.Planned.{past_request}
-use Rattle.recovery_gate.specs.Handling.{Keeping, Stand, is_far, handle, HasHandled, stand_of, stands_of, keeping_by}
+use Rattle.recovery_gate.specs.Handling.{Keeping, Stand, is_far, handle, HasHandled, stands_of}
 use Rattle.recovery_gate.proofs.Handled.{near_handles, handled_near, handled_on, handled_more}
 use Rattle.circular_buffer.proofs.Places.{slice_get-take}
 use Rattle.guest_cpu.specs.Cpus.{CpuState}
@@ -30,7 +29,7 @@ use Rattle.recovery_gate.specs.declared.recovering.Adopted.{Adopted}
 use Rattle.recovery_gate.specs.Recovering.{KeepsSlots}
 use Rattle.rx_engine.specs.Serving.{HasSameGuest}
 use Rattle.rx_engine.specs.Recovered.{IsNoteFault}
-use Rattle.rx_engine.specs.Leaving.{UnlessGaveUp, IsAtRequest, HandlesRequests, keeping_of, IsHandled, HoldsCheckpoints, IsTrimmed, KeepsOldest}
+use Rattle.rx_engine.specs.Leaving.{UnlessGaveUp, IsAtRequest, HandlesRequests, keeping_of, HoldsCheckpoints, IsTrimmed, KeepsOldest}
 use Rattle.rx_engine.proofs.GivenLemmas.{events_in-story}
 
 -- what holds anyhow, holds unless a session gave up
@@ -144,9 +143,6 @@ module _ {R : Type 0} where
         subst (λ (o : Option (Saved Standing)). IfSome o (λ oldest. new.replies.first ≤ oldest.state.sends)) (sym keeps.oldest)
         (subst (λ n. IfSome (slice_get old.cpu.slots.saved 0) (λ oldest. n ≤ oldest.state.sends)) (sym keeps.sends) trimmed.sends);
   }
-
-  pub oldest_same : (session : SessionState R) → KeepsOldest session session
-  oldest_same session = record { oldest = refl; first = refl; recorded = refl; sends = refl; keeping = refl }
 
   pub oldest_then : (old mid new : SessionState R) → KeepsOldest old mid → KeepsOldest mid new → KeepsOldest old new
   oldest_then old mid new first second = record {

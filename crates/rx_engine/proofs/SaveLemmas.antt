@@ -110,7 +110,8 @@ module _ {R : Type 0} where
                 (asks_under_all rules.limits h.story.survivor.plan [] h.story.survivor.now h.story.survivor.now.state.machine.taken h.asks)
                 (subst (λ n. stands_of cpu.slots.saved ≡ handle (keeping_of old) n old.cpu.slots.written (stands_of old.cpu.slots.saved)) h.answers.taken handles)
                 (subst (λ n. is_far old.options.every n (from_newest (stands_of cpu.slots.saved) 0) ≡ false) h.answers.taken near) h.saved.requests);
-            in_force = h.saved.in_force; past = h.saved.past;
+            in_force = h.saved.in_force;
+            past = h.saved.past;
           };
           passed = h.passed;
           asks = h.asks;

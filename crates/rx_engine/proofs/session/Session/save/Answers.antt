@@ -27,4 +27,3 @@ pub returns-clause-keeping : goal.returns-clause-keeping
 returns-clause-keeping g c =
     (λ i. keeping_by (c.checkpoint.ensures.capacity i) c.self.inside.options.every c.checkpoint.new.cpu.slots)
     ∙ (saves_keeping _ _ c.self.inside.ring.capacity c.self.inside.options.every c.self.inside.cpu c.checkpoint.new.cpu c.checkpoint.ensures.saved ∙ ap (λ (s : SessionState _). keeping_of s) c.self.view_is)
-
