@@ -6,9 +6,13 @@ guests. Each run is a line of the shell, `printf INPUT | rx run GUEST ..`, in a 
 the answer that standard error tells are compared with what was worked out by hand from the guests' texts and from docs/USING.md. A
 line that differs is printed, so that it can be run again.
 
-With --no-recovery the first failure has to be the end. Without it the values are those of an rx that recovers.
+Behind a run that came to its end its record is replayed, `printf INPUT | rx replay GUEST record`. That has to write the same bytes; but where
+replies were held back, they may come in another order, the same to each connection.
 
-usage: shipped.py [--no-recovery] [RX]
+With --no-recovery the first failure has to be the end. Without it the values are those of an rx that recovers. With --no-replay nothing
+is replayed.
+
+usage: shipped.py [--no-recovery] [--no-replay] [RX]
 RX is the built rx, crates/rx/out/rx unless it is given. The status is 0 where all runs are right.
 """
 
@@ -22,7 +26,7 @@ import tempfile
 from second.checks import OPENS_0, lines_in, out, piece
 from second.guests import FOLDER, text_of
 from second.said import answer_of
-from second.trunk import CLOSES, OPENS, SETTLES, frame
+from second.trunk import CLOSES, OPENS, SETTLES, frame, payloads
 
 HERE = os.path.dirname(os.path.abspath(__file__))
 TOP = os.path.join(HERE, "..")
@@ -212,6 +216,8 @@ def differences(shell, run, recovers):
         return ["assembly: %s %s %s" % shell.made[run.guest]], ""
     line = 'printf %s | "$RX" run %s --record record --report report %s' % (quoted(run.stream), program, run.options)
     came, status, said = shell.run(line)
+    with open(os.path.join(shell.folder, "output"), "wb") as written:
+        written.write(came)
     words = run.options.split()
     told_answer = answer_of(status, said, int(words[words.index("--budget") + 1]) if "--budget" in words else BUDGET)
     found = []
@@ -220,6 +226,23 @@ def differences(shell, run, recovers):
     if told_answer != answer:
         found.append("answer %s in place of %s" % (told_answer, answer))
     return found, line
+
+
+def has_end(shell):
+    """Whether the last run's record has its last line."""
+    with open(os.path.join(shell.folder, "record"), "rb") as record:
+        return b"\nend " in record.read()
+
+
+def replay_differs(shell, run):
+    """What differs where the run's record is replayed, or None."""
+    came, status, said = shell.run('printf %s | "$RX" replay %s record' % (quoted(run.stream), shell.program(run.guest)))
+    if status:
+        return "replay: status %d, %r" % (status, said)
+    with open(os.path.join(shell.folder, "output"), "rb") as written:
+        output = written.read()
+    same = payloads(came) == payloads(output) if "--hold" in run.options else came == output
+    return None if same else "replay: output %r in place of %r" % (came, output)
 
 
 def line_differs(shell, line, output, status):
@@ -233,9 +256,10 @@ def line_differs(shell, line, output, status):
 def main(words):
     parser = argparse.ArgumentParser(description="Runs each shipped guest from the shell.")
     parser.add_argument("--no-recovery", action="store_true")
+    parser.add_argument("--no-replay", action="store_true")
     parser.add_argument("rx", nargs="?", default=os.path.join(TOP, "crates", "rx", "out", "rx"))
     asked = parser.parse_args(words)
-    right, wrong = collections.Counter(), 0
+    right, wrong, replays = collections.Counter(), 0, 0
     texts = {name[:-3] for name in os.listdir(FOLDER) if name.endswith(".rt")} - {"lib", "catalogue"}
     for guest in sorted(texts - {run.guest for run in RUNS}):
         wrong += 1
@@ -244,6 +268,9 @@ def main(words):
         shell = Shell(os.path.abspath(asked.rx), folder)
         for run in RUNS:
             found, line = differences(shell, run, not asked.no_recovery)
+            if not (found or asked.no_replay) and has_end(shell):
+                replays += 1
+                found = [difference for difference in [replay_differs(shell, run)] if difference]
             right[run.guest] += not found
             wrong += bool(found)
             for difference in found:
@@ -255,7 +282,7 @@ def main(words):
             if difference:
                 print("%s\n  %s" % (difference, line[0]))
     print(", ".join("%s %d" % pair for pair in sorted(right.items())))
-    print("%d runs are right, %d aren't" % (sum(right.values()), wrong))
+    print("%d runs are right, %d aren't; %d were replayed" % (sum(right.values()), wrong, replays))
     return 1 if wrong else 0
 
 
