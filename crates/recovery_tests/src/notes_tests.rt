@@ -11,10 +11,10 @@ fn trials_are_noted_up_to_the_one_that_survives(rt: HostRuntime) -> Result<(), F
     play_rows(
         rt.alloc(),
         "
-            overflow o0|p0*. star=39 > episodes=1 failure=2:AssertFailed(1)@100ac tries=1:Pad:Asks,
-            unset o0|p0hi. > episodes=1 failure=2:AssertFailed(2)@10098 tries=1:Pad:Failed(AssertFailed(2)),1:Zero:Asks,
-            twice o0|p0hi. > episodes=1 failure=2:BadFree@10050 tries=1:Pad:Failed(BadFree),1:Zero:Failed(BadFree),1:Isolate:Failed(BadFree),1:Delay:Asks,
-            stale o0|p0a.|p0b. > episodes=1 failure=3:AssertFailed(3)@100e0 tries=2:Pad:Failed(AssertFailed(3)),2:Zero:Failed(AssertFailed(3)),2:Isolate:Failed(AssertFailed(3)),2:Delay:Failed(AssertFailed(3)),2:All:Failed(AssertFailed(3)),1:Pad:Failed(AssertFailed(3)),1:Zero:Failed(AssertFailed(3)),1:Isolate:Failed(AssertFailed(3)),1:Delay:Asks,
+            overflow o0|p0*. star=39 > watched=1 episodes=1 failure=2:AssertFailed(1)@100ac tries=1:Pad:Asks,
+            unset o0|p0hi. > watched=1 episodes=1 failure=2:AssertFailed(2)@10098 tries=1:Pad:Failed(AssertFailed(2)),1:Zero:Asks,
+            twice o0|p0hi. > watched=1 episodes=1 failure=2:BadFree@10050 tries=1:Pad:Failed(BadFree),1:Zero:Failed(BadFree),1:Isolate:Failed(BadFree),1:Delay:Asks,
+            stale o0|p0a.|p0b. > watched=1 episodes=1 failure=3:AssertFailed(3)@100e0 tries=2:Pad:Failed(AssertFailed(3)),2:Zero:Failed(AssertFailed(3)),2:Isolate:Failed(AssertFailed(3)),2:Delay:Failed(AssertFailed(3)),2:All:Failed(AssertFailed(3)),1:Pad:Failed(AssertFailed(3)),1:Zero:Failed(AssertFailed(3)),1:Isolate:Failed(AssertFailed(3)),1:Delay:Asks,
         ",
     )
 }
@@ -26,11 +26,11 @@ fn trials_agree_with_what_clients_were_told(rt: HostRuntime) -> Result<(), Fail>
     play_rows(
         rt.alloc(),
         "
-            tell_free o0|p0a. > episodes=1 failure=2:BadFree@10078 tries=1:Pad:Contradicts,1:Zero:Failed(BadFree),1:Isolate:Contradicts,1:Delay:Asks,
-            pair o0|o1|p1go. > episodes=1 failure=3:BadFree@1009c tries=2:Pad:Contradicts,2:Zero:Failed(BadFree),2:Isolate:Contradicts,2:Delay:Asks,
-            late o0|p0x. > episodes=1 failure=2:BadFree@100a8 tries=1:Pad:Behind,1:Zero:Failed(BadFree),1:Isolate:Behind,1:Delay:Asks,
-            tell_over o0|p0a. hold=2 > episodes=1 failure=2:AssertFailed(5)@100c4 tries=1:Pad:Asks,
-            tell_over o0|p0a. > episodes=1 failure=2:AssertFailed(5)@100c4 tries=1:Pad:Contradicts,1:Zero:Failed(AssertFailed(5)),1:Isolate:Contradicts,1:Delay:Failed(AssertFailed(5)),1:All:Contradicts,0:Pad:Contradicts,0:Zero:Failed(AssertFailed(5)),0:Isolate:Contradicts,0:Delay:Failed(AssertFailed(5)),0:All:Contradicts,
+            tell_free o0|p0a. > watched=1 episodes=1 failure=2:BadFree@10078 tries=1:Pad:Contradicts,1:Zero:Failed(BadFree),1:Isolate:Contradicts,1:Delay:Asks,
+            pair o0|o1|p1go. > watched=1 episodes=1 failure=3:BadFree@1009c tries=2:Pad:Contradicts,2:Zero:Failed(BadFree),2:Isolate:Contradicts,2:Delay:Asks,
+            late o0|p0x. > watched=1 episodes=1 failure=2:BadFree@100a8 tries=1:Pad:Behind,1:Zero:Failed(BadFree),1:Isolate:Behind,1:Delay:Asks,
+            tell_over o0|p0a. hold=2 > watched=1 episodes=1 failure=2:AssertFailed(5)@100c4 tries=1:Pad:Asks,
+            tell_over o0|p0a. > watched=1 episodes=1 failure=2:AssertFailed(5)@100c4 tries=1:Pad:Contradicts,1:Zero:Failed(AssertFailed(5)),1:Isolate:Contradicts,1:Delay:Failed(AssertFailed(5)),1:All:Contradicts,0:Pad:Contradicts,0:Zero:Failed(AssertFailed(5)),0:Isolate:Contradicts,0:Delay:Failed(AssertFailed(5)),0:All:Contradicts,
         ",
     )
 }
@@ -41,8 +41,8 @@ fn all_trials_are_noted_where_none_survives(rt: HostRuntime) -> Result<(), Fail>
     play_rows(
         rt.alloc(),
         "
-            null o0|p0hi. > episodes=1 failure=2:BadAccess@10028 tries=1:Pad:Failed(BadAccess),1:Zero:Failed(BadAccess),1:Isolate:Failed(BadAccess),1:Delay:Failed(BadAccess),1:All:Failed(BadAccess),0:Pad:Failed(BadAccess),0:Zero:Failed(BadAccess),0:Isolate:Failed(BadAccess),0:Delay:Failed(BadAccess),0:All:Failed(BadAccess),
-            three - budget=3 > episodes=1 failure=0:Hang@1000c tries=0:Pad:Failed(Hang),0:Zero:Failed(Hang),0:Isolate:Failed(Hang),0:Delay:Failed(Hang),0:All:Failed(Hang),
+            null o0|p0hi. > watched=1 episodes=1 failure=2:BadAccess@10028 tries=1:Pad:Failed(BadAccess),1:Zero:Failed(BadAccess),1:Isolate:Failed(BadAccess),1:Delay:Failed(BadAccess),1:All:Failed(BadAccess),0:Pad:Failed(BadAccess),0:Zero:Failed(BadAccess),0:Isolate:Failed(BadAccess),0:Delay:Failed(BadAccess),0:All:Failed(BadAccess),
+            three - budget=3 > watched=1 episodes=1 failure=0:Hang@1000c tries=0:Pad:Failed(Hang),0:Zero:Failed(Hang),0:Isolate:Failed(Hang),0:Delay:Failed(Hang),0:All:Failed(Hang),
         ",
     )
 }
@@ -54,10 +54,10 @@ fn answers_are_noted_with_their_checkpoints(rt: HostRuntime) -> Result<(), Fail>
     play_rows(
         rt.alloc(),
         "
-            overflow o0|p0hi.|p0yo. > Finished taken=3 o0|p0hi.|g0hi.|p0yo.|g0yo.|e0| recorded=4 noted=4 behind=0 episodes=0
-            overflow o0|p0hi.|p0yo. ring=1 > Finished taken=3 o0|p0hi.|g0hi.|p0yo.|g0yo.|e0| recorded=4 noted=4 behind=0 episodes=0
-            overflow o0|p0hi.|p0yo. ring=2 > Finished taken=3 o0|p0hi.|g0hi.|p0yo.|g0yo.|e0| recorded=4 noted=4 behind=0 episodes=0
-            overflow o0|p0*. star=39 > Finished taken=2 o0|p0*.|g0*.|e0| recorded=2 noted=2 behind=0 episodes=1
+            overflow o0|p0hi.|p0yo. > Finished taken=3 o0|p0hi.|g0hi.|p0yo.|g0yo.|e0| recorded=4 noted=4 behind=0 watched=0 episodes=0
+            overflow o0|p0hi.|p0yo. ring=1 > Finished taken=3 o0|p0hi.|g0hi.|p0yo.|g0yo.|e0| recorded=4 noted=4 behind=0 watched=0 episodes=0
+            overflow o0|p0hi.|p0yo. ring=2 > Finished taken=3 o0|p0hi.|g0hi.|p0yo.|g0yo.|e0| recorded=4 noted=4 behind=0 watched=0 episodes=0
+            overflow o0|p0*. star=39 > Finished taken=2 o0|p0*.|g0*.|e0| recorded=2 noted=2 behind=0 watched=1 episodes=1
             tell_over o0|p0a. > GaveUp{point:2,cause:AssertFailed(5)} taken=2 o0|p0a.|g000013000.| recorded=2 noted=2 behind=0 episodes=1
             three - budget=3 > GaveUp{point:0,cause:Hang} taken=0 - recorded=0 noted=0 behind=0 episodes=1
             overflow o0|p0hi.|p0yo. fail=5 > WriteFault taken=3 o0|p0hi.|g0hi.|p0yo.| recorded=0 noted=0 behind=4 episodes=0
@@ -130,6 +130,7 @@ fn a_session_keeps_what_a_trial_needs(rt: HostRuntime) -> Result<(), Fail> {
         rt.alloc(),
         "
             echo o0|p0a.|p0b.|p0c.|p0d.|p0e. ring=2 > Finished kept=5,6,4,6
+            echo o0|p0a.|p0b.|p0c.|p0d.|p0e. ring=2 hold=1000 > Finished kept=5,6,4,6
             echo o0|p0a.|p0b.|p0c.|p0d.|p0e. ring=1 > Finished kept=6,6,5,6
             echo o0|p0a.|p0b.|p0c.|p0d.|p0e. ring=2 every=2 > Finished kept=4,6,3,6
             echo o0|p0a.|p0b.|p0c.|p0d.|p0e. frames=2 > Finished kept=6,6,5,6

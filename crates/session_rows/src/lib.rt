@@ -1,6 +1,7 @@
 //! Sessions over a link as rows of a text, for tests: what is played to a program, and what is expected of it.
 #![tactic(auto)]
 
+mod failure_count;
 mod playing;
 mod programs;
 mod rows;

@@ -5,6 +5,7 @@ ghost use Rattle.rx_io.specs.MemoryLinks.{link_phases, link_takes, link_gives};
 ghost use Rattle.rx_engine.specs.Options.{AreInRange};
 ghost use Rattle.rx_engine.specs.Serving.{IsReadyToServe};
 
+use crate::failure_count::FailureCount;
 use crate::programs::image_of;
 use crate::rows::{Row, calls_of, large_number_of, number_of, options_of, value_of};
 use crate::short_link::ShortLink;
@@ -21,6 +22,7 @@ use std::alloc::Global;
 use std::marker::Brand;
 use std::sync::ledger::{Blank, Ledger};
 use std::test::Fail;
+use trial_plan::Watch;
 
 // Each number is in its range.
 fn expect_in_range(options: &Options) -> Result<(), Fail>
@@ -103,10 +105,11 @@ fn notes_played(alloc: Global, row: &Row<'_>) -> Result<ShortNotes<NoteList>, Fa
 }
 
 // Serves a link with a counter of its own. It is generic over its ledger, and is handed the blank of which the counter is made.
-fn serve_counted<K: Link, N: Notes, L: Ledger>(
+fn serve_counted<K: Link, N: Notes, W: Watch, L: Ledger>(
     session: &mut Session<AllMapped>,
     link: &mut K,
     notes: &mut N,
+    watch: &mut W,
     blank: Blank,
 ) -> Answer
     requires name { blank.name ≡ L.name }
@@ -118,7 +121,7 @@ fn serve_counted<K: Link, N: Notes, L: Ledger>(
     requires gives { K.gives link.old ≡ true }
 {
     let mut steps = Steps::<L>::start(blank);
-    session.serve(link, notes, &mut steps)
+    session.serve_watched(link, notes, watch, &mut steps)
 }
 
 // Serves the link of a row.
@@ -126,16 +129,18 @@ fn serve_row(
     session: &mut Session<AllMapped>,
     link: &mut ShortLink<MemoryLink>,
     notes: &mut ShortNotes<NoteList>,
+    watch: &mut FailureCount,
 ) -> Answer
     requires begun { IsReadyToServe session.old }
     requires fresh { IsFresh (link_phases link.old.link) }
     requires takes { (if link.old.takes then link_takes link.old.link else false) ≡ true }
     requires gives { (if link.old.gives then link_gives link.old.link else false) ≡ true }
 {
-    serve_counted::<ShortLink<MemoryLink>, ShortNotes<NoteList>, Brand>(
+    serve_counted::<ShortLink<MemoryLink>, ShortNotes<NoteList>, FailureCount, Brand>(
         session,
         link,
         notes,
+        watch,
         Blank::new(1),
     )
 }
@@ -146,7 +151,9 @@ pub(crate) fn played(alloc: Global, row: &Row<'_>) -> Result<String, Fail> {
     let mut session = begin(alloc, &image, row)?;
     let mut link = link_played(alloc, row)?;
     let mut notes = notes_played(alloc, row)?;
-    let answer = serve_row(&mut session, &mut link, &mut notes);
+    let mut watch = FailureCount { failures: 0 };
+    let answer = serve_row(&mut session, &mut link, &mut notes, &mut watch);
     let left = session.into_end();
-    shown(alloc, answer, link.link.journal(), &left, &notes.notes)
+    let ended = shown(alloc, answer, link.link.journal(), &left, &notes.notes)?;
+    Ok(format!(in alloc; "{ended} watched={}", watch.failures)?)
 }
