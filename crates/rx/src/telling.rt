@@ -82,7 +82,7 @@ fn refused_field(
 fn recorded_window(rt: &HostRuntime, recording: &str) -> Option<u32>
     ensures { IfSome result (λ window. IsWindow window) }
 {
-    let text = match StdFiles::make(rt).load(rt.alloc(), recording, MAX_RECORD) {
+    let text = match StdFiles::make(rt, rt.alloc()).load(rt.alloc(), recording, MAX_RECORD) {
         Ok(text) => text,
         Err(_) => return None,
     };
