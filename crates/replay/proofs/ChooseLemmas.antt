@@ -70,7 +70,7 @@ module _ (image : Image) (recording : Recorded) (began now : Told) (phases : Pha
         tells = playing.base.tells;
         asked = playing.base.asked;
         is = playing.base.is;
-        ends = (refl, Unanswered (register stage.live.guest.machine 10) wanting.shorter wanting.between.lives wanting.wants none, playing.given);
+        ends = (refl, Unanswered (register stage.live.guest.machine 10) wanting.shorter wanting.between.lives wanting.wants none, playing.given, λ ended. absurd (playing.base.goes_on ended));
         failed = λ no. absurd (true≢false no);
       }
 

@@ -271,8 +271,8 @@ module _ (image : Image) (recording : Recorded) (began now later : Told) (phases
   notes_event coming event new (Err answer.FileFault) one order enters tells did = absurd did
 
   -- the link has ended
-  ends_link : (coming : Option Coming) → Tells now later (entry.Took event.Ends ∷ []) → IsEnd image recording began later coming true stage (answer.Mismatch stage.live.steps)
-  ends_link coming tells =
+  ends_link : (coming : Option Coming) → Tells now later (entry.Took event.Ends ∷ []) → StillComes coming (Ok event.Ends) → IsEnd image recording began later coming true stage (answer.Mismatch stage.live.steps)
+  ends_link coming tells last =
       let entries = waiting.playing.entries in
       let still : items_in (bounds_of recording) (entries ++ entry.Took event.Ends ∷ []) ≡ items_in (bounds_of recording) entries = ap (λ events. items_of recording.frame (heeded (bounds_of recording) events)) (events_ended entries) in
       record {
@@ -281,19 +281,19 @@ module _ (image : Image) (recording : Recorded) (began now later : Told) (phases
         tells = tells_took event.Ends tells;
         asked = took event.Ends;
         is = replay_same image recording entries (entries ++ entry.Took event.Ends ∷ []) (replay_of waiting.playing.sends stage.live) still waiting.playing.base.is;
-        ends = (refl, Starved waiting.shorter waiting.lives waiting.asks (all_taken ∙ ap length (sym still)) (last_taken-took entries event.Ends), given_still event.Ends);
+        ends = (refl, Starved waiting.shorter waiting.lives waiting.asks (all_taken ∙ ap length (sym still)) (last_taken-took entries event.Ends), given_still event.Ends, λ _. last);
         failed = λ no. absurd (true≢false no);
       }
 
   pub heeds_event : (coming : Option Coming) (event : LinkEvent) (new : Stage) (result : Result (Unit {0}) Answer) → IsInOrder phases event → ((conn : ℕ) → after conn ≡ phases_after event phases conn)
-      → Tells now later (entry.Took event ∷ []) → HeedsEvent event stage new result → WaitsBy image recording began later after coming true new result
-  heeds_event coming (event.Opens conn) new result order enters tells did = notes_event coming (event.Opens conn) new result refl order enters tells did
-  heeds_event coming (event.Piece conn bytes) new result order enters tells did = notes_event coming (event.Piece conn bytes) new result refl order enters tells did
-  heeds_event coming (event.Closes conn) new result order enters tells did = notes_event coming (event.Closes conn) new result refl order enters tells did
-  heeds_event coming event.Settles new result order enters tells did = notes_event coming event.Settles new result refl order enters tells did
-  heeds_event coming event.Ends new result order enters tells did =
+      → Tells now later (entry.Took event ∷ []) → StillComes coming (Ok event) → HeedsEvent event stage new result → WaitsBy image recording began later after coming true new result
+  heeds_event coming (event.Opens conn) new result order enters tells last did = notes_event coming (event.Opens conn) new result refl order enters tells did
+  heeds_event coming (event.Piece conn bytes) new result order enters tells last did = notes_event coming (event.Piece conn bytes) new result refl order enters tells did
+  heeds_event coming (event.Closes conn) new result order enters tells last did = notes_event coming (event.Closes conn) new result refl order enters tells did
+  heeds_event coming event.Settles new result order enters tells last did = notes_event coming event.Settles new result refl order enters tells did
+  heeds_event coming event.Ends new result order enters tells last did =
       subst (WaitsBy image recording began later after coming true new) (sym did.0)
-      (subst (λ (s : Stage). IsEnd image recording began later coming true s (answer.Mismatch stage.live.steps)) (sym did.1) (ends_link coming tells))
+      (subst (λ (s : Stage). IsEnd image recording began later coming true s (answer.Mismatch stage.live.steps)) (sym did.1) (ends_link coming tells last))
 
   -- no event was taken
   pub takes_none : (coming before : Option Coming) (takes : Bool) (why : LinkFault) → Tells now later [] → GoesBy before (Err why) → StillComes coming (Err why) → IsEnd image recording began later coming takes stage (answer_of why)

@@ -66,16 +66,16 @@ module _ (image : Image) (recording : Recorded) (began now : Told) (phases : Pha
       → (stage.live.guest.machine.allocations == length recording.choices) ≡ used → (stage.live.guest.machine.taken == recording.taken) ≡ taken
       → EndsBy image recording playing.entries coming (replay_of playing.sends stage.live) (cond all (cond used (cond taken answer.Finished (answer.Mismatch stage.live.steps)) (answer.Mismatch stage.live.steps)) (answer.Mismatch stage.live.steps))
   ends_judged coming playing stopped true true true a u t = (eqb-true stage.live.steps recording.steps a, eqb-true stage.live.guest.machine.allocations (length recording.choices) u, eqb-true stage.live.guest.machine.taken recording.taken t, playing.given)
-  ends_judged coming playing stopped true true false a u t = (refl, Untaken (eqb-true stage.live.steps recording.steps a) (eqb-false stage.live.guest.machine.taken recording.taken t), playing.given)
+  ends_judged coming playing stopped true true false a u t = (refl, Untaken (eqb-true stage.live.steps recording.steps a) (eqb-false stage.live.guest.machine.taken recording.taken t), playing.given, λ ended. absurd (playing.base.goes_on ended))
   ends_judged coming playing stopped true false taken a u t =
       let apart = eqb-false stage.live.guest.machine.allocations (length recording.choices) u in
       let most = playing.base.is.used in
-      (refl, Unused (eqb-true stage.live.steps recording.steps a) (omega (arith, apart, most)), playing.given)
+      (refl, Unused (eqb-true stage.live.steps recording.steps a) (omega (arith, apart, most)), playing.given, λ ended. absurd (playing.base.goes_on ended))
   ends_judged coming playing stopped false used taken a u t =
       let apart = eqb-false stage.live.steps recording.steps a in
       let most = playing.base.is.steps in
       let low : stage.live.steps < recording.steps = omega (arith, apart, most) in
-      (refl, Ended low (stopped low), playing.given)
+      (refl, Ended low (stopped low), playing.given, λ ended. absurd (playing.base.goes_on ended))
 
   -- the guest has come to its end, or to the record's
   pub judged_end : (coming : Option Coming) → IsPlaying image recording began now phases stage → (stage.live.steps < recording.steps → IsSome stage.live.ended) → IsEnd image recording began now coming true stage (judged recording stage.live)
@@ -102,7 +102,7 @@ module _ (image : Image) (recording : Recorded) (began now : Told) (phases : Pha
         tells = playing.base.tells;
         asked = playing.base.asked;
         is = playing.base.is;
-        ends = (refl, Failed cause comes.1 comes.2 comes.3, playing.given);
+        ends = (refl, Failed cause comes.1 comes.2 comes.3, playing.given, λ ended. absurd (playing.base.goes_on ended));
         failed = λ no. absurd (true≢false no);
       }
 

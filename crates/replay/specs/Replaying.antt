@@ -3,8 +3,9 @@ use Rattle.std.specs.Prelude.{◌≡◌, ◌≢◌, ℕ, ◌+◌, ◌<◌, ◌�
 use Rattle.rx_io.specs.declared.journal.Entry.{Entry}
 use Rattle.rx_io.specs.declared.journal.Entry.TheVariants as entry
 use Rattle.rx_io.specs.declared.journal.LinkEvent.{LinkEvent}
+use Rattle.rx_io.specs.declared.journal.LinkEvent.TheVariants as event
 use Rattle.rx_io.specs.Faults.{Rose}
-use Rattle.rx_io.specs.Links.{Told, Tells, Coming, Refuses, Counts, events_in, pieces_in, HasEnded}
+use Rattle.rx_io.specs.Links.{Told, Tells, Coming, Comes, Refuses, Counts, events_in, pieces_in, HasEnded}
 use Rattle.block_book.specs.declared.choice.Choice.{Choice}
 use Rattle.block_book.specs.Answer.{is_allowed}
 use Rattle.block_book.specs.Heap.{most_blocks}
@@ -76,11 +77,13 @@ pub data Differs (recorded : Recorded) (entries : List Entry) (replay : Replay) 
   Unused : replay.steps ≡ recorded.steps → replay.used < length recorded.choices → Differs recorded entries replay
   Untaken : replay.steps ≡ recorded.steps → replay.state.machine.taken ≢ recorded.taken → Differs recorded entries replay
 
--- What stands behind each answer. Everywhere but at a fault of writing and want of memory all sends are given.
+-- What stands behind each answer. Everywhere but at a fault of writing and want of memory all sends are given. At Mismatch the end of the link is
+-- what comes there, where the link has ended.
 abbrev pub EndsBy : Image → Recorded → List Entry → Option Coming → Replay → Answer → Type 0
 EndsBy image recorded entries coming replay answer.Finished =
     (replay.steps ≡ recorded.steps) × (replay.used ≡ length recorded.choices) × (replay.state.machine.taken ≡ recorded.taken) × AreGiven replay.state.sends (pieces_in entries)
-EndsBy image recorded entries coming replay (answer.Mismatch step) = (step ≡ replay.steps) × Differs recorded entries replay × AreGiven replay.state.sends (pieces_in entries)
+EndsBy image recorded entries coming replay (answer.Mismatch step) =
+    (step ≡ replay.steps) × Differs recorded entries replay × AreGiven replay.state.sends (pieces_in entries) × (HasEnded entries → IfSome coming (λ next. next ≡ Comes event.Ends))
 EndsBy image recorded entries coming replay (answer.InputRefused kind offset) = IsAsking image recorded entries replay × IfSome coming (λ next. next ≡ Refuses kind offset)
 EndsBy image recorded entries coming replay (answer.MessageTooLong conn) = IsLastTooLong (bounds_of recorded) entries conn × AreGiven replay.state.sends (pieces_in entries)
 EndsBy image recorded entries coming replay answer.LimitItems = IsLastRefused (bounds_of recorded) entries unheeded.LimitItems × AreGiven replay.state.sends (pieces_in entries)

@@ -1,2 +1,3 @@
+mod EndLemmas
 mod SendLemmas
 mod TrunkLemmas

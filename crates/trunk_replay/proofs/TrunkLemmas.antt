@@ -22,6 +22,7 @@ use Rattle.trunk_session.proofs.WriteLemmas.{Short}
 use Rattle.trunk_session.proofs.StopLemmas.{HasTaken, took_whole, took_refused}
 use Rattle.trunk_session.proofs.ServeLemmas.{upcoming, has_taken, known_still, takes_trunk, writes_trunk, writes_whole}
 use Rattle.trunk_replay.specs.Replaying.{TookReplay, TakesReplay, WritesReplay, IsRecordedRun, ReplaysTrunk}
+use Rattle.trunk_replay.proofs.EndLemmas.{drained}
 use Rattle.trunk_replay.proofs.SendLemmas.{sends_written}
 
 stays_known : (before now : Option Coming) → (IsSome before → IsSome now) → StaysKnown before now
@@ -56,7 +57,9 @@ module _ (image : Image) (recording : Recorded) (entries : List Entry) (replay :
 
 -- what was taken, by the answer
 took_by : (image : Image) (recording : Recorded) (entries : List Entry) (replay : Replay) (new : Intake) (before : Stream) (first : Option Coming) (gives : Bool) (end : Answer) → Countable new.told → HasTaken new before (events_in entries)
-    → LeavesLink first (upcoming new) new.takes gives end → ((IsSome first → IsSome (upcoming new)) → IsSome (upcoming new)) → EndsBy image recording entries (upcoming new) replay end → TookReplay (Some before) new.told (events_in entries) end
+    → LeavesLink first (upcoming new) new.takes gives end → ((IsSome first → IsSome (upcoming new)) → IsSome (upcoming new)) → EndsBy image recording entries (upcoming new) replay end → TookReplay (Some before) new.told entries end
+took_by image recording entries replay new before first gives (answer.Mismatch step) few taken leaves known ends =
+    (took_whole new before (events_in entries) taken leaves.0, λ ended. drained new.told new.took new.phases new.takes new.refused leaves.0 (ends.3 ended))
 took_by image recording entries replay new before first gives (answer.InputRefused kind offset) few taken leaves known ends =
     took_refused new before (events_in entries) kind offset few taken leaves.0 (known leaves.2) ends.1
 took_by image recording entries replay new before first gives answer.ReadFault few taken leaves known ends = tt
@@ -74,9 +77,9 @@ module _ (image : Image) (recording : Recorded) (entries : List Entry) (replay :
       by (Some before) is grew = told before is (has_taken old new before (events_in entries) is fresh none few went grew)
 
   takes_replay : (gives : Bool) (end : Answer) → old.takes ≡ true → LeavesLink (upcoming old) (upcoming new) new.takes gives end → EndsBy image recording entries (upcoming new) replay end
-      → TakesReplay old.told new.told (events_in entries) end
+      → TakesReplay old.told new.told entries end
   takes_replay gives end takes leaves ends =
-      by_told (λ source. TakesReplay source new.told (events_in entries) end) tt
+      by_told (λ source. TakesReplay source new.told entries end) tt
       (λ before is taken. took_by image recording entries replay new before (upcoming old) gives end few taken leaves (λ known. known_still old before (upcoming new) is takes (stays_known (upcoming old) (upcoming new) known)) ends)
 
   no_part : new.takes ≡ true → TakesNoPart old.told new.told (events_in entries)

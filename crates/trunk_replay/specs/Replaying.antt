@@ -1,11 +1,10 @@
 -- What a replay over a trunk leaves: the bytes that its source lost, and those that its sink gained.
 use Rattle.std.specs.Prelude.{◌≡◌, ℕ, List, map, false, Option, None, Some}
 use Rattle.std.specs.Io.KnownBytes.{Appends}
-use Rattle.rx_io.specs.Links.{Coming, Piece, events_in, pieces_in}
-use Rattle.rx_io.specs.Outside.{Stream}
+use Rattle.rx_io.specs.Links.{Coming, Piece, events_in, pieces_in, HasEnded}
+use Rattle.rx_io.specs.Outside.{Stream, IsDrained}
 use Rattle.rx_io.specs.Sends.{Send}
 use Rattle.rx_io.specs.declared.journal.Entry.{Entry}
-use Rattle.rx_io.specs.declared.journal.LinkEvent.{LinkEvent}
 use Rattle.elf_image.specs.declared.image.Image.{Image}
 use Rattle.run_history.specs.declared.answer.Answer.{Answer}
 use Rattle.run_history.specs.declared.answer.Answer.TheVariants as answer
@@ -34,17 +33,18 @@ WritesReplay old new sends pieces answer.Memory = WritesTrunk old new pieces
 WritesReplay old new sends pieces end = WritesSends old new sends
 
 -- What was taken there: the frames of events. At a refusal what is refused was taken too; at a fault of reading and want of memory perhaps a part of
--- one frame more. At each other answer not one byte more was.
-abbrev pub TookReplay : Option Stream → Option Stream → List LinkEvent → Answer → Type 0
-TookReplay old new events (answer.InputRefused kind offset) = TookRefused old new events kind offset
-TookReplay old new events answer.ReadFault = Unit {0}
-TookReplay old new events answer.Memory = Unit {0}
-TookReplay old new events end = TookWhole old new events
+-- one frame more. At each other answer not one byte more was. At Mismatch no byte is left where the link has ended.
+abbrev pub TookReplay : Option Stream → Option Stream → List Entry → Answer → Type 0
+TookReplay old new entries (answer.Mismatch step) = TookWhole old new (events_in entries) × (HasEnded entries → IsDrained new)
+TookReplay old new entries (answer.InputRefused kind offset) = TookRefused old new (events_in entries) kind offset
+TookReplay old new entries answer.ReadFault = Unit {0}
+TookReplay old new entries answer.Memory = Unit {0}
+TookReplay old new entries end = TookWhole old new (events_in entries)
 
 -- where the source tells its bytes
-abbrev pub TakesReplay : Option Stream → Option Stream → List LinkEvent → Answer → Type 0
-TakesReplay None new events end = Unit {0}
-TakesReplay (Some old) new events end = TookReplay (Some old) new events end
+abbrev pub TakesReplay : Option Stream → Option Stream → List Entry → Answer → Type 0
+TakesReplay None new entries end = Unit {0}
+TakesReplay (Some old) new entries end = TookReplay (Some old) new entries end
 
 -- at Finished there is the whole run that the record tells of
 abbrev pub IsRecordedRun : Image → Recorded → List Entry → Replay → Answer → Type 0
@@ -65,6 +65,6 @@ pub record ReplaysTrunk (image : Image) (recorded : Recorded) (source source_lat
   pub whole : IsRecordedRun image recorded entries replay end
   pub all_counted : replay.steps ≡ counted
   pub took : TakesTrunk source source_later (events_in entries) coming (IsAsking image recorded entries replay)
-  pub takes : TakesReplay source source_later (events_in entries) end
+  pub takes : TakesReplay source source_later entries end
   pub writes : WritesReplay sink sink_later replay.state.sends (pieces_in entries) end
   pub breaks : BreaksTrunk source source_later sink sink_later (events_in entries) (pieces_in entries) end

@@ -17,7 +17,7 @@ pub returns-in-Ok-clause-hears : goal.returns-in-Ok-clause-hears
 returns-in-Ok-clause-hears g c image recording began waiting =
     subst (λ (takes : Bool). WaitsBy image recording began (g.K.Link.told c.next.new.self) (g.K.Link.phases c.next.new.self) (g.K.Link.coming c.next.new.self) takes (stage_of c.heed.new.self) c.heed.result) (sym c.in-Ok.ensures.takes)
     (heeds_event image recording began (g.K.Link.told c.args.link.now) (g.K.Link.told c.next.new.self) (g.K.Link.phases c.args.link.now) (g.K.Link.phases c.next.new.self) (stage_of c.args.self.now) waiting c.requires.none_left
-    (g.K.Link.coming c.next.new.self) c.in-Ok.event (stage_of c.heed.new.self) c.heed.result c.in-Ok.ensures.order.0 c.in-Ok.ensures.order.1 c.in-Ok.ensures.told c.heed.ensures.heeds)
+    (g.K.Link.coming c.next.new.self) c.in-Ok.event (stage_of c.heed.new.self) c.heed.result c.in-Ok.ensures.order.0 c.in-Ok.ensures.order.1 c.in-Ok.ensures.told c.in-Ok.ensures.last c.heed.ensures.heeds)
 
 pub returns-in-Err-clause-hears : goal.returns-in-Err-clause-hears
 returns-in-Err-clause-hears g c image recording began waiting =
