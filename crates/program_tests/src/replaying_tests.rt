@@ -30,9 +30,15 @@ fn expect_row(rt: &impl Abort, alloc: Global, row: Row<'_>) -> Result<(), Fail> 
     let (guest, record, input, end, output, left) = row;
     let program = program_of(alloc, source_of(guest).ok_or("no guest")?)?;
     let input = bytes_of(alloc, input)?;
-    let mut setting = Setting::of(alloc, &program, &input);
-    setting.words = REPLAY;
-    setting.before = record;
+    let setting = Setting {
+        alloc,
+        words: REPLAY,
+        program: &program,
+        before: record,
+        input: &input,
+        most: (10_000, 10_000),
+        fails: (0, 0, 0),
+    };
     let output = bytes_of(alloc, output)?;
     let left = bytes_of(alloc, left)?;
     expect(rt, &setting, end, &output, &left)?;
