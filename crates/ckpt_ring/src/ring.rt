@@ -106,6 +106,7 @@ impl Ring {
         requires base { (T.slots t.old).base ≡ from_newest (slot_numbers (T.slots t.old).saved) index }
         ensures ring { self.new ≡ checkpoints self.old.capacity (without_newer index self.old.standing) }
         ensures saved { T.slots t.new ≡ without_newer_slots index (T.slots t.old) }
+        ensures written { T.written t.new ≡ T.written t.old }
         ensures fixed { T.fixed t.new ≡ T.fixed t.old }
         ensures same { self.new.standing ≡ checkpoints_of T.taken_in (T.slots t.new).saved }
         ensures base { (T.slots t.new).base ≡ newest_slot (T.slots t.new).saved }
@@ -203,6 +204,7 @@ impl Ring {
         requires base { StandsEarlier (T.slots t.old) }
         ensures ring { self.new ≡ checkpoints self.old.capacity (without_newer 1 self.old.standing) }
         ensures saved { T.slots t.new ≡ without_newest (T.slots t.old) }
+        ensures written { T.written t.new ≡ T.written t.old }
         ensures fixed { T.fixed t.new ≡ T.fixed t.old }
     {
         if let Some(newest) = self.buffer.pop_back() {

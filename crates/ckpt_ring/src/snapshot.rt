@@ -20,6 +20,12 @@ pub trait Snapshot {
     /// It stays as it is.
     ghost fixed: { Self → Fixed };
 
+    /// Which pages were written since the slot on which the live state stands.
+    ghost Written: { Type 0 };
+
+    /// It says which ones they are.
+    ghost written: { Self → Written };
+
     /// Saves the live state in a slot, which is the last one then. The live state stands on it.
     fn save_to(&mut self, slot: u32)
         requires number { slot < (slots self.old).count }
@@ -42,6 +48,7 @@ pub trait Snapshot {
         requires { IsUnusedNewest slot (slots self.old) ⊎ IsOldest slot (slots self.old) }
         ensures newest { IsUnusedNewest slot (slots self.old) → slots self.new ≡ without_newest (slots self.old) }
         ensures oldest { IsOldest slot (slots self.old) → slots self.new ≡ without_oldest (slots self.old) }
+        ensures written { IsUnusedNewest slot (slots self.old) → written self.new ≡ written self.old }
         ensures fixed { fixed self.new ≡ fixed self.old }
         ensures sound { AreSound (slots self.new) };
 

@@ -17,6 +17,7 @@ use Rattle.page_line.proofs.Changes.{this_slot, other_slot}
 use Rattle.page_line.proofs.Calls.{line_room}
 use Rattle.page_line.proofs.Saves.{line_saves}
 use Rattle.page_line.proofs.Restores.{line_restores}
+use Rattle.page_line.proofs.Drops.{line_keeps_flags}
 use Rattle.page_line.proofs.States.{line_drops_newest_with, line_drops_oldest_with}
 use Rattle.page_line.proofs.Sound.{line_sound}
 use Rattle.guest_cpu.specs.declared.guest_core.Core.{Core}
@@ -136,6 +137,12 @@ cpu_drops_newest core old new saved line slot fits unused after =
       },
       dropped.1,
     )
+
+-- no flag changes where the newest slot is given up
+pub cpu_keeps_flags : (core : Core) (old new : GuestPages) (saved : List Core) (line : Line) (slot : ℕ) → IsCpu core old saved line → IsUnusedNewest slot (slots_in core old saved line) → Releases old slot new
+    → written_pages new.store (line_of (take (length line.order - 1) line.order) line.base) ≡ written_pages old.store line
+cpu_keeps_flags core old new saved line slot fits unused after =
+    line_keeps_flags (state_in old saved) (standing core (flat old)) old.store new.store line slot fits.line_is unused (ap (λ (space : GuestPages). space.store) after.store_is)
 
 -- the oldest slot is given up
 dropped_as : (core : Core) (old : GuestPages) (saved : List Core) (line : Line) (slot : ℕ) → IsCpu core old saved line → IsOldest slot (slots_in core old saved line)

@@ -1,5 +1,5 @@
 // A guest is saved whole, and comes back whole.
-ghost use Rattle.std.specs.Prelude.{◌≡◌, ℕ};
+ghost use Rattle.std.specs.Prelude.{◌≡◌, ℕ, Bool, List};
 ghost use Rattle.block_book.specs.Heap.{SameEnds};
 ghost use Rattle.guest_cpu.specs.Standing.{Standing};
 
@@ -32,6 +32,10 @@ impl<R: AccessRule> Snapshot for Cpu<R> {
     ghost Fixed = { R × ℕ };
 
     ghost fixed = { λ cpu. (cpu.rule, cpu.base) };
+
+    ghost Written = { List Bool };
+
+    ghost written = { λ cpu. cpu.written };
 
     fn save_to(&mut self, slot: u32) {
         self.space.sound();

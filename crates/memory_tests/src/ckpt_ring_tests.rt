@@ -145,6 +145,10 @@ impl Snapshot for CountedSnapshot {
 
     ghost fixed = { λ t. t.count };
 
+    ghost Written = { ℕ };
+
+    ghost written = { λ t. t.written };
+
     fn save_to(&mut self, slot: u32) {
         self.saved.push_back((slot, self.live, self.written));
         self.base = Some(slot);

@@ -8,7 +8,7 @@ use Rattle.std.proofs.lemmas.Map.Keys.{apart_from_distinct, IsDistinct-from_apar
 use Rattle.cow_pages.specs.Pages.{Space, Pages, slot_at, has}
 use Rattle.cow_pages.proofs.Counting.{has-append}
 use Rattle.ckpt_ring.specs.Slots.{Saved, slot_numbers, without_newest, IsUnusedNewest}
-use Rattle.page_line.specs.Line.{Line, line_of, IsLine, AreFresh, frames_in, frames_of_all, written_since, count_true, saved_behind, slots_of}
+use Rattle.page_line.specs.Line.{Line, line_of, IsLine, AreFresh, frames_in, frames_of_all, written_since, written_pages, count_true, saved_behind, slots_of}
 use Rattle.page_line.proofs.Saved.{numbers_behind, length_behind}
 use Rattle.page_line.proofs.Same.{Stays, since-same, fresh-same, are_fresh-same, saved-same}
 use Rattle.page_line.proofs.Restores.{made_slots}
@@ -71,6 +71,9 @@ module _ (old : Pages) (front : List ℕ) (slot : ℕ) (base : Option ℕ) (so :
   stays_base : IfSome base (Stays old (with_slot old slot None))
   stays_base = of_base (Stays old (with_slot old slot None)) base front (in_front base front stands) stay_front
 
+  stays_written : written_since (with_slot old slot None) base old.live.numbers ≡ written_since old base old.live.numbers
+  stays_written = since-same old (with_slot old slot None) base old.live.numbers refl stays_base
+
   slot_less : slot < length old.slots
   slot_less =
       let long : length (front ++ slot ∷ []) ≡ length front + 1 = length_push front slot in
@@ -114,7 +117,7 @@ module _ (old : Pages) (front : List ℕ) (slot : ℕ) (base : Option ℕ) (so :
         let count : length was - 1 ≡ length kept = omega (arith, ap length pushed, length_push kept last) in
         let cut : take (length was - 1) was ≡ kept = ap (take (length was - 1)) pushed ∙ ap (λ n. take n (kept ++ last ∷ [])) count ∙ take_at kept (last ∷ []) (length kept) refl in
         ap (λ list. made_slots live list base (count_true (written_since new base old.live.numbers)) (length (set old.slots slot None)) old.pages old.frames) (same ∙ sym cut)
-        ∙ ap (λ bits. made_slots live (take (length was - 1) was) base (count_true bits) (length (set old.slots slot None)) old.pages old.frames) (since-same old new base old.live.numbers refl stays_base)
+        ∙ ap (λ bits. made_slots live (take (length was - 1) was) base (count_true bits) (length (set old.slots slot None)) old.pages old.frames) stays_written
         ∙ ap (λ n. made_slots live (take (length was - 1) was) base (count_true (written_since old base old.live.numbers)) n old.pages old.frames) (length-set old.slots slot None)
 
 module _ {State : Type 0} where
@@ -141,3 +144,14 @@ module _ {State : Type 0} where
       (λ store. IsLine store (line_of front line.base) × (slots_of state_in live store (line_of front line.base) ≡ without_newest (slots_of state_in live old line)))
       (sym after)
       (drops_newest_line old front slot line.base start stands, slots)
+
+  -- the flags of the live space stay
+  pub line_keeps_flags : (state_in : ℕ → State) (live : State) (old new : Pages) (line : Line) (slot : ℕ) → IsLine old line → IsUnusedNewest slot (slots_of state_in live old line)
+      → new ≡ record old { slots = slice_set old.slots slot None }
+      → written_pages new (line_of (take (length line.order - 1) line.order) line.base) ≡ written_pages old line
+  line_keeps_flags state_in live old new line slot so unused after =
+      let front : List ℕ = take (length line.order - 1) line.order in
+      let whole : line.order ≡ front ++ slot ∷ [] = split_last line.order slot (sym (newest_slot-is state_in old line.order) ∙ unused.0) in
+      let stands : IsSomeAnd line.base (Contains front) = stands_in_front state_in old line.order line.base unused.1 in
+      let start : IsLine old (line_of (front ++ slot ∷ []) line.base) = subst (λ order. IsLine old (line_of order line.base)) whole so in
+      ap (λ store. written_pages store (line_of front line.base)) after ∙ stays_written old front slot line.base start stands

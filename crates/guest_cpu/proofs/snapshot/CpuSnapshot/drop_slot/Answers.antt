@@ -2,11 +2,11 @@ use Rattle.std.proofs.Common.{◌≡◌, ◌⊎◌, ℕ, sym, ap, subst, ◌∙�
 use Rattle.std.proofs.lemmas.Bool.{false≢true}
 use Rattle.ckpt_ring.specs.Slots.{Slots, without_newest, without_oldest, IsUnusedNewest, IsOldest}
 use Rattle.guest_space.specs.Space.{flat}
-use Rattle.page_line.specs.Line.{newest_of}
+use Rattle.page_line.specs.Line.{newest_of, written_pages}
 use Rattle.page_line.proofs.Calls.{line_dropped, line_is_oldest, line_is_newest, line_newest_stands, line_oldest_stands}
 use Rattle.guest_cpu.specs.Standing.{Standing, standing}
 use Rattle.guest_cpu.specs.Cpus.{CpuState, state_in, IsCpu}
-use Rattle.guest_cpu.proofs.SavedLemmas.{slots_in, cpu_drops_newest, cpu_drops_oldest, cpu_sound}
+use Rattle.guest_cpu.proofs.SavedLemmas.{slots_in, cpu_drops_newest, cpu_drops_oldest, cpu_keeps_flags, cpu_sound}
 use Rattle.guest_cpu.proofs.snapshot.CpuSnapshot.drop_slot.Given as given
 use Rattle.guest_cpu.proofs.snapshot.CpuSnapshot.drop_slot.Goals as goal
 use Rattle.guest_cpu.proofs.snapshot.CpuSnapshot.drop_slot.Goals.{After-drop_oldest, After-drop_newest}
@@ -49,6 +49,12 @@ returns-then-stands_on_newest-clause-newest g c = λ newest.
 pub returns-then-stands_on_newest-clause-oldest : goal.returns-then-stands_on_newest-clause-oldest
 returns-then-stands_on_newest-clause-oldest g c = λ oldest. (without_first g c).1 ∙ ap (λ (state : CpuState _). without_oldest state.slots) c.self.view_is
 
+pub returns-then-stands_on_newest-clause-written : goal.returns-then-stands_on_newest-clause-written
+returns-then-stands_on_newest-clause-written g c = λ newest.
+    let s = c.self.inside in
+    absurd (line_newest_stands (state_in s.space s.saved.items) (standing s.core (flat s.space)) s.space.store s.line c.args.slot c.self.invariant.line_is
+    (subst (λ (state : CpuState _). IsUnusedNewest c.args.slot state.slots) (sym c.self.view_is) newest) (stands g c))
+
 pub returns-then-stands_on_newest-clause-sound : goal.returns-then-stands_on_newest-clause-sound
 returns-then-stands_on_newest-clause-sound g c = cpu_sound c.self.inside.core c.release.new.self c.self.inside.saved.items c.drop_oldest.new.self (invariant_of-self g c)
 
@@ -85,6 +91,13 @@ pub returns-clause-oldest : goal.returns-clause-oldest
 returns-clause-oldest g c = λ oldest.
     let s = c.self.inside in
     absurd (apart g c (line_oldest_stands (state_in s.space s.saved.items) (standing s.core (flat s.space)) s.space.store s.line c.args.slot (subst (λ (state : CpuState _). IsOldest c.args.slot state.slots) (sym c.self.view_is) oldest)))
+
+pub returns-clause-written : goal.returns-clause-written
+returns-clause-written g c = λ newest.
+    let s = c.self.inside in
+    subst (λ line. written_pages c.release-2.new.self.store line ≡ written_pages s.space.store s.line) (sym c.drop_newest.ensures)
+    (cpu_keeps_flags s.core s.space c.release-2.new.self s.saved.items s.line c.args.slot c.self.invariant (unused g c) c.release-2.ensures.released)
+    ∙ ap (λ (state : CpuState _). state.written) c.self.view_is
 
 pub returns-clause-sound : goal.returns-clause-sound
 returns-clause-sound g c = cpu_sound c.self.inside.core c.release-2.new.self c.self.inside.saved.items c.drop_newest.new.self (invariant_of-self-2 g c)
