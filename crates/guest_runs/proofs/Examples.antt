@@ -1,5 +1,5 @@
 -- The definitions at values: a guest that sends back each message comes to its recv, takes a message, and comes to its send.
-use Rattle.std.proofs.Common.{ℕ, true, List, [], ◌∷◌, Some, None, refl, arith}
+use Rattle.std.proofs.Common.{ℕ, true, false, List, [], ◌∷◌, Some, None, refl, arith}
 use Rattle.std.specs.Prelude.{Ok}
 use Rattle.rx_io.specs.declared.bytes.Item.{Item}
 use Rattle.rv_isa.specs.Words.{opcode, rd, funct3, rs1, rs2, funct7, imm_i, imm_b, imm_u, imm_j}
@@ -21,8 +21,9 @@ use Rattle.guest_cpu.specs.Running.{RunsBy}
 use Rattle.guest_cpu.specs.Serving.{standing_of}
 use Rattle.guest_cpu.specs.Receiving.{taken_standing}
 use Rattle.guest_runs.specs.Runs.{IsBounded, RunsOn, TakesOn}
+use Rattle.guest_runs.specs.Writing.{TakesWriting}
 use Rattle.guest_runs.proofs.RunLemmas.{runs_serve}
-use Rattle.guest_runs.proofs.TakeLemmas.{takes_serve}
+use Rattle.guest_runs.proofs.TakeLemmas.{takes_serve, takes_write}
 
 -- every byte may be touched
 abbrev allowing : ℕ → Limits
@@ -61,6 +62,10 @@ asks_first = record { lives = refl; taken = refl; asks = refl }
 
 takes_first : TakesOn (allowing 8) (message ∷ []) [] asked message
 takes_first = takes_serve (allowing 8) (message ∷ []) [] asked message asks_first refl
+
+-- the two bytes are in the first of two pages
+takes_page : TakesWriting (allowing 8) (message ∷ []) [] 0 asked (false ∷ false ∷ []) message (true ∷ false ∷ [])
+takes_page = takes_write (allowing 8) (message ∷ []) [] 0 asked (false ∷ false ∷ []) message asks_first refl
 
 -- seven instructions later it sends the two bytes back, to the connection from which they came
 abbrev at_reply : Machine

@@ -1,5 +1,5 @@
 -- A run goes on by quiet turns.
-use Rattle.std.proofs.Common.{◌≡◌, ℕ, zero, suc, ◌+◌, ◌*◌, ◌≤◌, List, [], Option, Some, None, refl, sym, ◌∙◌, ap, subst, arith}
+use Rattle.std.proofs.Common.{◌≡◌, ℕ, zero, suc, ◌+◌, ◌*◌, ◌≤◌, Bool, List, [], Option, Some, None, refl, sym, ◌∙◌, ap, subst, arith}
 use Rattle.std.proofs.lemmas.Option.{option_and_then_some, same_Some, none-some}
 use Rattle.rx_io.specs.declared.bytes.Item.{Item}
 use Rattle.alloc_env.specs.declared.env.Env.{Env}
@@ -8,12 +8,16 @@ use Rattle.run_history.specs.Served.{Limits, Override, env_at, Path, served_next
 use Rattle.run_history.proofs.Repeats.{repeated_join}
 use Rattle.run_history.proofs.Serves.{served_next_more}
 use Rattle.guest_cpu.specs.declared.event.Event.{Event}
-use Rattle.guest_cpu.specs.Standing.{Standing, Turn, turn, Live, live_after, quietly, unless_event, quiet_next}
+use Rattle.run_history.specs.Touching.{Range}
+use Rattle.guest_cpu.specs.Standing.{Standing, Turn, turn, Live, live_after, quietly, unless_event, quiet_next, with_range}
 use Rattle.guest_cpu.specs.Serving.{standing_of, Follows, Adds}
 use Rattle.guest_cpu.proofs.ServingLemmas.{turns_serve}
 use Rattle.guest_runs.specs.Runs.{IsBounded, GoesOn, IsSilent}
+use Rattle.guest_runs.specs.Writing.{writes, Writes}
 use Rattle.guest_runs.proofs.OneMore.{OneMore, one_more}
 use Rattle.guest_runs.proofs.TurnEvents.{Means, turn_means}
+use Rattle.guest_runs.proofs.TurnWrites.{WritesAs, turn_writes}
+use Rattle.guest_runs.proofs.WritingLemmas.{writes_none, writes_then}
 
 -- a run goes on as itself
 pub goes_same : (limits : Limits) (items : List Item) (plan : List Override) (path : Path) → GoesOn limits items plan path path
@@ -71,52 +75,72 @@ pub record Comes (limits : Limits) (items : List Item) (plan : List Override) (f
   pub goes : GoesOn limits items plan first now
   pub silent : IsSilent first now
 
--- a quiet turn, by its parts
-record IsQuiet (limits : Limits) (env : Env) (old new : Standing) : Type 0 where
-  last : Turn Event
-  turns : turn limits env old ≡ Some last
-  none : last.event ≡ None
-  left : new ≡ last.standing
+-- and the guest's flags are those of the pages that it wrote
+pub record ComesWriting (limits : Limits) (items : List Item) (plan : List Override) (base : ℕ) (first : Path) (before : List Bool) (new : Live) : Type 0 where
+  pub comes : Comes limits items plan first new.standing
+  pub wrote : Writes limits items base first before comes.now new.written
 
-quiet_parts : (limits : Limits) (env : Env) (base : ℕ) (old new : Live) → quiet_next (turn limits env) base old ≡ Some new → IsQuiet limits env old.standing new.standing
+-- a quiet turn, by its parts
+record IsQuiet (limits : Limits) (env : Env) (base : ℕ) (old new : Live) : Type 0 where
+  last : Turn Event
+  turns : turn limits env old.standing ≡ Some last
+  none : last.event ≡ None
+  left : new ≡ live_after base old last
+
+quiet_parts : (limits : Limits) (env : Env) (base : ℕ) (old new : Live) → quiet_next (turn limits env) base old ≡ Some new → IsQuiet limits env base old new
 unfolding quiet_next
 quiet_parts limits env base old new goes = option_and_then_some (quietly base old) (turn limits env old.standing) new goes (λ t turns quiet. of_event t turns t.event refl quiet)
   where
-    of_event : (t : Turn Event) → turn limits env old.standing ≡ Some t → (event : Option Event) → t.event ≡ event → unless_event event (live_after base old t) ≡ Some new → IsQuiet limits env old.standing new.standing
-    of_event t turns None is quiet = record { last = t; turns = turns; none = is; left = sym (ap (λ (l : Live). l.standing) (same_Some _ new quiet)) }
+    of_event : (t : Turn Event) → turn limits env old.standing ≡ Some t → (event : Option Event) → t.event ≡ event → unless_event event (live_after base old t) ≡ Some new → IsQuiet limits env base old new
+    of_event t turns None is quiet = record { last = t; turns = turns; none = is; left = sym (same_Some _ new quiet) }
     of_event t turns (Some event) is quiet = absurd (none-some new quiet)
 
 -- one quiet turn more
-comes_more : (limits : Limits) (items : List Item) (plan : List Override) (env : Env) (first : Path) (old new : Standing) → env_at plan first.state.machine.taken ≡ env → Comes limits items plan first old → IsQuiet limits env old new
-    → Comes limits items plan first new
-comes_more limits items plan env first old new in_force comes quiet =
+comes_more : (limits : Limits) (items : List Item) (plan : List Override) (env : Env) (base : ℕ) (first : Path) (before : List Bool) (old new : Live) → env_at plan first.state.machine.taken ≡ env
+    → ComesWriting limits items plan base first before old → IsQuiet limits env base old new → ComesWriting limits items plan base first before new
+comes_more limits items plan env base first before old new in_force came quiet =
     of_follows
-    (turns_serve limits env comes.now quiet.last comes.lives (ap (turn limits env) comes.stands ∙ quiet.turns))
-    (turn_means limits env old quiet.last quiet.turns)
+    (turns_serve limits env came.comes.now quiet.last came.comes.lives here)
+    (turn_means limits env old.standing quiet.last quiet.turns)
+    (turn_writes limits items env came.comes.now quiet.last here)
   where
-    of_follows : Follows limits env comes.now quiet.last → Means limits env old quiet.last.event quiet.last.standing → Comes limits items plan first new
-    of_follows follows means =
+    here : turn limits env (standing_of came.comes.now) ≡ Some quiet.last
+    here = ap (turn limits env) came.comes.stands ∙ quiet.turns
+
+    of_follows : Follows limits env came.comes.now quiet.last → Means limits env old.standing quiet.last.event quiet.last.standing → WritesAs quiet.last.event quiet.last.written (writes limits items env came.comes.now)
+        → ComesWriting limits items plan base first before new
+    of_follows follows means written =
+        let comes = came.comes in
         let adds = subst (λ (e : Option Event). Adds limits env comes.now e follows.next) quiet.none follows.adds in
-        let same = subst (λ (e : Option Event). Means limits env old e quiet.last.standing) quiet.none means in
+        let same = subst (λ (e : Option Event). Means limits env old.standing e quiet.last.standing) quiet.none means in
+        let range = subst (λ (e : Option Event). WritesAs e quiet.last.written (writes limits items env comes.now)) quiet.none written in
         let ended : follows.next.state.ended ≡ None = ap (λ (s : Standing). s.ended) follows.stands ∙ same ∙ ap (λ (s : Standing). s.ended) (sym comes.stands) ∙ comes.lives in
         record {
-          now = follows.next;
-          stands = follows.stands ∙ sym quiet.left;
-          lives = ended;
-          goes = goes_on limits items plan first comes.now follows.next comes.goes (goes_one limits items plan env comes.now follows.next (ap (env_at plan) comes.goes.taken ∙ in_force) adds.0) comes.lives;
-          silent = record { choices = adds.1 ∙ comes.silent.choices; sends = adds.2 ∙ comes.silent.sends };
+          comes = record {
+            now = follows.next;
+            stands = follows.stands ∙ sym (ap (λ (l : Live). l.standing) quiet.left);
+            lives = ended;
+            goes = goes_on limits items plan first comes.now follows.next comes.goes (goes_one limits items plan env comes.now follows.next (ap (env_at plan) comes.goes.taken ∙ in_force) adds.0) comes.lives;
+            silent = record { choices = adds.1 ∙ comes.silent.choices; sends = adds.2 ∙ comes.silent.sends };
+          };
+          wrote = writes_then limits items base env first before comes.now old.written follows.next new.written came.wrote (served_next_more limits [] items env comes.now follows.next adds.0)
+              (ap (λ (l : Live). l.written) quiet.left ∙ ap (λ (r : Option Range). with_range base r old.written) range);
         }
 
 -- so many of them
-pub comes_quietly : (limits : Limits) (items : List Item) (plan : List Override) (env : Env) (base : ℕ) (first : Path) (old new : Live) (count : ℕ) → first.state.ended ≡ None → env_at plan first.state.machine.taken ≡ env
-    → old.standing ≡ standing_of first → repeated (quiet_next (turn limits env) base) count old ≡ Some new → Comes limits items plan first new.standing
-comes_quietly limits items plan env base first old new zero lives in_force stands ran = record {
-  now = first;
-  stands = sym stands ∙ ap (λ (l : Live). l.standing) (same_Some old new ran);
-  lives = lives;
-  goes = goes_same limits items plan first;
-  silent = record { choices = refl; sends = refl };
-}
-comes_quietly limits items plan env base first old new (suc count) lives in_force stands ran =
-    option_and_then_some (quiet_next (turn limits env) base) (repeated (quiet_next (turn limits env) base) count old) new ran (λ mid before goes.
-    comes_more limits items plan env first mid.standing new.standing in_force (comes_quietly limits items plan env base first old mid count lives in_force stands before) (quiet_parts limits env base mid new goes))
+pub comes_writing : (limits : Limits) (items : List Item) (plan : List Override) (env : Env) (base : ℕ) (first : Path) (old new : Live) (count : ℕ) → first.state.ended ≡ None → env_at plan first.state.machine.taken ≡ env
+    → old.standing ≡ standing_of first → repeated (quiet_next (turn limits env) base) count old ≡ Some new → ComesWriting limits items plan base first old.written new
+comes_writing limits items plan env base first old new zero lives in_force stands ran =
+    subst (ComesWriting limits items plan base first old.written) (same_Some old new ran) (record {
+      comes = record {
+        now = first;
+        stands = sym stands;
+        lives = lives;
+        goes = goes_same limits items plan first;
+        silent = record { choices = refl; sends = refl };
+      };
+      wrote = writes_none limits items base first old.written;
+    })
+comes_writing limits items plan env base first old new (suc count) lives in_force stands ran =
+    option_and_then_some (quiet_next (turn limits env) base) (repeated (quiet_next (turn limits env) base) count old) new ran (λ mid earlier goes.
+    comes_more limits items plan env base first old.written mid new in_force (comes_writing limits items plan env base first old mid count lives in_force stands earlier) (quiet_parts limits env base mid new goes))

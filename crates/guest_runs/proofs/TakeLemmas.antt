@@ -1,5 +1,5 @@
 -- A run that stands at its request for an item takes it.
-use Rattle.std.proofs.Common.{◌≡◌, ℕ, ◌+◌, ◌*◌, ◌≤◌, Bool, true, false, cond, leb, List, Option, Some, None, refl, sym, ◌∙◌, ap, subst, arith, append-nil}
+use Rattle.std.proofs.Common.{◌≡◌, ℕ, ◌+◌, ◌*◌, ◌≤◌, Bool, true, false, cond, leb, List, [], Option, Some, None, refl, sym, ◌∙◌, ap, subst, arith, append-nil}
 use Rattle.std.specs.Prelude.{slice_get, option_map}
 use Rattle.std.proofs.lemmas.Option.{same_Some}
 use Rattle.rx_io.specs.declared.bytes.Item.{Item}
@@ -9,15 +9,17 @@ use Rattle.alloc_env.specs.declared.env.Env.{Env}
 use Rattle.run_history.specs.Machine.{Machine, register, Effect, Goes, Wants, Chooses}
 use Rattle.run_history.specs.Call.{takes, received, chooses, allocated, freed}
 use Rattle.run_history.specs.Run.{does, after}
-use Rattle.run_history.specs.Touching.{instruction_at, touched}
+use Rattle.run_history.specs.Touching.{Range, instruction_at, touched}
 use Rattle.run_history.specs.Served.{Limits, Guest, Request, Malloc, Free, Nothing, request_of, Grant, granted, grant, is_refused, serves, env_at, Path, guest_of, longer, served_next}
 use Rattle.run_history.proofs.Shapes.{Alone, Shape, Same, Takes, Picks, does_shape}
 use Rattle.run_history.proofs.Runs.{received_keeps}
 use Rattle.run_history.proofs.Serves.{mallocs}
 use Rattle.run_history.proofs.Blocks.{frees}
+use Rattle.guest_cpu.specs.Standing.{with_range}
 use Rattle.guest_runs.specs.Runs.{IsBounded}
-use Rattle.guest_runs.specs.Laws.{TakesServe, AsksWants}
+use Rattle.guest_runs.specs.Laws.{TakesServe, TakesWrite, AsksWants}
 use Rattle.guest_runs.proofs.TurnEvents.{served_does}
+use Rattle.guest_runs.proofs.WritingLemmas.{writes_none, writes_then, writes_taken}
 
 -- no malloc wants an item
 never_wants : (size : ℕ) (m : Machine) (choice : Option Choice) → chooses size m choice ≡ Wants → ⊥
@@ -86,20 +88,29 @@ bounded_taken budget path item bound =
       steps = bounded_more budget path.state.machine.taken path.state.machine.since path.steps (received item path.state.machine).taken (received item path.state.machine).since keeps.taken keeps.since bound.since bound.steps;
     }
 
-pub takes_serve : TakesServe
-takes_serve limits items plan first item asks here =
+pub takes_write : TakesWrite
+takes_write limits items plan base first before item asks here =
     let keeps = received_keeps item first.state.machine in
+    let env = env_at plan first.state.machine.taken in
+    let next = takes_next limits items env first item asks.lives asks.asks here in
     record {
-      now = with_item first item;
-      stands = refl;
-      served = record { more = 1; ran = takes_next limits items (env_at plan first.state.machine.taken) first item asks.lives asks.asks here };
-      silent = record { choices = append-nil first.choices; sends = refl };
-      lives = asks.lives;
-      taken = keeps.taken;
-      connections = keeps.connections;
-      steps = refl;
-      bounded = bounded_taken limits.budget first item;
+      took = record {
+        now = with_item first item;
+        stands = refl;
+        served = record { more = 1; ran = next };
+        silent = record { choices = append-nil first.choices; sends = refl };
+        lives = asks.lives;
+        taken = keeps.taken;
+        connections = keeps.connections;
+        steps = refl;
+        bounded = bounded_taken limits.budget first item;
+      };
+      wrote = writes_then limits items base env first before first before (with_item first item) _ (writes_none limits items base first before) next
+          (ap (λ (r : Option Range). with_range base r before) (sym (writes_taken limits items env first item asks.asks here)));
     }
+
+pub takes_serve : TakesServe
+takes_serve limits items plan first item asks here = (takes_write limits items plan 0 first [] item asks here).took
 
 pub asks_wants : AsksWants
 asks_wants limits plan path number asks =

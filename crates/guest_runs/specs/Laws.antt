@@ -1,5 +1,5 @@
 -- What holds of every guest and of the run that it is.
-use Rattle.std.specs.Prelude.{◌≡◌, ℕ, List, Some, None, Result, slice_get}
+use Rattle.std.specs.Prelude.{◌≡◌, ℕ, Bool, List, Some, None, Result, slice_get}
 use Rattle.std.specs.declared.alloc.AllocError.{AllocError}
 use Rattle.rx_io.specs.declared.bytes.Item.{Item}
 use Rattle.elf_image.specs.declared.image.Image.{Image}
@@ -9,11 +9,13 @@ use Rattle.run_history.specs.Run.{does}
 use Rattle.run_history.specs.Served.{Limits, Override, env_at, Path, origin, AsksFor}
 use Rattle.guest_cpu.specs.declared.event.Event.{Event}
 use Rattle.guest_cpu.specs.declared.event.Event.TheVariants as event
-use Rattle.guest_cpu.specs.Standing.{Live, turn}
+use Rattle.guest_cpu.specs.Standing.{Live, turn, with_range}
 use Rattle.guest_cpu.specs.Cpus.{start_standing}
 use Rattle.guest_cpu.specs.Running.{RunsBy}
 use Rattle.guest_cpu.specs.Serving.{standing_of}
+use Rattle.guest_cpu.specs.Receiving.{received_range}
 use Rattle.guest_runs.specs.Runs.{IsBounded, RunsOn, TakesOn}
+use Rattle.guest_runs.specs.Writing.{RunsWriting, TakesWriting}
 
 -- a guest at its start is the run of no instruction
 pub record IsStart (image : Image) (budget : ℕ) : Type 0 where
@@ -31,11 +33,25 @@ RunsServe =
     first.state.ended ≡ None → env_at plan first.state.machine.taken ≡ env → old.standing ≡ standing_of first → RunsBy event.Emits (turn limits env) base old result new →
     RunsOn limits items plan first result new.standing
 
+-- and its flags are those of the pages that the run writes
+abbrev pub RunsWrite : Type 0
+RunsWrite =
+    (limits : Limits) (items : List Item) (plan : List Override) (env : Env) (base : ℕ) (first : Path) (old new : Live) (result : Result Event AllocError) →
+    first.state.ended ≡ None → env_at plan first.state.machine.taken ≡ env → old.standing ≡ standing_of first → RunsBy event.Emits (turn limits env) base old result new →
+    RunsWriting limits items plan base first old.written result new
+
 -- a guest that asks for the item of a number takes it
 abbrev pub TakesServe : Type 0
 TakesServe =
     (limits : Limits) (items : List Item) (plan : List Override) (first : Path) (item : Item) →
     AsksFor limits plan first first.state.machine.taken → slice_get items first.state.machine.taken ≡ Some item → TakesOn limits items plan first item
+
+-- and writes its bytes
+abbrev pub TakesWrite : Type 0
+TakesWrite =
+    (limits : Limits) (items : List Item) (plan : List Override) (base : ℕ) (first : Path) (before : List Bool) (item : Item) →
+    AsksFor limits plan first first.state.machine.taken → slice_get items first.state.machine.taken ≡ Some item →
+    TakesWriting limits items plan base first before item (with_range base (received_range item first.state.machine) before)
 
 -- where a run asks for an item, its guest's instruction is a recv whose buffer may be written
 abbrev pub AsksWants : Type 0

@@ -1,5 +1,5 @@
 -- A trial comes to its result.
-use Rattle.std.proofs.Common.{◌≡◌, ℕ, true, List, ◌++◌, drop, Some, inl, inr, sym, ◌∙◌, ap, subst, arith}
+use Rattle.std.proofs.Common.{◌≡◌, ℕ, true, false, List, ◌++◌, drop, replicate, Some, inl, inr, sym, ◌∙◌, ap, subst, arith}
 use Rattle.std.specs.Prelude.{is_some}
 use Rattle.rx_io.specs.Sends.{Send}
 use Rattle.alloc_env.specs.declared.env.Env.{Env}
@@ -12,6 +12,7 @@ use Rattle.run_history.specs.Served.{Path, Served, AsksFor, FailsBy}
 use Rattle.guest_cpu.specs.Cpus.{CpuState}
 use Rattle.guest_cpu.specs.Serving.{standing_of}
 use Rattle.guest_runs.specs.Runs.{GoesOn, IsSilent}
+use Rattle.guest_runs.specs.Writing.{Writes}
 use Rattle.episodes.specs.declared.episode.Tried.{Tried}
 use Rattle.episodes.specs.declared.episode.Tried.TheVariants as tried
 use Rattle.episodes.specs.Survival.{survives}
@@ -22,9 +23,10 @@ use Rattle.trial_history.specs.Chains.{IsCheckpoint}
 use Rattle.trial_history.specs.Laws.{everywhere}
 use Rattle.trial_history.proofs.Planned.{trial_comes}
 use Rattle.trial_plan.specs.Sessions.{CanGoOn, Failure, items_of, pieces_of}
+use Rattle.trial_plan.specs.Trying.{KeepsSaved}
 use Rattle.trial_plan.specs.Going.{IsJudged, IsTrying, IsAsking, HasCome}
 use Rattle.trial_plan.proofs.Joining.{Beside, covers_now, now_covers, now_covers_before}
-use Rattle.trial_plan.proofs.Running.{unharmed_still, can_still}
+use Rattle.trial_plan.proofs.Running.{unharmed_still, can_still, wrote_on}
 
 module _ {R : Type 0} where
   -- the ledger beside the run of a trial
@@ -41,12 +43,13 @@ module _ {R : Type 0} where
   -- a result of a run in the trial's environment
   pub comes_at : (failure : Failure) (point : ℕ) (checkpoint : Path) (env : Env) (cpu : CpuState R) (choices : List Choice) (ledger : Ledger) (path : Path) (result : Tried) → IsCheckpoint failure.rules.limits failure.image checkpoint
       → Served failure.rules.limits (items_of failure) (everywhere env point) checkpoint path → ComesTo failure.rules.limits (items_of failure) (everywhere env point) checkpoint (pieces_of failure) point path result
-      → cpu.slots.live ≡ standing_of path → path.choices ≡ checkpoint.choices ++ choices → CanGoOn failure.rules failure.entries path → (survives result ≡ true → ledger.trial ≡ Some (drop ledger.first path.state.sends))
+      → cpu.slots.live ≡ standing_of path → Writes failure.rules.limits (items_of failure) cpu.base checkpoint (replicate cpu.slots.pages false) path cpu.written → path.choices ≡ checkpoint.choices ++ choices → CanGoOn failure.rules failure.entries path → (survives result ≡ true → ledger.trial ≡ Some (drop ledger.first path.state.sends))
       → HasCome failure point checkpoint env cpu choices ledger result
-  comes_at failure point checkpoint env cpu choices ledger path result from served comes stands chose goes sent = record {
+  comes_at failure point checkpoint env cpu choices ledger path result from served comes stands wrote chose goes sent = record {
     path = path;
     trial = trial_comes failure.rules.limits (items_of failure) failure.image failure.plan env point checkpoint path (pieces_of failure) result from (record { from = served; comes = comes });
     stands = stands;
+    wrote = wrote;
     chose = chose;
     goes = goes;
     sent = sent;
@@ -56,7 +59,7 @@ module _ {R : Type 0} where
   pub comes_here : (failure : Failure) (point : ℕ) (checkpoint : Path) (env : Env) (cpu : CpuState R) (choices : List Choice) (log : Log) (ledger : Ledger) (result : Tried) (t : IsTrying failure point checkpoint env cpu choices log ledger)
       → ComesTo failure.rules.limits (items_of failure) (everywhere env point) checkpoint (pieces_of failure) point t.path result → HasCome failure point checkpoint env cpu choices ledger result
   comes_here failure point checkpoint env cpu choices log ledger result t comes =
-      comes_at failure point checkpoint env cpu choices ledger t.path result t.from t.served comes t.stands t.chose t.goes (λ survived. t.sent)
+      comes_at failure point checkpoint env cpu choices ledger t.path result t.from t.served comes t.stands t.wrote t.chose t.goes (λ survived. t.sent)
 
   -- it failed
   pub fails_here : (failure : Failure) (point : ℕ) (checkpoint : Path) (env : Env) (cpu : CpuState R) (choices : List Choice) (log : Log) (ledger : Ledger) (cause : Cause) (t : IsTrying failure point checkpoint env cpu choices log ledger)
@@ -99,9 +102,10 @@ module _ {R : Type 0} where
 
   -- it ended itself
   pub exits_past : (failure : Failure) (point : ℕ) (checkpoint : Path) (env : Env) (old new : CpuState R) (choices : List Choice) (log : Log) (ledger : Ledger) (code : ℕ) (result : Tried) (t : IsTrying failure point checkpoint env old choices log ledger) (now : Path)
-      → GoesOn failure.rules.limits (items_of failure) (everywhere env point) t.path now → IsSilent t.path now → now.state.ended ≡ Some code → standing_of now ≡ new.slots.live → IsJudged (ledgers.Covers ledger) (tried.Exits code) result
+      → KeepsSaved old new → GoesOn failure.rules.limits (items_of failure) (everywhere env point) t.path now → IsSilent t.path now → now.state.ended ≡ Some code → standing_of now ≡ new.slots.live
+      → Writes failure.rules.limits (items_of failure) old.base t.path old.written now new.written → IsJudged (ledgers.Covers ledger) (tried.Exits code) result
       → HasCome failure point checkpoint env new choices ledger result
-  exits_past failure point checkpoint env old new choices log ledger code result t now goes silent ended stands judged = of judged
+  exits_past failure point checkpoint env old new choices log ledger code result t now saved goes silent ended stands wrote judged = of judged
     where
       b : Beside (received failure.rules.bounds failure.entries) ledger failure.failed.state.sends now.state.sends (pieces_of failure)
       b = subst (λ (all : List Send). Beside (received failure.rules.bounds failure.entries) ledger failure.failed.state.sends all (pieces_of failure)) (sym silent.sends) (beside failure point checkpoint env old choices log ledger t)
@@ -111,7 +115,7 @@ module _ {R : Type 0} where
 
       comes : (result : Tried) → ComesTo failure.rules.limits (items_of failure) (everywhere env point) checkpoint (pieces_of failure) point now result → HasCome failure point checkpoint env new choices ledger result
       comes result so =
-          comes_at failure point checkpoint env new choices ledger now result t.from (served_on failure.rules.limits (items_of failure) (everywhere env point) checkpoint t.path now t.served goes.served) so (sym stands) (silent.choices ∙ t.chose)
+          comes_at failure point checkpoint env new choices ledger now result t.from (served_on failure.rules.limits (items_of failure) (everywhere env point) checkpoint t.path now t.served goes.served) so (sym stands) (wrote_on failure checkpoint t.path now old new saved t.wrote wrote) (silent.choices ∙ t.chose)
           (can_still failure.rules (items_of failure) (everywhere env point) failure.entries t.path now t.lives goes silent.sends t.goes) (λ survived. t.sent ∙ ap (λ (all : List Send). Some (drop ledger.first all)) (sym silent.sends))
 
       of : IsJudged (ledgers.Covers ledger) (tried.Exits code) result → HasCome failure point checkpoint env new choices ledger result

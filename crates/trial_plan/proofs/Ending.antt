@@ -43,6 +43,7 @@ module _ {R : Type 0} where
     path = h.path;
     trial = h.trial;
     stands = h.stands;
+    wrote = h.wrote;
     chose = h.chose;
     goes = h.goes;
     sent = of (survives result) refl left;

@@ -1,5 +1,5 @@
 -- The guest of a trial runs to its next event: what that makes of the trial.
-use Rattle.std.proofs.Common.{◌≡◌, ℕ, ◌+◌, ◌-◌, ◌*◌, ◌^◌, ◌<◌, ◌≤◌, Bool, true, false, List, [], ◌∷◌, ◌++◌, length, take, drop, Option, Some, None, refl, sym, ◌∙◌, ap, subst, arith}
+use Rattle.std.proofs.Common.{◌≡◌, ℕ, ◌+◌, ◌-◌, ◌*◌, ◌^◌, ◌<◌, ◌≤◌, Bool, true, false, List, [], ◌∷◌, ◌++◌, length, take, drop, replicate, Option, Some, None, refl, sym, ◌∙◌, ap, subst, arith}
 use Rattle.std.specs.Prelude.{Ok, Result, slice_get, unwrap_or}
 use Rattle.std.specs.declared.alloc.AllocError.{AllocError}
 use Rattle.std.proofs.lemmas.Nat.{mul-le}
@@ -20,16 +20,20 @@ use Rattle.run_history.specs.Served.{Limits, Override, Path, env_at, planned_nex
 use Rattle.rv_exec.specs.Stepping.{limits_of}
 use Rattle.guest_cpu.specs.declared.event.Event.{Event}
 use Rattle.guest_cpu.specs.declared.event.Event.TheVariants as event
-use Rattle.guest_cpu.specs.Standing.{Standing, Turn, turn, Live}
+use Rattle.run_history.specs.Touching.{Range}
+use Rattle.guest_cpu.specs.Standing.{Standing, Turn, turn, Live, live_after, with_range}
 use Rattle.guest_cpu.specs.Cpus.{CpuState, live_of, with_live}
 use Rattle.guest_cpu.specs.Running.{RunsBy}
 use Rattle.guest_cpu.specs.Serving.{standing_of, Adds}
 use Rattle.guest_cpu.proofs.ServingLemmas.{turns_serve}
-use Rattle.guest_runs.specs.Runs.{GoesOn, IsSilent, RunsOn}
+use Rattle.guest_runs.specs.Runs.{GoesOn, IsSilent}
+use Rattle.guest_runs.specs.Writing.{writes, Writes, RunsWriting}
 use Rattle.guest_runs.proofs.OneMore.{one_more}
 use Rattle.guest_runs.proofs.TurnEvents.{Means, turn_means}
-use Rattle.guest_runs.proofs.QuietRuns.{goes_one, goes_on, Comes, comes_quietly}
-use Rattle.guest_runs.proofs.RunLemmas.{runs_serve}
+use Rattle.guest_runs.proofs.TurnWrites.{WritesAs, turn_writes}
+use Rattle.guest_runs.proofs.WritingLemmas.{writes_on, writes_then}
+use Rattle.guest_runs.proofs.QuietRuns.{goes_one, goes_on, ComesWriting, comes_writing}
+use Rattle.guest_runs.proofs.RunLemmas.{runs_write}
 use Rattle.run_history.proofs.Serves.{served_next_more}
 use Rattle.session_history.specs.Heeding.{Bounds, received}
 use Rattle.session_history.specs.Passing.{IsFeasible}
@@ -106,11 +110,11 @@ module _ {R : Type 0} where
       → RunsBy event.Emits (turn failure.rules.limits env) old.base (live_of old) result (live_of new)
   ran_under failure budget permits env old new result under ran = subst (λ (limits : Limits). RunsBy event.Emits (turn limits env) old.base (live_of old) result (live_of new)) (sym under) ran
 
-  -- its run goes on so
+  -- its run goes on so, and writes the pages that the guest marks
   pub ran_on : (failure : Failure) (point : ℕ) (checkpoint : Path) (env : Env) (old new : CpuState R) (choices : List Choice) (log : Log) (ledger : Ledger) (budget : ℕ) (permits : Heap → ℕ → ℕ → Bool) (result : Result Event AllocError) → IsUnder failure budget permits
-      → (t : IsTrying failure point checkpoint env old choices log ledger) → Ran budget permits env old new result → RunsOn failure.rules.limits (items_of failure) (everywhere env point) t.path result new.slots.live
+      → (t : IsTrying failure point checkpoint env old choices log ledger) → Ran budget permits env old new result → RunsWriting failure.rules.limits (items_of failure) (everywhere env point) old.base t.path old.written result (live_of new)
   ran_on failure point checkpoint env old new choices log ledger budget permits result under t ran =
-      runs_serve failure.rules.limits (items_of failure) (everywhere env point) env old.base t.path (live_of old) (live_of new) result t.lives (force_is env point t.path.state.machine.taken t.unharmed.early) t.stands
+      runs_write failure.rules.limits (items_of failure) (everywhere env point) env old.base t.path (live_of old) (live_of new) result t.lives (force_is env point t.path.state.machine.taken t.unharmed.early) t.stands
       (ran_under failure budget permits env old new result under ran)
 
   -- nothing is saved by a run
@@ -143,11 +147,19 @@ module _ {R : Type 0} where
   pub live_base : (old new : CpuState R) → new ≡ with_live (live_of new) old → KeepsBase old new
   live_base old new kept = record { saved = live_keeps old new kept; base = ap (λ (c : CpuState R). c.slots.base) kept }
 
+  -- what a trial wrote, and wrote then
+  pub wrote_on : (failure : Failure) (checkpoint first now : Path) (old new : CpuState R) → KeepsSaved old new → Writes failure.rules.limits (items_of failure) old.base checkpoint (replicate old.slots.pages false) first old.written
+      → Writes failure.rules.limits (items_of failure) old.base first old.written now new.written → Writes failure.rules.limits (items_of failure) new.base checkpoint (replicate new.slots.pages false) now new.written
+  wrote_on failure checkpoint first now old new saved one other =
+      subst (λ (base : ℕ). Writes failure.rules.limits (items_of failure) base checkpoint (replicate new.slots.pages false) now new.written) (sym saved.base)
+      (subst (λ (pages : ℕ). Writes failure.rules.limits (items_of failure) old.base checkpoint (replicate pages false) now new.written) (sym saved.pages)
+      (writes_on failure.rules.limits (items_of failure) old.base checkpoint (replicate old.slots.pages false) first old.written now new.written one other))
+
   -- a trial that went on, and sent nothing
   unfoldable pub goes_silently : (failure : Failure) (point : ℕ) (checkpoint : Path) (env : Env) (old new : CpuState R) (before choices : List Choice) (log : Log) (ledger : Ledger) (t : IsTrying failure point checkpoint env old before log ledger) (now : Path)
       → KeepsSaved old new → GoesOn failure.rules.limits (items_of failure) (everywhere env point) t.path now → now.state.ended ≡ None → now.state.sends ≡ t.path.state.sends → now.choices ≡ checkpoint.choices ++ choices → standing_of now ≡ new.slots.live
-      → IsTrying failure point checkpoint env new choices log ledger
-  goes_silently failure point checkpoint env old new before choices log ledger t now saved goes lives sends chose stands =
+      → Writes failure.rules.limits (items_of failure) old.base t.path old.written now new.written → IsTrying failure point checkpoint env new choices log ledger
+  goes_silently failure point checkpoint env old new before choices log ledger t now saved goes lives sends chose stands wrote =
       record {
         failed = failed_still point failure old new log ledger ledger saved refl t.failed;
         from = t.from;
@@ -156,6 +168,7 @@ module _ {R : Type 0} where
         unharmed = unharmed_still (pieces_of failure) point t.path.state now.state sends goes.taken t.unharmed;
         lives = lives;
         stands = sym stands;
+        wrote = wrote_on failure checkpoint t.path now old new saved t.wrote wrote;
         chose = chose;
         goes = can_still failure.rules (items_of failure) (everywhere env point) failure.entries t.path now t.lives goes sends t.goes;
         items = subst (λ n. log.first ≤ n) (sym goes.taken) t.items;
@@ -166,14 +179,15 @@ module _ {R : Type 0} where
       }
 
 -- a run that sends, by its last instruction
-pub record SendsOn (limits : Limits) (items : List Item) (plan : List Override) (first : Path) (conn : ℕ) (bytes : List ℕ) (standing : Standing) : Type 0 where
+pub record SendsOn (limits : Limits) (items : List Item) (plan : List Override) (base : ℕ) (first : Path) (flags : List Bool) (conn : ℕ) (bytes : List ℕ) (new : Live) : Type 0 where
   pub before : Path
   pub quiet : GoesOn limits items plan first before
   pub silent : IsSilent first before
   pub now : Path
   pub next : planned_next limits items plan before ≡ Some now
   pub goes : GoesOn limits items plan first now
-  pub stands : standing_of now ≡ standing
+  pub stands : standing_of now ≡ new.standing
+  pub wrote : Writes limits items base first flags now new.written
   pub choices : now.choices ≡ first.choices
   pub sends : now.state.sends ≡ first.state.sends ++ record { conn = conn; bytes = bytes; taken = first.state.machine.taken } ∷ []
   pub may : may_send first.state.machine conn ≡ true
@@ -182,23 +196,28 @@ pub record SendsOn (limits : Limits) (items : List Item) (plan : List Override) 
   pub lives : now.state.ended ≡ None
   pub later : first.steps < now.steps
 
-sends_last : (limits : Limits) (items : List Item) (plan : List Override) (env : Env) (first : Path) (conn : ℕ) (bytes : List ℕ) (before new : Standing) (t : Turn Event) → env_at plan first.state.machine.taken ≡ env
-    → Comes limits items plan first before → turn limits env before ≡ Some t → t.event ≡ Some (event.Emits conn bytes) → new ≡ t.standing → SendsOn limits items plan first conn bytes new
-sends_last limits items plan env first conn bytes before new t in_force comes turns is left =
+sends_last : (limits : Limits) (items : List Item) (plan : List Override) (env : Env) (base : ℕ) (first : Path) (flags : List Bool) (conn : ℕ) (bytes : List ℕ) (before new : Live) (t : Turn Event) → env_at plan first.state.machine.taken ≡ env
+    → ComesWriting limits items plan base first flags before → turn limits env before.standing ≡ Some t → t.event ≡ Some (event.Emits conn bytes) → new ≡ live_after base before t → SendsOn limits items plan base first flags conn bytes new
+sends_last limits items plan env base first flags conn bytes before new t in_force came turns is left =
+    let comes = came.comes in
     let here : turn limits env (standing_of comes.now) ≡ Some t = ap (turn limits env) comes.stands ∙ turns in
     let follows = turns_serve limits env comes.now t comes.lives here in
     let adds : Adds limits env comes.now (Some (event.Emits conn bytes)) follows.next = subst (λ (e : Option Event). Adds limits env comes.now e follows.next) is follows.adds in
     let means : Means limits env (standing_of comes.now) (Some (event.Emits conn bytes)) t.standing =
     subst (λ (e : Option Event). Means limits env (standing_of comes.now) e t.standing) is (turn_means limits env (standing_of comes.now) t here) in
+    let range : t.written ≡ writes limits items env comes.now = subst (λ (e : Option Event). WritesAs e t.written (writes limits items env comes.now)) is (turn_writes limits items env comes.now t here) in
+    let served : served_next limits items env comes.now ≡ Some follows.next = served_next_more limits [] items env comes.now follows.next adds.0 in
     let force : env_at plan comes.now.state.machine.taken ≡ env = ap (env_at plan) comes.goes.taken ∙ in_force in
     record {
       before = comes.now;
       quiet = comes.goes;
       silent = comes.silent;
       now = follows.next;
-      next = ap (λ (e : Env). served_next limits items e comes.now) force ∙ served_next_more limits [] items env comes.now follows.next adds.0;
+      next = ap (λ (e : Env). served_next limits items e comes.now) force ∙ served;
       goes = goes_on limits items plan first comes.now follows.next comes.goes (goes_one limits items plan env comes.now follows.next force adds.0) comes.lives;
-      stands = follows.stands ∙ sym left;
+      stands = follows.stands ∙ sym (ap (λ (l : Live). l.standing) left);
+      wrote = writes_then limits items base env first flags comes.now before.written follows.next new.written came.wrote served
+          (ap (λ (l : Live). l.written) left ∙ ap (λ (r : Option Range). with_range base r before.written) range);
       choices = adds.1 ∙ comes.silent.choices;
       sends = adds.2
           ∙ ap (λ (sends : List Send). sends ++ record { conn = conn; bytes = bytes; taken = comes.now.state.machine.taken } ∷ []) comes.silent.sends
@@ -213,9 +232,9 @@ sends_last limits items plan env first conn bytes before new t in_force comes tu
 module _ {R : Type 0} where
   pub ran_sends : (failure : Failure) (point : ℕ) (checkpoint : Path) (env : Env) (old new : CpuState R) (choices : List Choice) (log : Log) (ledger : Ledger) (budget : ℕ) (permits : Heap → ℕ → ℕ → Bool) (conn : ℕ) (bytes : List ℕ)
       → IsUnder failure budget permits → (t : IsTrying failure point checkpoint env old choices log ledger) → Ran budget permits env old new (Ok (event.Emits conn bytes))
-      → SendsOn failure.rules.limits (items_of failure) (everywhere env point) t.path conn bytes new.slots.live
+      → SendsOn failure.rules.limits (items_of failure) (everywhere env point) old.base t.path old.written conn bytes (live_of new)
   ran_sends failure point checkpoint env old new choices log ledger budget permits conn bytes under t ran =
       let runs = ran_under failure budget permits env old new (Ok (event.Emits conn bytes)) under ran in
       let force = force_is env point t.path.state.machine.taken t.unharmed.early in
-      let comes = comes_quietly failure.rules.limits (items_of failure) (everywhere env point) env old.base t.path (live_of old) runs.before runs.count t.lives force t.stands runs.quiet in
-      sends_last failure.rules.limits (items_of failure) (everywhere env point) env t.path conn bytes runs.before.standing new.slots.live runs.last force comes runs.turns runs.is_event (ap (λ (l : Live). l.standing) runs.left)
+      let came = comes_writing failure.rules.limits (items_of failure) (everywhere env point) env old.base t.path (live_of old) runs.before runs.count t.lives force t.stands runs.quiet in
+      sends_last failure.rules.limits (items_of failure) (everywhere env point) env old.base t.path old.written conn bytes runs.before (live_of new) runs.last force came runs.turns runs.is_event runs.left

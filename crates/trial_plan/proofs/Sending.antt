@@ -21,11 +21,12 @@ use Rattle.run_history.specs.Call.{may_send}
 use Rattle.run_history.specs.Served.{Path}
 use Rattle.run_history.proofs.Connections.{OpenWithin, within_after}
 use Rattle.run_history.proofs.Outputs.{sent_to-more, prefix_sent, prefix_trans}
-use Rattle.guest_cpu.specs.Cpus.{CpuState}
-use Rattle.guest_cpu.specs.Standing.{Standing}
-use Rattle.guest_cpu.specs.Receiving.{taken_standing}
+use Rattle.guest_cpu.specs.Cpus.{CpuState, live_of}
+use Rattle.guest_cpu.specs.Standing.{Standing, Live, with_range}
+use Rattle.guest_cpu.specs.Receiving.{received_range, taken_standing, live_with_item}
 use Rattle.guest_runs.specs.Runs.{TakesOn}
-use Rattle.guest_runs.proofs.TakeLemmas.{takes_serve, asks_wants}
+use Rattle.guest_runs.specs.Writing.{Writes, TakesWriting}
+use Rattle.guest_runs.proofs.TakeLemmas.{takes_write, asks_wants}
 use Rattle.episodes.specs.declared.episode.Tried.TheVariants as tried
 use Rattle.session_history.specs.Heeding.{heeded, received}
 use Rattle.session_history.specs.Opened.{opens}
@@ -42,7 +43,7 @@ use Rattle.trial_plan.specs.Trying.{KeepsSaved}
 use Rattle.trial_plan.specs.Going.{agrees_next, IsTrying, IsAsking, HasCome}
 use Rattle.trial_plan.proofs.Joining.{next_agrees, agree_more, differs_more, covers_before_now}
 use Rattle.trial_plan.proofs.Starting.{failed_still}
-use Rattle.trial_plan.proofs.Running.{SendsOn, unharmed_still, may_send_by, trying_room}
+use Rattle.trial_plan.proofs.Running.{SendsOn, unharmed_still, may_send_by, trying_room, wrote_on}
 use Rattle.trial_plan.proofs.Coming.{beside, comes_at}
 
 -- no send was made with more items taken than there are
@@ -108,9 +109,9 @@ module _ {R : Type 0} where
       (times_low 0 t.path.state.machine.taken (drop ledger.first t.path.state.sends) (between_behind ledger.first 0 t.path.state.machine.taken t.path.state.sends t.goes.timed)))
 
   -- its run can go on behind the send
-  can_send : (failure : Failure) (point : ℕ) (checkpoint : Path) (env : Env) (cpu : CpuState R) (choices : List Choice) (log : Log) (ledger : Ledger) (conn : ℕ) (bytes : List ℕ) (standing : Standing) (t : IsTrying failure point checkpoint env cpu choices log ledger)
-      → (s : SendsOn failure.rules.limits (items_of failure) (everywhere env point) t.path conn bytes standing) → CanGoOn failure.rules failure.entries s.now
-  can_send failure point checkpoint env cpu choices log ledger conn bytes standing t s =
+  can_send : (failure : Failure) (point : ℕ) (checkpoint : Path) (env : Env) (cpu : CpuState R) (choices : List Choice) (log : Log) (ledger : Ledger) (conn : ℕ) (bytes : List ℕ) (live : Live) (t : IsTrying failure point checkpoint env cpu choices log ledger)
+      → (s : SendsOn failure.rules.limits (items_of failure) (everywhere env point) cpu.base t.path cpu.written conn bytes live) → CanGoOn failure.rules failure.entries s.now
+  can_send failure point checkpoint env cpu choices log ledger conn bytes live t s =
       let send : Send = record { conn = conn; bytes = bytes; taken = t.path.state.machine.taken } in
       let sendable : IsSendable send = record { some = s.some; few = s.few } in
       record {
@@ -129,7 +130,7 @@ module _ {R : Type 0} where
 
   -- what it sent is as it was passed: it goes on
   pub sends_same : (failure : Failure) (point : ℕ) (checkpoint : Path) (env : Env) (old new : CpuState R) (choices : List Choice) (log : Log) (ledger after : Ledger) (conn : ℕ) (bytes : List ℕ) (taken : ℕ)
-      → (t : IsTrying failure point checkpoint env old choices log ledger) (s : SendsOn failure.rules.limits (items_of failure) (everywhere env point) t.path conn bytes new.slots.live) → KeepsSaved old new
+      → (t : IsTrying failure point checkpoint env old choices log ledger) (s : SendsOn failure.rules.limits (items_of failure) (everywhere env point) old.base t.path old.written conn bytes (live_of new)) → KeepsSaved old new
       → taken ≡ t.path.state.machine.taken → after ≡ with_trial_send ledger (record { conn = conn; bytes = bytes; taken = taken }) → agrees_next ledger (record { conn = conn; bytes = bytes; taken = taken }) ≡ true → ledgers.Agrees after
       → IsTrying failure point checkpoint env new choices log after
   sends_same failure point checkpoint env old new choices log ledger after conn bytes taken t s saved is noted same agrees =
@@ -149,8 +150,9 @@ module _ {R : Type 0} where
         };
         lives = s.lives;
         stands = sym s.stands;
+        wrote = wrote_on failure checkpoint t.path s.now old new saved t.wrote s.wrote;
         chose = s.choices ∙ t.chose;
-        goes = can_send failure point checkpoint env old choices log ledger conn bytes new.slots.live t s;
+        goes = can_send failure point checkpoint env old choices log ledger conn bytes (live_of new) t s;
         items = subst (λ n. log.first ≤ n) (sym s.goes.taken) t.items;
         many = omega (arith, first, t.many, ap length s.sends, length-append t.path.state.sends (send ∷ []));
         front = subst (λ n. take n s.now.state.sends ≡ take n failure.failed.state.sends) (sym first) (ap (take ledger.first) s.sends ∙ (take-append-le ledger.first t.path.state.sends (send ∷ []) t.many ∙ t.front));
@@ -163,9 +165,9 @@ module _ {R : Type 0} where
 
   -- it differs: the trial is contradicted
   pub sends_other : (failure : Failure) (point : ℕ) (checkpoint : Path) (env : Env) (old new : CpuState R) (choices : List Choice) (log : Log) (ledger after : Ledger) (conn : ℕ) (bytes : List ℕ) (taken : ℕ)
-      → (t : IsTrying failure point checkpoint env old choices log ledger) (s : SendsOn failure.rules.limits (items_of failure) (everywhere env point) t.path conn bytes new.slots.live)
-      → agrees_next ledger (record { conn = conn; bytes = bytes; taken = taken }) ≡ false → HasCome failure point checkpoint env new choices after tried.Contradicts
-  sends_other failure point checkpoint env old new choices log ledger after conn bytes taken t s other =
+      → (t : IsTrying failure point checkpoint env old choices log ledger) (s : SendsOn failure.rules.limits (items_of failure) (everywhere env point) old.base t.path old.written conn bytes (live_of new))
+      → KeepsSaved old new → agrees_next ledger (record { conn = conn; bytes = bytes; taken = taken }) ≡ false → HasCome failure point checkpoint env new choices after tried.Contradicts
+  sends_other failure point checkpoint env old new choices log ledger after conn bytes taken t s saved other =
       let send : Send = record { conn = conn; bytes = bytes; taken = t.path.state.machine.taken } in
       let next = sym (next_agrees (received failure.rules.bounds failure.entries) ledger failure.failed.state.sends t.path.state.sends (pieces_of failure) send (beside failure point checkpoint env old choices log ledger t)) ∙ other in
       let contradicted : IsContradicted failure.rules.limits (items_of failure) (everywhere env point) checkpoint (pieces_of failure) point s.now = record {
@@ -177,8 +179,8 @@ module _ {R : Type 0} where
         conn = conn;
         differs = subst (λ (all : List Send). agree (sent_to conn all) (sent_to conn (pieces_of failure)) ≡ false) (sym s.sends) (differs_more t.path.state.sends (pieces_of failure) send next t.unharmed.agrees);
       } in
-      comes_at failure point checkpoint env new choices after s.now tried.Contradicts t.from (served_on failure.rules.limits (items_of failure) (everywhere env point) checkpoint t.path s.now t.served s.goes.served) contradicted (sym s.stands)
-      (s.choices ∙ t.chose) (can_send failure point checkpoint env old choices log ledger conn bytes new.slots.live t s) (λ survived. absurd (let no : ⊥ = cc in no))
+      comes_at failure point checkpoint env new choices after s.now tried.Contradicts t.from (served_on failure.rules.limits (items_of failure) (everywhere env point) checkpoint t.path s.now t.served s.goes.served) contradicted (sym s.stands) (wrote_on failure checkpoint t.path s.now old new saved t.wrote s.wrote)
+      (s.choices ∙ t.chose) (can_send failure point checkpoint env old choices log ledger conn bytes (live_of new) t s) (λ survived. absurd (let no : ⊥ = cc in no))
 
   -- its instruction is a recv whose buffer may be written
   pub takes_wants : (failure : Failure) (point : ℕ) (checkpoint : Path) (env : Env) (cpu : CpuState R) (choices : List Choice) (log : Log) (ledger : Ledger) → IsAsking failure point checkpoint env cpu choices log ledger
@@ -205,13 +207,17 @@ module _ {R : Type 0} where
 
   -- it takes the item, before which it had sent all that was passed
   pub takes_next : (failure : Failure) (point : ℕ) (checkpoint : Path) (env : Env) (old new : CpuState R) (choices : List Choice) (log : Log) (ledger : Ledger) (taken : ℕ) (item : Item) (a : IsAsking failure point checkpoint env old choices log ledger) → KeepsSaved old new
-      → taken ≡ a.trying.path.state.machine.taken → (taken ≡ point → ⊥) → ledgers.CoversBefore ledger taken → IsItemOf log taken item → new.slots.live ≡ taken_standing item old.slots.live → IsTrying failure point checkpoint env new choices log ledger
+      → taken ≡ a.trying.path.state.machine.taken → (taken ≡ point → ⊥) → ledgers.CoversBefore ledger taken → IsItemOf log taken item → live_of new ≡ live_with_item old.base item (live_of old) → IsTrying failure point checkpoint env new choices log ledger
   takes_next failure point checkpoint env old new choices log ledger taken item a saved is other covers of_events live =
       let t = a.trying in
       let first : Path = t.path in
       let found : slice_get (items_of failure) taken ≡ Some item = item_is failure.rules.bounds failure.entries log taken item t.failed.has.items of_events in
-      let takes : TakesOn failure.rules.limits (items_of failure) (everywhere env point) first item =
-      takes_serve failure.rules.limits (items_of failure) (everywhere env point) first item a.asks (ap (slice_get (items_of failure)) (sym is) ∙ found) in
+      let range = received_range item first.state.machine in
+      let both : TakesWriting failure.rules.limits (items_of failure) (everywhere env point) old.base first old.written item (with_range old.base range old.written) =
+      takes_write failure.rules.limits (items_of failure) (everywhere env point) old.base first old.written item a.asks (ap (slice_get (items_of failure)) (sym is) ∙ found) in
+      let takes : TakesOn failure.rules.limits (items_of failure) (everywhere env point) first item = both.took in
+      let flags : new.written ≡ with_range old.base (received_range item first.state.machine) old.written =
+      ap (λ (l : Live). l.written) live ∙ ap (λ (s : Standing). with_range old.base (received_range item s.guest.machine) old.written) t.stands in
       let now : Path = takes.now in
       let within : OpenWithin (λ conn. opens conn (heeded failure.rules.bounds (events_in failure.entries)) ≡ true) first.state.machine.connections = record { each = t.goes.within } in
       let after : OpenWithin (λ conn. opens conn (heeded failure.rules.bounds (events_in failure.entries)) ≡ true) now.state.machine.connections =
@@ -230,7 +236,9 @@ module _ {R : Type 0} where
           early = omega (arith, takes.taken, is, other, t.unharmed.early);
         };
         lives = takes.lives;
-        stands = live ∙ (ap (taken_standing item) t.stands ∙ sym takes.stands);
+        stands = ap (λ (l : Live). l.standing) live ∙ (ap (taken_standing item) t.stands ∙ sym takes.stands);
+        wrote = wrote_on failure checkpoint first now old new saved t.wrote
+            (subst (λ (all : List Bool). Writes failure.rules.limits (items_of failure) old.base first old.written now all) (sym flags) both.wrote);
         chose = takes.silent.choices ∙ t.chose;
         goes = record {
           bounded = λ alive. takes.bounded (t.goes.bounded t.lives);

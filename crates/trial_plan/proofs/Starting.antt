@@ -1,5 +1,5 @@
 -- Where a trial begins.
-use Rattle.std.proofs.Common.{◌≡◌, ℕ, zero, suc, ◌+◌, ◌-◌, ◌<◌, ◌≤◌, List, [], ◌∷◌, ◌++◌, length, take, drop, Option, Some, None, refl, sym, ◌∙◌, ap, subst, arith, append-nil, length-append, length-drop}
+use Rattle.std.proofs.Common.{◌≡◌, ℕ, zero, suc, ◌+◌, ◌-◌, ◌<◌, ◌≤◌, Bool, true, false, List, [], ◌∷◌, ◌++◌, length, take, drop, replicate, Option, Some, None, refl, sym, ◌∙◌, ap, subst, arith, append-nil, length-append, length-drop}
 use Rattle.std.specs.Prelude.{slice_get, option_map, IsSomeAnd}
 use Rattle.std.proofs.lemmas.List.{drop-append-le, take-append-le, length-map}
 use Rattle.std.proofs.lemmas.Option.{same_Some, none-some, slice_get_within}
@@ -19,6 +19,9 @@ use Rattle.run_history.specs.Served.{Limits, Path, Served}
 use Rattle.guest_cpu.specs.Standing.{Standing}
 use Rattle.guest_cpu.specs.Cpus.{CpuState}
 use Rattle.guest_cpu.specs.Serving.{standing_of}
+use Rattle.page_line.specs.Line.{count_true}
+use Rattle.guest_runs.specs.Writing.{Writes}
+use Rattle.guest_runs.proofs.WritingLemmas.{writes_none}
 use Rattle.session_history.specs.Heeding.{Bounds}
 use Rattle.session_history.specs.Lawful.{Rules}
 use Rattle.session_history.specs.Keeping.{KeepsReplies}
@@ -138,10 +141,10 @@ module _ {R : Type 0} where
       let more : length failure.failed.state.sends ≡ length checkpoint.state.sends + length f.grows.more = ap length f.grows.sends ∙ length-append checkpoint.state.sends f.grows.more in
       (f.kept.sends, omega (arith, counted, kept, more))
 
-  -- a trial stands at its checkpoint
+  -- a trial stands at its checkpoint, since which it wrote nothing
   pub begins : (point : ℕ) (failure : Failure) (old new : CpuState R) (log : Log) (ledger after : Ledger) (index : ℕ) (checkpoint : Path) (env : Env) → FailedAt point failure old log ledger → slice_get failure.ring index ≡ Some checkpoint
-      → KeepsSaved old new → new.slots.live ≡ standing_of checkpoint → after ≡ begun (discarded ledger) (length checkpoint.state.sends) → ledgers.Agrees after → IsTrying failure point checkpoint env new [] log after
-  begins point failure old new log ledger after index checkpoint env h found saved stands is agrees =
+      → KeepsSaved old new → new.slots.live ≡ standing_of checkpoint → new.written ≡ replicate new.slots.pages false → after ≡ begun (discarded ledger) (length checkpoint.state.sends) → ledgers.Agrees after → IsTrying failure point checkpoint env new [] log after
+  begins point failure old new log ledger after index checkpoint env h found saved stands none is agrees =
       let f = from_at point failure old log ledger index checkpoint h found in
       let first : after.first ≡ ledger.first = ap (λ (l : Ledger). l.first) is in
       record {
@@ -152,6 +155,8 @@ module _ {R : Type 0} where
         unharmed = f.unharmed;
         lives = f.kept.lives;
         stands = stands;
+        wrote = subst (λ (flags : List Bool). Writes failure.rules.limits (items_of failure) new.base checkpoint (replicate new.slots.pages false) checkpoint flags) (sym none)
+            (writes_none failure.rules.limits (items_of failure) new.base checkpoint (replicate new.slots.pages false));
         chose = sym (append-nil checkpoint.choices);
         goes = f.kept.goes;
         items = f.kept.items;
@@ -178,8 +183,23 @@ restored_saved : (o : Option (Saved Standing)) (old new : Slots Standing) → Is
 restored_saved None old new is = absurd is
 restored_saved (Some one) old new is = (one, is)
 
+-- flags of which none is set
+none_set : (flags : List Bool) (count : ℕ) → count_true flags ≡ 0 → length flags ≡ count → flags ≡ replicate count false
+none_set [] zero none long = refl
+none_set [] (suc count) none long = absurd (omega (arith, long))
+none_set (flag ∷ flags) zero none long = absurd (omega (arith, long))
+none_set (true ∷ flags) (suc count) none long = absurd (omega (arith, none))
+none_set (false ∷ flags) (suc count) none long = ap (λ (rest : List Bool). false ∷ rest) (none_set flags count (omega (arith, none)) (omega (arith, long)))
+
 module _ {R : Type 0} where
-  -- after a restore the guest stands at the checkpoint
+  -- after a restore no page counts as written
+  pub restored_none : (old new : CpuState R) (index : ℕ) → IsSomeAnd (from_newest old.slots.saved index) (λ one. new.slots ≡ restored one old.slots) → count_true new.written ≡ new.slots.written → length new.written ≡ new.slots.pages
+      → new.written ≡ replicate new.slots.pages false
+  restored_none old new index is counted long =
+      let p = restored_saved (from_newest old.slots.saved index) old.slots new.slots is in
+      none_set new.written new.slots.pages (counted ∙ ap (λ (slots : Slots Standing). slots.written) p.1) long
+
+  -- and the guest stands at the checkpoint
   pub restored_at : (point : ℕ) (failure : Failure) (old new : CpuState R) (log : Log) (ledger : Ledger) (index : ℕ) (checkpoint : Path) → FailedAt point failure old log ledger → slice_get failure.ring index ≡ Some checkpoint
       → IsSomeAnd (from_newest old.slots.saved index) (λ one. new.slots ≡ restored one old.slots) → new.slots.live ≡ standing_of checkpoint
   restored_at point failure old new log ledger index checkpoint h found is =

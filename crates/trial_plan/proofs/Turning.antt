@@ -15,7 +15,7 @@ use Rattle.run_history.specs.Served.{Path, AsksFor, FailsBy}
 use Rattle.guest_cpu.specs.declared.event.Event.{Event}
 use Rattle.guest_cpu.specs.declared.event.Event.TheVariants as event
 use Rattle.guest_cpu.specs.Standing.{Standing}
-use Rattle.guest_cpu.specs.Cpus.{CpuState}
+use Rattle.guest_cpu.specs.Cpus.{CpuState, live_of}
 use Rattle.guest_runs.specs.Runs.{IsSilent}
 use Rattle.episodes.specs.declared.episode.Tried.{Tried}
 use Rattle.episodes.specs.declared.episode.Tried.TheVariants as tried
@@ -47,7 +47,7 @@ module _ {R : Type 0} where
   pub ran_least : (failure : Failure) (point : ℕ) (checkpoint : Path) (env : Env) (old new : CpuState R) (choices : List Choice) (log : Log) (ledger : Ledger) (budget : ℕ) (permits : Heap → ℕ → ℕ → Bool) → IsUnder failure budget permits
       → (result : Result Event AllocError) → IsTrying failure point checkpoint env old choices log ledger → Ran budget permits env old new result → old.slots.live.steps ≤ new.slots.live.steps
   ran_least failure point checkpoint env old new choices log ledger budget permits under result t ran =
-      let runs = ran_on failure point checkpoint env old new choices log ledger budget permits result under t ran in
+      let runs = (ran_on failure point checkpoint env old new choices log ledger budget permits result under t ran).ran in
       let from : old.slots.live.steps ≡ t.path.steps = ap (λ (s : Standing). s.steps) t.stands in
       let to : runs.now.steps ≡ new.slots.live.steps = ap (λ (s : Standing). s.steps) runs.stands in
       omega (arith, from, to, runs.goes.later)
@@ -60,7 +60,7 @@ module _ {R : Type 0} where
     -- its count of instructions didn't fall
     pub ran_later : IsTrying failure point checkpoint env old choices log ledger → Ranto found → old.slots.live.steps ≤ new.slots.live.steps
     ran_later t ran =
-        let runs = ran_on failure point checkpoint env old new choices log ledger budget permits (Ok found) under t ran in
+        let runs = (ran_on failure point checkpoint env old new choices log ledger budget permits (Ok found) under t ran).ran in
         let from : old.slots.live.steps ≡ t.path.steps = ap (λ (s : Standing). s.steps) t.stands in
         let to : runs.now.steps ≡ new.slots.live.steps = ap (λ (s : Standing). s.steps) runs.stands in
         omega (arith, from, to, runs.goes.later)
@@ -69,43 +69,47 @@ module _ {R : Type 0} where
     pub asks_now : found ≡ event.Asks → IsTrying failure point checkpoint env old choices log ledger → Ranto found → KeepsSaved old new → IsAsking failure point checkpoint env new choices log ledger
     unfolding goes_silently
     asks_now is t ran saved =
-        let runs = ran_on failure point checkpoint env old new choices log ledger budget permits (Ok event.Asks) under t (subst Ranto is ran) in
+        let both = ran_on failure point checkpoint env old new choices log ledger budget permits (Ok event.Asks) under t (subst Ranto is ran) in
+        let runs = both.ran in
         let silent : IsSilent t.path runs.now = runs.comes.0 in
         let asks : AsksFor failure.rules.limits (everywhere env point) runs.now t.path.state.machine.taken = runs.comes.1 in
         record {
-          trying = goes_silently failure point checkpoint env old new choices choices log ledger t runs.now saved runs.goes asks.lives silent.sends (silent.choices ∙ t.chose) runs.stands;
+          trying = goes_silently failure point checkpoint env old new choices choices log ledger t runs.now saved runs.goes asks.lives silent.sends (silent.choices ∙ t.chose) runs.stands both.wrote;
           asks = subst (AsksFor failure.rules.limits (everywhere env point) runs.now) (sym runs.goes.taken) asks;
         }
 
     -- malloc was answered
     pub chooses_now : (choice : Choice) → found ≡ event.Chooses choice → IsTrying failure point checkpoint env old choices log ledger → Ranto found → KeepsSaved old new → IsTrying failure point checkpoint env new (choices ++ choice ∷ []) log ledger
     chooses_now choice is t ran saved =
-        let runs = ran_on failure point checkpoint env old new choices log ledger budget permits (Ok (event.Chooses choice)) under t (subst Ranto is ran) in
+        let both = ran_on failure point checkpoint env old new choices log ledger budget permits (Ok (event.Chooses choice)) under t (subst Ranto is ran) in
+        let runs = both.ran in
         let comes = runs.comes in
-        goes_silently failure point checkpoint env old new choices (choices ++ choice ∷ []) log ledger t runs.now saved runs.goes comes.2 comes.1 (comes.0 ∙ (ap (λ (all : List Choice). all ++ choice ∷ []) t.chose ∙ append_assoc checkpoint.choices choices (choice ∷ []))) runs.stands
+        goes_silently failure point checkpoint env old new choices (choices ++ choice ∷ []) log ledger t runs.now saved runs.goes comes.2 comes.1 (comes.0 ∙ (ap (λ (all : List Choice). all ++ choice ∷ []) t.chose ∙ append_assoc checkpoint.choices choices (choice ∷ []))) runs.stands both.wrote
 
     pub chooses_later : (choice : Choice) → found ≡ event.Chooses choice → IsTrying failure point checkpoint env old choices log ledger → Ranto found → old.slots.live.steps < new.slots.live.steps
     chooses_later choice is t ran =
-        let runs = ran_on failure point checkpoint env old new choices log ledger budget permits (Ok (event.Chooses choice)) under t (subst Ranto is ran) in
+        let runs = (ran_on failure point checkpoint env old new choices log ledger budget permits (Ok (event.Chooses choice)) under t (subst Ranto is ran)).ran in
         let from : old.slots.live.steps ≡ t.path.steps = ap (λ (s : Standing). s.steps) t.stands in
         let to : runs.now.steps ≡ new.slots.live.steps = ap (λ (s : Standing). s.steps) runs.stands in
         let comes = runs.comes in
         omega (arith, from, to, comes.3)
 
     -- it ended itself
-    pub exits_now : (code : ℕ) (result : Tried) → found ≡ event.Exits code → IsTrying failure point checkpoint env old choices log ledger → Ranto found → IsJudged (ledgers.Covers ledger) (tried.Exits code) result → HasCome failure point checkpoint env new choices ledger result
-    exits_now code result is t ran judged =
-        let runs = ran_on failure point checkpoint env old new choices log ledger budget permits (Ok (event.Exits code)) under t (subst Ranto is ran) in
-        exits_past failure point checkpoint env old new choices log ledger code result t runs.now runs.goes runs.comes.0 runs.comes.1 runs.stands judged
+    pub exits_now : (code : ℕ) (result : Tried) → found ≡ event.Exits code → IsTrying failure point checkpoint env old choices log ledger → Ranto found → KeepsSaved old new → IsJudged (ledgers.Covers ledger) (tried.Exits code) result → HasCome failure point checkpoint env new choices ledger result
+    exits_now code result is t ran saved judged =
+        let both = ran_on failure point checkpoint env old new choices log ledger budget permits (Ok (event.Exits code)) under t (subst Ranto is ran) in
+        let runs = both.ran in
+        exits_past failure point checkpoint env old new choices log ledger code result t runs.now saved runs.goes runs.comes.0 runs.comes.1 runs.stands both.wrote judged
 
     -- it failed
     pub fails_now : (cause : Cause) → found ≡ event.Failed cause → IsTrying failure point checkpoint env old choices log ledger → Ranto found → KeepsSaved old new → HasCome failure point checkpoint env new choices ledger (tried.Failed cause)
     unfolding goes_silently
     fails_now cause is t ran saved =
-        let runs = ran_on failure point checkpoint env old new choices log ledger budget permits (Ok (event.Failed cause)) under t (subst Ranto is ran) in
+        let both = ran_on failure point checkpoint env old new choices log ledger budget permits (Ok (event.Failed cause)) under t (subst Ranto is ran) in
+        let runs = both.ran in
         let silent : IsSilent t.path runs.now = runs.comes.0 in
         let fails : FailsBy failure.rules.limits (everywhere env point) runs.now cause = runs.comes.1 in
-        let here = goes_silently failure point checkpoint env old new choices choices log ledger t runs.now saved runs.goes fails.lives silent.sends (silent.choices ∙ t.chose) runs.stands in
+        let here = goes_silently failure point checkpoint env old new choices choices log ledger t runs.now saved runs.goes fails.lives silent.sends (silent.choices ∙ t.chose) runs.stands both.wrote in
         fails_here failure point checkpoint env new choices log ledger cause here fails
 
     -- it sent bytes: what the ledger asks of them
@@ -124,11 +128,11 @@ module _ {R : Type 0} where
         let now : taken ≡ t.path.state.machine.taken = at ∙ (ap (λ (x : Standing). x.guest.machine.taken) (sym s.stands) ∙ s.goes.taken) in
         of t s now result sent
       where
-        of : (t : IsTrying failure point checkpoint env old choices log ledger) → SendsOn failure.rules.limits (items_of failure) (everywhere env point) t.path conn bytes new.slots.live → taken ≡ t.path.state.machine.taken
+        of : (t : IsTrying failure point checkpoint env old choices log ledger) → SendsOn failure.rules.limits (items_of failure) (everywhere env point) old.base t.path old.written conn bytes (live_of new) → taken ≡ t.path.state.machine.taken
             → (result : Result (Option Tried) AllocError) → SendsBy ledger (record { conn = conn; bytes = bytes; taken = taken }) after result → TurnsBy failure point checkpoint env new choices log after result
         of t s now (Ok None) h = sends_same failure point checkpoint env old new choices log ledger after conn bytes taken t s saved now h.0 h.1 (h.2 t.agrees)
         of t s now (Ok (Some result)) h =
-            subst (HasCome failure point checkpoint env new choices after) (sym h.2) (sends_other failure point checkpoint env old new choices log ledger after conn bytes taken t s h.1)
+            subst (HasCome failure point checkpoint env new choices after) (sym h.2) (sends_other failure point checkpoint env old new choices log ledger after conn bytes taken t s saved h.1)
         of t s now (Err fault) h = tt
 
     pub emits_later : (conn : ℕ) (bytes : List ℕ) → found ≡ event.Emits conn bytes → IsTrying failure point checkpoint env old choices log ledger → Ranto found → old.slots.live.steps < new.slots.live.steps

@@ -234,6 +234,7 @@ module _ {R : Type 0} where
         checkpoint_is = is ∙ ap (λ (c : Chance). Some c.checkpoint) (sym a.chance_is);
         stands_on = base;
         stands = a.adopted.stands;
+        wrote = a.adopted.wrote;
         chose = a.adopted.chose;
         goes = a.adopted.goes;
         replies = a.adopted.replies;

@@ -1,5 +1,5 @@
 -- A trial on its way: what its guest, its answers of malloc and its ledger are, before each of its events.
-use Rattle.std.specs.Prelude.{◌≡◌, ◌⊎◌, ℕ, ◌<◌, ◌≤◌, Bool, true, false, List, ◌++◌, length, take, drop, Option, None, Some, Result, Ok, Err}
+use Rattle.std.specs.Prelude.{◌≡◌, ◌⊎◌, ℕ, ◌<◌, ◌≤◌, Bool, true, false, List, ◌++◌, length, take, drop, replicate, Option, None, Some, Result, Ok, Err}
 use Rattle.std.specs.declared.alloc.AllocError.{AllocError}
 use Rattle.rx_io.specs.Sends.{Send, sent_to}
 use Rattle.alloc_env.specs.declared.env.Env.{Env}
@@ -12,6 +12,7 @@ use Rattle.reply_ledger.specs.Trials as ledgers
 use Rattle.run_history.specs.Served.{Path, Served, AsksFor}
 use Rattle.guest_cpu.specs.Cpus.{CpuState}
 use Rattle.guest_cpu.specs.Serving.{standing_of}
+use Rattle.guest_runs.specs.Writing.{Writes}
 use Rattle.episodes.specs.declared.episode.Tried.{Tried}
 use Rattle.episodes.specs.declared.episode.Tried.TheVariants as tried
 use Rattle.episodes.specs.Survival.{survives}
@@ -44,8 +45,8 @@ IsLater (Ok found) before now = IsLaterIf found before now
 IsLater (Err fault) before now = Unit {0}
 
 module _ {R : Type 0} where
-  -- A trial that goes on from a checkpoint stands here, unharmed. It is told as a run in its environment from the checkpoint on; and the ledger
-  -- has its sends.
+  -- A trial that goes on from a checkpoint stands here, unharmed. It is told as a run in its environment from the checkpoint on, which wrote the
+  -- pages that the guest has marked; and the ledger has its sends.
   pub record IsTrying (failure : Failure) (point : ℕ) (checkpoint : Path) (env : Env) (cpu : CpuState R) (choices : List Choice) (log : Log) (ledger : Ledger) : Type 0 where
     pub failed : FailedAt point failure cpu log ledger
     pub from : IsCheckpoint failure.rules.limits failure.image checkpoint
@@ -54,6 +55,7 @@ module _ {R : Type 0} where
     pub unharmed : IsUnharmed (pieces_of failure) point path.state
     pub lives : path.state.ended ≡ None
     pub stands : cpu.slots.live ≡ standing_of path
+    pub wrote : Writes failure.rules.limits (items_of failure) cpu.base checkpoint (replicate cpu.slots.pages false) path cpu.written
     pub chose : path.choices ≡ checkpoint.choices ++ choices
     pub goes : CanGoOn failure.rules failure.entries path
     pub items : log.first ≤ path.state.machine.taken
@@ -85,6 +87,7 @@ module _ {R : Type 0} where
     pub path : Path
     pub trial : IsTrial failure.rules.limits (items_of failure) (plan_of_trial failure.plan checkpoint.state.machine.taken env point) checkpoint (pieces_of failure) point path result
     pub stands : cpu.slots.live ≡ standing_of path
+    pub wrote : Writes failure.rules.limits (items_of failure) cpu.base checkpoint (replicate cpu.slots.pages false) path cpu.written
     pub chose : path.choices ≡ checkpoint.choices ++ choices
     pub goes : CanGoOn failure.rules failure.entries path
     pub sent : survives result ≡ true → ledger.trial ≡ Some (drop ledger.first path.state.sends)

@@ -1,5 +1,5 @@
 -- What a trial, and a walk over the table, make of a session whose program failed.
-use Rattle.std.specs.Prelude.{◌≡◌, ℕ, ◌+◌, ◌-◌, ◌/◌, List, [], ◌∷◌, ◌++◌, length, map, sum, drop, None, Some, slice_get, MatchBool, Result, Ok, Err}
+use Rattle.std.specs.Prelude.{◌≡◌, ℕ, ◌+◌, ◌-◌, ◌/◌, List, [], ◌∷◌, ◌++◌, length, map, sum, drop, replicate, false, None, Some, slice_get, MatchBool, Result, Ok, Err}
 use Rattle.std.specs.declared.alloc.AllocError.{AllocError}
 use Rattle.alloc_env.specs.declared.env.Env.{Env}
 use Rattle.block_book.specs.declared.choice.Choice.{Choice}
@@ -10,6 +10,7 @@ use Rattle.ckpt_ring.specs.Rings.{from_newest}
 use Rattle.run_history.specs.Served.{Path}
 use Rattle.guest_cpu.specs.Cpus.{CpuState}
 use Rattle.guest_cpu.specs.Serving.{standing_of}
+use Rattle.guest_runs.specs.Writing.{Writes}
 use Rattle.session_history.specs.Keeping.{KeepsReplies}
 use Rattle.episodes.specs.declared.episode.Tried.{Tried}
 use Rattle.episodes.specs.declared.episode.Try.{Try}
@@ -45,12 +46,13 @@ module _ {R : Type 0} where
   abbrev pub StandsOn : CpuState R → ℕ → Type 0
   StandsOn cpu index = cpu.slots.base ≡ from_newest (slot_numbers cpu.slots.saved) index
 
-  -- A trial from a checkpoint came to this result: the guest stands where it has come, and these are its answers of malloc since the checkpoint.
-  -- Where it survives, the ledger has its sends, and else it has no trial.
+  -- A trial from a checkpoint came to this result: the guest stands where it has come, has marked the pages that it wrote since the checkpoint,
+  -- and these are its answers of malloc since then. Where it survives, the ledger has its sends, and else it has no trial.
   pub record HasTried (failure : Failure) (point : ℕ) (checkpoint : Path) (env : Env) (cpu : CpuState R) (choices : List Choice) (ledger : Ledger) (result : Tried) : Type 0 where
     pub path : Path
     pub trial : IsTrial failure.rules.limits (items_of failure) (plan_of_trial failure.plan checkpoint.state.machine.taken env point) checkpoint (pieces_of failure) point path result
     pub stands : cpu.slots.live ≡ standing_of path
+    pub wrote : Writes failure.rules.limits (items_of failure) cpu.base checkpoint (replicate cpu.slots.pages false) path cpu.written
     pub chose : path.choices ≡ checkpoint.choices ++ choices
     pub goes : CanGoOn failure.rules failure.entries path
     pub sent : MatchBool (survives result) (ledger.trial ≡ Some (drop ledger.first path.state.sends)) (ledger.trial ≡ None)
@@ -67,6 +69,7 @@ module _ {R : Type 0} where
     pub checkpoint_is : slice_get failure.ring index ≡ Some trial.chance.checkpoint
     pub stands_on : StandsOn cpu index
     pub stands : cpu.slots.live ≡ standing_of trial.path
+    pub wrote : Writes failure.rules.limits (items_of failure) cpu.base trial.chance.checkpoint (replicate cpu.slots.pages false) trial.path cpu.written
     pub chose : trial.path.choices ≡ trial.chance.checkpoint.choices ++ choices
     pub goes : CanGoOn failure.rules failure.entries trial.path
     pub replies : KeepsReplies failure.rules.bounds failure.entries None trial.path.state.sends ledger

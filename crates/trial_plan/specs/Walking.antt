@@ -1,5 +1,5 @@
 -- A walk on its way over the table of trials.
-use Rattle.std.specs.Prelude.{◌≡◌, ℕ, ◌+◌, ◌-◌, List, [], ◌∷◌, ◌++◌, map, take, Bool, true, false, None, Some, slice_get, Result, Ok, Err}
+use Rattle.std.specs.Prelude.{◌≡◌, ℕ, ◌+◌, ◌-◌, List, [], ◌∷◌, ◌++◌, map, take, replicate, Bool, true, false, None, Some, slice_get, Result, Ok, Err}
 use Rattle.std.specs.declared.alloc.AllocError.{AllocError}
 use Rattle.alloc_env.specs.declared.env.Env.{Env}
 use Rattle.block_book.specs.declared.choice.Choice.{Choice}
@@ -8,6 +8,7 @@ use Rattle.reply_ledger.specs.Trials.{discarded}
 use Rattle.run_history.specs.Served.{Path}
 use Rattle.guest_cpu.specs.Cpus.{CpuState}
 use Rattle.guest_cpu.specs.Serving.{standing_of}
+use Rattle.guest_runs.specs.Writing.{Writes}
 use Rattle.session_history.specs.Keeping.{KeepsReplies}
 use Rattle.episodes.specs.declared.episode.Try.{Try}
 use Rattle.episodes.specs.declared.episode.Episode.{Episode}
@@ -78,6 +79,7 @@ module _ {R : Type 0} where
   pub record IsAdopted (failure : Failure) (trial : Trial) (cpu : CpuState R) (choices : List Choice) (ledger : Ledger) : Type 0 where
     pub survived : survives trial.result ≡ true
     pub stands : cpu.slots.live ≡ standing_of trial.path
+    pub wrote : Writes failure.rules.limits (items_of failure) cpu.base trial.chance.checkpoint (replicate cpu.slots.pages false) trial.path cpu.written
     pub chose : trial.path.choices ≡ trial.chance.checkpoint.choices ++ choices
     pub goes : CanGoOn failure.rules failure.entries trial.path
     pub replies : KeepsReplies failure.rules.bounds failure.entries None trial.path.state.sends ledger

@@ -43,6 +43,7 @@ fn begin<R: AccessRule>(
 {
     replies.discard();
     ring.restore(cpu, index);
+    cpu.sound();
     replies.begin_trial(cpu.marks().sends);
     choices.clear();
 }
@@ -61,7 +62,8 @@ fn settle(tried: Tried, replies: &mut Replies)
 /// malloc answered since the checkpoint stands in `choices`. Where the trial survives, `replies` has its sends as a trial, which
 /// `adopt` makes the survivor's; else no trial is left there.
 ///
-/// The guest stands where the trial has come. The checkpoints and the items stay as they are. `steps` counts the instructions.
+/// The guest stands where the trial has come, and counts as written the pages that the trial wrote. The checkpoints and the items stay
+/// as they are. `steps` counts the instructions.
 ///
 /// # Errors
 ///

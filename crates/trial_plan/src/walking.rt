@@ -167,7 +167,8 @@ fn try_ring<R: AccessRule, L: Ledger>(
 /// failed; they stand in the episode, with all trials in their order.
 ///
 /// Where the last trial of the episode survived, the guest stands where that trial has come, on its checkpoint; malloc's answers
-/// since the checkpoint stand in `choices`, and its sends are the survivor's in `replies`. Where none survived, the guest may stand
+/// since the checkpoint stand in `choices`, and its sends are the survivor's in `replies`. The pages that the trial's run writes since
+/// then (`writes` of `guest_runs`) are those that the guest counts as written. Where none survived, the guest may stand
 /// anywhere. The checkpoints, the items, and what was passed stay as they are. `steps` counts the instructions of all trials.
 ///
 /// # Errors

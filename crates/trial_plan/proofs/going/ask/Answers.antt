@@ -1,6 +1,6 @@
 use Rattle.std.proofs.Common.{◌∙◌, ap}
 use Rattle.guest_cpu.specs.declared.marks.Marks.{Marks}
-use Rattle.guest_cpu.specs.Standing.{Live, Standing}
+use Rattle.guest_cpu.specs.Standing.{Standing}
 use Rattle.reply_ledger.specs.Trials.{CoversBefore}
 use Rattle.trial_plan.proofs.Joining.{test_holds, test_fails}
 use Rattle.trial_plan.proofs.Running.{live_base}
@@ -40,7 +40,7 @@ returns-clause-comes g c failure checkpoint env choices a =
     takes_next failure c.args.point checkpoint env c.args.cpu.now c.take_item.new.self choices c.args.items.now c.args.replies.now c.marks-taken.result.taken c.item.result.now a (live_base c.args.cpu.now c.take_item.new.self c.take_item.ensures.kept).saved
     (ap (λ (m : Marks). m.taken) c.marks-taken.ensures ∙ ap (λ (s : Standing). s.guest.machine.taken) a.trying.stands) c.if-taken-point.false
     (test_holds c.covers_before.result (CoversBefore c.args.replies.now c.marks-taken.result.taken) c.if-not-covers_before.false c.covers_before.ensures.0) c.item.ensures.of_events
-    (ap (λ (live : Live). live.standing) c.take_item.ensures.live)
+    c.take_item.ensures.live
 
 pub returns-clause-kept : goal.returns-clause-kept
 returns-clause-kept g c = live_base c.args.cpu.now c.take_item.new.self c.take_item.ensures.kept

@@ -80,7 +80,7 @@ returns-in-Ok-clause-later g c =
 
 pub returns-in-Ok-Exits-clause-comes : goal.returns-in-Ok-Exits-clause-comes
 returns-in-Ok-Exits-clause-comes g c failure checkpoint under t =
-    exits_now failure c.args.point checkpoint c.args.env c.args.cpu.now c.run_to_event.new.self c.args.choices.now.items c.args.items.now c.args.replies.now c.args.budget (g.R.AccessRule.rule c.args.cpu.now.rule) under c.in-Ok-Exits.field-0 c.in-Ok-Exits.code c.judge.result c.in-Ok-Exits.field-0-is t c.in-Ok-Exits.ensures.event c.judge.ensures
+    exits_now failure c.args.point checkpoint c.args.env c.args.cpu.now c.run_to_event.new.self c.args.choices.now.items c.args.items.now c.args.replies.now c.args.budget (g.R.AccessRule.rule c.args.cpu.now.rule) under c.in-Ok-Exits.field-0 c.in-Ok-Exits.code c.judge.result c.in-Ok-Exits.field-0-is t c.in-Ok-Exits.ensures.event (live_base c.args.cpu.now c.run_to_event.new.self c.run_to_event.ensures.kept).saved c.judge.ensures
 
 pub returns-in-Ok-Failed-clause-comes : goal.returns-in-Ok-Failed-clause-comes
 returns-in-Ok-Failed-clause-comes g c failure checkpoint under t =

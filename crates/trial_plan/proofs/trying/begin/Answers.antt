@@ -5,7 +5,7 @@ use Rattle.reply_ledger.specs.Trials.{begun, discarded}
 use Rattle.guest_cpu.specs.declared.marks.Marks.{Marks}
 use Rattle.guest_cpu.specs.Standing.{Standing}
 use Rattle.trial_plan.specs.Going.{IsTrying}
-use Rattle.trial_plan.proofs.Starting.{begins, restored_at, restored_keeps, restored_sends}
+use Rattle.trial_plan.proofs.Starting.{begins, restored_at, restored_keeps, restored_none, restored_sends}
 use Rattle.trial_plan.proofs.trying.begin.Goals as goal
 
 pub begin_trial-requires-clause-kept : goal.begin_trial-requires-clause-kept
@@ -32,4 +32,5 @@ returns-clause-begins g c point items failure checkpoint env failed found =
     let keeps = restored_keeps c.args.cpu.now c.restore.new.t c.args.index c.restore.ensures.restored (ap (λ p. p.0) c.restore.ensures.fixed) (ap (λ p. p.1) c.restore.ensures.fixed) in
     subst (λ (all : List Choice). IsTrying failure point checkpoint env c.restore.new.t all items c.begin_trial.new.self) (sym {A = List Choice} c.clear.ensures.items)
     (begins point failure c.args.cpu.now c.restore.new.t items c.args.replies.now c.begin_trial.new.self c.args.index checkpoint env failed found keeps stands
+    (restored_none c.args.cpu.now c.restore.new.t c.args.index c.restore.ensures.restored c.sound.ensures.written c.sound.ensures.pages)
     (c.begin_trial.ensures.begun ∙ (ap (λ (l : Ledger). begun l c.marks.result.sends) c.discard.ensures ∙ ap (begun (discarded c.args.replies.now)) sends)) c.begin_trial.ensures.agrees)

@@ -32,6 +32,7 @@ returns-else-not-survives-clause-tries g c failure checkpoint under failed found
       adopted = record {
         survived = survived;
         stands = h.stands;
+        wrote = h.wrote;
         chose = h.chose;
         goes = h.goes;
         replies = subst (λ (l : Ledger). KeepsReplies failure.rules.bounds failure.entries None h.path.state.sends l) (sym c.adopt.ensures)
