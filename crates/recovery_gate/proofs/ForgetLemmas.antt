@@ -198,6 +198,8 @@ module _ {R : Type 0} where
           standing = k.standing;
           capacity = k.capacity;
           base = k.base;
+          window = k.window;
+          wrote = k.wrote;
         };
         items = record {
           all_heeded = items.all_heeded;

@@ -1,22 +1,36 @@
 -- Which checkpoints stand: one lemma for each event.
-use Rattle.std.proofs.Common.{◌≡◌, ℕ, zero, suc, ◌+◌, ◌-◌, ◌<◌, Bool, true, false, cond, List, [], ◌∷◌, ◌++◌, length, map, take, drop, Option, Some, None, refl, sym, ◌∙◌, ap, subst, arith}
-use Rattle.std.specs.Prelude.{slice_get, sum, nat_le, ◌&&◌, IsSomeAnd}
+use Rattle.std.proofs.Common.{◌≡◌, ℕ, zero, suc, ◌+◌, ◌-◌, ◌<◌, Bool, true, false, cond, List, [], ◌∷◌, ◌++◌, length, map, take, drop, Option, Some, None, IfSome, refl, sym, ◌∙◌, ap, subst, arith, append_assoc}
+use Rattle.std.specs.Prelude.{slice_get, replicate, sum, nat_le, ◌&&◌, IsSomeAnd}
 use Rattle.std.specs.Option.{option_map}
 use Rattle.std.proofs.lemmas.List.{map-append, length-map}
 use Rattle.std.proofs.lemmas.Bool.{lt-leb}
+use Rattle.std.proofs.lemmas.Option.{same_Some}
+use Rattle.rx_io.specs.declared.bytes.Item.{Item}
+use Rattle.rx_io.specs.declared.journal.Entry.{Entry}
+use Rattle.elf_image.specs.declared.image.Image.{Image}
+use Rattle.elf_image.specs.Image.{base}
+use Rattle.item_log.specs.Log.{Log}
+use Rattle.reply_ledger.specs.Ledger.{Ledger}
 use Rattle.ckpt_ring.specs.declared.checkpoint.Checkpoint.{Checkpoint}
 use Rattle.ckpt_ring.specs.Slots.{Saved, Slots, with_whole_oldest}
-use Rattle.ckpt_ring.specs.Rings.{checkpoint_of, checkpoints_of, from_newest, without_newer, has_room, kept, line, saved_in_ring}
-use Rattle.run_history.specs.Served.{Path}
+use Rattle.ckpt_ring.specs.Rings.{Checkpoints, checkpoint_of, checkpoints_of, from_newest, without_newer, has_room, kept, line, saved_in_ring}
+use Rattle.page_line.specs.Line.{count_true}
+use Rattle.run_history.specs.Served.{Override, Path, origin, Served, AsksFor}
 use Rattle.guest_cpu.specs.Standing.{Standing}
+use Rattle.guest_cpu.specs.Cpus.{CpuState}
 use Rattle.guest_cpu.specs.Serving.{standing_of}
-use Rattle.session_history.specs.Lawful.{Survivor}
+use Rattle.guest_runs.specs.Writing.{Writes}
+use Rattle.session_history.specs.Heeding.{items_in}
+use Rattle.session_history.specs.Lawful.{Rules, Survivor, Chapter, entries_of}
+use Rattle.session_history.proofs.Paths.{served_same, served_on, served_with}
 use Rattle.trial_history.specs.Tables.{Trial, survivor_in}
 use Rattle.trial_history.specs.Episodes.{Recovery}
 use Rattle.trial_plan.specs.Sessions.{taken_in}
-use Rattle.recovery_gate.specs.Rings.{is_due, is_due_after}
-use Rattle.recovery_gate.specs.Handling.{Keeping, Stand, first_stands, whole_oldest, may_stand, stay, is_far, handle, handled, HasRing, IsRinged, AreRinged, HasHandled, stand_of, stands_of, keeping_by}
+use Rattle.trial_history.proofs.Chained.{chained_at}
+use Rattle.recovery_gate.specs.Rings.{KeepsRing, is_due, is_due_after}
+use Rattle.recovery_gate.specs.Handling.{Keeping, Stand, first_stands, whole_oldest, may_stand, stay, is_far, handle, handled, HasRing, HasWritten, AreWritten, IsRinged, AreRinged, HasHandled, stand_of, stands_of, keeping_by}
 use Rattle.recovery_gate.proofs.Mirrors.{from_map}
+use Rattle.guest_runs.proofs.WritingLemmas.{writes_more}
 
 -- as slots they have room exactly where they may stand
 room_is : (capacity every : ℕ) (slots : Slots Standing) (list : List (Saved Standing)) → has_room capacity slots.pages slots.frames (map (λ (one : Saved Standing). one.pages) list) ≡ may_stand (keeping_by capacity every slots) (stands_of list)
@@ -92,55 +106,116 @@ pub newest_by : (newest : Option Checkpoint) (number taken : ℕ) → number ≡
 newest_by None number taken same is = is
 newest_by (Some newest) number taken same is = is ∙ same
 
--- one more request of the last survivor, with as many items taken as requests were handled before
-pub handled_more : (keeping : Keeping) (recoveries : List Recovery) (survivor : Survivor) (requests written : ℕ) (stands next : List Stand) → HasHandled keeping recoveries survivor requests stands → next ≡ handle keeping requests written stands
-    → HasHandled keeping recoveries survivor (requests + 1) next
-handled_more keeping recoveries survivor requests written stands next h is = record {
+-- what holds of the one that is there
+if_some : (o : Option Stand) (P Q : Stand → Type 0) → ((one : Stand) → P one → Q one) → IfSome o P → IfSome o Q
+if_some None P Q so holds = tt
+if_some (Some one) P Q so holds = so one holds
+
+-- As many pages were written by the run of a survivor that goes on, beside a journal that brings more items.
+written_on : (rules : Rules) (image : Image) (entries later : List Entry) (more : List Item) (first second : Survivor) (pages from to count : ℕ) → second.plan ≡ first.plan
+    → Served rules.limits (items_in rules.bounds later) second.plan first.now second.now → items_in rules.bounds later ≡ items_in rules.bounds entries ++ more → HasWritten rules image entries first pages from to count → HasWritten rules image later second pages from to count
+written_on rules image entries later more first second pages from to count plan served grown w =
+    let with_more : (a b : Path) → Served rules.limits (items_in rules.bounds entries) first.plan a b → Served rules.limits (items_in rules.bounds later) second.plan a b =
+    λ a b ran.
+    subst (λ (items : List Item). Served rules.limits items second.plan a b) (sym grown)
+    (subst (λ (plan : List Override). Served rules.limits (items_in rules.bounds entries ++ more) plan a b) (sym plan) (served_with rules.limits (items_in rules.bounds entries) more first.plan a b ran)) in
+    record {
+      checkpoint = w.checkpoint;
+      is_checkpoint = w.is_checkpoint;
+      taken_is = w.taken_is;
+      request = w.request;
+      asks = w.asks;
+      begins = with_more (origin image) w.checkpoint w.begins;
+      goes = with_more w.checkpoint w.request w.goes;
+      later = served_on rules.limits (items_in rules.bounds later) second.plan w.request first.now second.now (with_more w.request first.now w.later) served;
+      flags = w.flags;
+      wrote =
+          subst (λ (items : List Item). Writes rules.limits items (base image) w.checkpoint (replicate pages false) w.request w.flags) (sym grown)
+          (writes_more rules.limits (items_in rules.bounds entries) more (base image) w.checkpoint (replicate pages false) w.request w.flags w.wrote);
+      count_is = w.count_is;
+    }
+
+all_written_on : (rules : Rules) (image : Image) (entries later : List Entry) (more : List Item) (first second : Survivor) (keeping : Keeping) (from : ℕ) (written : List ℕ) (stands : List Stand) → second.plan ≡ first.plan
+    → Served rules.limits (items_in rules.bounds later) second.plan first.now second.now → items_in rules.bounds later ≡ items_in rules.bounds entries ++ more → AreWritten rules image entries first keeping from written stands → AreWritten rules image later second keeping from written stands
+all_written_on rules image entries later more first second keeping from [] stands plan served grown are = tt
+all_written_on rules image entries later more first second keeping from (written ∷ earlier) stands plan served grown are = (
+  if_some (from_newest (handled keeping from earlier stands) 0) (λ newest. HasWritten rules image entries first keeping.pages newest.taken (from + length earlier) written)
+      (λ newest. HasWritten rules image later second keeping.pages newest.taken (from + length earlier) written)
+      (λ newest one. written_on rules image entries later more first second keeping.pages newest.taken (from + length earlier) written plan served grown one) are.0,
+  all_written_on rules image entries later more first second keeping from earlier stands plan served grown are.1,
+)
+
+-- One more request of the last survivor, with as many items taken as requests were handled before: these pages were written since the newest checkpoint.
+pub handled_more : (rules : Rules) (image : Image) (keeping : Keeping) (chapters : List Chapter) (entries : List Entry) (recoveries : List Recovery) (survivor : Survivor) (requests written : ℕ) (stands next : List Stand)
+    → IfSome (from_newest stands 0) (λ newest. HasWritten rules image entries survivor keeping.pages newest.taken requests written) → next ≡ handle keeping requests written stands
+    → HasHandled rules image keeping chapters entries recoveries survivor requests stands → HasHandled rules image keeping chapters entries recoveries survivor (requests + 1) next
+handled_more rules image keeping chapters entries recoveries survivor requests written stands next wrote is h = record {
   earlier = h.earlier;
   begun = h.begun;
   rings = h.rings;
   written = written ∷ h.written;
   many = let many = h.many in omega (arith, many);
+  pages = (
+    subst (λ (list : List Stand). IfSome (from_newest list 0) (λ newest. HasWritten rules image entries survivor keeping.pages newest.taken (survivor.begun.state.machine.taken + length h.written) written)) h.stands_are
+        (subst (λ n. IfSome (from_newest stands 0) (λ newest. HasWritten rules image entries survivor keeping.pages newest.taken n written)) (sym h.many) wrote),
+    h.pages,
+  );
   stands_are = is ∙ (ap (handle keeping requests written) h.stands_are ∙ ap (λ n. handle keeping n written (handled keeping survivor.begun.state.machine.taken h.written h.begun)) (sym h.many));
 }
 
--- where none is due, the request is handled as it stands
-pub handled_near : (keeping : Keeping) (recoveries : List Recovery) (survivor : Survivor) (requests : ℕ) (stands : List Stand) → is_far keeping.every requests (from_newest stands 0) ≡ false → HasHandled keeping recoveries survivor requests stands
-    → HasHandled keeping recoveries survivor (requests + 1) stands
-handled_near keeping recoveries survivor requests stands near h = handled_more keeping recoveries survivor requests 0 stands stands h (near_handles keeping requests 0 stands near)
-
--- the last survivor goes on
-pub handled_on : (keeping : Keeping) (recoveries : List Recovery) (first second : Survivor) (requests : ℕ) (stands : List Stand) → second.begun ≡ first.begun → HasHandled keeping recoveries first requests stands → HasHandled keeping recoveries second requests stands
-handled_on keeping recoveries first second requests stands same h = record {
+-- The last survivor goes on, and the journal brings more items.
+pub handled_on : (rules : Rules) (image : Image) (keeping : Keeping) (chapters : List Chapter) (entries later : List Entry) (more : List Item) (recoveries : List Recovery) (first second : Survivor) (requests : ℕ) (stands : List Stand) → second.begun ≡ first.begun
+    → second.plan ≡ first.plan → Served rules.limits (items_in rules.bounds later) second.plan first.now second.now → items_in rules.bounds later ≡ items_in rules.bounds entries ++ more
+    → HasHandled rules image keeping chapters entries recoveries first requests stands → HasHandled rules image keeping chapters later recoveries second requests stands
+handled_on rules image keeping chapters entries later more recoveries first second requests stands same plan served grown h = record {
   earlier = h.earlier;
   begun = h.begun;
   rings = h.rings;
   written = h.written;
   many = ap (λ (p : Path). p.state.machine.taken + length h.written) same ∙ h.many;
+  pages =
+      subst (λ (p : Path). AreWritten rules image later second keeping p.state.machine.taken h.written h.begun) (sym same)
+      (all_written_on rules image entries later more first second keeping first.begun.state.machine.taken h.written h.begun plan served grown h.pages);
   stands_are = h.stands_are ∙ ap (λ (p : Path). handled keeping p.state.machine.taken h.written h.begun) (sym same);
 }
 
 -- the start stands alone
-pub handled_first : (keeping : Keeping) (survivor : Survivor) (stands : List Stand) → stands ≡ first_stands keeping → HasHandled keeping [] survivor survivor.begun.state.machine.taken stands
-handled_first keeping survivor stands is = record { earlier = []; begun = first_stands keeping; rings = refl; written = []; many = omega arith; stands_are = is }
+pub handled_first : (rules : Rules) (image : Image) (keeping : Keeping) (entries : List Entry) (survivor : Survivor) (stands : List Stand) → stands ≡ first_stands keeping
+    → HasHandled rules image keeping [] entries [] survivor survivor.begun.state.machine.taken stands
+handled_first rules image keeping entries survivor stands is = record { earlier = []; begun = first_stands keeping; rings = refl; written = []; many = omega arith; pages = tt; stands_are = is }
 
 -- one recovery more
-rings_more : (keeping : Keeping) (from : List Stand) (recoveries : List Recovery) (earlier : List (List ℕ)) (begun next : List Stand) (recovery : Recovery) (written : List ℕ) → AreRinged keeping from recoveries earlier begun → IsRinged keeping recovery written begun next
-    → AreRinged keeping from (recoveries ++ recovery ∷ []) (earlier ++ written ∷ []) next
-rings_more keeping from [] [] begun next recovery written are is = (next, subst (λ (list : List Stand). IsRinged keeping recovery written list next) are is, refl)
-rings_more keeping from (first ∷ recoveries) (one ∷ earlier) begun next recovery written are is = (are.0, are.1, rings_more keeping are.0 recoveries earlier begun next recovery written are.2 is)
-rings_more keeping from [] (one ∷ earlier) begun next recovery written are is = absurd are
-rings_more keeping from (first ∷ recoveries) [] begun next recovery written are is = absurd are
+rings_more : (rules : Rules) (image : Image) (before entries : List Entry) (keeping : Keeping) (from : List Stand) (chapters : List Chapter) (chapter : Chapter) (recoveries : List Recovery) (earlier : List (List ℕ)) (begun next : List Stand) (recovery : Recovery) (written : List ℕ)
+    → entries ≡ before ++ (entries_of chapters ++ chapter.entries) → AreRinged rules image before keeping from chapters recoveries earlier begun → IsRinged rules image entries keeping recovery written begun next
+    → AreRinged rules image before keeping from (chapters ++ chapter ∷ []) (recoveries ++ recovery ∷ []) (earlier ++ written ∷ []) next
+rings_more rules image before entries keeping from [] chapter [] [] begun next recovery written all are is = (
+  next,
+  subst (λ (list : List Entry). IsRinged rules image list keeping recovery written from next) all (subst (λ (list : List Stand). IsRinged rules image entries keeping recovery written list next) are is),
+  refl,
+)
+rings_more rules image before entries keeping from (first ∷ chapters) chapter (second ∷ recoveries) (one ∷ earlier) begun next recovery written all are is =
+    let joined : before ++ ((first.entries ++ entries_of chapters) ++ chapter.entries) ≡ (before ++ first.entries) ++ (entries_of chapters ++ chapter.entries) =
+    ap (λ list. before ++ list) (append_assoc first.entries (entries_of chapters) chapter.entries) ∙ sym (append_assoc before first.entries (entries_of chapters ++ chapter.entries)) in
+    (are.0, are.1, rings_more rules image (before ++ first.entries) entries keeping are.0 chapters chapter recoveries earlier begun next recovery written (all ∙ joined) are.2 is)
+rings_more rules image before entries keeping from [] chapter [] (one ∷ earlier) begun next recovery written all are is = absurd are
+rings_more rules image before entries keeping from [] chapter (second ∷ recoveries) [] begun next recovery written all are is = absurd are
+rings_more rules image before entries keeping from [] chapter (second ∷ recoveries) (one ∷ earlier) begun next recovery written all are is = absurd are
+rings_more rules image before entries keeping from (first ∷ chapters) chapter [] [] begun next recovery written all are is = absurd are
+rings_more rules image before entries keeping from (first ∷ chapters) chapter [] (one ∷ earlier) begun next recovery written all are is = absurd are
+rings_more rules image before entries keeping from (first ∷ chapters) chapter (second ∷ recoveries) [] begun next recovery written all are is = absurd are
 
-pub handled_adopts : (keeping : Keeping) (recoveries : List Recovery) (recovery : Recovery) (later : Survivor) (stands next : List Stand) (trial : Trial) (index : ℕ) → HasHandled keeping recoveries recovery.survivor recovery.survivor.now.state.machine.taken stands
+-- A trial is adopted: the chapter of the survivor that failed is behind the others, and its entries are the last ones of all that the journal had.
+pub handled_adopts : (rules : Rules) (image : Image) (keeping : Keeping) (chapters : List Chapter) (chapter : Chapter) (entries after : List Entry) (recoveries : List Recovery) (recovery : Recovery) (later : Survivor) (stands next : List Stand) (trial : Trial) (index : ℕ)
+    → entries ≡ entries_of chapters ++ chapter.entries → HasHandled rules image keeping chapters entries recoveries recovery.survivor recovery.survivor.now.state.machine.taken stands
     → HasRing stands recovery.ring → survivor_in recovery.trials ≡ Some trial → slice_get recovery.ring index ≡ Some trial.chance.checkpoint → next ≡ without_newer index stands
-    → HasHandled keeping (recoveries ++ recovery ∷ []) later later.begun.state.machine.taken next
-handled_adopts keeping recoveries recovery later stands next trial index h ring found place cut = record {
+    → HasHandled rules image keeping (chapters ++ chapter ∷ []) after (recoveries ++ recovery ∷ []) later later.begun.state.machine.taken next
+handled_adopts rules image keeping chapters chapter entries after recoveries recovery later stands next trial index all h ring found place cut = record {
   earlier = h.earlier ++ h.written ∷ [];
   begun = next;
-  rings = rings_more keeping (first_stands keeping) recoveries h.earlier h.begun next recovery h.written h.rings
+  rings = rings_more rules image [] entries keeping (first_stands keeping) chapters chapter recoveries h.earlier h.begun next recovery h.written all h.rings
       (record {
         many = h.many;
+        pages = h.pages;
         ring = subst (λ (list : List Stand). HasRing list recovery.ring) h.stands_are ring;
         trial = trial;
         adopted = found;
@@ -150,6 +225,7 @@ handled_adopts keeping recoveries recovery later stands next trial index h ring 
       });
   written = [];
   many = omega arith;
+  pages = tt;
   stands_are = refl;
 }
 
@@ -170,6 +246,57 @@ has_ring saved ring many each = record {
     other : (o : Option Path) → option_map taken_in (option_map standing_of o) ≡ option_map (λ (path : Path). path.state.machine.taken) o
     other None = refl
     other (Some path) = refl
+
+-- of the newest one that stands
+written_of : (rules : Rules) (image : Image) (entries : List Entry) (survivor : Survivor) (pages taken requests count : ℕ) (o : Option Stand) → option_map (λ (one : Stand). one.taken) o ≡ Some taken → HasWritten rules image entries survivor pages taken requests count
+    → IfSome o (λ newest. HasWritten rules image entries survivor pages newest.taken requests count)
+written_of rules image entries survivor pages taken requests count None is wrote = tt
+written_of rules image entries survivor pages taken requests count (Some one) is wrote = subst (λ n. HasWritten rules image entries survivor pages n requests count) (sym (same_Some one.taken taken is)) wrote
+
+module _ {R : Type 0} where
+  -- where the survivor stands at its request, the flags of its guest say how many pages were written since the newest checkpoint
+  written_now : (rules : Rules) (image : Image) (entries : List Entry) (survivor : Survivor) (ring : List Path) (cpu : CpuState R) (checkpoints : Checkpoints) (log : Log) (ledger : Ledger) (requests count : ℕ)
+      → KeepsRing rules image entries survivor.plan survivor.now ring cpu checkpoints log ledger → AsksFor rules.limits [] survivor.now requests → count ≡ count_true cpu.written
+      → IfSome (from_newest (stands_of cpu.slots.saved) 0) (λ newest. HasWritten rules image entries survivor cpu.slots.pages newest.taken requests count)
+  written_now rules image entries survivor [] cpu checkpoints log ledger requests count k asks is = let some = k.some in absurd (omega (arith, some))
+  written_now rules image entries survivor (newest ∷ older) cpu checkpoints log ledger requests count k asks is =
+      let some = k.some in
+      let stands = has_ring cpu.slots.saved (newest ∷ older) k.as_many k.saved in
+      written_of rules image entries survivor cpu.slots.pages newest.state.machine.taken requests count (from_newest (stands_of cpu.slots.saved) 0) (stands.each 0 some)
+      (record {
+        checkpoint = newest;
+        is_checkpoint = k.are.0;
+        taken_is = refl;
+        request = survivor.now;
+        asks = asks;
+        begins = (chained_at rules.limits (items_in rules.bounds entries) survivor.plan image survivor.now (newest ∷ older) 0 newest k.chained refl).1;
+        goes = k.chained.0;
+        later = served_same rules.limits (items_in rules.bounds entries) survivor.plan survivor.now;
+        flags = cpu.written;
+        wrote = subst (λ n. Writes rules.limits (items_in rules.bounds entries) n newest (replicate cpu.slots.pages false) survivor.now cpu.written) k.window k.wrote;
+        count_is = is;
+      })
+
+  -- One more request of the last survivor, where its guest stands at it: another checkpoint is saved.
+  pub handled_save : (rules : Rules) (image : Image) (keeping : Keeping) (chapters : List Chapter) (entries : List Entry) (recoveries : List Recovery) (survivor : Survivor) (requests : ℕ) (next : List Stand) (ring : List Path) (cpu : CpuState R) (checkpoints : Checkpoints) (log : Log) (ledger : Ledger)
+      → keeping.pages ≡ cpu.slots.pages → count_true cpu.written ≡ cpu.slots.written → KeepsRing rules image entries survivor.plan survivor.now ring cpu checkpoints log ledger → AsksFor rules.limits [] survivor.now requests
+      → next ≡ handle keeping requests cpu.slots.written (stands_of cpu.slots.saved) → HasHandled rules image keeping chapters entries recoveries survivor requests (stands_of cpu.slots.saved)
+      → HasHandled rules image keeping chapters entries recoveries survivor (requests + 1) next
+  handled_save rules image keeping chapters entries recoveries survivor requests next ring cpu checkpoints log ledger pages counted k asks is h =
+      handled_more rules image keeping chapters entries recoveries survivor requests cpu.slots.written (stands_of cpu.slots.saved) next
+      (subst (λ n. IfSome (from_newest (stands_of cpu.slots.saved) 0) (λ newest. HasWritten rules image entries survivor n newest.taken requests cpu.slots.written)) (sym pages)
+      (written_now rules image entries survivor ring cpu checkpoints log ledger requests cpu.slots.written k asks (sym counted))) is h
+
+  -- where none is due, the request is handled as it stands
+  pub handled_near : (rules : Rules) (image : Image) (keeping : Keeping) (chapters : List Chapter) (entries : List Entry) (recoveries : List Recovery) (survivor : Survivor) (requests : ℕ) (ring : List Path) (cpu : CpuState R) (checkpoints : Checkpoints) (log : Log) (ledger : Ledger)
+      → keeping.pages ≡ cpu.slots.pages → KeepsRing rules image entries survivor.plan survivor.now ring cpu checkpoints log ledger → AsksFor rules.limits [] survivor.now requests
+      → is_far keeping.every requests (from_newest (stands_of cpu.slots.saved) 0) ≡ false → HasHandled rules image keeping chapters entries recoveries survivor requests (stands_of cpu.slots.saved)
+      → HasHandled rules image keeping chapters entries recoveries survivor (requests + 1) (stands_of cpu.slots.saved)
+  handled_near rules image keeping chapters entries recoveries survivor requests ring cpu checkpoints log ledger pages k asks near h =
+      handled_more rules image keeping chapters entries recoveries survivor requests (count_true cpu.written) (stands_of cpu.slots.saved) (stands_of cpu.slots.saved)
+      (subst (λ n. IfSome (from_newest (stands_of cpu.slots.saved) 0) (λ newest. HasWritten rules image entries survivor n newest.taken requests (count_true cpu.written))) (sym pages)
+      (written_now rules image entries survivor ring cpu checkpoints log ledger requests (count_true cpu.written) k asks refl))
+      (near_handles keeping requests (count_true cpu.written) (stands_of cpu.slots.saved) near) h
 
 -- of the slots up to one those stand that aren't newer
 pub stands_up_to : (index : ℕ) (old new : List (Saved Standing)) → new ≡ without_newer index old → stands_of new ≡ without_newer index (stands_of old)

@@ -1,5 +1,6 @@
 pub mod Mirrors
 pub mod Chains
+pub mod Flags
 pub mod RingLemmas
 pub mod Forces
 pub mod Walked

@@ -139,7 +139,7 @@ module _ {R : Type 0} where
             (ring_adopts failure.rules failure.image failure.entries failure.plan failure.failed trial.path failure.ring old cpu new checkpoints dropped log ledger trial.chance.env failure.failed.state.machine.taken last.has.index checkpoint has.ring
             last.has.checkpoint_is
             (subst (λ n. Served failure.rules.limits (items_of failure) (plan_of_trial failure.plan checkpoint.state.machine.taken trial.chance.env n) checkpoint trial.path) (sym point_is) last.right.from) saved
-            (adopts.slots ∙ ap (λ n. without_newer_slots n cpu.slots) (sym by_number)) adopts.capacity adopts.standing adopts.base);
+            (adopts.slots ∙ ap (λ n. without_newer_slots n cpu.slots) (sym by_number)) adopts.capacity adopts.standing adopts.base adopts.window adopts.flags last.has.wrote);
         in_force =
             subst (λ e. IsInForce (plan_of_trial failure.plan checkpoint.state.machine.taken trial.chance.env failure.failed.state.machine.taken) failure.failed.state.machine.taken e (failure.failed.state.machine.taken + 4)) (sym what.0)
             (in_force_from failure.rules failure.image failure.entries failure.plan failure.failed failure.ring old checkpoints log ledger trial.chance.env cause last.has.index checkpoint has.ring has.fails last.has.checkpoint_is);

@@ -1,9 +1,10 @@
 -- The ring of a session's checkpoints, one lemma for each event of a session.
-use Rattle.std.proofs.Common.{◌≡◌, inl, inr, ℕ, zero, suc, ◌-◌, ◌<◌, ◌≤◌, true, false, List, [], ◌∷◌, ◌++◌, length, map, take, drop, Option, Some, None, refl, sym, ◌∙◌, ap, subst, arith, length-drop, append-nil}
-use Rattle.std.specs.Prelude.{slice_get, ◌^◌, IsSomeAnd, nat_le}
+use Rattle.std.proofs.Common.{◌≡◌, inl, inr, ℕ, zero, suc, ◌+◌, ◌-◌, ◌<◌, ◌≤◌, true, false, List, [], ◌∷◌, ◌++◌, length, map, take, drop, Option, Some, None, IfSome, refl, sym, ◌∙◌, ap, subst, arith, length-drop, append-nil}
+use Rattle.std.specs.Prelude.{slice_get, replicate, ◌^◌, Bool, IsSomeAnd, nat_le}
 use Rattle.std.specs.Option.{option_map}
 use Rattle.std.proofs.lemmas.List.{length-map, length-take-le}
 use Rattle.std.proofs.lemmas.Bool.{both_ways, le-leb, lt-leb}
+use Rattle.circular_buffer.proofs.Places.{slice_get-drop}
 use Rattle.run_history.specs.Machine as M
 use Rattle.run_history.specs.Call.{may_send}
 use Rattle.run_history.proofs.Connections.{no_connections_may}
@@ -12,6 +13,7 @@ use Rattle.std.proofs.lemmas.Option.{none-some, same_Some, slice_get_within}
 use Rattle.rx_io.specs.declared.bytes.Item.{Item}
 use Rattle.rx_io.specs.declared.journal.Entry.{Entry}
 use Rattle.elf_image.specs.declared.image.Image.{Image}
+use Rattle.elf_image.specs.Image.{base}
 use Rattle.alloc_env.specs.declared.env.Env.{Env}
 use Rattle.item_log.specs.Log.{Log}
 use Rattle.reply_ledger.specs.Ledger.{Ledger}
@@ -19,10 +21,12 @@ use Rattle.ckpt_ring.specs.declared.checkpoint.Checkpoint.{Checkpoint}
 use Rattle.ckpt_ring.specs.Slots.{Saved, Slots, newest_slot, with_whole_oldest, without_newer_slots}
 use Rattle.ckpt_ring.specs.Rings.{Checkpoints, checkpoint_of, checkpoints_of, from_newest, kept, saved_in_ring, has_room}
 use Rattle.ckpt_ring.proofs.KeptLemmas.{longest_end_drops}
-use Rattle.run_history.specs.Served.{Override, Path, origin, Served, AsksFor}
+use Rattle.run_history.specs.Served.{Limits, Override, Path, origin, Served, AsksFor}
 use Rattle.guest_cpu.specs.Standing.{Standing, Live}
 use Rattle.guest_cpu.specs.Cpus.{CpuState, with_live}
 use Rattle.guest_cpu.specs.Serving.{standing_of}
+use Rattle.page_line.specs.Line.{count_true}
+use Rattle.guest_runs.specs.Writing.{Writes}
 use Rattle.session_history.specs.Heeding.{items_in}
 use Rattle.session_history.specs.Lawful.{Rules}
 use Rattle.session_history.specs.Serving.{Carries}
@@ -36,6 +40,7 @@ use Rattle.trial_plan.specs.Sessions.{CanGoOn, IsKept, AreKept, HasFailed, taken
 use Rattle.trial_plan.specs.Trying.{KeepsSaved}
 use Rattle.recovery_gate.specs.Rings.{IsRingOf, KeepsRing, Brings, is_due, is_due_after}
 use Rattle.recovery_gate.proofs.Mirrors.{Mirrors, from_map, mirrors_none, mirrors_push, mirrors_later, mirrors_earlier, mirrors_as}
+use Rattle.recovery_gate.proofs.Flags.{WroteSince, flags_clear, wrote_none, wrote_on, wrote_more}
 use Rattle.recovery_gate.proofs.Chains.{chained_on, chained_with, chained_take, are_take, kept_take, kept_drop, kept_with}
 
 -- the state of a saved slot
@@ -93,16 +98,21 @@ take_one (suc zero) path some = refl
 take_one (suc (suc count)) path some = refl
 
 module _ {R : Type 0} where
+  -- what a guest tells of its flags: one for each page, and how many are true
+  pub record AreFlags (cpu : CpuState R) : Type 0 where
+    pub pages : length cpu.written ≡ cpu.slots.pages
+    pub written : count_true cpu.written ≡ cpu.slots.written
+
   -- what a save leaves
   ring_saved : (rules : Rules) (image : Image) (entries : List Entry) (plan : List Override) (now : Path) (ring : List Path) (old new : CpuState R) (checkpoints : Checkpoints) (log : Log) (ledger : Ledger) (capacity slot : ℕ)
       → AreChained rules.limits (items_in rules.bounds entries) plan image now (now ∷ ring) → AreCheckpoints rules.limits image (now ∷ ring) → AreKept rules entries log ledger (now ∷ ring)
       → AreSaved old.slots.saved ring → old.slots.live ≡ standing_of now → new.slots ≡ saved_in_ring capacity slot old.slots
-      → checkpoints.standing ≡ checkpoints_of taken_in new.slots.saved → checkpoints.capacity ≤ old.slots.count → new.slots.base ≡ newest_slot new.slots.saved
+      → checkpoints.standing ≡ checkpoints_of taken_in new.slots.saved → checkpoints.capacity ≤ old.slots.count → new.slots.base ≡ newest_slot new.slots.saved → new.base ≡ base image → AreFlags new
       → KeepsRing rules image entries plan now (take (length new.slots.saved) (now ∷ ring)) new checkpoints log ledger
-  ring_saved rules image entries plan now ring old new checkpoints log ledger capacity slot chained are kept m live saves standing few base =
+  ring_saved rules image entries plan now ring old new checkpoints log ledger capacity slot chained are kept m live saves standing few stands_on window flags =
       let there : AreSaved new.slots.saved (take (length new.slots.saved) (now ∷ ring)) =
       saved_then capacity slot old.slots new.slots.saved now ring m live (ap (λ (slots : Slots Standing). slots.saved) saves) in
-      let some : 0 < length new.slots.saved = some_saved new.slots.saved slot (sym base ∙ ap (λ (slots : Slots Standing). slots.base) saves) in
+      let some : 0 < length new.slots.saved = some_saved new.slots.saved slot (sym stands_on ∙ ap (λ (slots : Slots Standing). slots.base) saves) in
       let many : length new.slots.saved ≡ length (take (length new.slots.saved) (now ∷ ring)) = there.many in
       let count : new.slots.count ≡ old.slots.count = ap (λ (slots : Slots Standing). slots.count) saves in
       record {
@@ -114,34 +124,38 @@ module _ {R : Type 0} where
         saved = there.each;
         standing = standing;
         capacity = omega (arith, few, count);
-        base = base;
+        base = stands_on;
+        window = window;
+        wrote =
+            wrote_none rules.limits (items_in rules.bounds entries) new.base new.slots.pages (length new.slots.saved) now ring new.written
+            (flags_clear new.written new.slots.pages new.slots.written flags.pages flags.written (ap (λ (slots : Slots Standing). slots.written) saves));
       }
 
   -- The start is saved as the first checkpoint.
   pub ring_begins : (rules : Rules) (image : Image) (old new : CpuState R) (checkpoints : Checkpoints) (log : Log) (ledger : Ledger) (capacity slot : ℕ)
       → old.slots.saved ≡ [] → old.slots.live ≡ standing_of (origin image) → log.first ≡ 0 → ledger.first ≡ 0 → new.slots ≡ saved_in_ring capacity slot old.slots
-      → checkpoints.standing ≡ checkpoints_of taken_in new.slots.saved → checkpoints.capacity ≤ old.slots.count → new.slots.base ≡ newest_slot new.slots.saved
+      → checkpoints.standing ≡ checkpoints_of taken_in new.slots.saved → checkpoints.capacity ≤ old.slots.count → new.slots.base ≡ newest_slot new.slots.saved → new.base ≡ base image → AreFlags new
       → KeepsRing rules image [] [] (origin image) (origin image ∷ []) new checkpoints log ledger
-  ring_begins rules image old new checkpoints log ledger capacity slot none live whole all saves standing few base =
+  ring_begins rules image old new checkpoints log ledger capacity slot none live whole all saves standing few stands_on window flags =
       let same = served_same rules.limits (items_in rules.bounds []) [] (origin image) in
       let m : AreSaved old.slots.saved [] = subst (λ (list : List (Saved Standing)). AreSaved list []) (sym none) (mirrors_none state_of standing_of) in
-      let some : 0 < length new.slots.saved = some_saved new.slots.saved slot (sym base ∙ ap (λ (slots : Slots Standing). slots.base) saves) in
+      let some : 0 < length new.slots.saved = some_saved new.slots.saved slot (sym stands_on ∙ ap (λ (slots : Slots Standing). slots.base) saves) in
       subst (λ (ring : List Path). KeepsRing rules image [] [] (origin image) ring new checkpoints log ledger) (take_one (length new.slots.saved) (origin image) some)
-      (ring_saved rules image [] [] (origin image) [] old new checkpoints log ledger capacity slot (same, same) (inl refl, tt) (start_kept rules image log ledger whole all, tt) m live saves standing few base)
+      (ring_saved rules image [] [] (origin image) [] old new checkpoints log ledger capacity slot (same, same) (inl refl, tt) (start_kept rules image log ledger whole all, tt) m live saves standing few stands_on window flags)
 
   -- A run at its request, which isn't the start, is saved as the newest checkpoint.
   pub ring_saves : (rules : Rules) (image : Image) (entries : List Entry) (plan : List Override) (now : Path) (ring : List Path) (old new : CpuState R) (checkpoints later : Checkpoints) (log : Log) (ledger : Ledger) (capacity slot taken : ℕ)
       → KeepsRing rules image entries plan now ring old checkpoints log ledger → old.slots.live ≡ standing_of now → AsksFor rules.limits plan now taken → 0 < taken → CanGoOn rules entries now
       → log.first ≤ taken → ledger.first ≤ length now.state.sends → new.slots ≡ saved_in_ring capacity slot old.slots
-      → later.standing ≡ checkpoints_of taken_in new.slots.saved → later.capacity ≡ checkpoints.capacity → new.slots.base ≡ newest_slot new.slots.saved
+      → later.standing ≡ checkpoints_of taken_in new.slots.saved → later.capacity ≡ checkpoints.capacity → new.slots.base ≡ newest_slot new.slots.saved → new.base ≡ old.base → AreFlags new
       → KeepsRing rules image entries plan now (take (length new.slots.saved) (now ∷ ring)) new later log ledger
-  ring_saves rules image entries plan now ring old new checkpoints later log ledger capacity slot taken k live asks some goes items sends saves standing same base =
+  ring_saves rules image entries plan now ring old new checkpoints later log ledger capacity slot taken k live asks some goes items sends saves standing same stands_on window flags =
       let number : now.state.machine.taken ≡ taken = asks.taken in
       let here : AsksFor rules.limits plan now now.state.machine.taken = record { lives = asks.lives; taken = refl; asks = asks.asks } in
       let few : checkpoints.capacity ≤ old.slots.count = k.capacity in
       ring_saved rules image entries plan now ring old new later log ledger capacity slot (served_same rules.limits (items_in rules.bounds entries) plan now, k.chained)
       (inr (omega (arith, some, number), asks_under_all rules.limits plan [] now now.state.machine.taken here), k.are)
-      (record { lives = asks.lives; goes = goes; items = omega (arith, items, number); sends = sends }, k.kept) (record { many = k.as_many; each = k.saved }) live saves standing (omega (arith, few, same)) base
+      (record { lives = asks.lives; goes = goes; items = omega (arith, items, number); sends = sends }, k.kept) (record { many = k.as_many; each = k.saved }) live saves standing (omega (arith, few, same)) stands_on (window ∙ k.window) flags
 
 -- a saved slot of a run has taken as many items
 read_of : (o : Option (Saved Standing)) (path : Path) → option_map state_of o ≡ Some (standing_of path) → IsSomeAnd (option_map (checkpoint_of taken_in) o) (λ one. one.taken ≡ path.state.machine.taken)
@@ -183,11 +197,11 @@ module _ {R : Type 0} where
   due_by_runs rules image entries plan now newest older cpu checkpoints log ledger every taken k =
       due_by every taken newest.state.machine.taken (from_newest checkpoints.standing 0) (taken_there rules image entries plan now (newest ∷ older) cpu checkpoints log ledger 0 newest k refl)
 
-  -- The survivor's run goes on: of the guest the live state changes alone.
+  -- The survivor's run goes on, and writes pages: of the guest the live state changes alone.
   pub ring_on : (rules : Rules) (image : Image) (entries : List Entry) (plan : List Override) (now next : Path) (ring : List Path) (old new : CpuState R) (live : Live) (checkpoints : Checkpoints) (log : Log) (ledger : Ledger)
-      → Served rules.limits (items_in rules.bounds entries) plan now next → new ≡ with_live live old
+      → Served rules.limits (items_in rules.bounds entries) plan now next → Writes rules.limits (items_in rules.bounds entries) old.base now old.written next live.written → new ≡ with_live live old
       → KeepsRing rules image entries plan now ring old checkpoints log ledger → KeepsRing rules image entries plan next ring new checkpoints log ledger
-  ring_on rules image entries plan now next ring old new live checkpoints log ledger served same k =
+  ring_on rules image entries plan now next ring old new live checkpoints log ledger served wrote same k =
       subst (λ (cpu : CpuState R). KeepsRing rules image entries plan next ring cpu checkpoints log ledger) (sym same)
       (record {
         some = k.some;
@@ -199,6 +213,8 @@ module _ {R : Type 0} where
         standing = k.standing;
         capacity = k.capacity;
         base = k.base;
+        window = k.window;
+        wrote = wrote_on rules.limits (items_in rules.bounds entries) old.base old.slots.pages ring now old.written next live.written wrote k.wrote;
       })
 
   -- More entries come, with items or none; log and ledger give up nothing.
@@ -215,6 +231,10 @@ module _ {R : Type 0} where
     standing = k.standing;
     capacity = k.capacity;
     base = k.base;
+    window = k.window;
+    wrote =
+        subst (λ (items : List Item). WroteSince rules.limits items cpu.base cpu.slots.pages ring now cpu.written) (sym brings.items)
+        (wrote_more rules.limits (items_in rules.bounds before) more cpu.base cpu.slots.pages ring now cpu.written k.wrote);
   }
 
   -- no more entries, and another log or another ledger that have given up as much
@@ -244,19 +264,30 @@ module _ {R : Type 0} where
     saved = k.saved;
   }
 
+  -- a run wrote the same pages, by another guest with these flags
+  wrote_as : (limits : Limits) (items : List Item) (old new : CpuState R) (first second : Path) → new.base ≡ old.base → new.slots.pages ≡ old.slots.pages → new.written ≡ old.written
+      → Writes limits items old.base first (replicate old.slots.pages false) second old.written → Writes limits items new.base first (replicate new.slots.pages false) second new.written
+  wrote_as limits items old new first second window pages flags wrote =
+      subst (λ n. Writes limits items n first (replicate new.slots.pages false) second new.written) (sym window)
+      (subst (λ n. Writes limits items old.base first (replicate n false) second new.written) (sym pages)
+      (subst (λ (after : List Bool). Writes limits items old.base first (replicate old.slots.pages false) second after) (sym flags) wrote))
+
   -- A trial from a checkpoint of the ring is adopted, and the newer ones are dropped: the ring is that of the adopted run.
   pub ring_adopts : (rules : Rules) (image : Image) (entries : List Entry) (plan : List Override) (failed path : Path) (ring : List Path) (old tried new : CpuState R) (checkpoints dropped : Checkpoints) (log : Log) (ledger : Ledger)
       (env : Env) (point index : ℕ) (checkpoint : Path) → KeepsRing rules image entries plan failed ring old checkpoints log ledger → slice_get ring index ≡ Some checkpoint
       → Served rules.limits (items_in rules.bounds entries) (plan_of_trial plan checkpoint.state.machine.taken env point) checkpoint path → KeepsSaved old tried
       → new.slots ≡ without_newer_slots index tried.slots → dropped.capacity ≡ checkpoints.capacity → dropped.standing ≡ checkpoints_of taken_in new.slots.saved → new.slots.base ≡ newest_slot new.slots.saved
+      → new.base ≡ tried.base → new.written ≡ tried.written → Writes rules.limits (items_in rules.bounds entries) tried.base checkpoint (replicate tried.slots.pages false) path tried.written
       → KeepsRing rules image entries (plan_of_trial plan checkpoint.state.machine.taken env point) path (drop index ring) new dropped log ledger
-  ring_adopts rules image entries plan failed path ring old tried new checkpoints dropped log ledger env point index checkpoint k found served keeps cut capacity standing base =
+  ring_adopts rules image entries plan failed path ring old tried new checkpoints dropped log ledger env point index checkpoint k found served keeps cut capacity standing stands_on window flags wrote =
       let chain = chained_adopt rules.limits (items_in rules.bounds entries) plan image env point failed path ring index checkpoint k.chained k.are found served in
       let left : length (drop index ring) ≡ length ring - index = length-drop index ring in
       let within : index < length ring = slice_get_within ring index checkpoint found in
       let saved : new.slots.saved ≡ take (length old.slots.saved - index) old.slots.saved =
       ap (λ (slots : Slots Standing). slots.saved) cut ∙ ap (λ (all : List (Saved Standing)). take (length all - index) all) keeps.saved in
       let count : new.slots.count ≡ old.slots.count = ap (λ (slots : Slots Standing). slots.count) cut ∙ keeps.count in
+      let items : List Item = items_in rules.bounds entries in
+      let newest : slice_get (drop index ring) 0 ≡ Some checkpoint = slice_get-drop index ring 0 index (let none : index ≡ index + 0 = omega arith in none) ∙ found in
       let m : AreSaved new.slots.saved (drop index ring) =
       subst (λ (all : List (Saved Standing)). AreSaved all (drop index ring)) (sym saved) (mirrors_earlier state_of standing_of old.slots.saved ring index (saved_of rules image entries plan failed ring old checkpoints log ledger k)) in
       record {
@@ -268,7 +299,11 @@ module _ {R : Type 0} where
         saved = m.each;
         standing = standing;
         capacity = omega (arith, count, capacity, k.capacity);
-        base = base;
+        base = stands_on;
+        window = window ∙ (keeps.base ∙ k.window);
+        wrote =
+            subst (λ (newest : Option Path). IfSome newest (λ one. Writes rules.limits items new.base one (replicate new.slots.pages false) path new.written)) (sym newest)
+            (wrote_as rules.limits items tried new checkpoint path window (ap (λ (slots : Slots Standing). slots.pages) cut) flags wrote);
       }
 
 -- whether a checkpoint is due, by what the newest one has taken

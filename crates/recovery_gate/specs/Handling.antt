@@ -1,10 +1,17 @@
 -- Which checkpoints stand: what a session makes of the requests of its survivors.
-use Rattle.std.specs.Prelude.{◌≡◌, ℕ, ◌+◌, ◌-◌, ◌<◌, ◌&&◌, Bool, true, List, [], ◌∷◌, ◌++◌, length, map, sum, drop, nat_le, if◌then◌else◌, Option, Some, None, option_map, slice_get}
+use Rattle.std.specs.Prelude.{◌≡◌, ℕ, ◌+◌, ◌-◌, ◌<◌, ◌&&◌, Bool, true, false, List, [], ◌∷◌, ◌++◌, length, map, sum, drop, replicate, nat_le, if◌then◌else◌, Option, Some, None, IfSome, option_map, slice_get}
+use Rattle.rx_io.specs.declared.journal.Entry.{Entry}
+use Rattle.elf_image.specs.declared.image.Image.{Image}
+use Rattle.elf_image.specs.Image.{base}
 use Rattle.ckpt_ring.specs.Slots.{Saved, Slots}
 use Rattle.ckpt_ring.specs.Rings.{from_newest, without_newer}
-use Rattle.run_history.specs.Served.{Path}
+use Rattle.page_line.specs.Line.{count_true}
+use Rattle.run_history.specs.Served.{Path, origin, Served, AsksFor}
 use Rattle.guest_cpu.specs.Standing.{Standing}
-use Rattle.session_history.specs.Lawful.{Survivor}
+use Rattle.guest_runs.specs.Writing.{Writes}
+use Rattle.session_history.specs.Heeding.{items_in}
+use Rattle.session_history.specs.Lawful.{Rules, Survivor, Chapter}
+use Rattle.trial_history.specs.Chains.{IsCheckpoint}
 use Rattle.trial_history.specs.Tables.{Trial, survivor_in}
 use Rattle.trial_history.specs.Episodes.{Recovery}
 use Rattle.trial_plan.specs.Sessions.{taken_in}
@@ -56,7 +63,7 @@ handle keeping taken written stands =
     if is_far keeping.every taken (from_newest stands 0) then whole_oldest keeping.pages (stay keeping (stands ++ record { taken = taken; written = written } ∷ [])) else stands
 
 -- Requests one after another, the first one with so many items taken and each later one with one more. The numbers are those of the pages
--- that were written before each, the latest first. They aren't tied to the stores of the run here.
+-- that were written before each, the latest first.
 abbrev pub handled : Keeping → ℕ → List ℕ → List Stand → List Stand
 handled keeping from [] stands = stands
 handled keeping from (written ∷ earlier) stands = handle keeping (from + length earlier) written (handled keeping from earlier stands)
@@ -66,10 +73,33 @@ pub record HasRing (stands : List Stand) (ring : List Path) : Type 0 where
   pub many : length stands ≡ length ring
   pub each : (index : ℕ) → index < length ring → option_map (λ (one : Stand). one.taken) (from_newest stands index) ≡ option_map (λ (path : Path). path.state.machine.taken) (slice_get ring index)
 
--- What stood at a recovery: the survivor's requests from where it began to where it failed were handled, each of them once, and its ring is of
--- those that stand then. Of them those stand on that aren't newer than the checkpoint of the trial that was adopted.
-pub record IsRinged (keeping : Keeping) (recovery : Recovery) (written : List ℕ) (from next : List Stand) : Type 0 where
+-- So many pages were written by a survivor's run, from a checkpoint of it with so many items taken to its request with so many.
+pub record HasWritten (rules : Rules) (image : Image) (entries : List Entry) (survivor : Survivor) (pages : ℕ) (from to count : ℕ) : Type 0 where
+  pub checkpoint : Path
+  pub is_checkpoint : IsCheckpoint rules.limits image checkpoint
+  pub taken_is : checkpoint.state.machine.taken ≡ from
+  pub request : Path
+  pub asks : AsksFor rules.limits [] request to
+  pub begins : Served rules.limits (items_in rules.bounds entries) survivor.plan (origin image) checkpoint
+  pub goes : Served rules.limits (items_in rules.bounds entries) survivor.plan checkpoint request
+  pub later : Served rules.limits (items_in rules.bounds entries) survivor.plan request survivor.now
+  pub flags : List Bool
+  pub wrote : Writes rules.limits (items_in rules.bounds entries) (base image) checkpoint (replicate pages false) request flags
+  pub count_is : count ≡ count_true flags
+
+-- Before each request those pages count that were written since the newest checkpoint that stood then.
+abbrev pub AreWritten : Rules → Image → List Entry → Survivor → Keeping → ℕ → List ℕ → List Stand → Type 0
+AreWritten rules image entries survivor keeping from [] stands = Unit {0}
+AreWritten rules image entries survivor keeping from (written ∷ earlier) stands =
+    IfSome (from_newest (handled keeping from earlier stands) 0) (λ newest. HasWritten rules image entries survivor keeping.pages newest.taken (from + length earlier) written)
+    × AreWritten rules image entries survivor keeping from earlier stands
+
+-- What stood at a recovery, behind all entries that the journal had at the failure: the survivor's requests from where it began to where it failed
+-- were handled, each of them once, with the pages that it had written, and its ring is of those that stand then. Of them those stand on that
+-- aren't newer than the checkpoint of the trial that was adopted.
+pub record IsRinged (rules : Rules) (image : Image) (entries : List Entry) (keeping : Keeping) (recovery : Recovery) (written : List ℕ) (from next : List Stand) : Type 0 where
   pub many : recovery.survivor.begun.state.machine.taken + length written ≡ recovery.survivor.now.state.machine.taken
+  pub pages : AreWritten rules image entries recovery.survivor keeping recovery.survivor.begun.state.machine.taken written from
   pub ring : HasRing (handled keeping recovery.survivor.begun.state.machine.taken written from) recovery.ring
   pub trial : Trial
   pub adopted : survivor_in recovery.trials ≡ Some trial
@@ -77,25 +107,30 @@ pub record IsRinged (keeping : Keeping) (recovery : Recovery) (written : List �
   pub checkpoint_is : slice_get recovery.ring index ≡ Some trial.chance.checkpoint
   pub next_is : next ≡ without_newer index (handled keeping recovery.survivor.begun.state.machine.taken written from)
 
--- so it is at each of some recoveries, from those that stand before the first to those behind the last
-abbrev pub AreRinged : Keeping → List Stand → List Recovery → List (List ℕ) → List Stand → Type 0
-AreRinged keeping from [] [] last = last ≡ from
-AreRinged keeping from (recovery ∷ recoveries) (written ∷ others) last = (next : List Stand) × IsRinged keeping recovery written from next × AreRinged keeping next recoveries others last
-AreRinged keeping from _ _ last = ⊥
+-- So it is at each of some recoveries, behind some entries and those of the chapters up to it: from those that stand before the first one to
+-- those behind the last. There are as many chapters as recoveries.
+abbrev pub AreRinged : Rules → Image → List Entry → Keeping → List Stand → List Chapter → List Recovery → List (List ℕ) → List Stand → Type 0
+AreRinged rules image before keeping from [] [] [] last = last ≡ from
+AreRinged rules image before keeping from (chapter ∷ chapters) (recovery ∷ recoveries) (written ∷ others) last =
+    (next : List Stand) × IsRinged rules image (before ++ chapter.entries) keeping recovery written from next
+    × AreRinged rules image (before ++ chapter.entries) keeping next chapters recoveries others last
+AreRinged rules image before keeping from _ _ _ last = ⊥
 
 -- each of some recoveries had the ring that the requests before it left, from the start on
-pub record HaveRings (keeping : Keeping) (recoveries : List Recovery) : Type 0 where
+pub record HaveRings (rules : Rules) (image : Image) (keeping : Keeping) (chapters : List Chapter) (recoveries : List Recovery) : Type 0 where
   pub written : List (List ℕ)
   pub last : List Stand
-  pub rings : AreRinged keeping (first_stands keeping) recoveries written last
+  pub rings : AreRinged rules image [] keeping (first_stands keeping) chapters recoveries written last
 
 -- What stands behind some recoveries, where so many requests were made before which the last survivor's were handled: those from where it began.
-pub record HasHandled (keeping : Keeping) (recoveries : List Recovery) (survivor : Survivor) (requests : ℕ) (stands : List Stand) : Type 0 where
+-- The entries are all that the journal has.
+pub record HasHandled (rules : Rules) (image : Image) (keeping : Keeping) (chapters : List Chapter) (entries : List Entry) (recoveries : List Recovery) (survivor : Survivor) (requests : ℕ) (stands : List Stand) : Type 0 where
   pub earlier : List (List ℕ)
   pub begun : List Stand
-  pub rings : AreRinged keeping (first_stands keeping) recoveries earlier begun
+  pub rings : AreRinged rules image [] keeping (first_stands keeping) chapters recoveries earlier begun
   pub written : List ℕ
   pub many : survivor.begun.state.machine.taken + length written ≡ requests
+  pub pages : AreWritten rules image entries survivor keeping survivor.begun.state.machine.taken written begun
   pub stands_are : stands ≡ handled keeping survivor.begun.state.machine.taken written begun
 
 -- saved slots as checkpoints that stand

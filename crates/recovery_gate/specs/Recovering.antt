@@ -100,12 +100,14 @@ module _ {R : Type 0} where
     pub capacity : after.capacity ≡ before.capacity
     pub standing : after.standing ≡ checkpoints_of taken_in new.slots.saved
     pub base : new.slots.base ≡ newest_slot new.slots.saved
+    pub window : new.base ≡ old.base
+    pub flags : new.written ≡ old.written
     pub choices_are : choices ≡ take (old.slots.live.guest.machine.allocations - length own - recorded) chose ++ own
 
   -- or memory ran out, and nothing changed
   abbrev pub AdoptsBy : ℕ → ℕ → List Choice → CpuState R → CpuState R → Checkpoints → Checkpoints → List Choice → List Choice → Result (Unit {0}) AllocError → Type 0
   AdoptsBy index recorded own old new before after chose choices (Ok done) = Adopts index recorded own old new before after chose choices
-  AdoptsBy index recorded own old new before after chose choices (Err fault) = (after ≡ before) × (choices ≡ chose)
+  AdoptsBy index recorded own old new before after chose choices (Err fault) = (new ≡ old) × (after ≡ before) × (choices ≡ chose)
 
 module _ {R : Type 0} where
   -- Of the saved slots all stand behind a walk of which nothing was adopted; and behind an adoption those up to one of them.

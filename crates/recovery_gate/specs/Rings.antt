@@ -1,9 +1,10 @@
 -- The ring of a session's checkpoints beside its guest, its log and its ledger.
-use Rattle.std.specs.Prelude.{◌≡◌, ℕ, ◌-◌, ◌<◌, ◌≤◌, Bool, true, false, List, [], ◌∷◌, ◌++◌, length, take, nat_le, nat_lt, if◌then◌else◌, Option, Some, None, option_map, slice_get}
+use Rattle.std.specs.Prelude.{◌≡◌, ℕ, ◌-◌, ◌<◌, ◌≤◌, Bool, true, false, List, [], ◌∷◌, ◌++◌, length, take, replicate, nat_le, nat_lt, if◌then◌else◌, Option, Some, None, IfSome, option_map, slice_get}
 use Rattle.rx_io.specs.declared.bytes.Item.{Item}
 use Rattle.rx_io.specs.declared.journal.Entry.{Entry}
 use Rattle.rx_io.specs.Links.{events_in}
 use Rattle.elf_image.specs.declared.image.Image.{Image}
+use Rattle.elf_image.specs.Image as images
 use Rattle.alloc_env.specs.declared.env.Env.{Env}
 use Rattle.alloc_env.specs.declared.env.Env.TheVariants.{Plain}
 use Rattle.item_log.specs.Log.{Log}
@@ -14,6 +15,7 @@ use Rattle.ckpt_ring.specs.Rings.{Checkpoints, checkpoints_of, from_newest, save
 use Rattle.run_history.specs.Served.{Override, env_at, Path}
 use Rattle.guest_cpu.specs.Cpus.{CpuState}
 use Rattle.guest_cpu.specs.Serving.{standing_of}
+use Rattle.guest_runs.specs.Writing.{Writes}
 use Rattle.session_history.specs.Heeding.{heeded, items_in}
 use Rattle.session_history.specs.Opened.{opens}
 use Rattle.session_history.specs.Lawful.{Rules}
@@ -27,7 +29,8 @@ pub record IsRingOf {R : Type 0} (cpu : CpuState R) (checkpoints : Checkpoints) 
   pub capacity : checkpoints.capacity ≤ cpu.slots.count
   pub base : cpu.slots.base ≡ newest_slot cpu.slots.saved
 
--- The checkpoints of a session's ring as runs, from the newest to the oldest, beside its guest, its log and its ledger.
+-- The checkpoints of a session's ring as runs, from the newest to the oldest, beside its guest, its log and its ledger. The guest's window is
+-- that of the image, and its flags of pages say which of them the run wrote since the newest checkpoint.
 pub record KeepsRing {R : Type 0} (rules : Rules) (image : Image) (entries : List Entry) (plan : List Override) (now : Path) (ring : List Path) (cpu : CpuState R) (checkpoints : Checkpoints) (log : Log) (ledger : Ledger) : Type 0 where
   pub some : 0 < length ring
   pub chained : AreChained rules.limits (items_in rules.bounds entries) plan image now ring
@@ -38,6 +41,8 @@ pub record KeepsRing {R : Type 0} (rules : Rules) (image : Image) (entries : Lis
   pub standing : checkpoints.standing ≡ checkpoints_of taken_in cpu.slots.saved
   pub capacity : checkpoints.capacity ≤ cpu.slots.count
   pub base : cpu.slots.base ≡ newest_slot cpu.slots.saved
+  pub window : cpu.base ≡ images.base image
+  pub wrote : IfSome (slice_get ring 0) (λ newest. Writes rules.limits (items_in rules.bounds entries) cpu.base newest (replicate cpu.slots.pages false) now cpu.written)
 
 -- at each of some checkpoints so many answers of malloc were used, or more
 abbrev pub AreBehind : ℕ → List Path → Type 0

@@ -175,7 +175,7 @@ pub fn recover<R: AccessRule, W: Watch, L: Ledger>(
     ensures watched { (failure : Failure) → IsUnder failure budget (R.rule cpu.old.rule) → HasToRecover point cause pc failure cpu.old ring.old recorded choices.old.items items.now replies.old
         → WatchedBy failure point (W.tables watch.old) (W.tables watch.new) result }
     ensures fault { KeepsAtFault ring.old ring.new choices.old.items choices.new.items result }
-    ensures keeping { IfOk result (λ _. (every : ℕ) → keeping_by ring.new.capacity every cpu.new.slots ≡ keeping_by ring.old.capacity every cpu.old.slots) }
+    ensures keeping { (every : ℕ) → keeping_by ring.new.capacity every cpu.new.slots ≡ keeping_by ring.old.capacity every cpu.old.slots }
     ensures slots { IfOk result (λ recovered. KeepsSlots recovered.adopted cpu.old cpu.new) }
     ensures rule { cpu.new.rule ≡ cpu.old.rule }
     ensures ledger { IfOk result (λ _. HasSameBytes replies.old replies.new) }

@@ -43,10 +43,10 @@ use Rattle.trial_history.specs.Chains.{AreChained}
 use Rattle.std.proofs.lemmas.Option.{slice_get_within}
 use Rattle.std.proofs.lemmas.List.{length-take-le}
 use Rattle.ckpt_ring.specs.Rings.{without_newer}
-use Rattle.recovery_gate.specs.Handling.{Keeping, HasHandled, stands_of, keeping_by}
+use Rattle.recovery_gate.specs.Handling.{Keeping, HaveRings, HasHandled, stands_of, keeping_by}
 use Rattle.recovery_gate.proofs.Handled.{handled_adopts, has_ring, stands_up_to}
 use Rattle.rx_engine.specs.Leaving.{keeping_of}
-use Rattle.rx_engine.proofs.HeldLemmas.{held_by, held_of, note_at_none}
+use Rattle.rx_engine.proofs.HeldLemmas.{held_by, held_of, rings_of, rings_kept, note_at_none}
 use Rattle.recovery_gate.specs.declared.recovering.Recovered.{Recovered}
 use Rattle.recovery_gate.proofs.RingLemmas.{ring_fails}
 use Rattle.rx_engine.specs.Recovered.{spent, told_of, HasGivenUp, IsNoteFault}
@@ -63,7 +63,7 @@ use Rattle.session_history.proofs.Sessions.{serving_account}
 use Rattle.rx_engine.specs.Sessions.{SessionState}
 use Rattle.rx_engine.specs.Standing.{Since, Story, entries, sends, IsTold, AnswersFor, IsGoing, IsFailing, IsEnding, IsBrokenOff, HasNotedMore}
 use Rattle.rx_engine.proofs.EventLemmas.{owes_nothing}
-use Rattle.rx_engine.proofs.GuestLemmas.{none_lost, none_noted, answers_as, notes_here, received_is, broken_off, broken_noting}
+use Rattle.rx_engine.proofs.GuestLemmas.{none_lost, none_noted, answers_as, notes_here, received_is, broken_noting}
 use Rattle.rx_engine.proofs.StoryLemmas.{account_of, journal_of_story}
 use Rattle.rx_engine.proofs.NoteLemmas.{grew_on}
 use Rattle.rx_engine.proofs.FaultLemmas.{note_no_end, note_ends}
@@ -204,6 +204,36 @@ module _ {R : Type 0} where
   goes_as old cpu ring replies choices env until =
       record old { cpu = cpu; ring = ring; replies = replies; choices = choices; env = env; until = until; taken = cpu.slots.live.guest.machine.taken; steps = cpu.slots.live.steps }
 
+  -- a failure comes at no request: the requests before it were handled
+  failed_requests : (rules : Rules) (image : Image) (began : Since) (now : Told) (phases : Phases) (cause : Cause) (old : SessionState R) (f : IsFailing rules image began now phases cause old)
+      → HasHandled rules image (keeping_of old) f.going.story.earlier (entries f.going.story) f.going.story.recoveries f.going.story.survivor f.going.story.survivor.now.state.machine.taken (stands_of old.cpu.slots.saved)
+  failed_requests rules image began now phases cause old f =
+      let story : Story = f.going.story in
+      elim f.going.saved.requests [
+        | inl h ↦ h
+        | inr there ↦ absurd (asks_or_fails rules.limits story.survivor.plan story.survivor.now cause story.survivor.now.state.machine.taken there.0 f.fails)
+      ]
+
+  -- it gave up, where none of these trials survived
+  abbrev given_up_by : (rules : Rules) (image : Image) (began : Since) (now : Told) (phases : Phases) (cause : Cause) (old : SessionState R) (keeping : Keeping) (f : IsFailing rules image began now phases cause old) (trials : List Trial) → keeping ≡ keeping_of old
+      → IsRecovery rules image (entries f.going.story) (recovery_of (failure_of rules image f.going.story f.going.saved.paths) f.going.story.survivor.begun cause trials) → survivor_in trials ≡ None
+      → HasGivenUp rules image keeping f.going.story.earlier f.going.story.since f.going.story.recoveries f.going.story.survivor trials cause
+  given_up_by rules image began now phases cause old keeping f trials same was none =
+      let story : Story = f.going.story in
+      let k = f.going.saved.ring in
+      record {
+        ring = f.going.saved.paths;
+        some = k.some;
+        stands = stands_of old.cpu.slots.saved;
+        handled =
+            subst (λ (kept : Keeping). HasHandled rules image kept story.earlier (entries story) story.recoveries story.survivor story.survivor.now.state.machine.taken (stands_of old.cpu.slots.saved)) (sym same)
+            (failed_requests rules image began now phases cause old f);
+        ringed = has_ring old.cpu.slots.saved f.going.saved.paths k.as_many k.saved;
+        recovers = was;
+        none = none;
+        owes_nothing = owes_nothing rules story f.due f.going.passed.done;
+      }
+
   -- no trial survived
   pub gives_up : (rules : Rules) (image : Image) (began : Since) (now : Told) (phases : Phases) (coming : Option Coming) (cause : Cause) (old : SessionState R) (cpu : CpuState R) (ring : Checkpoints) (replies : Ledger) (choices : List Choice)
       (f : IsFailing rules image began now phases cause old) (trials : List Trial) (lost before after : ℕ) (noted : Noted) (tables : Option (List (List Try))) → cpu.slots.saved ≡ old.cpu.slots.saved → keeping_by ring.capacity old.options.every cpu.slots ≡ keeping_of old → IsRecovery rules image (entries f.going.story) (recovery_of (failure_of rules image f.going.story f.going.saved.paths) f.going.story.survivor.begun cause trials)
@@ -214,7 +244,7 @@ module _ {R : Type 0} where
       let g = f.going in
       let story : Story = g.story in
       let same : replies ≡ old.replies = ledger ∙ discards_none old.replies g.passed.no_trial in
-      let given_up : HasGivenUp rules image (entries_of story.earlier) story.since story.survivor trials cause = record { ring = g.saved.paths; some = g.saved.ring.some; recovers = was; none = none; owes_nothing = owes_nothing rules story f.due g.passed.done } in
+      let given_up : HasGivenUp rules image (keeping_by ring.capacity old.options.every cpu.slots) story.earlier story.since story.recoveries story.survivor trials cause = given_up_by rules image began now phases cause old (keeping_by ring.capacity old.options.every cpu.slots) f trials keeping was none in
       record {
         story = story;
         trials = trials;
@@ -224,13 +254,13 @@ module _ {R : Type 0} where
         last = told_of story.survivor cause trials ∷ [];
         last_noted = more;
         told = told_unwatched rules image began now story g.told;
-        tables = tables_given_up rules image story.earlier story.since story.survivor story.recoveries trials cause (answer.GaveUp old.taken cause) given_up began.tables_before began.tables tables g.told.tables one;
+        tables = tables_given_up rules image (keeping_by ring.capacity old.options.every cpu.slots) story.earlier story.since story.survivor story.recoveries trials cause (answer.GaveUp old.taken cause) given_up began.tables_before began.tables tables g.told.tables one;
         answers = answers_told began story (walked old cpu ring replies choices) tables (answers_as began story old (walked old cpu ring replies choices) refl chose refl refl g.answers);
         received_are = received_is rules.bounds (entries story) old.log g.goes.items;
         replies = subst (λ (l : Ledger). KeepsReplies rules.bounds (entries story) None (sends story) l) (sym same) g.passed.replies;
         no_trial = ap (λ (l : Ledger). l.trial) same ∙ g.passed.no_trial;
         closed = λ send stands closing owed. g.passed.done send stands owed;
-        holds = held_by rules image (entries story) story.recoveries story.survivor old (walked old cpu ring replies choices) slots keeping (held_of rules image story old g.saved);
+        holds = held_by rules image story.earlier (entries story) story.recoveries story.survivor old (walked old cpu ring replies choices) slots keeping (held_of rules image story old g.saved);
         handled = λ is. absurd is;
         live = tt;
         is_end = tt;
@@ -244,18 +274,16 @@ module _ {R : Type 0} where
       (f : IsFailing rules image began now phases cause old) (trials : List Trial) (trial : Trial) → survivor_in trials ≡ Some trial
       → HasAdoptedRun (failure_of rules image f.going.story f.going.saved.paths) (recovery_of (failure_of rules image f.going.story f.going.saved.paths) f.going.story.survivor.begun cause trials) trial adopted cpu ring old.recorded choices old.log replies
       → KeepsSlots (Some adopted) old.cpu cpu → keeping_by ring.capacity old.options.every cpu.slots ≡ keeping_of old
-      → HasHandled (keeping_by ring.capacity old.options.every cpu.slots) (f.going.story.recoveries ++ recovery_of (failure_of rules image f.going.story f.going.saved.paths) f.going.story.survivor.begun cause trials ∷ [])
+      → HasHandled rules image (keeping_by ring.capacity old.options.every cpu.slots) (f.going.story.earlier ++ record { survivor = f.going.story.survivor; entries = f.going.story.since } ∷ [])
+      (entries (adopted_story f.going.story (recovery_of (failure_of rules image f.going.story f.going.saved.paths) f.going.story.survivor.begun cause trials) trial)) (f.going.story.recoveries ++ recovery_of (failure_of rules image f.going.story f.going.saved.paths) f.going.story.survivor.begun cause trials ∷ [])
       (adopted_by (recovery_of (failure_of rules image f.going.story f.going.saved.paths) f.going.story.survivor.begun cause trials) trial) trial.path.state.machine.taken (stands_of cpu.slots.saved)
   adopted_requests rules image began now phases cause old cpu ring replies choices adopted f trials trial found run slots keeping =
       let g = f.going in
       let story : Story = g.story in
       let recovery : Recovery = recovery_of (failure_of rules image story g.saved.paths) story.survivor.begun cause trials in
+      let next : Story = adopted_story story recovery trial in
       let k = g.saved.ring in
-      let before : HasHandled (keeping_of old) story.recoveries story.survivor story.survivor.now.state.machine.taken (stands_of old.cpu.slots.saved) =
-      elim g.saved.requests [
-        | inl h ↦ h
-        | inr there ↦ absurd (asks_or_fails rules.limits story.survivor.plan story.survivor.now cause story.survivor.now.state.machine.taken there.0 f.fails)
-      ] in
+      let before = failed_requests rules image began now phases cause old f in
       let within : run.index < length g.saved.paths = slice_get_within g.saved.paths run.index trial.chance.checkpoint run.from in
       let left : length (drop run.index g.saved.paths) ≡ length g.saved.paths - run.index = length-drop run.index g.saved.paths in
       let cut : length cpu.slots.saved ≡ length old.cpu.slots.saved - slots.0 = ap length slots.2 ∙ length-take-le (length old.cpu.slots.saved - slots.0) old.cpu.slots.saved (omega arith) in
@@ -263,8 +291,9 @@ module _ {R : Type 0} where
       let many = k.as_many in
       let low = slots.1 in
       let index : slots.0 ≡ run.index = omega (arith, within, left, cut, as_many, many, low) in
-      subst (λ (kept : Keeping). HasHandled kept (story.recoveries ++ recovery ∷ []) (adopted_by recovery trial) trial.path.state.machine.taken (stands_of cpu.slots.saved)) (sym keeping)
-      (handled_adopts (keeping_of old) story.recoveries recovery (adopted_by recovery trial) (stands_of old.cpu.slots.saved) (stands_of cpu.slots.saved) trial run.index before (has_ring old.cpu.slots.saved g.saved.paths k.as_many k.saved) found run.from
+      subst (λ (kept : Keeping). HasHandled rules image kept next.earlier (entries next) (story.recoveries ++ recovery ∷ []) (adopted_by recovery trial) trial.path.state.machine.taken (stands_of cpu.slots.saved)) (sym keeping)
+      (handled_adopts rules image (keeping_of old) story.earlier (record { survivor = story.survivor; entries = story.since }) (entries story) (entries next) story.recoveries recovery (adopted_by recovery trial) (stands_of old.cpu.slots.saved) (stands_of cpu.slots.saved) trial run.index
+      refl before (has_ring old.cpu.slots.saved g.saved.paths k.as_many k.saved) found run.from
       (stands_up_to run.index old.cpu.slots.saved cpu.slots.saved (slots.2 ∙ ap (λ n. without_newer n old.cpu.slots.saved) index)))
 
   -- the session goes on as a trial that asks for the next item
@@ -346,7 +375,7 @@ module _ {R : Type 0} where
         last = [];
         last_noted = none_noted noted;
         told = told_unwatched rules image (record began { lost = lost; noted = noted; tables = tables }) now next then;
-        tables = tables_here rules image next.earlier next.since next.survivor next.recoveries [] (answer.Exited code) began.tables_before tables then.tables;
+        tables = tables_here rules image (keeping_by ring.capacity old.options.every cpu.slots) next.earlier next.since next.survivor next.recoveries [] (answer.Exited code) began.tables_before tables then.tables;
         answers = answers_told (record began { lost = lost; noted = noted }) next (goes_as old cpu ring replies choices adopted.env (old.taken + 4)) tables (answers_adopted began noted story next old (goes_as old cpu ring replies choices adopted.env (old.taken + 4)) refl run.low run.chose
             (ap (λ (s : Standing). s.guest.machine.taken) run.stands) (ap (λ (s : Standing). s.steps) run.stands) run.front g.answers more.choices_more lost);
         received_are = received_is rules.bounds (entries story) old.log g.goes.items ∙ ap (received rules.bounds) (sym same);
@@ -373,16 +402,17 @@ module _ {R : Type 0} where
   -- the episode of a recovery that adopted isn't noted: the session is broken off as the trial
   adopted_unnoted : (rules : Rules) (image : Image) (began : Since) (now : Told) (coming : Option Coming) (story : Story) (recovery : Recovery) (trial : Trial) (lost : ℕ) (session : SessionState R) (fault : Answer) (tables : Option (List (List Try))) → IsTold rules image began now story → LeavesNothing rules (entries_of story.earlier) story.since story.survivor
       → recovery.survivor ≡ story.survivor → IsRecovery rules image (entries story) recovery → survivor_in recovery.trials ≡ Some trial → lost + trial.path.steps ≡ began.lost + story.survivor.now.steps + steps_of recovery.trials
-      → AnswersFor (record began { lost = lost }) (adopted_story story recovery trial) session → IsNoteFault fault → TellsOne rules (entries story) recovery began.tables tables → IsBrokenOff rules image (record began { lost = lost; tables = tables }) now coming session fault
-  adopted_unnoted rules image began now coming story recovery trial lost session fault tables told leaves is was found counts answers note one =
+      → AnswersFor (record began { lost = lost }) (adopted_story story recovery trial) session → HaveRings rules image (keeping_of session) (story.earlier ++ record { survivor = story.survivor; entries = story.since } ∷ []) (story.recoveries ++ recovery ∷ []) → IsNoteFault fault → TellsOne rules (entries story) recovery began.tables tables
+      → IsBrokenOff rules image (record began { lost = lost; tables = tables }) now coming session fault
+  adopted_unnoted rules image began now coming story recovery trial lost session fault tables told leaves is was found counts answers rings note one =
       let next : Story = adopted_story story recovery trial in
       let nobody : Noted = record { choices = None; episodes = None } in
       let then = told_adopted rules image (unwatched (record began { noted_before = nobody; noted = nobody })) now story recovery trial lost nobody None
       (record { serving = told.serving; way = told.way; tells = told.tells; counted = told.counted; recovered = told.recovered; episodes = tt; tables = refl }) leaves is was found counts tt refl in
       (broken_noting (λ account. Unit {0}) rules image (record began { lost = lost; tables = tables }) nobody nobody now coming session next fault then
-      (tables_here rules image next.earlier next.since next.survivor next.recoveries [] fault began.tables_before tables (tables_then rules story recovery began.tables_before began.tables tables told.tables one))
+      (tables_here rules image (keeping_of session) next.earlier next.since next.survivor next.recoveries [] fault began.tables_before tables (tables_then rules story recovery began.tables_before began.tables tables told.tables one))
       (notes_here (record began { lost = lost }) next session fault (map episode_of story.recoveries) (episode_of recovery ∷ []) told.episodes answers (map-append episode_of story.recoveries (recovery ∷ [])) (omega arith) (λ some. note)
-      (note_no_end fault note)) answers.taken answers.steps (note_ends rules coming (account_of next) fault note) (note_no_end fault note) (λ never. absurd (never note)) (λ is. absurd (note_at_none fault note is)) tt).0
+      (note_no_end fault note)) answers.taken answers.steps (note_ends rules coming (account_of next) fault note) (note_no_end fault note) rings (λ never. absurd (never note)) (λ is. absurd (note_at_none fault note is)) tt).0
 
   -- what is counted otherwise at want of memory isn't counted at all
   abbrev pub off_lost : (rules : Rules) (image : Image) (began : Since) (now : Told) (coming : Option Coming) (session : SessionState R) (end : Answer) (lost : ℕ) → (end ≢ answer.Memory → lost ≡ began.lost) → IsBrokenOff rules image began now coming session end
@@ -398,6 +428,7 @@ module _ {R : Type 0} where
     holds = off.holds;
     handled = off.handled;
     recovered = off.recovered;
+    ringed = off.ringed;
     trials = off.trials;
     last = off.last;
     tried = off.tried;
@@ -411,9 +442,9 @@ module _ {R : Type 0} where
 
   -- memory ran out: the session answers for the run that failed
   pub adopt_breaks : (rules : Rules) (image : Image) (began : Since) (now : Told) (phases : Phases) (coming : Option Coming) (cause : Cause) (old : SessionState R) (cpu : CpuState R) (ring : Checkpoints) (replies : Ledger) (choices : List Choice) (lost : ℕ) (tables : Option (List (List Try)))
-      → (f : IsFailing rules image began now phases cause old) → choices ≡ old.choices → (tables ≡ began.tables) ⊎ TellsTable (failure_of rules image f.going.story f.going.saved.paths) old.taken began.tables tables
+      → (f : IsFailing rules image began now phases cause old) → keeping_by ring.capacity old.options.every cpu.slots ≡ keeping_of old → choices ≡ old.choices → (tables ≡ began.tables) ⊎ TellsTable (failure_of rules image f.going.story f.going.saved.paths) old.taken began.tables tables
       → IsBrokenOff rules image (record began { lost = lost; tables = tables }) now coming (walked old cpu ring replies choices) answer.Memory
-  adopt_breaks rules image began now phases coming cause old cpu ring replies choices lost tables f chose looked =
+  adopt_breaks rules image began now phases coming cause old cpu ring replies choices lost tables f keeping chose looked =
       let story : Story = f.going.story in
       let told = f.going.told in
       let answers = answers_as began story old (walked old cpu ring replies choices) refl chose refl refl f.going.answers in
@@ -421,10 +452,10 @@ module _ {R : Type 0} where
       off_lost rules image (record began { tables = tables }) now coming (walked old cpu ring replies choices) answer.Memory lost (λ others. absurd (others refl))
       (broken_noting (λ account. Unit {0}) rules image (record began { tables = tables }) began.noted_before began.noted now coming (walked old cpu ring replies choices) story answer.Memory (told_unwatched rules image began now story told)
       (elim looked [
-        | inl same ↦ tables_here rules image story.earlier story.since story.survivor story.recoveries [] answer.Memory began.tables_before tables (subst (λ (t : Option (List (List Try))). TellsMore began.tables_before t (AreTables rules [] story.earlier story.recoveries)) (sym same) told.tables)
-        | inr more ↦ tables_memory rules image story.earlier story.since story.survivor story.recoveries (recovery_of (failure_of rules image story f.going.saved.paths) story.survivor.begun cause []) [] began.tables_before began.tables tables told.tables (table_of rules image began now phases cause old f [] began.tables tables more)
+        | inl same ↦ tables_here rules image (keeping_by ring.capacity old.options.every cpu.slots) story.earlier story.since story.survivor story.recoveries [] answer.Memory began.tables_before tables (subst (λ (t : Option (List (List Try))). TellsMore began.tables_before t (AreTables rules [] story.earlier story.recoveries)) (sym same) told.tables)
+        | inr more ↦ tables_memory rules image (keeping_by ring.capacity old.options.every cpu.slots) story.earlier story.since story.survivor story.recoveries (recovery_of (failure_of rules image story f.going.saved.paths) story.survivor.begun cause []) [] began.tables_before began.tables tables told.tables (table_of rules image began now phases cause old f [] began.tables tables more)
       ])
-      (notes_here began story (walked old cpu ring replies choices) answer.Memory all [] told.episodes answers (sym (append-nil all)) (omega arith) (λ some. absurd (omega (arith, some))) (λ is. is)) answers.taken answers.steps tt (λ is. is) (λ never. absurd (never tt)) (λ is. absurd is) tt).0
+      (notes_here began story (walked old cpu ring replies choices) answer.Memory all [] told.episodes answers (sym (append-nil all)) (omega arith) (λ some. absurd (omega (arith, some))) (λ is. is)) answers.taken answers.steps tt (λ is. is) (rings_kept rules image story old (walked old cpu ring replies choices) keeping f.going.saved) (λ never. absurd (never tt)) (λ is. absurd is) tt).0
 
   -- behind a failure the number is higher, up to which an environment is in force
   pub adopted_later : (rules : Rules) (image : Image) (began : Since) (now : Told) (phases : Phases) (cause : Cause) (old : SessionState R) → IsFailing rules image began now phases cause old → (old.until < old.taken + 4) × (old.taken ≤ rules.bounds.max_items)
@@ -460,7 +491,7 @@ module _ {R : Type 0} where
 
   -- no trial survived, and the episode isn't noted
   gave_up_unnoted : (rules : Rules) (image : Image) (began : Since) (now : Told) (coming : Option Coming) (cause : Cause) (story : Story) (paths : List Path) (trials : List Trial) (lost : ℕ) (session : SessionState R) (fault : Answer) (tables : Option (List (List Try))) → IsTold rules image began now story
-      → (given_up : HasGivenUp rules image (entries_of story.earlier) story.since story.survivor trials cause) → lost ≡ began.lost + steps_of trials → AnswersFor began story session → IsNoteFault fault
+      → (given_up : HasGivenUp rules image (keeping_of session) story.earlier story.since story.recoveries story.survivor trials cause) → lost ≡ began.lost + steps_of trials → AnswersFor began story session → IsNoteFault fault
       → TellsOne rules (entries story) (record { survivor = story.survivor; cause = cause; ring = given_up.ring; trials = trials }) began.tables tables → IsBrokenOff rules image (record began { lost = lost; tables = tables }) now coming session fault
   gave_up_unnoted rules image began now coming cause story paths trials lost session fault tables told given_up counts answers note one =
       let is : entries story ≡ before_end (account_of story) = refl in
@@ -475,11 +506,12 @@ module _ {R : Type 0} where
         holds = λ never. absurd (never note);
         handled = λ is. absurd (note_at_none fault note is);
         recovered = told.recovered;
+        ringed = rings_of rules image (keeping_of session) story.earlier (entries story) story.recoveries story.survivor story.survivor.now.state.machine.taken given_up.stands given_up.handled;
         trials = trials;
         last = told_of story.survivor cause trials ∷ [];
         tried = inr (cause, given_up, refl);
         notes = notes_here began story session fault (map episode_of story.recoveries) (told_of story.survivor cause trials ∷ []) told.episodes answers refl (omega arith) (λ some. note) (note_no_end fault note);
-        tables = tables_given_up rules image story.earlier story.since story.survivor story.recoveries trials cause fault given_up began.tables_before began.tables tables told.tables one;
+        tables = tables_given_up rules image (keeping_of session) story.earlier story.since story.survivor story.recoveries trials cause fault given_up began.tables_before began.tables tables told.tables one;
         taken = answers.taken;
         steps = answers.steps;
         counted = λ others. let before = told.counted in omega (arith, before, counts);
@@ -497,7 +529,8 @@ module _ {R : Type 0} where
       let leaves = subst (λ a. LeavesRun failure (recovery_of failure story.survivor.begun cause h.trials) cpu old.ring ring old.recorded old.choices choices old.log old.replies replies a) is h.leaves in
       let end : end_of old.taken cause recovered.adopted ≡ Some (answer.GaveUp old.taken cause) = ap (end_of old.taken cause) is in
       let counted = h.counted in
-      let given_up : HasGivenUp rules image (entries_of story.earlier) story.since story.survivor h.trials cause = record { ring = g.saved.paths; some = g.saved.ring.some; recovers = h.recovers; none = leaves.0; owes_nothing = owes_nothing rules story f.due g.passed.done } in
+      let given_up : HasGivenUp rules image (keeping_by ring.capacity old.options.every cpu.slots) story.earlier story.since story.recoveries story.survivor h.trials cause =
+      given_up_by rules image began now phases cause old (keeping_by ring.capacity old.options.every cpu.slots) f h.trials keeping h.recovers leaves.0 in
       let one = table_of rules image began now phases cause old f h.trials began.tables tables told in
       record {
         goes = λ noted more.
@@ -536,7 +569,9 @@ module _ {R : Type 0} where
               choices = run.chose;
               taken = ap (λ (s : Standing). s.guest.machine.taken) run.stands;
               steps = ap (λ (s : Standing). s.steps) run.stands;
-            }) note (table_of rules image began now phases cause old f h.trials began.tables tables told);
+            })
+            (rings_of rules image (keeping_of new) (adopted_story story recovery trial).earlier (entries (adopted_story story recovery trial)) (story.recoveries ++ recovery ∷ []) (adopted_by recovery trial) trial.path.state.machine.taken (stands_of cpu.slots.saved)
+            (adopted_requests rules image began now phases cause old cpu ring replies choices adopted f h.trials trial leaves.1 run (subst (λ (a : Option Adopted). KeepsSlots a old.cpu cpu) is slots) keeping)) note (table_of rules image began now phases cause old f h.trials began.tables tables told);
       }
     where
       of_code : (code : Option ℕ) → adopted.code ≡ code → (noted : Noted) → HasNotedMore began.noted noted [] (told_of f.going.story.survivor cause h.trials ∷ [])

@@ -9,6 +9,7 @@ use Rattle.ckpt_ring.specs.Rings.{Checkpoints}
 use Rattle.run_history.specs.Served.{Limits, Override, Path, Served, AsksFor}
 use Rattle.guest_cpu.specs.Cpus.{CpuState, live_of, with_live}
 use Rattle.guest_cpu.specs.Standing.{Standing}
+use Rattle.guest_runs.specs.Writing.{Writes}
 use Rattle.ckpt_ring.specs.Slots.{Saved}
 use Rattle.session_history.specs.Serving.{gone_on}
 use Rattle.recovery_gate.specs.Handling.{Keeping, stands_of}
@@ -53,8 +54,9 @@ module _ {R : Type 0} where
 
   -- the survivor goes on: its checkpoints stay, and its environment
   pub saved_on : (rules : Rules) (image : Image) (story : Story) (old new : SessionState R) (to : Path) → HasSameSide old new → new.replies.first ≡ old.replies.first → Served rules.limits (items_in rules.bounds (entries story)) story.survivor.plan story.survivor.now to
-      → story.survivor.now.state.machine.taken ≤ to.state.machine.taken → HandlesRequests rules (keeping_of old) story.recoveries (gone_on story.survivor to) (stands_of old.cpu.slots.saved) → KeepsCheckpoints rules image story old → KeepsCheckpoints rules image (on_story story to) new
-  saved_on rules image story old new to side first served more requests k =
+      → Writes rules.limits (items_in rules.bounds (entries story)) old.cpu.base story.survivor.now old.cpu.written to new.cpu.written
+      → story.survivor.now.state.machine.taken ≤ to.state.machine.taken → HandlesRequests rules image (keeping_of old) story.earlier (entries story) story.recoveries (gone_on story.survivor to) (stands_of old.cpu.slots.saved) → KeepsCheckpoints rules image story old → KeepsCheckpoints rules image (on_story story to) new
+  saved_on rules image story old new to side first served wrote more requests k =
       let plan : List Override = story.survivor.plan in
       let now : Path = story.survivor.now in
       record {
@@ -62,11 +64,11 @@ module _ {R : Type 0} where
         ring =
             subst (λ (c : Checkpoints). KeepsRing rules image (entries story) plan to k.paths new.cpu c new.log new.replies) (sym side.ring)
             (ring_beside rules image (entries story) plan to k.paths new.cpu old.ring old.log new.log old.replies new.replies (ap (λ (l : Log). l.first) side.log) first
-            (ring_on rules image (entries story) plan now to k.paths old.cpu new.cpu (live_of new.cpu) old.ring old.log old.replies served side.cpu k.ring));
+            (ring_on rules image (entries story) plan now to k.paths old.cpu new.cpu (live_of new.cpu) old.ring old.log old.replies served wrote side.cpu k.ring));
         early = subst (λ n. AreBehind n k.paths) (sym side.recorded) k.early;
         requests =
-            subst (λ (k : Keeping). HandlesRequests rules k story.recoveries (gone_on story.survivor to) (stands_of new.cpu.slots.saved)) (sym (side_keeping old new side))
-            (subst (λ (saved : List (Saved Standing)). HandlesRequests rules (keeping_of old) story.recoveries (gone_on story.survivor to) (stands_of saved)) (sym (ap (λ (cpu : CpuState R). cpu.slots.saved) side.cpu)) requests);
+            subst (λ (k : Keeping). HandlesRequests rules image k story.earlier (entries story) story.recoveries (gone_on story.survivor to) (stands_of new.cpu.slots.saved)) (sym (side_keeping old new side))
+            (subst (λ (saved : List (Saved Standing)). HandlesRequests rules image (keeping_of old) story.earlier (entries story) story.recoveries (gone_on story.survivor to) (stands_of saved)) (sym (ap (λ (cpu : CpuState R). cpu.slots.saved) side.cpu)) requests);
         in_force =
             in_force_by plan to.state.machine.taken old.env new.env old.until new.until side.env side.until (in_force_later plan now.state.machine.taken to.state.machine.taken old.env old.until more k.in_force);
         past = past_on rules.limits (items_in rules.bounds (entries story)) plan now to old.until new.until served more side.until k.past;

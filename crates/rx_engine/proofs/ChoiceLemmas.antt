@@ -27,7 +27,7 @@ use Rattle.run_history.specs.Run.{after}
 use Rattle.run_history.proofs.Repeats.{repeated_keeps}
 use Rattle.std.proofs.lemmas.Option.{same_Some, none-some}
 use Rattle.rx_engine.proofs.StoryLemmas.{account_of, still_takes}
-use Rattle.rx_engine.proofs.HeldLemmas.{note_at_none}
+use Rattle.rx_engine.proofs.HeldLemmas.{rings_kept, note_at_none}
 use Rattle.rx_engine.proofs.FaultLemmas.{note_no_end, note_ends}
 use Rattle.rx_engine.proofs.NoteLemmas.{grew_on, taken_all}
 use Rattle.rx_engine.proofs.SaveLemmas.{waits_whole}
@@ -106,7 +106,7 @@ module _ {R : Type 0} where
       → WaitsBy rules image began now phases coming true session (Err (stop.Breaks end))
   waits_unnoted rules image began now phases coming session end w note =
       let h = w.hearing in
-      (broken_off rules image began now coming session h.story end h.told h.answers (note_ends rules coming (account_of h.story) end note) (note_no_end end note) (λ never. absurd (never note)) (λ is. absurd (note_at_none end note is)), λ none. still_takes true _ refl none)
+      (broken_off rules image began now coming session h.story end h.told h.answers (note_ends rules coming (account_of h.story) end note) (note_no_end end note) (rings_kept rules image h.story session session refl h.saved) (λ never. absurd (never note)) (λ is. absurd (note_at_none end note is)), λ none. still_takes true _ refl none)
 
   -- the answers of malloc up to a number are noted
   pub waits_noted : (rules : Rules) (image : Image) (began : Since) (now : Told) (phases : Phases) (choices later : Option (List Choice)) (episodes others : Option (List Episode)) (old : SessionState R) (safe : ℕ) (left : List Choice)

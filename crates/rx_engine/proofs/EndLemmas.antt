@@ -10,7 +10,7 @@ use Rattle.run_history.specs.declared.answer.Answer.TheVariants as answer
 use Rattle.run_history.specs.Served.{Served}
 use Rattle.session_history.specs.Heeding.{items_in}
 use Rattle.session_history.specs.Owing.{Moment, OwesNothing}
-use Rattle.session_history.specs.Lawful.{Rules, Survivor, entries_of, place_of, IsDue, IsDueAt, then_entry, IsDuePiece}
+use Rattle.session_history.specs.Lawful.{Rules, Survivor, Chapter, entries_of, place_of, IsDue, IsDueAt, then_entry, IsDuePiece}
 use Rattle.session_history.specs.Account.{Session, journal_of, IsAccount, IsBroken}
 use Rattle.session_history.specs.Giving.{AreDuePieces, then_entries}
 use Rattle.session_history.specs.Serving.{ending_at, Ending}
@@ -25,11 +25,12 @@ use Rattle.std.specs.Prelude.{◌≢◌}
 use Rattle.trial_history.specs.Tables.{Trial}
 use Rattle.trial_history.proofs.Going.{steps_later}
 use Rattle.trial_plan.specs.Trying.{steps_of}
+use Rattle.recovery_gate.specs.Handling.{Keeping}
 use Rattle.rx_engine.specs.Recovered.{HasWatched, HasNoted, GivesUpBy, spent}
 use Rattle.rx_engine.proofs.TableLemmas.{tables_here, tables_fault}
 use Rattle.rx_engine.proofs.GuestLemmas.{notes_here}
-use Rattle.rx_engine.specs.Leaving.{HoldsCheckpoints, IsAtRequest}
-use Rattle.rx_engine.proofs.HeldLemmas.{held_given}
+use Rattle.rx_engine.specs.Leaving.{HoldsCheckpoints, IsAtRequest, keeping_of}
+use Rattle.rx_engine.proofs.HeldLemmas.{held_given, rings_held}
 use Rattle.rx_engine.proofs.NoteLemmas.{notes_fault}
 use Rattle.block_book.specs.declared.choice.Choice.{Choice}
 use Rattle.notes.specs.Noting.{Noted}
@@ -88,16 +89,16 @@ abbrev pub ended_account : Story → List Entry → List Entry → Session
 ended_account story ending broken = record { earlier = story.earlier; survivor = story.survivor; since = story.since; ending = ending; broken = broken }
 
 -- at one of the seven ends that is what its row asks
-ends_end : (rules : Rules) (image : Image) (coming : Option Coming) (session : Session) (trials : List Trial) (end : Answer) → IsEnd end → StandsAt rules (before_end session) coming session.survivor end → OwesNothingAtEnd rules session → session.broken ≡ []
-    → GivesUpBy rules image (entries_of session.earlier) session.since session.survivor trials end → EndsBy rules coming session end
-ends_end rules image coming session trials answer.Finished is stands owes none gave = (stands, owes, none)
-ends_end rules image coming session trials (answer.Exited code) is stands owes none gave = (stands, owes, none)
-ends_end rules image coming session trials (answer.GaveUp point cause) is stands owes none gave = (stands, owes, none, gave.owes_nothing)
-ends_end rules image coming session trials (answer.InputRefused kind offset) is stands owes none gave = (stands, owes, none)
-ends_end rules image coming session trials (answer.MessageTooLong conn) is stands owes none gave = (stands, owes, none)
-ends_end rules image coming session trials answer.LimitItems is stands owes none gave = (stands, owes, none)
-ends_end rules image coming session trials answer.LimitEvents is stands owes none gave = (stands, owes, none)
-ends_end rules image coming session trials _ is stands owes none gave = absurd is
+ends_end : (rules : Rules) (image : Image) (keeping : Keeping) (coming : Option Coming) (session : Session) (recoveries : List Recovery) (trials : List Trial) (end : Answer) → IsEnd end → StandsAt rules (before_end session) coming session.survivor end → OwesNothingAtEnd rules session → session.broken ≡ []
+    → GivesUpBy rules image keeping session.earlier session.since recoveries session.survivor trials end → EndsBy rules coming session end
+ends_end rules image keeping coming session recoveries trials answer.Finished is stands owes none gave = (stands, owes, none)
+ends_end rules image keeping coming session recoveries trials (answer.Exited code) is stands owes none gave = (stands, owes, none)
+ends_end rules image keeping coming session recoveries trials (answer.GaveUp point cause) is stands owes none gave = (stands, owes, none, gave.owes_nothing)
+ends_end rules image keeping coming session recoveries trials (answer.InputRefused kind offset) is stands owes none gave = (stands, owes, none)
+ends_end rules image keeping coming session recoveries trials (answer.MessageTooLong conn) is stands owes none gave = (stands, owes, none)
+ends_end rules image keeping coming session recoveries trials answer.LimitItems is stands owes none gave = (stands, owes, none)
+ends_end rules image keeping coming session recoveries trials answer.LimitEvents is stands owes none gave = (stands, owes, none)
+ends_end rules image keeping coming session recoveries trials _ is stands owes none gave = absurd is
 
 -- its last piece was broken off
 account_broken : (rules : Rules) (image : Image) (story : Story) (more broken : List Entry) → Stood rules image story more → IsBroken rules (sends story) (then_entries (end_of story) more) broken → IsAccount rules image (ended_account story more broken) true
@@ -133,9 +134,10 @@ count_off : (first last since before steps now begun tried : ℕ) → last ≡ f
 count_off first last since before steps now begun tried all earlier same later = omega (arith, all, earlier, same, later)
 
 -- nobody gives up but at an end
-gives_no_end : (rules : Rules) (image : Image) (start since : List Entry) (survivor : Survivor) (trials : List Trial) (end : Answer) → (IsEnd end → ⊥) → GivesUpBy rules image start since survivor trials end
-gives_no_end rules image start since survivor trials (answer.GaveUp point cause) never = absurd (never tt)
-gives_no_end rules image start since survivor trials _ never = tt
+gives_no_end : (rules : Rules) (image : Image) (keeping : Keeping) (earlier : List Chapter) (since : List Entry) (recoveries : List Recovery) (survivor : Survivor) (trials : List Trial) (end : Answer) → (IsEnd end → ⊥)
+    → GivesUpBy rules image keeping earlier since recoveries survivor trials end
+gives_no_end rules image keeping earlier since recoveries survivor trials (answer.GaveUp point cause) never = absurd (never tt)
+gives_no_end rules image keeping earlier since recoveries survivor trials _ never = tt
 
 module _ {R : Type 0} where
   stood_end : (rules : Rules) (image : Image) (began : Since) (now : Told) (coming : Option Coming) (session : SessionState R) (end : Answer) (e : IsEnding rules image began now coming session end) → Stood rules image e.story []
@@ -166,7 +168,7 @@ module _ {R : Type 0} where
       → later ≡ coming → AreDuePieces rules (sends e.story) (end_of e.story) more → Tells before now more → OwesNothing rules.bounds rules.hold (then_entries (end_of e.story) more) (sends e.story)
       → (takes ≡ false → IsAsking rules e.story) → (noted : Noted) (recorded : ℕ) (tail : List Choice) → HasNoted began.noted_before noted end e.story.survivor.now.choices (map episode_of e.story.recoveries ++ e.last) recorded tail
       → (first last : ℕ) → last ≡ first + (began.lost + session.steps) → P e.story.recoveries (ended_account e.story more [])
-      → (watched : HasWatched rules image began.told now later takes end began.noted_before noted recorded tail session.taken session.steps first last began.tables_before began.tables) × P watched.recovered.recoveries watched.recovered.served.session
+      → (watched : HasWatched rules image (keeping_of session) began.told now later takes end began.noted_before noted recorded tail session.taken session.steps first last began.tables_before began.tables) × P watched.recovered.recoveries watched.recovered.served.session
   served_end P rules image began before now coming later takes session end e more same due tells owes asked noted recorded tail notes first last all holds =
       let story : Story = e.story in
       let stands : StandsAt rules (entries story) later story.survivor end = subst (λ (c : Option Coming). StandsAt rules (entries story) c story.survivor end) (sym same) e.stands in (
@@ -179,7 +181,7 @@ module _ {R : Type 0} where
               tells = told_end rules image began before now coming session end e more [] (subst (Tells before now) (sym (append-nil more)) tells);
               account = ending_account rules image story.earlier story.survivor story.since more true (stood_pieces rules image began before coming session end e more due).at;
               comes = λ is. record { end = end; is_end = e.is_end; stands = stands };
-              ends = ends_end rules image later (ended_account story more []) e.trials end e.is_end stands owes refl e.gave_up;
+              ends = ends_end rules image (keeping_of session) later (ended_account story more []) story.recoveries e.trials end e.is_end stands owes refl e.gave_up;
               pieces = are_given rules (sends story) (end_of story) more due;
               asked = asked;
               choices_are = refl;
@@ -188,6 +190,7 @@ module _ {R : Type 0} where
             };
             recoveries = e.story.recoveries;
             recovered = e.told.recovered;
+            ringed = rings_held rules image story.earlier (entries story) story.recoveries story.survivor session e.holds;
             trials = e.trials;
             last = e.last;
             tried = e.tried;
@@ -207,7 +210,7 @@ module _ {R : Type 0} where
       → later ≡ coming → AreDuePieces rules (sends e.story) (end_of e.story) more → IsBroken rules (sends e.story) (then_entries (end_of e.story) more) broken → Tells before now (more ++ broken)
       → EndsBy rules later (ended_account e.story more broken) fault → (IsEnd fault → ⊥) → (takes ≡ false → IsAsking rules e.story)
       → (noted : Noted) → noted.choices ≡ began.noted.choices → noted.episodes ≡ began.noted.episodes → (first last : ℕ) → last ≡ first + (began.lost + session.steps) → P e.story.recoveries (ended_account e.story more broken)
-      → (watched : HasWatched rules image began.told now later takes fault began.noted_before noted session.recorded session.choices session.taken session.steps first last began.tables_before began.tables) × P watched.recovered.recoveries watched.recovered.served.session
+      → (watched : HasWatched rules image (keeping_of session) began.told now later takes fault began.noted_before noted session.recorded session.choices session.taken session.steps first last began.tables_before began.tables) × P watched.recovered.recoveries watched.recovered.served.session
   served_broken P rules image began before now coming later takes session end fault e more broken same due part tells ends no_end asked noted same_choices same_episodes first last all holds =
       let story : Story = e.story in
       let stands : StandsAt rules (entries story) later story.survivor end = subst (λ (c : Option Coming). StandsAt rules (entries story) c story.survivor end) (sym same) e.stands in (
@@ -229,16 +232,17 @@ module _ {R : Type 0} where
             };
             recoveries = e.story.recoveries;
             recovered = e.told.recovered;
+            ringed = rings_held rules image story.earlier (entries story) story.recoveries story.survivor session e.holds;
             trials = e.trials;
             last = e.last;
             tried = e.tried;
             notes = notes_fault rules image began before coming session end fault noted e no_end same_choices same_episodes;
-            gave_up = gives_no_end rules image (entries_of story.earlier) story.since story.survivor e.trials fault no_end;
+            gave_up = gives_no_end rules image (keeping_of session) story.earlier story.since story.recoveries story.survivor e.trials fault no_end;
             counted = λ others.
                 count_all first last began.lost e.lost (spent story.recoveries) session.steps story.survivor.now.steps story.survivor.begun.steps (steps_of e.trials) all e.lost_is e.told.counted e.answers.steps
                 (steps_later rules.limits (items_in rules.bounds (entries story)) story.survivor.plan story.survivor.begun story.survivor.now e.told.way);
           };
-          watched = tables_fault rules image story.earlier story.since story.survivor story.recoveries e.trials e.last end fault began.tables_before began.tables (λ same. subst IsEnd same e.is_end) e.tables;
+          watched = tables_fault rules image (keeping_of session) story.earlier story.since story.survivor story.recoveries e.trials e.last end fault began.tables_before began.tables (λ same. subst IsEnd same e.is_end) e.tables;
         },
         holds,
       )
@@ -246,7 +250,7 @@ module _ {R : Type 0} where
   -- a session that was broken off has served
   pub served_off : (P : List Recovery → Session → Type 0) (rules : Rules) (image : Image) (began : Since) (now : Told) (coming : Option Coming) (takes : Bool) (session : SessionState R) (end : Answer) → (off : IsBrokenOff rules image began now coming session end) → (takes ≡ false → WasAsked rules off.account) → (first last : ℕ)
       → (end ≢ answer.Memory → last ≡ first + (began.lost + session.steps)) → P off.recoveries off.account
-      → (watched : HasWatched rules image began.told now coming takes end began.noted_before began.noted session.recorded session.choices session.taken session.steps first last began.tables_before began.tables) × P watched.recovered.recoveries watched.recovered.served.session
+      → (watched : HasWatched rules image (keeping_of session) began.told now coming takes end began.noted_before began.noted session.recorded session.choices session.taken session.steps first last began.tables_before began.tables) × P watched.recovered.recoveries watched.recovered.served.session
   served_off P rules image began now coming takes session end off asked first last all holds = (
     record {
       recovered = record {
@@ -266,11 +270,12 @@ module _ {R : Type 0} where
         };
         recoveries = off.recoveries;
         recovered = off.recovered;
+        ringed = off.ringed;
         trials = off.trials;
         last = off.last;
         tried = off.tried;
         notes = off.notes;
-        gave_up = gives_no_end rules image (entries_of off.account.earlier) off.account.since off.account.survivor off.trials end off.no_end;
+        gave_up = gives_no_end rules image (keeping_of session) off.account.earlier off.account.since off.recoveries off.account.survivor off.trials end off.no_end;
         counted = λ others.
             count_off first last began.lost (spent off.recoveries) session.steps off.account.survivor.now.steps off.account.survivor.begun.steps (steps_of off.trials) (all others) (off.counted others) off.steps off.later;
       };
@@ -282,7 +287,7 @@ module _ {R : Type 0} where
   -- a fault came while what is due was passed
   pub off_pieces : (rules : Rules) (image : Image) (began : Since) (before now : Told) (coming : Option Coming) (story : Story) (session : SessionState R) (fault : Answer) (more broken : List Entry) → IsTold rules image began before story → AnswersFor began story session
       → AreDuePieces rules (sends story) (moment story) more → IsBroken rules (sends story) (then_entries (moment story) more) broken → Tells before now (more ++ broken)
-      → EndsBy rules coming (off_account story more broken) fault → (IsEnd fault → ⊥) → HoldsCheckpoints rules image (entries story) story.recoveries story.survivor session → (IsAtRequest fault → ⊥) → IsBrokenOff rules image began now coming session fault
+      → EndsBy rules coming (off_account story more broken) fault → (IsEnd fault → ⊥) → HoldsCheckpoints rules image story.earlier (entries story) story.recoveries story.survivor session → (IsAtRequest fault → ⊥) → IsBrokenOff rules image began now coming session fault
   off_pieces rules image began before now coming story session fault more broken told answers due part tells ends no_end held no_request =
       let stood = pieces rules image story.earlier story.survivor story.since more (record { serving = told.serving; way = told.way }) due in
       record {
@@ -298,11 +303,12 @@ module _ {R : Type 0} where
         holds = λ never. held_given rules image story session more (are_given rules (sends story) (moment story) more due) held;
         handled = λ is. absurd (no_request is);
         recovered = told.recovered;
+        ringed = rings_held rules image story.earlier (entries story) story.recoveries story.survivor session held;
         trials = [];
         last = [];
         tried = inl (refl, refl);
         notes = notes_here began story session fault (map episode_of story.recoveries) [] told.episodes answers refl (omega arith) (λ some. absurd (omega (arith, some))) no_end;
-        tables = tables_here rules image story.earlier (story.since ++ more) story.survivor story.recoveries [] fault began.tables_before began.tables told.tables;
+        tables = tables_here rules image (keeping_of session) story.earlier (story.since ++ more) story.survivor story.recoveries [] fault began.tables_before began.tables told.tables;
         counted = λ others. let none : steps_of [] ≡ 0 = refl in let counts = told.counted in omega (arith, none, counts);
         later = steps_later rules.limits (items_in rules.bounds (entries story)) story.survivor.plan story.survivor.begun story.survivor.now told.way;
         taken = answers.taken;

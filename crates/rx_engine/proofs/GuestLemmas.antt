@@ -25,11 +25,13 @@ use Rattle.run_history.specs.Call.{may_send}
 use Rattle.run_history.specs.Served.{Path, AsksFor}
 use Rattle.guest_cpu.specs.declared.event.Event.TheVariants as event
 use Rattle.guest_cpu.specs.Serving.{standing_of}
-use Rattle.guest_runs.specs.Runs.{GoesOn, IsSilent, RunsOn}
+use Rattle.guest_cpu.specs.Cpus.{live_of}
+use Rattle.guest_runs.specs.Runs.{GoesOn, IsSilent}
+use Rattle.guest_runs.specs.Writing.{Writes, RunsWriting}
 use Rattle.session_history.specs.Heeding.{Bounds, items_in, received}
 use Rattle.session_history.specs.Opened.{is_open}
 use Rattle.session_history.specs.Owing.{Stands, IsPassed}
-use Rattle.session_history.specs.Lawful.{Rules, entries_of}
+use Rattle.session_history.specs.Lawful.{Rules}
 use Rattle.session_history.specs.Account.{Session}
 use Rattle.session_history.specs.Keeping.{KeepsReplies, KeepsItems}
 use Rattle.rx_engine.specs.Sessions.{SessionState}
@@ -44,7 +46,7 @@ use Rattle.rx_engine.proofs.TableLemmas.{told_unwatched, tables_here}
 use Rattle.episodes.specs.declared.episode.Episode.{Episode}
 use Rattle.notes.specs.Noting.{Noted}
 use Rattle.trial_history.specs.Episodes.{episode_of}
-use Rattle.recovery_gate.specs.Handling.{HasHandled, stands_of}
+use Rattle.recovery_gate.specs.Handling.{HaveRings, HasHandled, stands_of}
 use Rattle.rx_engine.specs.Leaving.{HoldsCheckpoints, IsAtRequest, keeping_of}
 use Rattle.rx_engine.proofs.CheckpointLemmas.{HasSameSide, saved_on}
 use Rattle.rx_engine.proofs.HeldLemmas.{held_of, requests_on, unless_gave_up}
@@ -159,43 +161,45 @@ module _ {R : Type 0} where
   -- where the survivor goes on, used these answers of malloc and sent nothing, the session goes on
   pub going_on : (rules : Rules) (image : Image) (began : Since) (now : Told) (phases : Phases) (old new : SessionState R) (g : IsGoing rules image began now phases old) (to : Path) (more : List Choice) → HasSameParts old new
       → to.choices ≡ g.story.survivor.now.choices ++ more → new.choices ≡ old.choices ++ more → IsCounted new
-      → GoesOn rules.limits (items_in rules.bounds (entries g.story)) g.story.survivor.plan g.story.survivor.now to → to.state.ended ≡ None → new.cpu.slots.live ≡ standing_of to → to.state.sends ≡ g.story.survivor.now.state.sends
-      → IsGoing rules image began now phases new
-  going_on rules image began now phases old new g to more same used chosen counted goes lives stands none =
+      → GoesOn rules.limits (items_in rules.bounds (entries g.story)) g.story.survivor.plan g.story.survivor.now to → Writes rules.limits (items_in rules.bounds (entries g.story)) old.cpu.base g.story.survivor.now old.cpu.written to new.cpu.written
+      → to.state.ended ≡ None → new.cpu.slots.live ≡ standing_of to → to.state.sends ≡ g.story.survivor.now.state.sends → IsGoing rules image began now phases new
+  going_on rules image began now phases old new g to more same used chosen counted goes wrote lives stands none =
       record {
         story = on_story g.story to;
         told = told_on rules image began now g.story to g.told goes.served (still_received rules image began now g.story to g.told goes.taken);
         answers = answers_for began g.story old new to more g.answers same.side.recorded used chosen counted stands;
         goes = goes_with rules g.story old new phases to g.goes same.side.log same.side.events goes lives stands;
         saved =
-            saved_on rules image g.story old new to same.side (ap (λ (ledger : Ledger). ledger.first) same.replies) goes.served (let still = goes.taken in omega (arith, still))
-            (requests_on rules (items_in rules.bounds (entries g.story)) (keeping_of old) g.story.recoveries g.story.survivor to (stands_of old.cpu.slots.saved) goes.served goes.taken g.saved.requests) g.saved;
+            saved_on rules image g.story old new to same.side (ap (λ (ledger : Ledger). ledger.first) same.replies) goes.served wrote (let still = goes.taken in omega (arith, still))
+            (requests_on rules image (keeping_of old) g.story.earlier (entries g.story) g.story.recoveries g.story.survivor to (stands_of old.cpu.slots.saved) goes.served goes.taken g.saved.requests) g.saved;
         passed = has_passed rules g.story old.replies new.replies to g.passed same.replies none;
         latest = subst (IsLatestBefore rules (moment g.story)) (sym goes.taken) g.latest;
       }
 
   -- malloc was answered
   pub chooses_between : (rules : Rules) (image : Image) (began : Since) (now : Told) (phases : Phases) (choice : Choice) (old new : SessionState R) (b : IsBetween rules image began now phases old) → HasSameParts old new → new.choices ≡ old.choices ++ choice ∷ []
-      → IsCounted new → RunsOn rules.limits (items_in rules.bounds (entries b.going.story)) b.going.story.survivor.plan b.going.story.survivor.now (Ok (event.Chooses choice)) new.cpu.slots.live → IsBetween rules image began now phases new
+      → IsCounted new → RunsWriting rules.limits (items_in rules.bounds (entries b.going.story)) b.going.story.survivor.plan old.cpu.base b.going.story.survivor.now old.cpu.written (Ok (event.Chooses choice)) (live_of new.cpu) → IsBetween rules image began now phases new
   unfolding going_on
-  chooses_between rules image began now phases choice old new b same chosen counted runs =
+  chooses_between rules image began now phases choice old new b same chosen counted writing =
+      let runs = writing.ran in
       let comes = runs.comes in
       record {
         going =
-            going_on rules image began now phases old new b.going runs.now (choice ∷ []) same comes.0 chosen counted runs.goes comes.2 (sym runs.stands) comes.1;
+            going_on rules image began now phases old new b.going runs.now (choice ∷ []) same comes.0 chosen counted runs.goes writing.wrote comes.2 (sym runs.stands) comes.1;
         due = due_still rules b.going.story runs.now comes.1 runs.goes.taken b.due;
       }
 
   -- it waits for an item
   pub asks_waits : (rules : Rules) (image : Image) (began : Since) (now : Told) (phases : Phases) (old new : SessionState R) (b : IsBetween rules image began now phases old) → HasSameParts old new → new.choices ≡ old.choices → IsCounted new
-      → RunsOn rules.limits (items_in rules.bounds (entries b.going.story)) b.going.story.survivor.plan b.going.story.survivor.now (Ok event.Asks) new.cpu.slots.live → IsWaitingFor rules image began now phases new
+      → RunsWriting rules.limits (items_in rules.bounds (entries b.going.story)) b.going.story.survivor.plan old.cpu.base b.going.story.survivor.now old.cpu.written (Ok event.Asks) (live_of new.cpu) → IsWaitingFor rules image began now phases new
   unfolding going_on
-  asks_waits rules image began now phases old new b same chosen counted runs =
+  asks_waits rules image began now phases old new b same chosen counted writing =
+      let runs = writing.ran in
       let story : Story = b.going.story in
       let to : Path = runs.now in
       let asks : AsksFor rules.limits story.survivor.plan to story.survivor.now.state.machine.taken = runs.comes.1 in
       let silent : IsSilent story.survivor.now to = runs.comes.0 in
-      let going = going_on rules image began now phases old new b.going to [] same (none_used silent) (none_more chosen) counted runs.goes asks.lives (sym runs.stands) silent.sends in
+      let going = going_on rules image began now phases old new b.going to [] same (none_used silent) (none_more chosen) counted runs.goes writing.wrote asks.lives (sym runs.stands) silent.sends in
       record {
         hearing = record {
           story = going.story;
@@ -212,10 +216,11 @@ module _ {R : Type 0} where
 
   -- a session whose survivor has come to an end, and sent nothing on the way
   comes_ending : (rules : Rules) (image : Image) (began : Since) (now : Told) (phases : Phases) (coming : Option Coming) (old new : SessionState R) (g : IsGoing rules image began now phases old) (to : Path) (end : Answer) → HasSameParts old new
-      → new.choices ≡ old.choices → IsCounted new → GoesOn rules.limits (items_in rules.bounds (entries g.story)) g.story.survivor.plan g.story.survivor.now to → IsSilent g.story.survivor.now to → new.cpu.slots.live ≡ standing_of to → IsEnd end
-      → StandsAt rules (entries g.story) coming (gone_on g.story.survivor to) end → GivesUpBy rules image (entries_of g.story.earlier) g.story.since (gone_on g.story.survivor to) [] end
-      → (IsAtRequest end → HasHandled (keeping_of new) g.story.recoveries (gone_on g.story.survivor to) (to.state.machine.taken + 1) (stands_of new.cpu.slots.saved)) → IsEnding rules image began now coming new end
-  comes_ending rules image began now phases coming old new g to end same chosen counted goes silent stands is_end cause gave_up at_request =
+      → new.choices ≡ old.choices → IsCounted new → GoesOn rules.limits (items_in rules.bounds (entries g.story)) g.story.survivor.plan g.story.survivor.now to
+      → Writes rules.limits (items_in rules.bounds (entries g.story)) old.cpu.base g.story.survivor.now old.cpu.written to new.cpu.written → IsSilent g.story.survivor.now to → new.cpu.slots.live ≡ standing_of to → IsEnd end
+      → StandsAt rules (entries g.story) coming (gone_on g.story.survivor to) end → GivesUpBy rules image (keeping_of new) g.story.earlier g.story.since g.story.recoveries (gone_on g.story.survivor to) [] end
+      → (IsAtRequest end → HasHandled rules image (keeping_of new) g.story.earlier (entries g.story) g.story.recoveries (gone_on g.story.survivor to) (to.state.machine.taken + 1) (stands_of new.cpu.slots.saved)) → IsEnding rules image began now coming new end
+  comes_ending rules image began now phases coming old new g to end same chosen counted goes wrote silent stands is_end cause gave_up at_request =
       let passed = has_passed rules g.story old.replies new.replies to g.passed same.replies silent.sends in
       record {
         story = on_story g.story to;
@@ -223,7 +228,7 @@ module _ {R : Type 0} where
         lost = began.lost;
         lost_is = none_lost began.lost;
         told = told_unwatched rules image began now (on_story g.story to) (told_on rules image began now g.story to g.told goes.served (still_received rules image began now g.story to g.told goes.taken));
-        tables = tables_here rules image g.story.earlier g.story.since (gone_on g.story.survivor to) g.story.recoveries [] end began.tables_before began.tables g.told.tables;
+        tables = tables_here rules image (keeping_of new) g.story.earlier g.story.since (gone_on g.story.survivor to) g.story.recoveries [] end began.tables_before began.tables g.told.tables;
         noted = began.noted;
         last = [];
         last_noted = none_noted began.noted;
@@ -232,8 +237,8 @@ module _ {R : Type 0} where
         replies = passed.replies;
         no_trial = passed.no_trial;
         closed = λ send stands closing owed. passed.done send stands owed;
-        holds = held_of rules image (on_story g.story to) new (saved_on rules image g.story old new to same.side (ap (λ (ledger : Ledger). ledger.first) same.replies) goes.served (let still = goes.taken in omega (arith, still))
-            (requests_on rules (items_in rules.bounds (entries g.story)) (keeping_of old) g.story.recoveries g.story.survivor to (stands_of old.cpu.slots.saved) goes.served goes.taken g.saved.requests) g.saved);
+        holds = held_of rules image (on_story g.story to) new (saved_on rules image g.story old new to same.side (ap (λ (ledger : Ledger). ledger.first) same.replies) goes.served wrote (let still = goes.taken in omega (arith, still))
+            (requests_on rules image (keeping_of old) g.story.earlier (entries g.story) g.story.recoveries g.story.survivor to (stands_of old.cpu.slots.saved) goes.served goes.taken g.saved.requests) g.saved);
         handled = at_request;
         live = unless_gave_up end (new.cpu.slots.live ≡ standing_of to) stands;
         is_end = is_end;
@@ -244,19 +249,21 @@ module _ {R : Type 0} where
 
   -- it ended itself
   pub exits_ending : (rules : Rules) (image : Image) (began : Since) (now : Told) (phases : Phases) (coming : Option Coming) (code : ℕ) (old new : SessionState R) (b : IsBetween rules image began now phases old) → HasSameParts old new → new.choices ≡ old.choices
-      → IsCounted new → RunsOn rules.limits (items_in rules.bounds (entries b.going.story)) b.going.story.survivor.plan b.going.story.survivor.now (Ok (event.Exits code)) new.cpu.slots.live
+      → IsCounted new → RunsWriting rules.limits (items_in rules.bounds (entries b.going.story)) b.going.story.survivor.plan old.cpu.base b.going.story.survivor.now old.cpu.written (Ok (event.Exits code)) (live_of new.cpu)
       → IsEnding rules image began now coming new (answer.Exited code)
-  exits_ending rules image began now phases coming code old new b same chosen counted runs =
-      comes_ending rules image began now phases coming old new b.going runs.now (answer.Exited code) same chosen counted runs.goes runs.comes.0 (sym runs.stands) tt runs.comes.1 tt (λ is. absurd is)
+  exits_ending rules image began now phases coming code old new b same chosen counted writing =
+      let runs = writing.ran in
+      comes_ending rules image began now phases coming old new b.going runs.now (answer.Exited code) same chosen counted runs.goes writing.wrote runs.comes.0 (sym runs.stands) tt runs.comes.1 tt (λ is. absurd is)
 
   -- it fails at its next instruction
   pub fails_failing : (rules : Rules) (image : Image) (began : Since) (now : Told) (phases : Phases) (cause : Cause) (old new : SessionState R) (b : IsBetween rules image began now phases old) → HasSameParts old new → new.choices ≡ old.choices → IsCounted new
-      → RunsOn rules.limits (items_in rules.bounds (entries b.going.story)) b.going.story.survivor.plan b.going.story.survivor.now (Ok (event.Failed cause)) new.cpu.slots.live → IsFailing rules image began now phases cause new
+      → RunsWriting rules.limits (items_in rules.bounds (entries b.going.story)) b.going.story.survivor.plan old.cpu.base b.going.story.survivor.now old.cpu.written (Ok (event.Failed cause)) (live_of new.cpu) → IsFailing rules image began now phases cause new
   unfolding going_on
-  fails_failing rules image began now phases cause old new b same chosen counted runs =
+  fails_failing rules image began now phases cause old new b same chosen counted writing =
+      let runs = writing.ran in
       let silent : IsSilent b.going.story.survivor.now runs.now = runs.comes.0 in
       record {
-        going = going_on rules image began now phases old new b.going runs.now [] same (none_used silent) (none_more chosen) counted runs.goes runs.comes.1.lives (sym runs.stands) silent.sends;
+        going = going_on rules image began now phases old new b.going runs.now [] same (none_used silent) (none_more chosen) counted runs.goes writing.wrote runs.comes.1.lives (sym runs.stands) silent.sends;
         due = due_still rules b.going.story runs.now silent.sends runs.goes.taken b.due;
         fails = runs.comes.1;
       }
@@ -281,10 +288,10 @@ module _ {R : Type 0} where
   -- story was told beside that may be told otherwise.
   pub broken_noting : (P : Session → Type 0) (rules : Rules) (image : Image) (began : Since) (before noted : Noted) (now : Told) (coming : Option Coming) (session : SessionState R) (story : Story) (end : Answer)
       → IsTold rules image (unwatched (record began { noted_before = before; noted = noted })) now story
-      → TellsMore began.tables_before began.tables (AreAllTables rules image story.earlier story.since story.survivor story.recoveries [] [] end)
+      → TellsMore began.tables_before began.tables (AreAllTables rules image (keeping_of session) story.earlier story.since story.survivor story.recoveries [] [] end)
       → HasNoted began.noted_before began.noted end story.survivor.now.choices (map episode_of story.recoveries) session.recorded session.choices → session.taken ≡ story.survivor.now.state.machine.taken → session.steps ≡ story.survivor.now.steps
-      → EndsBy rules coming (account_of story) end → (IsEnd end → ⊥) → ((IsNoteFault end → ⊥) → HoldsCheckpoints rules image (entries story) story.recoveries story.survivor session) → (IsAtRequest end → HasHandled (keeping_of session) story.recoveries story.survivor (story.survivor.now.state.machine.taken + 1) (stands_of session.cpu.slots.saved)) → P (account_of story) → (off : IsBrokenOff rules image began now coming session end) × P off.account
-  broken_noting P rules image began before noted now coming session story end told tables notes taken steps ends no_end held at_request holds = (
+      → EndsBy rules coming (account_of story) end → (IsEnd end → ⊥) → HaveRings rules image (keeping_of session) story.earlier story.recoveries → ((IsNoteFault end → ⊥) → HoldsCheckpoints rules image story.earlier (entries story) story.recoveries story.survivor session) → (IsAtRequest end → HasHandled rules image (keeping_of session) story.earlier (entries story) story.recoveries story.survivor (story.survivor.now.state.machine.taken + 1) (stands_of session.cpu.slots.saved)) → P (account_of story) → (off : IsBrokenOff rules image began now coming session end) × P off.account
+  broken_noting P rules image began before noted now coming session story end told tables notes taken steps ends no_end rings held at_request holds = (
     record {
       account = account_of story;
       tells = subst (Tells began.told now) (sym (journal_of_story story)) told.tells;
@@ -296,6 +303,7 @@ module _ {R : Type 0} where
       holds = held;
       handled = at_request;
       recovered = told.recovered;
+      ringed = rings;
       trials = [];
       last = [];
       tried = inl (refl, refl);
@@ -310,12 +318,12 @@ module _ {R : Type 0} where
   )
 
   pub broken_with : (P : Session → Type 0) (rules : Rules) (image : Image) (began : Since) (now : Told) (coming : Option Coming) (session : SessionState R) (story : Story) (end : Answer) → IsTold rules image began now story → AnswersFor began story session
-      → EndsBy rules coming (account_of story) end → (IsEnd end → ⊥) → ((IsNoteFault end → ⊥) → HoldsCheckpoints rules image (entries story) story.recoveries story.survivor session) → (IsAtRequest end → HasHandled (keeping_of session) story.recoveries story.survivor (story.survivor.now.state.machine.taken + 1) (stands_of session.cpu.slots.saved)) → P (account_of story) → (off : IsBrokenOff rules image began now coming session end) × P off.account
-  broken_with P rules image began now coming session story end told answers ends no_end held at_request holds =
+      → EndsBy rules coming (account_of story) end → (IsEnd end → ⊥) → HaveRings rules image (keeping_of session) story.earlier story.recoveries → ((IsNoteFault end → ⊥) → HoldsCheckpoints rules image story.earlier (entries story) story.recoveries story.survivor session) → (IsAtRequest end → HasHandled rules image (keeping_of session) story.earlier (entries story) story.recoveries story.survivor (story.survivor.now.state.machine.taken + 1) (stands_of session.cpu.slots.saved)) → P (account_of story) → (off : IsBrokenOff rules image began now coming session end) × P off.account
+  broken_with P rules image began now coming session story end told answers ends no_end rings held at_request holds =
       broken_noting P rules image began began.noted_before began.noted now coming session story end (told_unwatched rules image began now story told)
-      (tables_here rules image story.earlier story.since story.survivor story.recoveries [] end began.tables_before began.tables told.tables)
-      (notes_here began story session end (map episode_of story.recoveries) [] told.episodes answers (sym (append-nil (map episode_of story.recoveries))) (omega arith) (λ some. absurd (omega (arith, some))) no_end) answers.taken answers.steps ends no_end held at_request holds
+      (tables_here rules image (keeping_of session) story.earlier story.since story.survivor story.recoveries [] end began.tables_before began.tables told.tables)
+      (notes_here began story session end (map episode_of story.recoveries) [] told.episodes answers (sym (append-nil (map episode_of story.recoveries))) (omega arith) (λ some. absurd (omega (arith, some))) no_end) answers.taken answers.steps ends no_end rings held at_request holds
 
   pub broken_off : (rules : Rules) (image : Image) (began : Since) (now : Told) (coming : Option Coming) (session : SessionState R) (story : Story) (end : Answer) → IsTold rules image began now story → AnswersFor began story session
-      → EndsBy rules coming (account_of story) end → (IsEnd end → ⊥) → ((IsNoteFault end → ⊥) → HoldsCheckpoints rules image (entries story) story.recoveries story.survivor session) → (IsAtRequest end → HasHandled (keeping_of session) story.recoveries story.survivor (story.survivor.now.state.machine.taken + 1) (stands_of session.cpu.slots.saved)) → IsBrokenOff rules image began now coming session end
-  broken_off rules image began now coming session story end told answers ends no_end held at_request = (broken_with (λ account. Unit {0}) rules image began now coming session story end told answers ends no_end held at_request tt).0
+      → EndsBy rules coming (account_of story) end → (IsEnd end → ⊥) → HaveRings rules image (keeping_of session) story.earlier story.recoveries → ((IsNoteFault end → ⊥) → HoldsCheckpoints rules image story.earlier (entries story) story.recoveries story.survivor session) → (IsAtRequest end → HasHandled rules image (keeping_of session) story.earlier (entries story) story.recoveries story.survivor (story.survivor.now.state.machine.taken + 1) (stands_of session.cpu.slots.saved)) → IsBrokenOff rules image began now coming session end
+  broken_off rules image began now coming session story end told answers ends no_end rings held at_request = (broken_with (λ account. Unit {0}) rules image began now coming session story end told answers ends no_end rings held at_request tt).0

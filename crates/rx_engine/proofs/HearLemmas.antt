@@ -20,7 +20,8 @@ use Rattle.session_history.proofs.Heeding.{events_in-append}
 use Rattle.rx_engine.specs.Sessions.{SessionState}
 use Rattle.rx_engine.specs.Standing.{Since, Story, entries, sends, then_story, IsTold, AnswersFor, GoesWith, KeepsCheckpoints, IsWaitingFor}
 use Rattle.rx_engine.specs.Leaving.{keeping_of}
-use Rattle.rx_engine.proofs.HeldLemmas.{requests_by}
+use Rattle.recovery_gate.specs.Handling.{stands_of}
+use Rattle.rx_engine.proofs.HeldLemmas.{requests_by, requests_more}
 use Rattle.rx_engine.proofs.CheckpointLemmas.{in_force_by}
 use Rattle.rx_engine.proofs.GuestLemmas.{answers_as}
 use Rattle.rx_engine.proofs.EventLemmas.{owes_nothing, told_event, opens_more}
@@ -86,7 +87,9 @@ module _ {R : Type 0} where
             (subst (λ (cpu : CpuState R). KeepsRing rules image (entries (then_story story more)) plan now k.paths cpu old.ring new.log new.replies) (sym same.cpu)
             (ring_more rules image (entries story) (entries (then_story story more)) items plan now k.paths old.cpu old.ring old.log new.log old.replies new.replies brings same.first kept k.ring));
         early = subst (λ n. AreBehind n k.paths) (sym same.recorded) k.early;
-        requests = requests_by rules story.recoveries story.survivor old new (ap (λ (cpu : CpuState R). cpu.slots.saved) same.cpu) (run_keeping old new same) k.requests;
+        requests =
+            requests_by rules image story.earlier (entries (then_story story more)) story.recoveries story.survivor old new (ap (λ (cpu : CpuState R). cpu.slots.saved) same.cpu) (run_keeping old new same)
+            (requests_more rules image (keeping_of old) story.earlier (entries story) (entries (then_story story more)) items story.recoveries story.survivor (stands_of old.cpu.slots.saved) brings.items k.requests);
         in_force = in_force_by plan now.state.machine.taken old.env new.env old.until new.until same.env same.until k.in_force;
         past = subst (λ n. (n < now.state.machine.taken + 4) ⊎ ((n ≡ now.state.machine.taken + 4) × AsksFor rules.limits [] now now.state.machine.taken)) (sym same.until) k.past;
       }

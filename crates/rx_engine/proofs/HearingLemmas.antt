@@ -25,7 +25,7 @@ use Rattle.session_history.specs.Heeding.{Bounds, Unheeded, heeded, items_in, re
 use Rattle.session_history.specs.Heeding as unheeded
 use Rattle.session_history.specs.Opened.{opens, closes}
 use Rattle.session_history.specs.Owing.{Latest}
-use Rattle.session_history.specs.Lawful.{Rules, entries_of}
+use Rattle.session_history.specs.Lawful.{Rules}
 use Rattle.session_history.specs.Keeping.{KeepsItems, KeepsReplies, KeepsPhases}
 use Rattle.session_history.specs.Giving.{AreGiven, IsReady, IsClosing}
 use Rattle.session_history.specs.Hearing.{closing_of, IsHeard, IsUnheeded}
@@ -45,7 +45,7 @@ use Rattle.rx_engine.specs.declared.stop.Stop.TheVariants as stop
 use Rattle.rx_engine.specs.Options.{rules_of}
 use Rattle.rx_engine.specs.Sessions.{SessionState}
 use Rattle.rx_engine.specs.Standing.{Since, Story, entries, moment, sends, then_story, IsTold, KeepsCheckpoints, IsLatestBefore, HasPassed, HasPassedDue, IsHearing, IsWaitingFor, IsEnding}
-use Rattle.rx_engine.specs.Leaving.{IsHandled}
+use Rattle.rx_engine.specs.Leaving.{IsHandled, keeping_of}
 use Rattle.rx_engine.specs.Serving.{IsStopAt, UnlessBroken, StaysKnown, CanGive, HasStopCause, HasSameGuest, CanPass, StopsBy, PassesStory, PassesDue, WaitsBy}
 use Rattle.rx_engine.proofs.StoryLemmas.{still_takes}
 use Rattle.rx_engine.proofs.EventLemmas.{IsNoEnd}
@@ -391,7 +391,7 @@ module _ {R : Type 0} where
       → HasSameRun old new → new.log ≡ old.log → new.replies.trial ≡ None → IsEnd end
       → (IsWaiting rules (entries (then_story w.hearing.story (entry.Took e ∷ []))) w.hearing.story.survivor → IsLastRefused rules.bounds (entries (then_story w.hearing.story (entry.Took e ∷ []))) cause
       → StandsAt rules (entries (then_story w.hearing.story (entry.Took e ∷ []))) coming w.hearing.story.survivor end)
-      → GivesUpBy rules image (entries_of w.hearing.story.earlier) (w.hearing.story.since ++ entry.Took e ∷ []) w.hearing.story.survivor [] end → IsEnding rules image began now coming new end
+      → GivesUpBy rules image (keeping_of new) w.hearing.story.earlier (w.hearing.story.since ++ entry.Took e ∷ []) w.hearing.story.recoveries w.hearing.story.survivor [] end → IsEnding rules image began now coming new end
   refused_any rules image began before now phases coming old new w event.Ends cause end handled all tells u same log no_trial is_end stands gave_up = absurd (u.no_end refl)
   refused_any rules image began before now phases coming old new w (event.Opens conn) cause end handled all tells u same log no_trial is_end stands gave_up = ending_refused rules image began before now phases coming old new w (event.Opens conn) cause end tt handled all tells u same log no_trial is_end stands gave_up
   refused_any rules image began before now phases coming old new w (event.Piece conn bytes) cause end handled all tells u same log no_trial is_end stands gave_up = ending_refused rules image began before now phases coming old new w (event.Piece conn bytes) cause end tt handled all tells u same log no_trial is_end stands gave_up

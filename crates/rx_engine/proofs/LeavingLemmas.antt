@@ -23,7 +23,7 @@ use Rattle.guest_cpu.specs.Serving.{standing_of}
 use Rattle.std.proofs.lemmas.Option.{same_Some}
 use Rattle.rx_io.specs.declared.bytes.Item.{Item}
 use Rattle.session_history.specs.Heeding.{items_in}
-use Rattle.session_history.specs.Lawful.{Rules, Survivor}
+use Rattle.session_history.specs.Lawful.{Rules, Survivor, Chapter}
 use Rattle.session_history.specs.Account.{Session}
 use Rattle.session_history.specs.Ends.{IsEnd, before_end}
 use Rattle.session_history.specs.Passing.{AreBetween}
@@ -36,7 +36,7 @@ use Rattle.rx_io.specs.Links.{Coming}
 use Rattle.std.proofs.lemmas.Option.{none-some}
 use Rattle.session_history.specs.Ends.{StandsAt, EndsBy}
 use Rattle.trial_history.specs.Episodes.{Recovery}
-use Rattle.recovery_gate.specs.Handling.{Keeping, Stand, HaveRings, HasHandled, stands_of}
+use Rattle.recovery_gate.specs.Handling.{Keeping, Stand, HasHandled, stands_of}
 use Rattle.rx_engine.proofs.AdoptLemmas.{asks_or_fails}
 use Rattle.rx_engine.specs.Leaving.{UnlessGaveUp, IsAtRequest, HandledAt, HandlesRequests, keeping_of, HoldsCheckpoints, IsRecorded, IsTrimmed, CanForgetSends, HasLeft}
 use Rattle.rx_engine.specs.Recovered.{IsNoteFault}
@@ -104,13 +104,13 @@ IsOfLink answer.WriteFault = Unit {0}
 IsOfLink _ = ⊥
 
 -- what stands at a fault of the link
-pub off_requests : (rules : Rules) (keeping : Keeping) (recoveries : List Recovery) (survivor : Survivor) (stands : List Stand) (end : Answer) → (IsEnd end → ⊥) → HandlesRequests rules keeping recoveries survivor stands
-    → (IsAtRequest end → HasHandled keeping recoveries survivor (survivor.now.state.machine.taken + 1) stands) → (IsNoteFault end → ⊥) → IsOfLink end
-    → HandledAt end (HasHandled keeping recoveries survivor survivor.now.state.machine.taken stands) (HasHandled keeping recoveries survivor (survivor.now.state.machine.taken + 1) stands)
-off_requests rules keeping recoveries survivor stands answer.ReadFault no_end h handled never of_link = handled tt
-off_requests rules keeping recoveries survivor stands answer.WriteFault no_end (inl h) handled never of_link = inl h
-off_requests rules keeping recoveries survivor stands answer.WriteFault no_end (inr h) handled never of_link = inr h.1
-off_requests rules keeping recoveries survivor stands _ no_end h handled never of_link = absurd of_link
+pub off_requests : (rules : Rules) (image : Image) (keeping : Keeping) (chapters : List Chapter) (entries : List Entry) (recoveries : List Recovery) (survivor : Survivor) (stands : List Stand) (end : Answer) → (IsEnd end → ⊥) → HandlesRequests rules image keeping chapters entries recoveries survivor stands
+    → (IsAtRequest end → HasHandled rules image keeping chapters entries recoveries survivor (survivor.now.state.machine.taken + 1) stands) → (IsNoteFault end → ⊥) → IsOfLink end
+    → HandledAt end (HasHandled rules image keeping chapters entries recoveries survivor survivor.now.state.machine.taken stands) (HasHandled rules image keeping chapters entries recoveries survivor (survivor.now.state.machine.taken + 1) stands)
+off_requests rules image keeping chapters entries recoveries survivor stands answer.ReadFault no_end h handled never of_link = handled tt
+off_requests rules image keeping chapters entries recoveries survivor stands answer.WriteFault no_end (inl h) handled never of_link = inl h
+off_requests rules image keeping chapters entries recoveries survivor stands answer.WriteFault no_end (inr h) handled never of_link = inr h.1
+off_requests rules image keeping chapters entries recoveries survivor stands _ no_end h handled never of_link = absurd of_link
 
 pub of_link : (rules : Rules) (coming : Option Coming) (session : Session) (end : Answer) → EndsBy rules coming session end → (IsEnd end → ⊥) → (IsNoteFault end → ⊥) → IsOfLink end
 of_link rules coming session answer.ReadFault ends no_end never = tt
@@ -126,55 +126,43 @@ of_link rules coming session answer.LimitItems ends no_end never = no_end tt
 of_link rules coming session answer.LimitEvents ends no_end never = no_end tt
 of_link rules coming session _ ends no_end never = ends.0
 
--- so each recovery had its ring
-rings_of : (keeping : Keeping) (recoveries : List Recovery) (survivor : Survivor) (requests : ℕ) (stands : List Stand) → HasHandled keeping recoveries survivor requests stands → HaveRings keeping recoveries
-rings_of keeping recoveries survivor requests stands h = record { written = h.earlier; last = h.begun; rings = h.rings }
-
-pub rings_at : (keeping : Keeping) (recoveries : List Recovery) (survivor : Survivor) (first second : ℕ) (stands : List Stand) (end : Answer) → HandledAt end (HasHandled keeping recoveries survivor first stands) (HasHandled keeping recoveries survivor second stands)
-    → HaveRings keeping recoveries
-rings_at keeping recoveries survivor first second stands (answer.Exited code) h = rings_of keeping recoveries survivor first stands h
-rings_at keeping recoveries survivor first second stands (answer.GaveUp point cause) h = rings_of keeping recoveries survivor first stands h
-rings_at keeping recoveries survivor first second stands answer.WriteFault (inl h) = rings_of keeping recoveries survivor first stands h
-rings_at keeping recoveries survivor first second stands answer.WriteFault (inr h) = rings_of keeping recoveries survivor second stands h
-rings_at keeping recoveries survivor first second stands _ h = rings_of keeping recoveries survivor second stands h
-
--- and at a fault of passing at an end
-pub passing_requests : (rules : Rules) (keeping : Keeping) (recoveries : List Recovery) (survivor : Survivor) (stands : List Stand) (why : PassFault) (end : Answer) → IsAnswerTo why end → (IsNoteFault end → ⊥) → HandlesRequests rules keeping recoveries survivor stands
-    → HandledAt end (HasHandled keeping recoveries survivor survivor.now.state.machine.taken stands) (HasHandled keeping recoveries survivor (survivor.now.state.machine.taken + 1) stands)
-passing_requests rules keeping recoveries survivor stands pass_fault.WriteFault end is never h =
-    subst (λ (a : Answer). HandledAt a (HasHandled keeping recoveries survivor survivor.now.state.machine.taken stands) (HasHandled keeping recoveries survivor (survivor.now.state.machine.taken + 1) stands)) (sym is) (either h)
+-- at a fault of passing at an end
+pub passing_requests : (rules : Rules) (image : Image) (keeping : Keeping) (chapters : List Chapter) (entries : List Entry) (recoveries : List Recovery) (survivor : Survivor) (stands : List Stand) (why : PassFault) (end : Answer) → IsAnswerTo why end → (IsNoteFault end → ⊥) → HandlesRequests rules image keeping chapters entries recoveries survivor stands
+    → HandledAt end (HasHandled rules image keeping chapters entries recoveries survivor survivor.now.state.machine.taken stands) (HasHandled rules image keeping chapters entries recoveries survivor (survivor.now.state.machine.taken + 1) stands)
+passing_requests rules image keeping chapters entries recoveries survivor stands pass_fault.WriteFault end is never h =
+    subst (λ (a : Answer). HandledAt a (HasHandled rules image keeping chapters entries recoveries survivor survivor.now.state.machine.taken stands) (HasHandled rules image keeping chapters entries recoveries survivor (survivor.now.state.machine.taken + 1) stands)) (sym is) (either h)
   where
-    either : HandlesRequests rules keeping recoveries survivor stands
-        → HasHandled keeping recoveries survivor survivor.now.state.machine.taken stands ⊎ HasHandled keeping recoveries survivor (survivor.now.state.machine.taken + 1) stands
+    either : HandlesRequests rules image keeping chapters entries recoveries survivor stands
+        → HasHandled rules image keeping chapters entries recoveries survivor survivor.now.state.machine.taken stands ⊎ HasHandled rules image keeping chapters entries recoveries survivor (survivor.now.state.machine.taken + 1) stands
     either (inl h) = inl h
     either (inr h) = inr h.1
-passing_requests rules keeping recoveries survivor stands pass_fault.Memory end is never h = absurd (never (subst IsNoteFault (sym is) tt))
+passing_requests rules image keeping chapters entries recoveries survivor stands pass_fault.Memory end is never h = absurd (never (subst IsNoteFault (sym is) tt))
 
 -- what stands at an end
-pub end_requests : (rules : Rules) (entries : List Entry) (coming : Option Coming) (keeping : Keeping) (recoveries : List Recovery) (survivor : Survivor) (stands : List Stand) (end : Answer) → IsEnd end → StandsAt rules entries coming survivor end
-    → HandlesRequests rules keeping recoveries survivor stands → (IsAtRequest end → HasHandled keeping recoveries survivor (survivor.now.state.machine.taken + 1) stands)
-    → HandledAt end (HasHandled keeping recoveries survivor survivor.now.state.machine.taken stands) (HasHandled keeping recoveries survivor (survivor.now.state.machine.taken + 1) stands)
-end_requests rules entries coming keeping recoveries survivor stands answer.Finished is where_at h handled = handled tt
-end_requests rules entries coming keeping recoveries survivor stands (answer.InputRefused kind offset) is where_at h handled = handled tt
-end_requests rules entries coming keeping recoveries survivor stands (answer.MessageTooLong conn) is where_at h handled = handled tt
-end_requests rules entries coming keeping recoveries survivor stands answer.LimitItems is where_at h handled = handled tt
-end_requests rules entries coming keeping recoveries survivor stands answer.LimitEvents is where_at h handled = handled tt
-end_requests rules entries coming keeping recoveries survivor stands (answer.Exited code) is where_at (inl h) handled = h
-end_requests rules entries coming keeping recoveries survivor stands (answer.Exited code) is where_at (inr h) handled = absurd (none-some code (sym h.0.lives ∙ where_at))
-end_requests rules entries coming keeping recoveries survivor stands (answer.GaveUp point cause) is where_at (inl h) handled = h
-end_requests rules entries coming keeping recoveries survivor stands (answer.GaveUp point cause) is where_at (inr h) handled = absurd (asks_or_fails rules.limits survivor.plan survivor.now cause survivor.now.state.machine.taken h.0 where_at.0)
-end_requests rules entries coming keeping recoveries survivor stands _ is where_at h handled = absurd is
+pub end_requests : (rules : Rules) (image : Image) (coming : Option Coming) (keeping : Keeping) (chapters : List Chapter) (entries : List Entry) (recoveries : List Recovery) (survivor : Survivor) (stands : List Stand) (end : Answer) → IsEnd end → StandsAt rules entries coming survivor end
+    → HandlesRequests rules image keeping chapters entries recoveries survivor stands → (IsAtRequest end → HasHandled rules image keeping chapters entries recoveries survivor (survivor.now.state.machine.taken + 1) stands)
+    → HandledAt end (HasHandled rules image keeping chapters entries recoveries survivor survivor.now.state.machine.taken stands) (HasHandled rules image keeping chapters entries recoveries survivor (survivor.now.state.machine.taken + 1) stands)
+end_requests rules image coming keeping chapters entries recoveries survivor stands answer.Finished is where_at h handled = handled tt
+end_requests rules image coming keeping chapters entries recoveries survivor stands (answer.InputRefused kind offset) is where_at h handled = handled tt
+end_requests rules image coming keeping chapters entries recoveries survivor stands (answer.MessageTooLong conn) is where_at h handled = handled tt
+end_requests rules image coming keeping chapters entries recoveries survivor stands answer.LimitItems is where_at h handled = handled tt
+end_requests rules image coming keeping chapters entries recoveries survivor stands answer.LimitEvents is where_at h handled = handled tt
+end_requests rules image coming keeping chapters entries recoveries survivor stands (answer.Exited code) is where_at (inl h) handled = h
+end_requests rules image coming keeping chapters entries recoveries survivor stands (answer.Exited code) is where_at (inr h) handled = absurd (none-some code (sym h.0.lives ∙ where_at))
+end_requests rules image coming keeping chapters entries recoveries survivor stands (answer.GaveUp point cause) is where_at (inl h) handled = h
+end_requests rules image coming keeping chapters entries recoveries survivor stands (answer.GaveUp point cause) is where_at (inr h) handled = absurd (asks_or_fails rules.limits survivor.plan survivor.now cause survivor.now.state.machine.taken h.0 where_at.0)
+end_requests rules image coming keeping chapters entries recoveries survivor stands _ is where_at h handled = absurd is
 
 module _ {R : Type 0} where
   -- the oldest of the checkpoints that a session holds
-  pub oldest_held : (rules : Rules) (image : Image) (entries : List Entry) (recoveries : List Recovery) (survivor : Survivor) (session : SessionState R) (h : HoldsCheckpoints rules image entries recoveries survivor session) → HasOldest h.paths session.cpu.slots.saved
-  oldest_held rules image entries recoveries survivor session h = has_oldest h.paths session.cpu.slots.saved h.some h.as_many h.saved
+  pub oldest_held : (rules : Rules) (image : Image) (chapters : List Chapter) (entries : List Entry) (recoveries : List Recovery) (survivor : Survivor) (session : SessionState R) (h : HoldsCheckpoints rules image chapters entries recoveries survivor session) → HasOldest h.paths session.cpu.slots.saved
+  oldest_held rules image chapters entries recoveries survivor session h = has_oldest h.paths session.cpu.slots.saved h.some h.as_many h.saved
 
   -- what is asked for before sends are given up
-  pub can_forget_sends : (rules : Rules) (image : Image) (entries : List Entry) (recoveries : List Recovery) (survivor : Survivor) (session : SessionState R) (h : HoldsCheckpoints rules image entries recoveries survivor session) (ledger : Ledger)
+  pub can_forget_sends : (rules : Rules) (image : Image) (chapters : List Chapter) (entries : List Entry) (recoveries : List Recovery) (survivor : Survivor) (session : SessionState R) (h : HoldsCheckpoints rules image chapters entries recoveries survivor session) (ledger : Ledger)
       → ledger.kept ≡ drop ledger.first survivor.now.state.sends → ledger.first ≤ length survivor.now.state.sends → ledger.trial ≡ None → CanForgetSends (record session { replies = ledger })
-  can_forget_sends rules image entries recoveries survivor session h ledger kept counted none =
-      let o = oldest_held rules image entries recoveries survivor session h in
+  can_forget_sends rules image chapters entries recoveries survivor session h ledger kept counted none =
+      let o = oldest_held rules image chapters entries recoveries survivor session h in
       let before = (after_oldest rules.limits (items_in rules.bounds entries) survivor.plan image survivor.now h.paths o.oldest h.chained o.last).0 in
       let all : length ledger.kept ≡ length survivor.now.state.sends - ledger.first = ap length kept ∙ length-drop ledger.first survivor.now.state.sends in
       let there : o.slot.state.sends ≤ ledger.first + length ledger.kept = omega (arith, ap (λ (s : Standing). s.sends) o.stands, before.sends, all, counted) in
@@ -239,11 +227,11 @@ module _ {R : Type 0} where
       }
 
   -- what a session that was broken off leaves
-  pub left_off : (rules : Rules) (image : Image) (recoveries : List Recovery) (account : Session) (session : SessionState R) (end : Answer) → (IsEnd end → ⊥) → IsTrimmed session → HoldsCheckpoints rules image (before_end account) recoveries account.survivor session
-      → HandledAt end (HasHandled (keeping_of session) recoveries account.survivor account.survivor.now.state.machine.taken (stands_of session.cpu.slots.saved)) (HasHandled (keeping_of session) recoveries account.survivor (account.survivor.now.state.machine.taken + 1) (stands_of session.cpu.slots.saved))
+  pub left_off : (rules : Rules) (image : Image) (recoveries : List Recovery) (account : Session) (session : SessionState R) (end : Answer) → (IsEnd end → ⊥) → IsTrimmed session → HoldsCheckpoints rules image account.earlier (before_end account) recoveries account.survivor session
+      → HandledAt end (HasHandled rules image (keeping_of session) account.earlier (before_end account) recoveries account.survivor account.survivor.now.state.machine.taken (stands_of session.cpu.slots.saved)) (HasHandled rules image (keeping_of session) account.earlier (before_end account) recoveries account.survivor (account.survivor.now.state.machine.taken + 1) (stands_of session.cpu.slots.saved))
       → HasLeft rules image recoveries account session end
   left_off rules image recoveries account session end no_end trimmed h requests =
-      let o = oldest_held rules image (before_end account) recoveries account.survivor session h in
+      let o = oldest_held rules image account.earlier (before_end account) recoveries account.survivor session h in
       let used : o.oldest.state.machine.allocations ≡ length o.oldest.choices = oldest_used rules.limits (items_in rules.bounds (before_end account)) account.survivor.plan image account.survivor.now h.paths o.oldest h.chained o.last in
       let items : session.log.first ≡ o.slot.state.guest.machine.taken = subst (λ (s : Option (Saved Standing)). IfSome s (λ oldest. session.log.first ≡ oldest.state.guest.machine.taken)) o.first trimmed.items in
       let recorded : session.recorded ≡ o.slot.state.guest.machine.allocations = subst (λ (s : Option (Saved Standing)). IfSome s (λ oldest. session.recorded ≡ oldest.state.guest.machine.allocations)) o.first trimmed.recorded in
@@ -259,14 +247,14 @@ module _ {R : Type 0} where
       }
 
   -- and one that came to its end, where nothing that was sent waits
-  pub left_end : (rules : Rules) (image : Image) (recoveries : List Recovery) (account : Session) (old new : SessionState R) (ledger : Ledger) (end : Answer) (until : ℕ) → IsEnd end → IsTrimmed old → HoldsCheckpoints rules image (before_end account) recoveries account.survivor old
-      → HandledAt end (HasHandled (keeping_of new) recoveries account.survivor account.survivor.now.state.machine.taken (stands_of new.cpu.slots.saved)) (HasHandled (keeping_of new) recoveries account.survivor (account.survivor.now.state.machine.taken + 1) (stands_of new.cpu.slots.saved))
+  pub left_end : (rules : Rules) (image : Image) (recoveries : List Recovery) (account : Session) (old new : SessionState R) (ledger : Ledger) (end : Answer) (until : ℕ) → IsEnd end → IsTrimmed old → HoldsCheckpoints rules image account.earlier (before_end account) recoveries account.survivor old
+      → HandledAt end (HasHandled rules image (keeping_of new) account.earlier (before_end account) recoveries account.survivor account.survivor.now.state.machine.taken (stands_of new.cpu.slots.saved)) (HasHandled rules image (keeping_of new) account.earlier (before_end account) recoveries account.survivor (account.survivor.now.state.machine.taken + 1) (stands_of new.cpu.slots.saved))
       → UnlessGaveUp end (old.cpu.slots.live ≡ standing_of account.survivor.now) → new.cpu ≡ old.cpu → keeping_of new ≡ keeping_of old → new.log ≡ old.log → ledger.first ≡ old.replies.first
       → ledger.kept ≡ drop ledger.first account.survivor.now.state.sends → ledger.first ≤ length account.survivor.now.state.sends → AreBetween 0 account.survivor.now.state.machine.taken account.survivor.now.state.sends → account.survivor.now.state.machine.taken ≤ until → next_part ledger until ≡ None
       → IfSome (slice_get old.cpu.slots.saved 0) (λ oldest. new.replies ≡ ledgers.trimmed ledger oldest.state.sends) → HasLeft rules image recoveries account new end
   left_end rules image recoveries account old new ledger end until is trimmed h requests live guest keeping log first kept counted timed low none less =
       let items : List Item = items_in rules.bounds (before_end account) in
-      let o = oldest_held rules image (before_end account) recoveries account.survivor old h in
+      let o = oldest_held rules image account.earlier (before_end account) recoveries account.survivor old h in
       let before = (after_oldest rules.limits items account.survivor.plan image account.survivor.now h.paths o.oldest h.chained o.last).0 in
       let whole : old.log.first ≡ o.slot.state.guest.machine.taken = subst (λ (s : Option (Saved Standing)). IfSome s (λ oldest. old.log.first ≡ oldest.state.guest.machine.taken)) o.first trimmed.items in
       let early : old.replies.first ≤ o.slot.state.sends = subst (λ (s : Option (Saved Standing)). IfSome s (λ oldest. old.replies.first ≤ oldest.state.sends)) o.first trimmed.sends in
@@ -277,7 +265,7 @@ module _ {R : Type 0} where
       let sent : o.slot.state.sends ≡ length o.oldest.state.sends = ap (λ (s : Standing). s.sends) o.stands in
       let most = before.sends in
       record {
-        holds = held_by rules image (before_end account) recoveries account.survivor old new (ap (λ (cpu : CpuState R). cpu.slots.saved) guest) keeping h;
+        holds = held_by rules image account.earlier (before_end account) recoveries account.survivor old new (ap (λ (cpu : CpuState R). cpu.slots.saved) guest) keeping h;
         oldest = o.oldest;
         oldest_is = o.last;
         items = ap (λ (l : Log). l.first) log ∙ (whole ∙ ap (λ (s : Standing). s.guest.machine.taken) o.stands);

@@ -55,10 +55,10 @@ module _ {R : Type 0} where
   pub emits_opened : (rules : Rules) (image : Image) (began : Since) (now : Told) (phases : Phases) (conn : ℕ) (bytes : List ℕ) (session : SessionState R) → HasRun rules image began now phases (step.Emits conn bytes) session → IsOpened session.replies conn
   emits_opened rules image began now phases conn bytes session h =
       subst (λ (ledger : Ledger). IsOpened ledger conn) (sym (ap (λ (s : SessionState R). s.replies) h.same))
-      (may_opened rules h.between.going.story h.before phases conn h.between.going.goes h.between.going.passed h.runs.comes.2)
+      (may_opened rules h.between.going.story h.before phases conn h.between.going.goes h.between.going.passed h.runs.ran.comes.2)
 
   pub emits_some : (rules : Rules) (image : Image) (began : Since) (now : Told) (phases : Phases) (conn : ℕ) (bytes : List ℕ) (session : SessionState R) → HasRun rules image began now phases (step.Emits conn bytes) session → 0 < length bytes
-  emits_some rules image began now phases conn bytes session h = h.runs.comes.3
+  emits_some rules image began now phases conn bytes session h = h.runs.ran.comes.3
 
   pub emits_survivor : (rules : Rules) (image : Image) (began : Since) (now : Told) (phases : Phases) (conn : ℕ) (bytes : List ℕ) (session : SessionState R) → HasRun rules image began now phases (step.Emits conn bytes) session → session.replies.trial ≡ None
   emits_survivor rules image began now phases conn bytes session h = ap (λ (s : SessionState R). s.replies.trial) h.same ∙ h.between.going.passed.no_trial

@@ -110,7 +110,7 @@ rest_ok rules image began old now story conn ledger done told passes =
 module _ {R : Type 0} where
   -- a fault came while it was passed
   pub breaks_by : (rules : Rules) (image : Image) (began : Since) (old now : Told) (coming : Option Coming) (story : Story) (after : SessionState R) (why : PassFault) (end : Answer) → IsTold rules image began old story → AnswersFor began story after → IsAnswerTo why end
-      → HoldsCheckpoints rules image (entries story) story.recoveries story.survivor after → WasBroken rules (sends story) (moment story) old now → BreaksBy rules image began now coming after (stop.Breaks end)
+      → HoldsCheckpoints rules image story.earlier (entries story) story.recoveries story.survivor after → WasBroken rules (sends story) (moment story) old now → BreaksBy rules image began now coming after (stop.Breaks end)
   breaks_by rules image began old now coming story after fault.WriteFault end told answers is held passes =
       off_pieces rules image began old now coming story after end passes.0 passes.1 told answers passes.2 passes.3 passes.4 (subst (EndsBy rules coming (off_account story passes.0 passes.1)) (sym is) tt) (subst (λ (a : Answer). IsEnd a → ⊥) (sym is) (λ is. is)) held (subst (λ (a : Answer). IsAtRequest a → ⊥) (sym is) (λ no. no))
   breaks_by rules image began old now coming story after fault.Memory end told answers is held passes =

@@ -49,6 +49,7 @@ use Rattle.reply_gate.proofs.ReplyLemmas.{nothing_waits, closed_keeps, fronts_st
 use Rattle.rx_engine.specs.declared.stop.Stop.{Stop}
 use Rattle.rx_engine.specs.Sessions.{SessionState}
 use Rattle.rx_engine.specs.Standing.{unwatched, Since, Story, entries, moment, sends, then_story, IsTold, HasPassed, HasPassedDue, IsCloseDone, IsAsking, IsWaitingFor, IsEnding}
+use Rattle.rx_engine.specs.Leaving.{keeping_of}
 use Rattle.rx_engine.specs.Serving.{IsAnswerTo, CanGive, CanPass, PassesStory, PassesDue, StandsClosing}
 use Rattle.rx_engine.proofs.GivenLemmas.{done_given, closed_given, latest-given, events_in-story}
 use Rattle.rx_engine.proofs.PassLemmas.{rest_ok}
@@ -311,7 +312,7 @@ module _ {R : Type 0} where
   pub finish_ok : (P : List Recovery → Session → Type 0) (rules : Rules) (image : Image) (began : Since) (before now : Told) (coming later : Option Coming) (takes : Bool) (session : SessionState R) (end : Answer) (until : ℕ) (ledger : Ledger) (done : Unit {0}) (e : IsEnding rules image began before coming session end) → later ≡ coming → session.taken ≤ until
       → Passes {E = PassFault} rules (sends e.story) (end_of e.story) until ledger before now (Ok done) → (takes ≡ false → IsAsking rules e.story) → (noted : Noted) → Grew began.noted.choices noted.choices session.choices
       → noted.episodes ≡ began.noted.episodes → (first last : ℕ) → last ≡ first + (began.lost + session.steps)
-      → ((more broken : List Entry) → P e.story.recoveries (ended_account e.story more broken)) → (watched : HasWatched rules image began.told now later takes end began.noted_before noted (session.recorded + length session.choices) [] session.taken session.steps first last began.tables_before began.tables) × P watched.recovered.recoveries watched.recovered.served.session
+      → ((more broken : List Entry) → P e.story.recoveries (ended_account e.story more broken)) → (watched : HasWatched rules image (keeping_of session) began.told now later takes end began.noted_before noted (session.recorded + length session.choices) [] session.taken session.steps first last began.tables_before began.tables) × P watched.recovered.recoveries watched.recovered.served.session
   finish_ok P rules image began before now coming later takes session end until ledger done e same low passes asked noted choices episodes first last all holds =
       let few = e.answers.taken in
       served_end P rules image began before now coming later takes session end e passes.0 same passes.1 passes.2
@@ -321,7 +322,7 @@ module _ {R : Type 0} where
   pub finish_unnoted : (P : List Recovery → Session → Type 0) (rules : Rules) (image : Image) (began : Since) (before now : Told) (coming later : Option Coming) (takes : Bool) (session : SessionState R) (end fault : Answer) (until : ℕ) (ledger : Ledger) (done : Unit {0}) (e : IsEnding rules image began before coming session end) → later ≡ coming
       → Passes {E = PassFault} rules (sends e.story) (end_of e.story) until ledger before now (Ok done) → (takes ≡ false → IsAsking rules e.story) → IsNoteFault fault → (noted : Noted) → noted.choices ≡ began.noted.choices → noted.episodes ≡ began.noted.episodes
       → (first last : ℕ) → last ≡ first + (began.lost + session.steps) → ((more broken : List Entry) → P e.story.recoveries (ended_account e.story more broken))
-      → (watched : HasWatched rules image began.told now later takes fault began.noted_before noted session.recorded session.choices session.taken session.steps first last began.tables_before began.tables) × P watched.recovered.recoveries watched.recovered.served.session
+      → (watched : HasWatched rules image (keeping_of session) began.told now later takes fault began.noted_before noted session.recorded session.choices session.taken session.steps first last began.tables_before began.tables) × P watched.recovered.recoveries watched.recovered.served.session
   finish_unnoted P rules image began before now coming later takes session end fault until ledger done e same passes asked is noted choices episodes first last all holds =
       served_broken P rules image began before now coming later takes session end fault e passes.0 [] same passes.1 tt (subst (Tells before now) (sym (append-nil passes.0)) passes.2) (note_ends rules later (ended_account e.story passes.0 []) fault is) (note_no_end fault is) asked
       noted choices episodes first last all (holds passes.0 [])
@@ -330,7 +331,7 @@ module _ {R : Type 0} where
   pub finish_fault : (P : List Recovery → Session → Type 0) (rules : Rules) (image : Image) (began : Since) (before now : Told) (coming later : Option Coming) (takes : Bool) (session : SessionState R) (end : Answer) (until : ℕ) (ledger : Ledger) (why : PassFault) (fault : Answer) (e : IsEnding rules image began before coming session end) → later ≡ coming
       → IsAnswerTo why fault → Passes rules (sends e.story) (end_of e.story) until ledger before now (Err why) → (takes ≡ false → IsAsking rules e.story) → (noted : Noted) → noted.choices ≡ began.noted.choices → noted.episodes ≡ began.noted.episodes
       → (first last : ℕ) → last ≡ first + (began.lost + session.steps) → ((more broken : List Entry) → P e.story.recoveries (ended_account e.story more broken))
-      → (watched : HasWatched rules image began.told now later takes fault began.noted_before noted session.recorded session.choices session.taken session.steps first last began.tables_before began.tables) × P watched.recovered.recoveries watched.recovered.served.session
+      → (watched : HasWatched rules image (keeping_of session) began.told now later takes fault began.noted_before noted session.recorded session.choices session.taken session.steps first last began.tables_before began.tables) × P watched.recovered.recoveries watched.recovered.served.session
   finish_fault P rules image began before now coming later takes session end until ledger pass_fault.WriteFault fault e same is passes asked noted choices episodes first last all holds =
       served_broken P rules image began before now coming later takes session end fault e passes.0 passes.1 same passes.2 passes.3 passes.4 (subst (EndsBy rules later (ended_account e.story passes.0 passes.1)) (sym is) tt) (subst (λ (a : Answer). IsEnd a → ⊥) (sym is) (λ never. never)) asked noted choices episodes first last all (holds passes.0 passes.1)
   finish_fault P rules image began before now coming later takes session end until ledger pass_fault.Memory fault e same is passes asked noted choices episodes first last all holds =

@@ -1,5 +1,5 @@
 -- A checkpoint is saved while the guest waits for an item.
-use Rattle.std.proofs.Common.{◌≡◌, ◌≤◌, ℕ, zero, suc, Bool, true, false, List, [], ◌∷◌, length, take, sym, ◌∙◌, ap, subst, arith}
+use Rattle.std.proofs.Common.{◌≡◌, ◌≤◌, ℕ, zero, suc, Bool, true, false, List, [], ◌∷◌, length, take, refl, sym, ◌∙◌, ap, subst, arith}
 use Rattle.rx_io.specs.Links.{Phases, Told}
 use Rattle.elf_image.specs.declared.image.Image.{Image}
 use Rattle.ckpt_ring.specs.Rings.{Checkpoints}
@@ -22,6 +22,7 @@ use Rattle.trial_plan.specs.Sessions.{taken_in}
 use Rattle.recovery_gate.specs.Rings.{SavesIf}
 use Rattle.recovery_gate.specs.Handling.{Keeping, handle, is_far, stands_of, keeping_by}
 use Rattle.rx_engine.specs.Leaving.{HandlesRequests, keeping_of}
+use Rattle.page_line.specs.Line.{count_true}
 use Rattle.rx_engine.proofs.HeldLemmas.{requests_saved}
 use Rattle.rx_engine.specs.Sessions.{SessionState}
 use Rattle.rx_engine.specs.Standing.{Since, entries, IsWaitingFor}
@@ -81,9 +82,9 @@ module _ {R : Type 0} where
   -- with another ring of its checkpoints it waits on
   pub waits_saved : (rules : Rules) (image : Image) (began : Since) (now : Told) (phases : Phases) (old : SessionState R) (cpu : CpuState R) (ring : Checkpoints) (paths : List Path) (w : IsWaitingFor rules image began now phases old) → cpu.slots.live ≡ old.cpu.slots.live
       → KeepsRing rules image (entries w.hearing.story) w.hearing.story.survivor.plan w.hearing.story.survivor.now paths cpu ring old.log old.replies → AreBehind old.recorded paths
-      → keeping_by ring.capacity old.options.every cpu.slots ≡ keeping_of old → stands_of cpu.slots.saved ≡ handle (keeping_of old) old.taken old.cpu.slots.written (stands_of old.cpu.slots.saved) → is_far old.options.every old.taken (from_newest (stands_of cpu.slots.saved) 0) ≡ false
+      → keeping_by ring.capacity old.options.every cpu.slots ≡ keeping_of old → count_true old.cpu.written ≡ old.cpu.slots.written → stands_of cpu.slots.saved ≡ handle (keeping_of old) old.taken old.cpu.slots.written (stands_of old.cpu.slots.saved) → is_far old.options.every old.taken (from_newest (stands_of cpu.slots.saved) 0) ≡ false
       → IsWaitingFor rules image began now phases (record old { cpu = cpu; ring = ring })
-  waits_saved rules image began now phases old cpu ring paths w live keeps early keeping handles near =
+  waits_saved rules image began now phases old cpu ring paths w live keeps early keeping counted handles near =
       let h = w.hearing in
       record {
         hearing = record {
@@ -105,8 +106,8 @@ module _ {R : Type 0} where
             ring = keeps;
             early = early;
             requests =
-                subst (λ (k : Keeping). HandlesRequests rules k h.story.recoveries h.story.survivor (stands_of cpu.slots.saved)) (sym keeping)
-                (requests_saved rules (keeping_of old) h.story.recoveries h.story.survivor old.cpu.slots.written (stands_of old.cpu.slots.saved) (stands_of cpu.slots.saved)
+                subst (λ (k : Keeping). HandlesRequests rules image k h.story.earlier (entries h.story) h.story.recoveries h.story.survivor (stands_of cpu.slots.saved)) (sym keeping)
+                (requests_saved rules image (keeping_of old) h.story.earlier (entries h.story) h.story.recoveries h.story.survivor (stands_of cpu.slots.saved) h.saved.paths old.cpu old.ring old.log old.replies refl counted h.saved.ring
                 (asks_under_all rules.limits h.story.survivor.plan [] h.story.survivor.now h.story.survivor.now.state.machine.taken h.asks)
                 (subst (λ n. stands_of cpu.slots.saved ≡ handle (keeping_of old) n old.cpu.slots.written (stands_of old.cpu.slots.saved)) h.answers.taken handles)
                 (subst (λ n. is_far old.options.every n (from_newest (stands_of cpu.slots.saved) 0) ≡ false) h.answers.taken near) h.saved.requests);

@@ -1,5 +1,5 @@
 -- The guest sent, or took an item: what that makes of a session.
-use Rattle.std.proofs.Common.{◌≡◌, false, ℕ, ◌<◌, ◌≤◌, true, List, [], ◌∷◌, ◌++◌, length, Option, None, Some, Ok, refl, sym, ◌∙◌, ap, subst, arith, length-append}
+use Rattle.std.proofs.Common.{◌≡◌, ℕ, ◌<◌, ◌≤◌, true, List, [], ◌∷◌, ◌++◌, length, Option, None, Some, Ok, refl, sym, ◌∙◌, ap, subst, arith, length-append}
 use Rattle.std.specs.Prelude.{slice_get, is_some, IsSome}
 use Rattle.rx_io.specs.declared.bytes.Item.{Item}
 use Rattle.rx_io.specs.declared.journal.LinkEvent.TheVariants as event
@@ -13,9 +13,12 @@ use Rattle.run_history.specs.Served.{Path}
 use Rattle.run_history.proofs.Connections.{OpenWithin, within_after}
 use Rattle.guest_cpu.specs.declared.event.Event.TheVariants as step
 use Rattle.guest_cpu.specs.Serving.{standing_of}
-use Rattle.guest_cpu.specs.Receiving.{taken_standing}
-use Rattle.guest_runs.specs.Runs.{RunsOn, TakesOn}
-use Rattle.guest_runs.proofs.TakeLemmas.{takes_serve}
+use Rattle.guest_cpu.specs.Standing.{Live, Standing, with_range}
+use Rattle.guest_cpu.specs.Cpus.{live_of}
+use Rattle.guest_cpu.specs.Receiving.{received_range, taken_standing, live_with_item}
+use Rattle.guest_runs.specs.Runs.{TakesOn}
+use Rattle.guest_runs.specs.Writing.{Writes, RunsWriting}
+use Rattle.guest_runs.proofs.TakeLemmas.{takes_write}
 use Rattle.session_history.specs.Heeding.{Bounds, items_in, heeded, received}
 use Rattle.session_history.specs.Opened.{opens}
 use Rattle.session_history.specs.Owing.{Moment, Latest, latest, received_before, IsMadeDue, IsDueBy, IsPassed, journal, place_at}
@@ -24,10 +27,9 @@ use Rattle.session_history.specs.Keeping.{IsSendable, KeepsReplies, KeepsItems}
 use Rattle.reply_gate.proofs.ReplyLemmas.{sent_keeps}
 use Rattle.rx_engine.specs.Sessions.{SessionState}
 use Rattle.rx_engine.specs.Standing.{Since, Story, entries, moment, sends, GoesWith, IsLatestDone, IsLatestBefore, HasPassed, IsGoing, IsBetween, IsWaitingFor}
-use Rattle.ckpt_ring.specs.Rings.{from_newest}
-use Rattle.recovery_gate.specs.Handling.{is_far, stands_of}
+use Rattle.recovery_gate.specs.Handling.{stands_of}
 use Rattle.rx_engine.specs.Leaving.{keeping_of, IsHandled}
-use Rattle.rx_engine.proofs.HeldLemmas.{requests_on, requests_taken}
+use Rattle.rx_engine.proofs.HeldLemmas.{requests_on, requests_taken, waits_handled}
 use Rattle.rx_engine.specs.Serving.{IsCounted}
 use Rattle.rx_engine.proofs.StoryLemmas.{on_story, told_on}
 use Rattle.rx_engine.proofs.CheckpointLemmas.{HasSameSide, saved_on}
@@ -82,8 +84,9 @@ module _ {R : Type 0} where
   -- it sent: its ledger has one more send, of which what is due has to be passed
   pub emits_going : (rules : Rules) (image : Image) (began : Since) (now : Told) (phases : Phases) (conn : ℕ) (bytes : List ℕ) (old new : SessionState R) (b : IsBetween rules image began now phases old) → HasSameSide old new → new.choices ≡ old.choices
       → IsCounted new → new.replies ≡ with_send old.replies (record { conn = conn; bytes = bytes; taken = b.going.story.survivor.now.state.machine.taken })
-      → RunsOn rules.limits (items_in rules.bounds (entries b.going.story)) b.going.story.survivor.plan b.going.story.survivor.now (Ok (step.Emits conn bytes)) new.cpu.slots.live → IsGoing rules image began now phases new
-  emits_going rules image began now phases conn bytes old new b side chosen counted replies runs =
+      → RunsWriting rules.limits (items_in rules.bounds (entries b.going.story)) b.going.story.survivor.plan old.cpu.base b.going.story.survivor.now old.cpu.written (Ok (step.Emits conn bytes)) (live_of new.cpu) → IsGoing rules image began now phases new
+  emits_going rules image began now phases conn bytes old new b side chosen counted replies writing =
+      let runs = writing.ran in
       let story : Story = b.going.story in
       let to : Path = runs.now in
       let comes = runs.comes in
@@ -95,8 +98,8 @@ module _ {R : Type 0} where
         told = told_on rules image began now story to b.going.told runs.goes.served (still_received rules image began now story to b.going.told runs.goes.taken);
         answers = answers_for began story old new to [] b.going.answers side.recorded (none_more comes.0) (none_more chosen) counted (sym runs.stands);
         goes = goes_with rules story old new phases to b.going.goes side.log side.events runs.goes comes.5 (sym runs.stands);
-        saved = saved_on rules image story old new to side (ap (λ (ledger : Ledger). ledger.first) replies) runs.goes.served (let still = runs.goes.taken in omega (arith, still))
-            (requests_on rules (items_in rules.bounds (entries story)) (keeping_of old) story.recoveries story.survivor to (stands_of old.cpu.slots.saved) runs.goes.served runs.goes.taken b.going.saved.requests) b.going.saved;
+        saved = saved_on rules image story old new to side (ap (λ (ledger : Ledger). ledger.first) replies) runs.goes.served writing.wrote (let still = runs.goes.taken in omega (arith, still))
+            (requests_on rules image (keeping_of old) story.earlier (entries story) story.recoveries story.survivor to (stands_of old.cpu.slots.saved) runs.goes.served runs.goes.taken b.going.saved.requests) b.going.saved;
         passed = record {
           replies =
               subst (λ (ledger : Ledger). KeepsReplies rules.bounds (entries story) None to.state.sends ledger) (sym replies)
@@ -110,12 +113,20 @@ module _ {R : Type 0} where
 
   -- it took an item that was received
   pub takes_going : (rules : Rules) (image : Image) (began : Since) (now : Told) (phases : Phases) (item : Item) (old new : SessionState R) (w : IsWaitingFor rules image began now phases old) → HasSameParts old new → new.choices ≡ old.choices → IsCounted new
-      → new.cpu.slots.live ≡ taken_standing item old.cpu.slots.live → slice_get (items_in rules.bounds (entries w.hearing.story)) w.hearing.story.survivor.now.state.machine.taken ≡ Some item
+      → live_of new.cpu ≡ live_with_item old.cpu.base item (live_of old.cpu) → slice_get (items_in rules.bounds (entries w.hearing.story)) w.hearing.story.survivor.now.state.machine.taken ≡ Some item
       → w.hearing.story.survivor.now.state.machine.taken < received rules.bounds (entries w.hearing.story) → received rules.bounds (entries w.hearing.story) ≤ rules.bounds.max_items
       → (item.kind ≡ 1 → opens item.conn (heeded rules.bounds (events_in (entries w.hearing.story))) ≡ true) → IsHandled old → IsGoing rules image began now phases new
-  takes_going rules image began now phases item old new w same chosen counted live is_item low few opened handled =
+  takes_going rules image began now phases item old new w same chosen counted becomes is_item low few opened handled =
       let story : Story = w.hearing.story in
-      let t : TakesOn rules.limits (items_in rules.bounds (entries story)) story.survivor.plan story.survivor.now item = takes_serve rules.limits (items_in rules.bounds (entries story)) story.survivor.plan story.survivor.now item w.hearing.asks is_item in
+      let path : Path = story.survivor.now in
+      let items : List Item = items_in rules.bounds (entries story) in
+      let taking = takes_write rules.limits items story.survivor.plan old.cpu.base path old.cpu.written item w.hearing.asks is_item in
+      let t : TakesOn rules.limits items story.survivor.plan path item = taking.took in
+      let live : new.cpu.slots.live ≡ taken_standing item old.cpu.slots.live = ap (λ (l : Live). l.standing) becomes in
+      let flags : new.cpu.written ≡ with_range old.cpu.base (received_range item path.state.machine) old.cpu.written =
+      ap (λ (l : Live). l.written) becomes ∙ ap (λ (s : Standing). with_range old.cpu.base (received_range item s.guest.machine) old.cpu.written) w.hearing.goes.guest in
+      let wrote : Writes rules.limits items old.cpu.base path old.cpu.written t.now new.cpu.written = subst (Writes rules.limits items old.cpu.base path old.cpu.written t.now) (sym flags) taking.wrote in
+      let requests = waits_handled rules image began now phases old w handled in
       let to : Path = t.now in
       let goes : GoesWith rules story old phases = w.hearing.goes in
       let stands : new.cpu.slots.live ≡ standing_of to = live ∙ (ap (taken_standing item) goes.guest ∙ sym t.stands) in
@@ -137,8 +148,8 @@ module _ {R : Type 0} where
           events = same.side.events ∙ goes.events;
           phases_are = goes.phases_are;
         };
-        saved = saved_on rules image story old new to same.side (ap (λ (ledger : Ledger). ledger.first) same.replies) t.served (let more = t.taken in omega (arith, more))
-            (requests_taken rules (keeping_of old) story.recoveries story.survivor to (stands_of old.cpu.slots.saved) (subst (λ n. is_far old.options.every n (from_newest (stands_of old.cpu.slots.saved) 0) ≡ false) w.hearing.answers.taken handled) (let more = t.taken in omega (arith, more)) w.hearing.saved.requests) w.hearing.saved;
+        saved = saved_on rules image story old new to same.side (ap (λ (ledger : Ledger). ledger.first) same.replies) t.served wrote (let more = t.taken in omega (arith, more))
+            (requests_taken rules image (keeping_of old) story.earlier (entries story) story.recoveries story.survivor to (stands_of old.cpu.slots.saved) t.served t.taken requests) w.hearing.saved;
         passed = has_passed rules story old.replies new.replies to w.hearing.passed same.replies t.silent.sends;
         latest = subst (IsLatestBefore rules (moment story)) (sym t.taken) w.hearing.latest;
       }

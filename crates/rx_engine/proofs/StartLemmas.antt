@@ -147,7 +147,7 @@ module _ {R : Type 0} where
             events = begun.no_events;
             phases_are = fresh;
           };
-          saved = record { paths = origin image ∷ []; ring = keeps; early = (omega (arith, begun.none_recorded), tt); requests = inl (handled_first (keeping_by ring.capacity session.options.every cpu.slots) (first_story image).survivor (stands_of cpu.slots.saved) stands); in_force = in_force_by [] 0 Plain session.env 0 session.until begun.plain begun.until_none (in_force_none 0); past = inl (let none : session.until ≡ 0 = begun.until_none in omega (arith, none)) };
+          saved = record { paths = origin image ∷ []; ring = keeps; early = (omega (arith, begun.none_recorded), tt); requests = inl (handled_first rules image (keeping_by ring.capacity session.options.every cpu.slots) [] (first_story image).survivor (stands_of cpu.slots.saved) stands); in_force = in_force_by [] 0 Plain session.env 0 session.until begun.plain begun.until_none (in_force_none 0); past = inl (let none : session.until ≡ 0 = begun.until_none in omega (arith, none)) };
           passed = record { replies = subst (λ (ledger : Ledger). KeepsReplies rules.bounds [] None [] ledger) (sym begun.replies) (first_replies rules.bounds); no_trial = ap (λ (ledger : Ledger). ledger.trial) begun.replies; done = λ send stands due. absurd due };
           latest = λ last found. absurd (let no : ⊥ = cc in no);
         };

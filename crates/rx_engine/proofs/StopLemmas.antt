@@ -26,7 +26,7 @@ use Rattle.reply_gate.proofs.MomentLemmas.{due_by, due_not_gone}
 use Rattle.event_gate.proofs.Refusing.{IsEvent, events_ended, heeded_without}
 use Rattle.event_gate.proofs.Knowing.{gone-took}
 use Rattle.session_history.specs.Owing.{Moment, journal, latest, IsDueBy, place_at}
-use Rattle.session_history.specs.Lawful.{Rules, is_closed_by, is_closing, entries_of}
+use Rattle.session_history.specs.Lawful.{Rules, is_closed_by, is_closing}
 use Rattle.session_history.specs.Keeping.{KeepsReplies}
 use Rattle.session_history.specs.Hearing.{closing_of, IsHeeded, IsHeard, IsUnheeded}
 use Rattle.session_history.specs.Ends.{IsEnd, StandsAt, IsWaiting, WasAsked, IsLastRefused}
@@ -39,10 +39,11 @@ use Rattle.rx_engine.proofs.GuestLemmas.{received_is, answers_as, none_noted, br
 use Rattle.rx_engine.specs.Recovered.{GivesUpBy}
 use Rattle.guest_cpu.specs.Cpus.{CpuState}
 use Rattle.guest_cpu.specs.Serving.{standing_of}
-use Rattle.ckpt_ring.specs.Rings.{from_newest}
-use Rattle.recovery_gate.specs.Handling.{is_far, HasHandled, stands_of}
+use Rattle.session_history.proofs.Paths.{served_same}
+use Rattle.recovery_gate.specs.Handling.{HaveRings, HasHandled, stands_of}
+use Rattle.recovery_gate.proofs.Handled.{handled_on}
 use Rattle.rx_engine.specs.Leaving.{HoldsCheckpoints, IsHandled, keeping_of}
-use Rattle.rx_engine.proofs.HeldLemmas.{held_by, held_as, held_of, handled_by, requests_handled, unless_gave_up}
+use Rattle.rx_engine.proofs.HeldLemmas.{held_by, held_as, held_of, rings_kept, handled_by, waits_handled, unless_gave_up}
 use Rattle.rx_engine.proofs.EventLemmas.{IsNoEnd, owes_nothing, told_event, latest-took, latest-ended}
 use Rattle.rx_engine.proofs.HearLemmas.{HasSameRun, run_keeping, answers_still, more_entries}
 
@@ -149,16 +150,22 @@ module _ {R : Type 0} where
 
   -- its guest is as it was, with its checkpoints
   held_here : (rules : Rules) (image : Image) (began : Since) (before : Told) (phases : Phases) (old new : SessionState R) (w : IsWaitingFor rules image began before phases old) → HasSameRun old new
-      → HoldsCheckpoints rules image (entries w.hearing.story) w.hearing.story.recoveries w.hearing.story.survivor new
+      → HoldsCheckpoints rules image w.hearing.story.earlier (entries w.hearing.story) w.hearing.story.recoveries w.hearing.story.survivor new
   held_here rules image began before phases old new w same =
-      held_by rules image (entries w.hearing.story) w.hearing.story.recoveries w.hearing.story.survivor old new (ap (λ (cpu : CpuState R). cpu.slots.saved) same.cpu) (run_keeping old new same) (held_of rules image w.hearing.story old w.hearing.saved)
+      held_by rules image w.hearing.story.earlier (entries w.hearing.story) w.hearing.story.recoveries w.hearing.story.survivor old new (ap (λ (cpu : CpuState R). cpu.slots.saved) same.cpu) (run_keeping old new same) (held_of rules image w.hearing.story old w.hearing.saved)
 
-  handled_here : (rules : Rules) (image : Image) (began : Since) (before : Told) (phases : Phases) (old new : SessionState R) (w : IsWaitingFor rules image began before phases old) → HasSameRun old new → IsHandled old
-      → HasHandled (keeping_of new) w.hearing.story.recoveries w.hearing.story.survivor (w.hearing.story.survivor.now.state.machine.taken + 1) (stands_of new.cpu.slots.saved)
-  handled_here rules image began before phases old new w same handled =
-      let h = w.hearing in
-      handled_by h.story.recoveries h.story.survivor (h.story.survivor.now.state.machine.taken + 1) old new (ap (λ (cpu : CpuState R). cpu.slots.saved) same.cpu) (run_keeping old new same)
-      (requests_handled rules (keeping_of old) h.story.recoveries h.story.survivor (stands_of old.cpu.slots.saved) (subst (λ n. is_far old.options.every n (from_newest (stands_of old.cpu.slots.saved) 0) ≡ false) h.answers.taken handled) h.saved.requests)
+  rings_here : (rules : Rules) (image : Image) (began : Since) (before : Told) (phases : Phases) (old new : SessionState R) (w : IsWaitingFor rules image began before phases old) → HasSameRun old new → HaveRings rules image (keeping_of new) w.hearing.story.earlier w.hearing.story.recoveries
+  rings_here rules image began before phases old new w same = rings_kept rules image w.hearing.story old new (run_keeping old new same) w.hearing.saved
+
+  handled_here : (rules : Rules) (image : Image) (began : Since) (before : Told) (phases : Phases) (old new : SessionState R) (w : IsWaitingFor rules image began before phases old) (after : List Entry)
+      → items_in rules.bounds after ≡ items_in rules.bounds (entries w.hearing.story) → HasSameRun old new → IsHandled old
+      → HasHandled rules image (keeping_of new) w.hearing.story.earlier after w.hearing.story.recoveries w.hearing.story.survivor (w.hearing.story.survivor.now.state.machine.taken + 1) (stands_of new.cpu.slots.saved)
+  handled_here rules image began before phases old new w after none same handled =
+      let story : Story = w.hearing.story in
+      let requests : ℕ = story.survivor.now.state.machine.taken + 1 in
+      handled_by rules image story.earlier after story.recoveries story.survivor requests old new (ap (λ (cpu : CpuState R). cpu.slots.saved) same.cpu) (run_keeping old new same)
+      (handled_on rules image (keeping_of old) story.earlier (entries story) after [] story.recoveries story.survivor story.survivor requests (stands_of old.cpu.slots.saved) refl refl
+      (served_same rules.limits (items_in rules.bounds after) story.survivor.plan story.survivor.now) (none ∙ sym (append-nil (items_in rules.bounds (entries story)))) (waits_handled rules image began before phases old w handled))
 
   lives_here : (rules : Rules) (image : Image) (began : Since) (before : Told) (phases : Phases) (old new : SessionState R) (w : IsWaitingFor rules image began before phases old) → HasSameRun old new
       → new.cpu.slots.live ≡ standing_of w.hearing.story.survivor.now
@@ -173,7 +180,7 @@ module _ {R : Type 0} where
       → HasSameRun old new → new.log ≡ old.log → new.replies.trial ≡ None → IsEnd end
       → (IsWaiting rules (entries (then_story w.hearing.story (entry.Took e ∷ []))) w.hearing.story.survivor → IsLastRefused rules.bounds (entries (then_story w.hearing.story (entry.Took e ∷ []))) cause
       → StandsAt rules (entries (then_story w.hearing.story (entry.Took e ∷ []))) coming w.hearing.story.survivor end)
-      → GivesUpBy rules image (entries_of w.hearing.story.earlier) (w.hearing.story.since ++ entry.Took e ∷ []) w.hearing.story.survivor [] end → IsEnding rules image began now coming new end
+      → GivesUpBy rules image (keeping_of new) w.hearing.story.earlier (w.hearing.story.since ++ entry.Took e ∷ []) w.hearing.story.recoveries w.hearing.story.survivor [] end → IsEnding rules image began now coming new end
   ending_refused rules image began before now phases coming old new w e cause end no_end handled all tells u same log no_trial is_end stands gave_up =
       let story : Story = w.hearing.story in
       let es = more_entries story (entry.Took e ∷ []) in
@@ -190,14 +197,14 @@ module _ {R : Type 0} where
         last = [];
         last_noted = none_noted began.noted;
         told = told_unwatched rules image began now (then_story story (entry.Took e ∷ [])) (waits_took rules image began before now phases old w e all tells [] (u.brings_none ∙ sym (append-nil (items_in rules.bounds (entries story)))));
-        tables = tables_here rules image story.earlier (story.since ++ entry.Took e ∷ []) story.survivor story.recoveries [] end began.tables_before began.tables w.hearing.told.tables;
+        tables = tables_here rules image (keeping_of new) story.earlier (story.since ++ entry.Took e ∷ []) story.survivor story.recoveries [] end began.tables_before began.tables w.hearing.told.tables;
         answers = answers_still began story old new (entry.Took e ∷ []) same w.hearing.answers;
         received_are = ap (λ (l : Log). logs.received l) log ∙ (received_is rules.bounds (entries story) old.log w.hearing.goes.items ∙ ap length (sym none));
         replies = subst (λ (all : List Entry). KeepsReplies rules.bounds all None (sends story) new.replies) es u.replies;
         no_trial = no_trial;
         closed = λ send stands closing owed. absurd (refused_closes rules.bounds story e no_end heeds u.first_close send.conn closing);
-        holds = held_as rules image (entries story) (entries (then_story story (entry.Took e ∷ []))) story.recoveries story.survivor new none (held_here rules image began before phases old new w same);
-        handled = λ is. handled_here rules image began before phases old new w same handled;
+        holds = held_as rules image story.earlier (entries story) (entries (then_story story (entry.Took e ∷ []))) story.recoveries story.survivor new none (held_here rules image began before phases old new w same);
+        handled = λ is. handled_here rules image began before phases old new w (entries (then_story story (entry.Took e ∷ []))) none same handled;
         live = unless_gave_up end (new.cpu.slots.live ≡ standing_of story.survivor.now) (lives_here rules image began before phases old new w same);
         is_end = is_end;
         stands = stands waits (record { before = entries story; event = e; last = sym es; no_end = u.no_end; refused = u.refused });
@@ -222,14 +229,14 @@ module _ {R : Type 0} where
         last = [];
         last_noted = none_noted began.noted;
         told = told_unwatched rules image began now (then_story story (entry.Took event.Ends ∷ [])) (waits_took rules image began before now phases old w event.Ends all tells heard.more heard.brings);
-        tables = tables_here rules image story.earlier (story.since ++ entry.Took event.Ends ∷ []) story.survivor story.recoveries [] answer.Finished began.tables_before began.tables w.hearing.told.tables;
+        tables = tables_here rules image (keeping_of new) story.earlier (story.since ++ entry.Took event.Ends ∷ []) story.survivor story.recoveries [] answer.Finished began.tables_before began.tables w.hearing.told.tables;
         answers = answers_still began story old new (entry.Took event.Ends ∷ []) same w.hearing.answers;
         received_are = received_is rules.bounds (entries story ++ entry.Took event.Ends ∷ []) new.log heard.items ∙ ap (received rules.bounds) es;
         replies = subst (λ (all : List Entry). KeepsReplies rules.bounds all None (sends story) new.replies) es heard.replies;
         no_trial = no_trial;
         closed = λ send stands closing owed. done_ended rules story w.hearing.passed.done send stands owed;
-        holds = held_as rules image (entries story) (entries (then_story story (entry.Took event.Ends ∷ []))) story.recoveries story.survivor new (ap (items_in rules.bounds) (sym es) ∙ none) (held_here rules image began before phases old new w same);
-        handled = λ is. handled_here rules image began before phases old new w same handled;
+        holds = held_as rules image story.earlier (entries story) (entries (then_story story (entry.Took event.Ends ∷ []))) story.recoveries story.survivor new (ap (items_in rules.bounds) (sym es) ∙ none) (held_here rules image began before phases old new w same);
+        handled = λ is. handled_here rules image began before phases old new w (entries (then_story story (entry.Took event.Ends ∷ []))) (ap (items_in rules.bounds) (sym es) ∙ none) same handled;
         live = lives_here rules image began before phases old new w same;
         is_end = tt;
         stands = (waits_still rules image began before phases old w (entry.Took event.Ends ∷ []) all none, subst HasEnded es (last_taken-took (entries story) event.Ends), last);
@@ -254,14 +261,14 @@ module _ {R : Type 0} where
           last = [];
           last_noted = none_noted began.noted;
           told = told_unwatched rules image began now story told;
-          tables = tables_here rules image story.earlier story.since story.survivor story.recoveries [] (answer.InputRefused kind offset) began.tables_before began.tables w.hearing.told.tables;
+          tables = tables_here rules image (keeping_of new) story.earlier story.since story.survivor story.recoveries [] (answer.InputRefused kind offset) began.tables_before began.tables w.hearing.told.tables;
           answers = answers_here began story old new same w.hearing.answers;
           received_are = ap (λ (l : Log). logs.received l) log ∙ received_is rules.bounds (entries story) old.log w.hearing.goes.items;
           replies = subst (λ (ledger : Ledger). KeepsReplies rules.bounds (entries story) None (sends story) ledger) (sym replies) w.hearing.passed.replies;
           no_trial = ap (λ (ledger : Ledger). ledger.trial) replies ∙ w.hearing.passed.no_trial;
           closed = λ send stands closing owed. w.hearing.passed.done send stands owed;
           holds = held_here rules image began before phases old new w same;
-          handled = λ is. handled_here rules image began before phases old new w same handled;
+          handled = λ is. handled_here rules image began before phases old new w (entries story) refl same handled;
           live = lives_here rules image began before phases old new w same;
           is_end = tt;
           stands = (waits, w.hearing.goes.items.all_heeded, stops);
@@ -278,7 +285,7 @@ module _ {R : Type 0} where
       let story : Story = w.hearing.story in
       broken_off rules image began now coming new story answer.ReadFault (told_nothing rules image began before now story w.hearing.told tells) (answers_here began story old new same w.hearing.answers)
       ((waits_here rules image began before phases old w all, owes_nothing rules story w.due w.hearing.passed.done, w.hearing.goes.items.all_heeded), (refl, refl)) (λ is. is)
-      (λ never. held_here rules image began before phases old new w same) (λ is. handled_here rules image began before phases old new w same handled)
+      (rings_here rules image began before phases old new w same) (λ never. held_here rules image began before phases old new w same) (λ is. handled_here rules image began before phases old new w (entries story) refl same handled)
 
   -- memory ran out, before an event was taken or behind one that is heeded
   pub off_memory : (rules : Rules) (image : Image) (began : Since) (before now : Told) (phases : Phases) (coming : Option Coming) (takes : Bool) (old new : SessionState R) (w : IsWaitingFor rules image began before phases old)
@@ -287,12 +294,12 @@ module _ {R : Type 0} where
       → (off : IsBrokenOff rules image began now coming new answer.Memory) × (takes ≡ false → WasAsked rules off.account)
   off_memory rules image began before now phases coming takes old new w all same (inl tells) took =
       let story : Story = w.hearing.story in
-      broken_with (λ account. takes ≡ false → WasAsked rules account) rules image began now coming new story answer.Memory (told_nothing rules image began before now story w.hearing.told tells) (answers_here began story old new same w.hearing.answers) tt (λ is. is) (λ never. absurd (never tt)) (λ is. absurd is)
+      broken_with (λ account. takes ≡ false → WasAsked rules account) rules image began now coming new story answer.Memory (told_nothing rules image began before now story w.hearing.told tells) (answers_here began story old new same w.hearing.answers) tt (λ is. is) (rings_here rules image began before phases old new w same) (λ never. absurd (never tt)) (λ is. absurd is)
       (λ none. (waits_here rules image began before phases old w all, owes_nothing rules story w.due w.hearing.passed.done, w.hearing.goes.items.all_heeded))
   off_memory rules image began before now phases coming takes old new w all same (inr still) (inl tells) =
-      broken_with (λ account. takes ≡ false → WasAsked rules account) rules image began now coming new w.hearing.story answer.Memory (told_nothing rules image began before now w.hearing.story w.hearing.told tells) (answers_here began w.hearing.story old new same w.hearing.answers) tt (λ is. is) (λ never. absurd (never tt)) (λ is. absurd is)
+      broken_with (λ account. takes ≡ false → WasAsked rules account) rules image began now coming new w.hearing.story answer.Memory (told_nothing rules image began before now w.hearing.story w.hearing.told tells) (answers_here began w.hearing.story old new same w.hearing.answers) tt (λ is. is) (rings_here rules image began before phases old new w same) (λ never. absurd (never tt)) (λ is. absurd is)
       (λ none. still_takes takes _ still none)
   off_memory rules image began before now phases coming takes old new w all same (inr still) (inr took) =
       broken_with (λ account. takes ≡ false → WasAsked rules account) rules image began now coming new (then_story w.hearing.story (entry.Took took.0 ∷ [])) answer.Memory
-      (waits_took rules image began before now phases old w took.0 all took.1 took.2.more took.2.brings) (answers_still began w.hearing.story old new (entry.Took took.0 ∷ []) same w.hearing.answers) tt (λ is. is) (λ never. absurd (never tt)) (λ is. absurd is)
+      (waits_took rules image began before now phases old w took.0 all took.1 took.2.more took.2.brings) (answers_still began w.hearing.story old new (entry.Took took.0 ∷ []) same w.hearing.answers) tt (λ is. is) (rings_here rules image began before phases old new w same) (λ never. absurd (never tt)) (λ is. absurd is)
       (λ none. still_takes takes _ still none)

@@ -13,7 +13,7 @@ use Rattle.item_log.specs.Log as logs
 use Rattle.run_history.specs.Machine.{Wants}
 use Rattle.run_history.specs.Run.{does}
 use Rattle.guest_cpu.specs.Cpus.{CpuState, live_of, with_live}
-use Rattle.guest_cpu.specs.Receiving.{taken_standing}
+use Rattle.guest_cpu.specs.Receiving.{live_with_item}
 use Rattle.guest_cpu.specs.Standing.{Standing}
 use Rattle.guest_runs.proofs.TakeLemmas.{asks_wants}
 use Rattle.session_history.specs.Heeding.{Bounds, Unheeded, LimitEvents, TooLong, LimitItems, refusal, heeded, heeded_behind, items_in, received}
@@ -75,7 +75,7 @@ module _ {R : Type 0} where
 
   -- it takes the item, and its counts are those of the guest
   pub taken_going : (rules : Rules) (image : Image) (began : Since) (now : Told) (phases : Phases) (item : Item) (old inside after : SessionState R) (cpu : CpuState R) → IsWaitingFor rules image began now phases old → IsHandled old → inside ≡ old → IsItemOf inside.log inside.taken item
-      → old.taken < logs.received old.log → cpu ≡ with_live (live_of cpu) inside.cpu → cpu.slots.live ≡ taken_standing item inside.cpu.slots.live
+      → old.taken < logs.received old.log → cpu ≡ with_live (live_of cpu) inside.cpu → live_of cpu ≡ live_with_item inside.cpu.base item (live_of inside.cpu)
       → after ≡ record inside { cpu = cpu; taken = cpu.slots.live.guest.machine.taken; steps = cpu.slots.live.steps } → IsGoing rules image began now phases after
   taken_going rules image began now phases item old inside after cpu w handled same is there kept live becomes =
       let h = w.hearing in
@@ -100,5 +100,5 @@ module _ {R : Type 0} where
         };
         replies = ap (λ (s : SessionState R). s.replies) same;
       })
-      (ap (λ (s : SessionState R). s.choices) same) (record { taken = refl; steps = refl }) (live ∙ ap (λ (s : SessionState R). taken_standing item s.cpu.slots.live) same)
+      (ap (λ (s : SessionState R). s.choices) same) (record { taken = refl; steps = refl }) (live ∙ ap (λ (s : SessionState R). live_with_item s.cpu.base item (live_of s.cpu)) same)
       (ap (slice_get (items_in rules.bounds (entries h.story))) (sym number) ∙ found) (omega (arith, number, count, there)) few (opened_items rules.bounds (entries h.story) old.taken item found) handled)

@@ -17,14 +17,16 @@ use Rattle.guest_cpu.specs.declared.event.Event.TheVariants as step
 use Rattle.guest_cpu.specs.Standing.{Standing, turn}
 use Rattle.guest_cpu.specs.Cpus.{CpuState, live_of, with_live}
 use Rattle.guest_cpu.specs.Running.{RunsBy}
-use Rattle.guest_runs.specs.Runs.{RunsOn}
-use Rattle.guest_runs.proofs.RunLemmas.{runs_serve}
+use Rattle.guest_runs.specs.Writing.{RunsWriting}
+use Rattle.guest_runs.proofs.RunLemmas.{runs_serve, runs_write}
 use Rattle.session_history.specs.Heeding.{items_in}
 use Rattle.session_history.specs.Lawful.{Rules}
 use Rattle.rx_engine.specs.declared.stop.Stop.{Stop}
 use Rattle.rx_engine.specs.Options.{rules_of}
 use Rattle.rx_engine.specs.Sessions.{SessionState, env_of}
 use Rattle.rx_engine.specs.Standing.{Since, entries, IsBetween, IsWaitingFor, IsFailing, IsEnding, IsBrokenOff}
+use Rattle.rx_engine.specs.Leaving.{keeping_of}
+use Rattle.rx_engine.proofs.HeldLemmas.{rings_kept}
 use Rattle.rx_engine.specs.Serving.{UnlessMemory, IsCounted, ComesBetween, HasRun, HasSameFrame, GoesFurther, IsAdoptedLater}
 use Rattle.rx_engine.proofs.GuestLemmas.{answers_as, broken_off}
 use Rattle.rx_engine.proofs.ServeLemmas.{run_asks, run_exits, run_fails}
@@ -43,10 +45,10 @@ module _ {R : Type 0} where
   -- its run goes on so
   pub ran_on : (permits : R → Heap → ℕ → ℕ → Bool) (env : Env) (image : Image) (began : Since) (now : Told) (phases : Phases) (old inside : SessionState R) (cpu : CpuState R) (happened : Event) → env ≡ env_of old → inside ≡ old
       → (b : IsBetween (rules_of old.options (permits old.cpu.rule)) image began now phases old) → Ran permits env inside cpu (Ok happened)
-      → RunsOn (limits_of old.options.budget (permits old.cpu.rule)) (items_in (rules_of old.options (permits old.cpu.rule)).bounds (entries b.going.story)) b.going.story.survivor.plan b.going.story.survivor.now (Ok happened) cpu.slots.live
+      → RunsWriting (limits_of old.options.budget (permits old.cpu.rule)) (items_in (rules_of old.options (permits old.cpu.rule)).bounds (entries b.going.story)) b.going.story.survivor.plan old.cpu.base b.going.story.survivor.now old.cpu.written (Ok happened) (live_of cpu)
   ran_on permits env image began now phases old inside cpu happened force same b ran =
       let first : Path = b.going.story.survivor.now in
-      runs_serve (limits_of old.options.budget (permits old.cpu.rule)) (items_in (rules_of old.options (permits old.cpu.rule)).bounds (entries b.going.story)) b.going.story.survivor.plan env old.cpu.base first (live_of old.cpu) (live_of cpu)
+      runs_write (limits_of old.options.budget (permits old.cpu.rule)) (items_in (rules_of old.options (permits old.cpu.rule)).bounds (entries b.going.story)) b.going.story.survivor.plan env old.cpu.base first (live_of old.cpu) (live_of cpu)
       (Ok happened) b.going.goes.lives (env_is (rules_of old.options (permits old.cpu.rule)) env image began now phases old b force) b.going.goes.guest (subst (λ (s : SessionState R). Ran permits env s cpu (Ok happened)) same ran)
 
   -- it ran to this event
@@ -65,7 +67,7 @@ module _ {R : Type 0} where
   pub ran_later : (permits : R → Heap → ℕ → ℕ → Bool) (env : Env) (image : Image) (began : Since) (now : Told) (phases : Phases) (old inside : SessionState R) (cpu : CpuState R) (happened : Event) → env ≡ env_of old → inside ≡ old
       → IsBetween (rules_of old.options (permits old.cpu.rule)) image began now phases old → Ran permits env inside cpu (Ok happened) → old.cpu.slots.live.steps ≤ cpu.slots.live.steps
   ran_later permits env image began now phases old inside cpu happened force same b ran =
-      let runs = ran_on permits env image began now phases old inside cpu happened force same b ran in
+      let runs = (ran_on permits env image began now phases old inside cpu happened force same b ran).ran in
       let from : old.cpu.slots.live.steps ≡ b.going.story.survivor.now.steps = ap (λ (s : Standing). s.steps) b.going.goes.guest in
       let to : runs.now.steps ≡ cpu.slots.live.steps = ap (λ (s : Standing). s.steps) runs.stands in
       let later : b.going.story.survivor.now.steps ≤ runs.now.steps = runs.goes.later in
@@ -87,7 +89,7 @@ module _ {R : Type 0} where
   pub emits_later : (permits : R → Heap → ℕ → ℕ → Bool) (env : Env) (image : Image) (began : Since) (now : Told) (phases : Phases) (old inside : SessionState R) (cpu : CpuState R) (conn : ℕ) (bytes : List ℕ) (found : Event) → env ≡ env_of old → inside ≡ old → found ≡ step.Emits conn bytes
       → IsBetween (rules_of old.options (permits old.cpu.rule)) image began now phases old → Ran permits env inside cpu (Ok found) → old.cpu.slots.live.steps < cpu.slots.live.steps
   emits_later permits env image began now phases old inside cpu conn bytes found force same is b ran =
-      let runs = ran_on permits env image began now phases old inside cpu (step.Emits conn bytes) force same b (subst (λ (e : Event). Ran permits env inside cpu (Ok e)) is ran) in
+      let runs = (ran_on permits env image began now phases old inside cpu (step.Emits conn bytes) force same b (subst (λ (e : Event). Ran permits env inside cpu (Ok e)) is ran)).ran in
       let from : old.cpu.slots.live.steps ≡ b.going.story.survivor.now.steps = ap (λ (s : Standing). s.steps) b.going.goes.guest in
       let to : runs.now.steps ≡ cpu.slots.live.steps = ap (λ (s : Standing). s.steps) runs.stands in
       let later : b.going.story.survivor.now.steps < runs.now.steps = runs.comes.6 in
@@ -97,7 +99,7 @@ module _ {R : Type 0} where
   pub chooses_later : (permits : R → Heap → ℕ → ℕ → Bool) (env : Env) (image : Image) (began : Since) (now : Told) (phases : Phases) (old inside : SessionState R) (cpu : CpuState R) (choice : Choice) (found : Event) → env ≡ env_of old → inside ≡ old → found ≡ step.Chooses choice
       → IsBetween (rules_of old.options (permits old.cpu.rule)) image began now phases old → Ran permits env inside cpu (Ok found) → old.cpu.slots.live.steps < cpu.slots.live.steps
   chooses_later permits env image began now phases old inside cpu choice found force same is b ran =
-      let runs = ran_on permits env image began now phases old inside cpu (step.Chooses choice) force same b (subst (λ (e : Event). Ran permits env inside cpu (Ok e)) is ran) in
+      let runs = (ran_on permits env image began now phases old inside cpu (step.Chooses choice) force same b (subst (λ (e : Event). Ran permits env inside cpu (Ok e)) is ran)).ran in
       let from : old.cpu.slots.live.steps ≡ b.going.story.survivor.now.steps = ap (λ (s : Standing). s.steps) b.going.goes.guest in
       let to : runs.now.steps ≡ cpu.slots.live.steps = ap (λ (s : Standing). s.steps) runs.stands in
       let later : b.going.story.survivor.now.steps < runs.now.steps = runs.comes.3 in
@@ -132,13 +134,19 @@ module _ {R : Type 0} where
       subst (λ (s : SessionState R). IsFailing rules image began now phases cause s) (sym is)
       (run_fails rules image began now phases cause (record inside { cpu = cpu }) (counted_by inside cpu) h refl refl refl (record { taken = refl; steps = refl }))
 
+  -- a run leaves how a session keeps its checkpoints
+  pub ran_keeping : (old inside : SessionState R) (cpu : CpuState R) → inside ≡ old → cpu ≡ with_live (live_of cpu) inside.cpu → keeping_of (record inside { cpu = cpu }) ≡ keeping_of old
+  ran_keeping old inside cpu same kept =
+      let whole : cpu ≡ with_live (live_of cpu) old.cpu = kept ∙ ap (λ (s : SessionState R). with_live (live_of cpu) s.cpu) same in
+      λ i. record { ring = (same i).ring.capacity; every = (same i).options.every; pages = (whole i).slots.pages; frames = (whole i).slots.frames }
+
   -- memory ran out within the run: the session answers for the run before it
-  pub breaks_now : (rules : Rules) (image : Image) (began : Since) (now : Told) (phases : Phases) (coming : Option Coming) (old inside : SessionState R) (cpu : CpuState R) → inside ≡ old → IsBetween rules image began now phases old
+  pub breaks_now : (rules : Rules) (image : Image) (began : Since) (now : Told) (phases : Phases) (coming : Option Coming) (old inside : SessionState R) (cpu : CpuState R) → inside ≡ old → keeping_of (record inside { cpu = cpu }) ≡ keeping_of old → IsBetween rules image began now phases old
       → IsBrokenOff rules image began now coming (record inside { cpu = cpu }) answer.Memory
-  breaks_now rules image began now phases coming old inside cpu same b =
+  breaks_now rules image began now phases coming old inside cpu same kept b =
       broken_off rules image began now coming (record inside { cpu = cpu }) b.going.story answer.Memory b.going.told
       (answers_as began b.going.story old (record inside { cpu = cpu }) (ap (λ (s : SessionState R). s.recorded) same) (ap (λ (s : SessionState R). s.choices) same) (ap (λ (s : SessionState R). s.taken) same) (ap (λ (s : SessionState R). s.steps) same)
-      b.going.answers) tt (λ is. is) (λ never. absurd (never tt)) (λ is. absurd is)
+      b.going.answers) tt (λ is. is) (rings_kept rules image b.going.story old (record inside { cpu = cpu }) kept b.going.saved) (λ never. absurd (never tt)) (λ is. absurd is)
 
   -- by other rules that are the same
   pub comes_under : (image : Image) (began : Since) (now : Told) (phases : Phases) (coming : Option Coming) (takes : Bool) (session : SessionState R) (result : Result (Unit {0}) Stop) (first second : Rules) → first ≡ second

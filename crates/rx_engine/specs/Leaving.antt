@@ -8,7 +8,7 @@ use Rattle.run_history.specs.declared.answer.Answer.TheVariants as answer
 use Rattle.run_history.specs.Served.{Path, AsksFor}
 use Rattle.guest_cpu.specs.Serving.{standing_of}
 use Rattle.session_history.specs.Heeding.{items_in}
-use Rattle.session_history.specs.Lawful.{Rules, Survivor}
+use Rattle.session_history.specs.Lawful.{Rules, Survivor, Chapter}
 use Rattle.session_history.specs.Account.{Session}
 use Rattle.session_history.specs.Ends.{IsEnd, before_end}
 use Rattle.trial_history.specs.Chains.{AreCheckpoints, AreChained}
@@ -40,10 +40,10 @@ HandledAt answer.WriteFault before behind = before ⊎ behind
 HandledAt end before behind = behind
 
 -- Beside the last survivor its requests so far were handled. Or it stands at its request, and that was handled too, so that no checkpoint is due.
-abbrev pub HandlesRequests : Rules → Keeping → List Recovery → Survivor → List Stand → Type 0
-HandlesRequests rules keeping recoveries survivor stands =
-    HasHandled keeping recoveries survivor survivor.now.state.machine.taken stands
-    ⊎ (AsksFor rules.limits [] survivor.now survivor.now.state.machine.taken × HasHandled keeping recoveries survivor (survivor.now.state.machine.taken + 1) stands × (is_far keeping.every survivor.now.state.machine.taken (from_newest stands 0) ≡ false))
+abbrev pub HandlesRequests : Rules → Image → Keeping → List Chapter → List Entry → List Recovery → Survivor → List Stand → Type 0
+HandlesRequests rules image keeping chapters entries recoveries survivor stands =
+    HasHandled rules image keeping chapters entries recoveries survivor survivor.now.state.machine.taken stands
+    ⊎ (AsksFor rules.limits [] survivor.now survivor.now.state.machine.taken × HasHandled rules image keeping chapters entries recoveries survivor (survivor.now.state.machine.taken + 1) stands × (is_far keeping.every survivor.now.state.machine.taken (from_newest stands 0) ≡ false))
 
 module _ {R : Type 0} where
   -- how a session keeps its checkpoints
@@ -56,14 +56,14 @@ module _ {R : Type 0} where
 
   -- The saved slots of a session's guest are checkpoints of the survivor's run, at least one. As runs, from the newest to the oldest, each goes
   -- on as the one before it, and the survivor goes on as the newest. Each slot holds the state where its run stands.
-  pub record HoldsCheckpoints (rules : Rules) (image : Image) (entries : List Entry) (recoveries : List Recovery) (survivor : Survivor) (session : SessionState R) : Type 0 where
+  pub record HoldsCheckpoints (rules : Rules) (image : Image) (chapters : List Chapter) (entries : List Entry) (recoveries : List Recovery) (survivor : Survivor) (session : SessionState R) : Type 0 where
     pub paths : List Path
     pub some : 0 < length paths
     pub chained : AreChained rules.limits (items_in rules.bounds entries) survivor.plan image survivor.now paths
     pub are : AreCheckpoints rules.limits image paths
     pub as_many : length session.cpu.slots.saved ≡ length paths
     pub saved : (index : ℕ) → index < length paths → option_map (λ one. one.state) (from_newest session.cpu.slots.saved index) ≡ option_map standing_of (slice_get paths index)
-    pub requests : HandlesRequests rules (keeping_of session) recoveries survivor (stands_of session.cpu.slots.saved)
+    pub requests : HandlesRequests rules image (keeping_of session) chapters entries recoveries survivor (stands_of session.cpu.slots.saved)
 
   -- as many answers of malloc are recorded as the oldest checkpoint had used
   abbrev pub IsRecorded : SessionState R → Type 0
@@ -94,12 +94,12 @@ module _ {R : Type 0} where
   -- oldest one were given up, and no others. At an end so were the sends; and the guest stands where the survivor does, unless none survived.
   -- At a fault as many answers of malloc are recorded as the oldest one had used. Those checkpoints stand that the requests so far left.
   pub record HasLeft (rules : Rules) (image : Image) (recoveries : List Recovery) (account : Session) (session : SessionState R) (end : Answer) : Type 0 where
-    pub holds : HoldsCheckpoints rules image (before_end account) recoveries account.survivor session
+    pub holds : HoldsCheckpoints rules image account.earlier (before_end account) recoveries account.survivor session
     pub oldest : Path
     pub oldest_is : slice_get holds.paths (length holds.paths - 1) ≡ Some oldest
     pub items : session.log.first ≡ oldest.state.machine.taken
     pub sends : IsEnd end → session.replies.first ≡ length oldest.state.sends
     pub stands : IsEnd end → UnlessGaveUp end (session.cpu.slots.live ≡ standing_of account.survivor.now)
     pub recorded : (IsEnd end → ⊥) → session.recorded ≡ length oldest.choices
-    pub requests : HandledAt end (HasHandled (keeping_of session) recoveries account.survivor account.survivor.now.state.machine.taken (stands_of session.cpu.slots.saved))
-        (HasHandled (keeping_of session) recoveries account.survivor (account.survivor.now.state.machine.taken + 1) (stands_of session.cpu.slots.saved))
+    pub requests : HandledAt end (HasHandled rules image (keeping_of session) account.earlier (before_end account) recoveries account.survivor account.survivor.now.state.machine.taken (stands_of session.cpu.slots.saved))
+        (HasHandled rules image (keeping_of session) account.earlier (before_end account) recoveries account.survivor (account.survivor.now.state.machine.taken + 1) (stands_of session.cpu.slots.saved))

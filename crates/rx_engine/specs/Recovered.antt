@@ -19,6 +19,7 @@ use Rattle.episodes.specs.declared.episode.Try.{Try}
 use Rattle.notes.specs.Noting.{Noted}
 use Rattle.trial_history.specs.Episodes.{Recovery, point_of, episode_of, IsRecovery, AreRecovered}
 use Rattle.trial_plan.specs.Trying.{steps_of}
+use Rattle.recovery_gate.specs.Handling.{Keeping, Stand, HasRing, HaveRings, HasHandled}
 use Rattle.trial_plan.specs.Watching.{IsWholeTable, TellsMore}
 
 -- How many instructions were done before a survivor began: those of each survivor before it, from where it began to where it failed, and
@@ -31,22 +32,25 @@ abbrev pub told_of : Survivor → Cause → List Trial → Episode
 told_of survivor cause trials = episode_of (record { survivor = survivor; cause = cause; ring = []; trials = trials })
 
 -- The last survivor failed by this cause, behind some entries of its time and those before it, where it owed nothing; and none of these
--- trials, a walk over all of its checkpoints, at least one, survived.
-pub record HasGivenUp (rules : Rules) (image : Image) (start since : List Entry) (survivor : Survivor) (trials : List Trial) (cause : Cause) : Type 0 where
+-- trials, a walk over all of its checkpoints, at least one, survived. Those are the checkpoints that its requests left, behind these recoveries.
+pub record HasGivenUp (rules : Rules) (image : Image) (keeping : Keeping) (earlier : List Chapter) (since : List Entry) (recoveries : List Recovery) (survivor : Survivor) (trials : List Trial) (cause : Cause) : Type 0 where
   pub ring : List Path
   pub some : 0 < length ring
-  pub recovers : IsRecovery rules image (start ++ since) (record { survivor = survivor; cause = cause; ring = ring; trials = trials })
+  pub stands : List Stand
+  pub handled : HasHandled rules image keeping earlier (entries_of earlier ++ since) recoveries survivor survivor.now.state.machine.taken stands
+  pub ringed : HasRing stands ring
+  pub recovers : IsRecovery rules image (entries_of earlier ++ since) (record { survivor = survivor; cause = cause; ring = ring; trials = trials })
   pub none : survivor_in trials ≡ None
-  pub owes_nothing : LeavesNothing rules start since survivor
+  pub owes_nothing : LeavesNothing rules (entries_of earlier) since survivor
 
-abbrev pub GivesUpBy : Rules → Image → List Entry → List Entry → Survivor → List Trial → Answer → Type 0
-GivesUpBy rules image start since survivor trials (answer.GaveUp point cause) = HasGivenUp rules image start since survivor trials cause
-GivesUpBy rules image start since survivor trials _ = Unit {0}
+abbrev pub GivesUpBy : Rules → Image → Keeping → List Chapter → List Entry → List Recovery → Survivor → List Trial → Answer → Type 0
+GivesUpBy rules image keeping earlier since recoveries survivor trials (answer.GaveUp point cause) = HasGivenUp rules image keeping earlier since recoveries survivor trials cause
+GivesUpBy rules image keeping earlier since recoveries survivor trials _ = Unit {0}
 
 -- trials are made behind the last survivor only where it failed, and there is an episode of them
-abbrev pub AreLastTrials : Rules → Image → List Entry → List Entry → Survivor → List Trial → List Episode → Type 0
-AreLastTrials rules image start since survivor trials last =
-    ((trials ≡ []) × (last ≡ [])) ⊎ ((cause : Cause) × HasGivenUp rules image start since survivor trials cause × (last ≡ told_of survivor cause trials ∷ []))
+abbrev pub AreLastTrials : Rules → Image → Keeping → List Chapter → List Entry → List Recovery → Survivor → List Trial → List Episode → Type 0
+AreLastTrials rules image keeping earlier since recoveries survivor trials last =
+    ((trials ≡ []) × (last ≡ [])) ⊎ ((cause : Cause) × HasGivenUp rules image keeping earlier since recoveries survivor trials cause × (last ≡ told_of survivor cause trials ∷ []))
 
 -- an answer behind which the notes of a session may lack its last episode
 abbrev pub IsNoteFault : Answer → Type 0
@@ -69,17 +73,19 @@ pub record HasNoted (before now : Noted) (end : Answer) (choices : List Choice) 
   pub episodes_noted : Grew before.episodes now.episodes told
 
 -- A session has served, and its account is told by survivors of which the first stood at the start and each later one is the trial that was
--- adopted behind a failure. It gives up only where no trial from its checkpoints survives. Each instruction was counted: those of the
--- survivors, and those of all trials. Its notes tell of its answers of malloc and of each recovery.
-pub record HasRecovered (rules : Rules) (image : Image) (began now : Told) (coming : Option Coming) (takes : Bool) (end : Answer) (noted_before noted_now : Noted) (recorded : ℕ) (tail : List Choice) (taken steps before after : ℕ) : Type 0 where
+-- adopted behind a failure, whose ring was that of the checkpoints that the requests before it left. It gives up only where no trial from its
+-- checkpoints survives. Each instruction was counted: those of the survivors, and those of all trials. Its notes tell of its answers of malloc
+-- and of each recovery.
+pub record HasRecovered (rules : Rules) (image : Image) (keeping : Keeping) (began now : Told) (coming : Option Coming) (takes : Bool) (end : Answer) (noted_before noted_now : Noted) (recorded : ℕ) (tail : List Choice) (taken steps before after : ℕ) : Type 0 where
   pub choices : List Choice
   pub served : HasServed rules image began now coming takes end choices taken steps
   pub recoveries : List Recovery
   pub recovered : AreRecovered rules image [] (first_survivor image) served.session.earlier recoveries served.session.survivor
+  pub ringed : HaveRings rules image keeping served.session.earlier recoveries
   pub trials : List Trial
   pub last : List Episode
-  pub tried : AreLastTrials rules image (entries_of served.session.earlier) served.session.since served.session.survivor trials last
-  pub gave_up : GivesUpBy rules image (entries_of served.session.earlier) served.session.since served.session.survivor trials end
+  pub tried : AreLastTrials rules image keeping served.session.earlier served.session.since recoveries served.session.survivor trials last
+  pub gave_up : GivesUpBy rules image keeping served.session.earlier served.session.since recoveries served.session.survivor trials end
   pub counted : end ≢ answer.Memory → after ≡ before + (spent recoveries + (served.session.survivor.now.steps - served.session.survivor.begun.steps) + steps_of trials)
   pub notes : HasNoted noted_before noted_now end choices (map episode_of recoveries ++ last) recorded tail
 
@@ -96,22 +102,22 @@ AreTables rules before _ _ _ = ⊥
 
 -- Tables behind those. Where an episode tells of trials behind the last survivor, there is one, that of its checkpoints. Else there is none; but
 -- where memory ran out one may stand there.
-abbrev pub AreLastTables : Rules → Image → List Entry → List Entry → Survivor → List Trial → List Episode → Answer → List (List Try) → Type 0
-AreLastTables rules image start since survivor trials [] end tables = (length tables ≤ 1) × (end ≢ answer.Memory → tables ≡ [])
-AreLastTables rules image start since survivor trials (episode ∷ more) end tables =
-    (cause : Cause) × (given_up : HasGivenUp rules image start since survivor trials cause) × (tries : List Try) × (tables ≡ tries ∷ [])
-    × IsTable rules (start ++ since) (record { survivor = survivor; cause = cause; ring = given_up.ring; trials = trials }) tries
+abbrev pub AreLastTables : Rules → Image → Keeping → List Chapter → List Entry → List Recovery → Survivor → List Trial → List Episode → Answer → List (List Try) → Type 0
+AreLastTables rules image keeping earlier since recoveries survivor trials [] end tables = (length tables ≤ 1) × (end ≢ answer.Memory → tables ≡ [])
+AreLastTables rules image keeping earlier since recoveries survivor trials (episode ∷ more) end tables =
+    (cause : Cause) × (given_up : HasGivenUp rules image keeping earlier since recoveries survivor trials cause) × (tries : List Try) × (tables ≡ tries ∷ [])
+    × IsTable rules (entries_of earlier ++ since) (record { survivor = survivor; cause = cause; ring = given_up.ring; trials = trials }) tries
 
 -- All tables that a watch tells of a session: those of its recoveries, and those behind the last survivor.
-pub record AreAllTables (rules : Rules) (image : Image) (earlier : List Chapter) (since : List Entry) (survivor : Survivor) (recoveries : List Recovery) (trials : List Trial) (last : List Episode) (end : Answer) (tables : List (List Try)) : Type 0 where
+pub record AreAllTables (rules : Rules) (image : Image) (keeping : Keeping) (earlier : List Chapter) (since : List Entry) (survivor : Survivor) (recoveries : List Recovery) (trials : List Trial) (last : List Episode) (end : Answer) (tables : List (List Try)) : Type 0 where
   pub each : List (List Try)
   pub behind : List (List Try)
   pub all : tables ≡ each ++ behind
   pub each_right : AreTables rules [] earlier recoveries each
-  pub behind_right : AreLastTables rules image (entries_of earlier) since survivor trials last end behind
+  pub behind_right : AreLastTables rules image keeping earlier since recoveries survivor trials last end behind
 
 -- A session that was watched has served and has recovered, and its watch, where it tells its tables, has told those of its recoveries more.
-pub record HasWatched (rules : Rules) (image : Image) (began now : Told) (coming : Option Coming) (takes : Bool) (end : Answer) (noted_before noted_now : Noted) (recorded : ℕ) (tail : List Choice) (taken steps before after : ℕ) (tables_before tables : Option (List (List Try))) : Type 0 where
-  pub recovered : HasRecovered rules image began now coming takes end noted_before noted_now recorded tail taken steps before after
+pub record HasWatched (rules : Rules) (image : Image) (keeping : Keeping) (began now : Told) (coming : Option Coming) (takes : Bool) (end : Answer) (noted_before noted_now : Noted) (recorded : ℕ) (tail : List Choice) (taken steps before after : ℕ) (tables_before tables : Option (List (List Try))) : Type 0 where
+  pub recovered : HasRecovered rules image keeping began now coming takes end noted_before noted_now recorded tail taken steps before after
   pub watched : TellsMore tables_before tables
-      (AreAllTables rules image recovered.served.session.earlier recovered.served.session.since recovered.served.session.survivor recovered.recoveries recovered.trials recovered.last end)
+      (AreAllTables rules image keeping recovered.served.session.earlier recovered.served.session.since recovered.served.session.survivor recovered.recoveries recovered.trials recovered.last end)

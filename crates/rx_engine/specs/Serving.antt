@@ -18,7 +18,7 @@ use Rattle.block_book.specs.declared.choice.Choice.{Choice}
 use Rattle.guest_cpu.specs.declared.event.Event.{Event}
 use Rattle.guest_cpu.specs.declared.event.Event.TheVariants as step
 use Rattle.guest_cpu.specs.Cpus.{live_of, with_live}
-use Rattle.guest_runs.specs.Runs.{RunsOn}
+use Rattle.guest_runs.specs.Writing.{RunsWriting}
 use Rattle.session_history.specs.Heeding.{Bounds, items_in, received}
 use Rattle.session_history.specs.Passing.{passed_in, AreInOrder}
 use Rattle.session_history.specs.Lawful.{Rules}
@@ -238,13 +238,13 @@ module _ {R : Type 0} where
     pub sends : new.replies.first ≡ old.replies.first
     pub keeping : keeping_of new ≡ keeping_of old
 
-  -- its guest ran from where the session stood between two events to this event
+  -- its guest ran from where the session stood between two events to this event, and its flags of pages say which ones it wrote on the way
   pub record HasRun (rules : Rules) (image : Image) (began : Since) (now : Told) (phases : Phases) (happened : Event) (session : SessionState R) : Type 0 where
     pub before : SessionState R
     pub between : IsBetween rules image began now phases before
     pub same : session ≡ record before { cpu = session.cpu }
     pub cpu : session.cpu ≡ with_live (live_of session.cpu) before.cpu
-    pub runs : RunsOn rules.limits (items_in rules.bounds (entries between.going.story)) between.going.story.survivor.plan between.going.story.survivor.now (Ok happened) session.cpu.slots.live
+    pub runs : RunsWriting rules.limits (items_in rules.bounds (entries between.going.story)) between.going.story.survivor.plan before.cpu.base between.going.story.survivor.now before.cpu.written (Ok happened) (live_of session.cpu)
 
   -- it stands so for some image, since some time, where its watch tells these tables
   pub record StandsBetween (rules : Rules) (now : Told) (phases : Phases) (tables : Option (List (List Try))) (session : SessionState R) : Type 0 where

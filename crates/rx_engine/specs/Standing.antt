@@ -25,7 +25,7 @@ use Rattle.session_history.specs.Ends.{IsEnd, IsWaiting, StandsAt, EndsBy, befor
 use Rattle.trial_history.specs.Tables.{Trial}
 use Rattle.trial_plan.specs.Trying.{steps_of}
 use Rattle.rx_engine.specs.Recovered.{spent, GivesUpBy, AreLastTrials, HasNoted, IsNoteFault, AreTables, AreAllTables}
-use Rattle.recovery_gate.specs.Handling.{HasHandled, stands_of}
+use Rattle.recovery_gate.specs.Handling.{HaveRings, HasHandled, stands_of}
 use Rattle.rx_engine.specs.Leaving.{HoldsCheckpoints, UnlessGaveUp, IsAtRequest, HandlesRequests, keeping_of}
 use Rattle.trial_plan.specs.Watching.{TellsMore}
 use Rattle.trial_history.specs.Episodes.{Recovery, episode_of, AreRecovered}
@@ -114,7 +114,7 @@ module _ {R : Type 0} where
     pub paths : List Path
     pub ring : KeepsRing rules image (entries story) story.survivor.plan story.survivor.now paths session.cpu session.ring session.log session.replies
     pub early : AreBehind session.recorded paths
-    pub requests : HandlesRequests rules (keeping_of session) story.recoveries story.survivor (stands_of session.cpu.slots.saved)
+    pub requests : HandlesRequests rules image (keeping_of session) story.earlier (entries story) story.recoveries story.survivor (stands_of session.cpu.slots.saved)
     pub in_force : IsInForce story.survivor.plan story.survivor.now.state.machine.taken session.env session.until
     pub past : (session.until < story.survivor.now.state.machine.taken + 4) ⊎ ((session.until ≡ story.survivor.now.state.machine.taken + 4) × AsksFor rules.limits [] story.survivor.now story.survivor.now.state.machine.taken)
 
@@ -195,19 +195,19 @@ module _ {R : Type 0} where
     pub last : List Episode
     pub last_noted : HasNotedMore noted began.noted [] last
     pub told : IsTold rules image (unwatched (record began { lost = lost; noted = noted })) now story
-    pub tables : TellsMore began.tables_before began.tables (AreAllTables rules image story.earlier story.since story.survivor story.recoveries trials last end)
+    pub tables : TellsMore began.tables_before began.tables (AreAllTables rules image (keeping_of session) story.earlier story.since story.survivor story.recoveries trials last end)
     pub answers : AnswersFor (record began { lost = lost; noted = noted }) story session
     pub received_are : logs.received session.log ≡ received rules.bounds (entries story)
     pub replies : KeepsReplies rules.bounds (entries story) None (sends story) session.replies
     pub no_trial : session.replies.trial ≡ None
     pub closed : IsCloseDone rules (moment story) (sends story)
-    pub holds : HoldsCheckpoints rules image (entries story) story.recoveries story.survivor session
-    pub handled : IsAtRequest end → HasHandled (keeping_of session) story.recoveries story.survivor (story.survivor.now.state.machine.taken + 1) (stands_of session.cpu.slots.saved)
+    pub holds : HoldsCheckpoints rules image story.earlier (entries story) story.recoveries story.survivor session
+    pub handled : IsAtRequest end → HasHandled rules image (keeping_of session) story.earlier (entries story) story.recoveries story.survivor (story.survivor.now.state.machine.taken + 1) (stands_of session.cpu.slots.saved)
     pub live : UnlessGaveUp end (session.cpu.slots.live ≡ standing_of story.survivor.now)
     pub is_end : IsEnd end
     pub stands : StandsAt rules (entries story) coming story.survivor end
-    pub tried : AreLastTrials rules image (entries_of story.earlier) story.since story.survivor trials last
-    pub gave_up : GivesUpBy rules image (entries_of story.earlier) story.since story.survivor trials end
+    pub tried : AreLastTrials rules image (keeping_of session) story.earlier story.since story.recoveries story.survivor trials last
+    pub gave_up : GivesUpBy rules image (keeping_of session) story.earlier story.since story.recoveries story.survivor trials end
 
   -- a session that was broken off, by no end of its own
   pub record IsBrokenOff (rules : Rules) (image : Image) (began : Since) (now : Told) (coming : Option Coming) (session : SessionState R) (end : Answer) : Type 0 where
@@ -218,14 +218,15 @@ module _ {R : Type 0} where
     pub pieces : AreGiven account.ending
     pub no_end : IsEnd end → ⊥
     pub recoveries : List Recovery
-    pub holds : (IsNoteFault end → ⊥) → HoldsCheckpoints rules image (before_end account) recoveries account.survivor session
-    pub handled : IsAtRequest end → HasHandled (keeping_of session) recoveries account.survivor (account.survivor.now.state.machine.taken + 1) (stands_of session.cpu.slots.saved)
+    pub holds : (IsNoteFault end → ⊥) → HoldsCheckpoints rules image account.earlier (before_end account) recoveries account.survivor session
+    pub handled : IsAtRequest end → HasHandled rules image (keeping_of session) account.earlier (before_end account) recoveries account.survivor (account.survivor.now.state.machine.taken + 1) (stands_of session.cpu.slots.saved)
     pub recovered : AreRecovered rules image [] (first_survivor image) account.earlier recoveries account.survivor
+    pub ringed : HaveRings rules image (keeping_of session) account.earlier recoveries
     pub trials : List Trial
     pub last : List Episode
-    pub tried : AreLastTrials rules image (entries_of account.earlier) account.since account.survivor trials last
+    pub tried : AreLastTrials rules image (keeping_of session) account.earlier account.since recoveries account.survivor trials last
     pub notes : HasNoted began.noted_before began.noted end account.survivor.now.choices (map episode_of recoveries ++ last) session.recorded session.choices
-    pub tables : TellsMore began.tables_before began.tables (AreAllTables rules image account.earlier account.since account.survivor recoveries trials last end)
+    pub tables : TellsMore began.tables_before began.tables (AreAllTables rules image (keeping_of session) account.earlier account.since account.survivor recoveries trials last end)
     pub taken : session.taken ≡ account.survivor.now.state.machine.taken
     pub steps : session.steps ≡ account.survivor.now.steps
     pub counted : end ≢ answer.Memory → spent recoveries + steps_of trials ≡ began.lost + account.survivor.begun.steps

@@ -34,7 +34,7 @@ impl<R: AccessRule> Session<R> {
         requires can { CanPass self.old }
         requires gives { CanGive (K.gives link.old) (K.gives_to link.old) self.old.replies }
         ensures passes { (rules : Rules) (image : Image) (began : Since) (story : Story) → IsTold rules image began (K.told link.old) story → AnswersFor began story self.old
-            → HoldsCheckpoints rules image (entries story) story.recoveries story.survivor self.old → received self.old.log ≡ heeding.received rules.bounds (entries story) → IsReady rules (sends story) (moment story) until self.old.replies
+            → HoldsCheckpoints rules image story.earlier (entries story) story.recoveries story.survivor self.old → received self.old.log ≡ heeding.received rules.bounds (entries story) → IsReady rules (sends story) (moment story) until self.old.replies
             → PassesStory rules image began (K.told link.new) (K.coming link.new) story until self.new result }
         ensures same { self.new ≡ record self.old { replies = self.new.replies } }
         ensures no_trial { self.new.replies.trial ≡ None }
@@ -57,7 +57,7 @@ impl<R: AccessRule> Session<R> {
         requires can { CanPass self.old }
         requires gives { CanGive (K.gives link.old) (K.gives_to link.old) self.old.replies }
         ensures passes { (rules : Rules) (image : Image) (began : Since) (story : Story) → rules.hold ≡ self.old.options.hold → IsTold rules image began (K.told link.old) story → AnswersFor began story self.old
-            → HoldsCheckpoints rules image (entries story) story.recoveries story.survivor self.old → received self.old.log ≡ heeding.received rules.bounds (entries story) → HasPassed rules story self.old.replies
+            → HoldsCheckpoints rules image story.earlier (entries story) story.recoveries story.survivor self.old → received self.old.log ≡ heeding.received rules.bounds (entries story) → HasPassed rules story self.old.replies
             → PassesDue rules image began (K.told link.new) (K.coming link.new) story self.new result }
         ensures same { self.new ≡ record self.old { replies = self.new.replies } }
         ensures no_trial { self.new.replies.trial ≡ None }
@@ -80,7 +80,7 @@ impl<R: AccessRule> Session<R> {
         requires opened { IsOpened self.old.replies conn }
         requires gives { CanGive (K.gives link.old) (K.gives_to link.old) self.old.replies }
         ensures passes { (rules : Rules) (image : Image) (began : Since) (story : Story) → rules.hold ≡ self.old.options.hold → IsTold rules image began (K.told link.old) story → AnswersFor began story self.old
-            → HoldsCheckpoints rules image (entries story) story.recoveries story.survivor self.old → received self.old.log ≡ heeding.received rules.bounds (entries story) → IsClosing rules (sends story) (moment story) conn self.old.replies
+            → HoldsCheckpoints rules image story.earlier (entries story) story.recoveries story.survivor self.old → received self.old.log ≡ heeding.received rules.bounds (entries story) → IsClosing rules (sends story) (moment story) conn self.old.replies
             → PassesDue rules image began (K.told link.new) (K.coming link.new) story self.new result }
         ensures same { self.new ≡ record self.old { replies = self.new.replies } }
         ensures no_trial { self.new.replies.trial ≡ None }

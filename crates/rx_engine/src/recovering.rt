@@ -5,7 +5,7 @@ ghost use Rattle.elf_image.specs.declared.image.Image.{Image};
 ghost use Rattle.notes.specs.Noting.{noted};
 ghost use Rattle.rx_engine.specs.Options.{rules_of};
 ghost use Rattle.rx_engine.specs.Standing.{Since, IsFailing};
-ghost use Rattle.rx_engine.specs.Leaving.{KeepsOldest};
+ghost use Rattle.rx_engine.specs.Leaving.{keeping_of, KeepsOldest};
 ghost use Rattle.rx_engine.specs.Serving.{CanGive, HasStopCause, HasNoteStop, IsNoteAnswer, UnlessBroken, UnlessMemory, TakesBy, BreaksOnce, StaysKnown, IsCounted, HasSameFrame, ComesBetween, StandsFailing, AdoptsBy, IsAdoptedLater, HasSameOpen, UnlessNoteStop, end_of};
 
 use crate::Session;
@@ -58,6 +58,7 @@ impl<R: AccessRule> Session<R> {
             → ComesBetween (rules_of self.old.options (R.rule self.old.cpu.rule)) image (record began { lost = lost; noted = noted (N.told_choices notes.new) (N.told_episodes notes.new); tables = W.tables watch.new }) (K.told link.new) (K.phases link.new) (K.coming link.new) (K.takes link.new) self.new result }
         ensures frame { HasSameFrame self.old self.new }
         ensures oldest { UnlessNoteStop result (KeepsOldest self.old self.new) }
+        ensures keeping { keeping_of self.new ≡ keeping_of self.old }
         ensures takes { TakesBy (K.takes link.new) result }
         ensures gives { UnlessBroken result (CanGive (K.gives link.new) (K.gives_to link.new) self.new.replies) }
         ensures coming { UnlessBroken result (StaysKnown (K.coming link.old) (K.coming link.new)) }
@@ -99,6 +100,7 @@ impl<R: AccessRule> Session<R> {
             → AdoptsBy (rules_of self.old.options (R.rule self.old.cpu.rule)) image (record began { lost = lost; tables = W.tables watch.new }) now phases coming self.old.taken cause self.new result }
         ensures frame { HasSameFrame self.old self.new }
         ensures oldest { IfOk result (λ _. KeepsOldest self.old self.new) }
+        ensures keeping { keeping_of self.new ≡ keeping_of self.old }
         ensures opened { IfOk result (λ _. HasSameOpen self.old.replies self.new.replies) }
         ensures marked { IfOk result (λ recovered. end_of self.old.taken cause recovered.adopted ≡ None → IsCounted self.new) }
         ensures least { self.new.steps + (W.ran watch.new + steps.old) ≤ W.ran watch.old + steps.new + self.old.steps }

@@ -29,7 +29,8 @@ use trial_plan::{NoWatch, Watch};
 
 impl<R: AccessRule> Session<R> {
     /// Serves a link to which no connection was opened yet, from the start of the program to an end, a fault or want of memory, and
-    /// answers how it ended. At an end all that is held back is passed. Checkpoints of the program are saved on the way. The notes are told each
+    /// answers how it ended. At an end all that is held back is passed. Checkpoints of the program are saved on the way, and at each answer each
+    /// recovery, and a walk at which it gave up, had those that the requests before it left. The notes are told each
     /// recovery, and the answers of malloc: those from before the oldest checkpoint as it is saved, and the others at an end.
     pub fn serve<K: Link, N: Notes, L: Ledger>(
         &mut self,
@@ -42,9 +43,9 @@ impl<R: AccessRule> Session<R> {
         requires takes { K.takes link.old ≡ true }
         requires gives { K.gives link.old ≡ true }
         ensures served { (image : Image) → IsBegun image self.old.options self.old.cpu.rule self.old
-            → (recovered : HasRecovered (rules_of self.old.options (R.rule self.old.cpu.rule)) image (K.told link.old) (K.told link.new) (K.coming link.new) (K.takes link.new) result (noted (N.told_choices notes.old) (N.told_episodes notes.old)) (noted (N.told_choices notes.new) (N.told_episodes notes.new)) self.new.recorded self.new.choices self.new.taken self.new.steps steps.old steps.new)
+            → (recovered : HasRecovered (rules_of self.old.options (R.rule self.old.cpu.rule)) image (keeping_for self.old.options) (K.told link.old) (K.told link.new) (K.coming link.new) (K.takes link.new) result (noted (N.told_choices notes.old) (N.told_episodes notes.old)) (noted (N.told_choices notes.new) (N.told_episodes notes.new)) self.new.recorded self.new.choices self.new.taken self.new.steps steps.old steps.new)
             × UnlessNoteFault result (HasLeft (rules_of self.old.options (R.rule self.old.cpu.rule)) image recovered.recoveries recovered.served.session self.new result) }
-        ensures keeping { (image : Image) → IsBegun image self.old.options self.old.cpu.rule self.old → UnlessNoteFault result (keeping_of self.new ≡ keeping_for self.old.options) }
+        ensures keeping { (image : Image) → IsBegun image self.old.options self.old.cpu.rule self.old → keeping_of self.new ≡ keeping_for self.old.options }
         ensures cause { HasAnswerCause (K.counts link.old) (K.counts link.new) result }
         ensures noted { HasNoteCause (N.faults notes.old) (N.faults notes.new) result }
         ensures works { UnlessNoteFault result (N.works notes.new ≡ N.works notes.old) }
@@ -61,7 +62,8 @@ impl<R: AccessRule> Session<R> {
     }
 
     /// Serves a link to which no connection was opened yet, from the start of the program to an end, a fault or want of memory, and
-    /// answers how it ended. At an end all that is held back is passed. Checkpoints of the program are saved on the way. The notes are told each
+    /// answers how it ended. At an end all that is held back is passed. Checkpoints of the program are saved on the way, and at each answer each
+    /// recovery, and a walk at which it gave up, had those that the requests before it left. The notes are told each
     /// recovery, and the answers of malloc: those from before the oldest checkpoint as it is saved, and the others at an end. The watch looks at
     /// each failure before trials are made. What it counts isn't the session's.
     pub fn serve_watched<K: Link, N: Notes, W: Watch, L: Ledger>(
@@ -76,9 +78,9 @@ impl<R: AccessRule> Session<R> {
         requires takes { K.takes link.old ≡ true }
         requires gives { K.gives link.old ≡ true }
         ensures served { (image : Image) → IsBegun image self.old.options self.old.cpu.rule self.old
-            → (watched : HasWatched (rules_of self.old.options (R.rule self.old.cpu.rule)) image (K.told link.old) (K.told link.new) (K.coming link.new) (K.takes link.new) result (noted (N.told_choices notes.old) (N.told_episodes notes.old)) (noted (N.told_choices notes.new) (N.told_episodes notes.new)) self.new.recorded self.new.choices self.new.taken self.new.steps (W.ran watch.new + steps.old) (W.ran watch.old + steps.new) (W.tables watch.old) (W.tables watch.new))
+            → (watched : HasWatched (rules_of self.old.options (R.rule self.old.cpu.rule)) image (keeping_for self.old.options) (K.told link.old) (K.told link.new) (K.coming link.new) (K.takes link.new) result (noted (N.told_choices notes.old) (N.told_episodes notes.old)) (noted (N.told_choices notes.new) (N.told_episodes notes.new)) self.new.recorded self.new.choices self.new.taken self.new.steps (W.ran watch.new + steps.old) (W.ran watch.old + steps.new) (W.tables watch.old) (W.tables watch.new))
             × UnlessNoteFault result (HasLeft (rules_of self.old.options (R.rule self.old.cpu.rule)) image watched.recovered.recoveries watched.recovered.served.session self.new result) }
-        ensures keeping { (image : Image) → IsBegun image self.old.options self.old.cpu.rule self.old → UnlessNoteFault result (keeping_of self.new ≡ keeping_for self.old.options) }
+        ensures keeping { (image : Image) → IsBegun image self.old.options self.old.cpu.rule self.old → keeping_of self.new ≡ keeping_for self.old.options }
         ensures cause { HasAnswerCause (K.counts link.old) (K.counts link.new) result }
         ensures noted { HasNoteCause (N.faults notes.old) (N.faults notes.new) result }
         ensures works { UnlessNoteFault result (N.works notes.new ≡ N.works notes.old) }
@@ -107,7 +109,7 @@ impl<R: AccessRule> Session<R> {
         ensures served { (image : Image) (began : Since) (ending : IsEnding (rules_of self.old.options (R.rule self.old.cpu.rule)) image (record began { noted = noted (N.told_choices notes.old) (N.told_episodes notes.old) }) (K.told link.old) (K.coming link.old) self.old answer)
             → (K.takes link.old ≡ false → IsAsking (rules_of self.old.options (R.rule self.old.cpu.rule)) ending.story) → (before after : ℕ) → after ≡ before + (began.lost + self.old.steps)
             → IsTrimmed self.old
-            → (watched : HasWatched (rules_of self.old.options (R.rule self.old.cpu.rule)) image began.told (K.told link.new) (K.coming link.new) (K.takes link.new) result began.noted_before (noted (N.told_choices notes.new) (N.told_episodes notes.new)) self.new.recorded self.new.choices self.new.taken self.new.steps before after began.tables_before began.tables)
+            → (watched : HasWatched (rules_of self.old.options (R.rule self.old.cpu.rule)) image (keeping_of self.new) began.told (K.told link.new) (K.coming link.new) (K.takes link.new) result began.noted_before (noted (N.told_choices notes.new) (N.told_episodes notes.new)) self.new.recorded self.new.choices self.new.taken self.new.steps before after began.tables_before began.tables)
             × UnlessNoteFault result (HasLeft (rules_of self.old.options (R.rule self.old.cpu.rule)) image watched.recovered.recoveries watched.recovered.served.session self.new result) }
         ensures cause { HasAnswerCause (K.counts link.old) (K.counts link.new) result }
         ensures noted { HasNoteCause (N.faults notes.old) (N.faults notes.new) result }
@@ -146,7 +148,7 @@ impl<R: AccessRule> Session<R> {
             → UnlessMemory result (lost + self.new.steps + (W.ran watch.new + steps.old) ≡ began.lost + self.old.cpu.slots.live.steps + (W.ran watch.old + steps.new))
             → ComesBetween (rules_of self.old.options (R.rule self.old.cpu.rule)) image (record began { lost = lost; noted = noted (N.told_choices notes.new) (N.told_episodes notes.new); tables = W.tables watch.new }) (K.told link.new) (K.phases link.new) (K.coming link.new) (K.takes link.new) self.new result }
         ensures frame { HasSameFrame self.old self.new }
-        ensures keeping { UnlessNoteStop result (keeping_of self.new ≡ keeping_of self.old) }
+        ensures keeping { keeping_of self.new ≡ keeping_of self.old }
         ensures trimmed { IsTrimmed self.old → UnlessNoteStop result (IsTrimmed self.new) }
         ensures takes { TakesBy (K.takes link.new) result }
         ensures gives { UnlessBroken result (CanGive (K.gives link.new) (K.gives_to link.new) self.new.replies) }
@@ -200,7 +202,7 @@ impl<R: AccessRule> Session<R> {
             → ComesBetween (rules_of self.old.options (R.rule self.old.cpu.rule)) image (record began { noted = noted (N.told_choices notes.new) (N.told_episodes notes.new) }) (K.told link.new) (K.phases link.new) (K.coming link.new) (K.takes link.new) self.new result }
         ensures until { self.new.until ≡ self.old.until }
         ensures frame { HasSameFrame self.old self.new }
-        ensures keeping { UnlessNoteStop result (keeping_of self.new ≡ keeping_of self.old) }
+        ensures keeping { keeping_of self.new ≡ keeping_of self.old }
         ensures trimmed { UnlessNoteStop result (IsTrimmed self.new) }
         ensures takes { TakesBy (K.takes link.new) result }
         ensures gives { UnlessBroken result (CanGive (K.gives link.new) (K.gives_to link.new) self.new.replies) }
@@ -286,6 +288,7 @@ impl<R: AccessRule> Session<R> {
         ensures options { self.new.options ≡ self.old.options }
         ensures cpu { self.new.cpu ≡ self.old.cpu }
         ensures oldest { UnlessNoteStop result (KeepsOldest self.old self.new) }
+        ensures keeping { keeping_of self.new ≡ keeping_of self.old }
         ensures takes { K.takes link.new ≡ K.takes link.old }
         ensures coming { K.coming link.new ≡ K.coming link.old }
         ensures broken { BreaksPassing result }

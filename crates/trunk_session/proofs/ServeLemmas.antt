@@ -13,17 +13,13 @@ use Rattle.run_history.specs.declared.answer.Answer.{Answer}
 use Rattle.run_history.specs.declared.answer.Answer.TheVariants as answer
 use Rattle.session_history.specs.Account.{Session, journal_of}
 use Rattle.session_history.specs.Ends.{IsEnd, EndsBy, WasAsked}
-use Rattle.recovery_gate.specs.Handling.{Keeping, HaveRings, stands_of}
-use Rattle.trial_history.specs.Episodes.{Recovery}
-use Rattle.rx_engine.specs.Sessions.{SessionState}
-use Rattle.rx_engine.specs.Leaving.{keeping_of, HasLeft}
-use Rattle.rx_engine.proofs.LeavingLemmas.{unless_note, trimmed_unless, rings_at}
+use Rattle.recovery_gate.specs.Handling.{Keeping}
 use Rattle.rx_engine.specs.Recovered.{HasRecovered, HasNoted}
 use Rattle.notes.specs.Noting.{Noted}
 use Rattle.trial_history.specs.Episodes.{episode_of}
 use Rattle.session_history.specs.Heeding.{Bounds}
 use Rattle.session_history.specs.Lawful.{Rules}
-use Rattle.rx_engine.specs.Serving.{StaysKnown, TakesAtEnd, BreaksAt, UnlessNoteFault}
+use Rattle.rx_engine.specs.Serving.{StaysKnown, TakesAtEnd, BreaksAt}
 use Rattle.trunk_wire.specs.Calls.{count_after}
 use Rattle.trunk_wire.specs.Frames.{frames}
 use Rattle.trunk_wire.specs.Going.{AreInOrder, phases_behind, Intake, IsTail, TookFrames, TakesOn, Output, WroteFrames, GivesOn}
@@ -154,9 +150,9 @@ breaks_trunk old new out later events pieces _ no_part whole once = tt
 pub serves : (rules : Rules) (keeping : Keeping) (image : Image) (old new : Intake) (out later : Output) (began : Told) (end : Answer) (noted_before noted_now : Noted) (recorded : ℕ) (tail : List Choice) (taken steps first last counted : ℕ) → IsFresh old.phases → old.took ≡ 0 → out.wrote ≡ 0
     → old.takes ≡ true → out.gives ≡ true → Countable new.told → Short later.told → began ≡ told_nothing old.told out.told → TakesOn old.takes old new → GivesOn out.gives out later
     → TakesAtEnd new.takes end → (IsEnd end → later.gives ≡ true) → (IsEnd end → StaysKnown (upcoming old) (upcoming new)) → BreaksAt (upcoming old) (upcoming new) later.gives end
-    → (recovered : HasRecovered rules image began (trunk_told (told_events new.told new.took new.phases new.takes) (told_pieces later.told later.wrote later.gives)) (upcoming new) new.takes end noted_before noted_now recorded tail taken steps first last) → UnlessNoteFault end (HaveRings keeping recovered.recoveries) → last ≡ first + counted
+    → (recovered : HasRecovered rules image keeping began (trunk_told (told_events new.told new.took new.phases new.takes) (told_pieces later.told later.wrote later.gives)) (upcoming new) new.takes end noted_before noted_now recorded tail taken steps first last) → last ≡ first + counted
     → ServesTrunk rules keeping image old.told new.told out.told later.told end noted_before noted_now recorded tail taken steps counted
-serves rules keeping image old new out later began end noted_before noted_now recorded tail taken steps first last counted is_fresh none nothing takes gives few short start taken_on given_on still gives_still known once recovered ringed count =
+serves rules keeping image old new out later began end noted_before noted_now recorded tail taken steps first last counted is_fresh none nothing takes gives few short start taken_on given_on still gives_still known once recovered count =
     let served = recovered.served in
     let went : TookFrames old new = subst (λ b. TakesOn b old new) takes taken_on in
     let wrote : WroteFrames out later = subst (λ b. GivesOn b out later) gives given_on in
@@ -168,7 +164,7 @@ serves rules keeping image old new out later began end noted_before noted_now re
       account = served.account;
       recoveries = recovered.recoveries;
       recovered = recovered.recovered;
-      ringed = ringed;
+      ringed = recovered.ringed;
       trials = recovered.trials;
       last = recovered.last;
       tried = recovered.tried;
@@ -204,11 +200,3 @@ of_session rules coming session (answer.MessageTooLong conn) ends = tt
 of_session rules coming session answer.LimitItems ends = tt
 of_session rules coming session answer.LimitEvents ends = tt
 of_session rules coming session _ ends = absurd ends.0
-
--- the rings of its recoveries, as its options say
-pub rings_served : {R : Type 0} (rules : Rules) (keeping : Keeping) (image : Image) (recoveries : List Recovery) (account : Session) (session : SessionState R) (end : Answer) → UnlessNoteFault end (keeping_of session ≡ keeping)
-    → UnlessNoteFault end (HasLeft rules image recoveries account session end) → UnlessNoteFault end (HaveRings keeping recoveries)
-rings_served rules keeping image recoveries account session end same left =
-    unless_note end (HaveRings keeping recoveries) (λ never.
-    subst (λ (k : Keeping). HaveRings k recoveries) (trimmed_unless end (keeping_of session ≡ keeping) never same)
-    (rings_at (keeping_of session) recoveries account.survivor account.survivor.now.state.machine.taken (account.survivor.now.state.machine.taken + 1) (stands_of session.cpu.slots.saved) end (trimmed_unless end (HasLeft rules image recoveries account session end) never left).requests))

@@ -9,7 +9,7 @@ use Rattle.run_history.specs.declared.answer.Answer.TheVariants as answer
 use Rattle.session_history.specs.Account.{Session, journal_of, IsAccount}
 use Rattle.session_history.specs.Ends.{IsEnd, HasCome, EndsBy, WasAsked}
 use Rattle.session_history.specs.Giving.{AreGiven}
-use Rattle.session_history.specs.Lawful.{Rules, entries_of}
+use Rattle.session_history.specs.Lawful.{Rules}
 use Rattle.session_history.specs.Serving.{first_survivor}
 use Rattle.trial_history.specs.Tables.{Trial}
 use Rattle.episodes.specs.declared.episode.Episode.{Episode}
@@ -17,7 +17,6 @@ use Rattle.notes.specs.Noting.{Noted}
 use Rattle.trial_history.specs.Episodes.{Recovery, episode_of, AreRecovered}
 use Rattle.trial_plan.specs.Trying.{steps_of}
 use Rattle.recovery_gate.specs.Handling.{Keeping, HaveRings}
-use Rattle.rx_engine.specs.Serving.{UnlessNoteFault}
 use Rattle.rx_engine.specs.Recovered.{spent, AreLastTrials, GivesUpBy, HasNoted}
 use Rattle.trunk_session.specs.Trunk.{TakesTrunk, StopsTrunk, WritesTrunk, WritesWhole, BreaksTrunk, Carries}
 
@@ -41,11 +40,11 @@ pub record ServesTrunk (rules : Rules) (keeping : Keeping) (image : Image) (sour
   pub account : IsAccount rules image session at_end
   pub recoveries : List Recovery
   pub recovered : AreRecovered rules image [] (first_survivor image) session.earlier recoveries session.survivor
-  pub ringed : UnlessNoteFault end (HaveRings keeping recoveries)
+  pub ringed : HaveRings rules image keeping session.earlier recoveries
   pub trials : List Trial
   pub last : List Episode
-  pub tried : AreLastTrials rules image (entries_of session.earlier) session.since session.survivor trials last
-  pub gave_up : GivesUpBy rules image (entries_of session.earlier) session.since session.survivor trials end
+  pub tried : AreLastTrials rules image keeping session.earlier session.since recoveries session.survivor trials last
+  pub gave_up : GivesUpBy rules image keeping session.earlier session.since recoveries session.survivor trials end
   pub all_counted : end ≢ answer.Memory → counted ≡ spent recoveries + (session.survivor.now.steps - session.survivor.begun.steps) + steps_of trials
   pub comes : at_end ≡ true → HasCome rules coming session
   pub ends : EndsBy rules coming session end

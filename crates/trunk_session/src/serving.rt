@@ -20,7 +20,8 @@ use trunk_wire::TrunkLink;
 
 /// Serves a trunk of many connections over a source and a sink with a session that was begun, and answers how it ended. The frames
 /// of events are taken from `input`, none before the program waits for an item, and no byte behind one; pieces go to `output` as
-/// frames. `notes` are told the answers of malloc and the recoveries. `alloc` is for the payloads.
+/// frames. `notes` are told the answers of malloc and the recoveries. At each answer each recovery, and a walk at which it gave up, had the
+/// checkpoints that the requests before it left. `alloc` is for the payloads.
 pub fn serve_trunk<R: AccessRule, S: Source, K: Sink, N: Notes, L: Ledger>(
     alloc: Global,
     session: &mut Session<R>,

@@ -1,4 +1,4 @@
-use Rattle.std.proofs.Common.{◌≡◌, ◌-◌, ◌<◌, ◌≤◌, Bool, true, length, sym, subst, arith}
+use Rattle.std.proofs.Common.{◌≡◌, ◌-◌, ◌<◌, ◌≤◌, Bool, true, length, sym, ap, subst, arith}
 use Rattle.ckpt_ring.specs.Rings.{from_newest}
 use Rattle.recovery_gate.specs.Rings.{KeepsRing, is_due, ring_if}
 use Rattle.trial_plan.specs.Sessions.{taken_in}
@@ -15,7 +15,7 @@ returns-clause-keeps g c rules image entries plan now paths log ledger k live as
     due_when c.args.every c.args.taken c.taken_at.result (from_newest c.args.ring.now.standing 0) c.taken_at.ensures enough in
     subst (λ (b : Bool). KeepsRing rules image entries plan now (ring_if b (length c.save.new.t.slots.saved) now paths) c.save.new.t c.save.new.self log ledger) (sym due)
     (ring_saves rules image entries plan now paths c.args.cpu.now c.save.new.t c.args.ring.now c.save.new.self log ledger c.args.ring.now.capacity c.save.ensures.saved.0 c.args.taken k live asks some goes items sends
-    c.save.ensures.saved.1 c.save.ensures.same c.save.ensures.capacity c.save.ensures.base)
+    c.save.ensures.saved.1 c.save.ensures.same c.save.ensures.capacity c.save.ensures.base (ap (λ p. p.1) c.save.ensures.fixed) (record { pages = c.sound-2.ensures.pages; written = c.sound-2.ensures.written }))
 
 pub returns-clause-handles : goal.returns-clause-handles
 returns-clause-handles g c live =

@@ -6,7 +6,7 @@ use Rattle.rx_engine.specs.Sessions.{IsBegun}
 use Rattle.trunk_wire.specs.Tellings.{told_nothing}
 use Rattle.trunk_wire.specs.TrunkLinks.{intake_of, output_of}
 use Rattle.trunk_session.specs.Serving.{ServesTrunk}
-use Rattle.trunk_session.proofs.ServeLemmas.{serves, of_session, rings_served}
+use Rattle.trunk_session.proofs.ServeLemmas.{serves, of_session}
 use Rattle.trunk_session.proofs.serving.serve_trunk.Goals as goal
 
 pub returns-clause-served : goal.returns-clause-served
@@ -19,8 +19,7 @@ returns-clause-served g c =
     λ image begun counted count.
     serves _ (keeping_for c.args.session.now.options) image (intake_of (λ s. g.S.Source.told s.now) c.make-link.result) (intake_of (λ s. g.S.Source.told s.now) c.serve.new.link) (output_of (λ s. g.K.Sink.told s.now) c.make-link.result)
     (output_of (λ s. g.K.Sink.told s.now) c.serve.new.link) _ c.serve.result _ _ _ _ _ _ c.args.steps.now c.serve.new.steps counted made.phases made.took made.wrote made.takes made.gives (g.met.S.Source.countable c.serve.new.link.source.now)
-    (g.met.K.Sink.countable c.serve.new.link.sink.now) (made.told ∙ (λ i. told_nothing (g.S.Source.told ((sym made.source) i).now) (g.K.Sink.told ((sym made.sink) i).now))) went.taken went.given c.serve.ensures.takes c.serve.ensures.gives c.serve.ensures.coming c.serve.ensures.once (c.serve.ensures.served image begun).0
-    (rings_served _ (keeping_for c.args.session.now.options) image _ _ c.serve.new.self c.serve.result (c.serve.ensures.keeping image begun) (c.serve.ensures.served image begun).1) count in
+    (g.met.K.Sink.countable c.serve.new.link.sink.now) (made.told ∙ (λ i. told_nothing (g.S.Source.told ((sym made.source) i).now) (g.K.Sink.told ((sym made.sink) i).now))) went.taken went.given c.serve.ensures.takes c.serve.ensures.gives c.serve.ensures.coming c.serve.ensures.once (c.serve.ensures.served image begun).0 count in
     search (rules, served)
 
 pub returns-clause-only : goal.returns-clause-only

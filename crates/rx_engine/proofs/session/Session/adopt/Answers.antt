@@ -7,7 +7,6 @@ use Rattle.recovery_gate.specs.Recovering.{HasToRecover}
 use Rattle.rx_engine.specs.Options.{rules_of}
 use Rattle.rx_engine.specs.Sessions.{SessionState}
 use Rattle.rx_engine.specs.Standing.{Since}
-use Rattle.rx_engine.specs.Serving.{Adopting}
 use Rattle.rx_engine.proofs.AdoptLemmas.{counts_seen, adopting_in, failure_of, failing_moved, to_recover, adopt_none, adopting_at, adopt_some, adopt_least, adopt_breaks, adopted_later}
 use Rattle.rx_engine.proofs.session.Session.adopt.Goals as goal
 
@@ -90,7 +89,7 @@ returns-in-Err-clause-adopts g c image began now phases coming lost fails none =
     let items = subst (λ (s : SessionState _). s.options.max_items ≤ 2 ^ 20) c.self.view_is c.self.invariant.few_items in
     let has = subst (λ n. HasToRecover c.self.inside.taken c.args.cause n (failure_of rules image f.going.story f.going.saved.paths) c.self.inside.cpu c.self.inside.ring c.self.inside.recorded c.self.inside.choices.items c.self.inside.log c.self.inside.replies) (sym c.pc-pc.ensures)
     (to_recover rules image before now phases c.args.cause _ f budget items) in
-    adopt_breaks rules image before now phases coming c.args.cause _ c.recover.new.cpu c.recover.new.ring c.recover.new.replies c.recover.new.choices.items lost _ f c.in-Err.ensures.fault.1
+    adopt_breaks rules image before now phases coming c.args.cause _ c.recover.new.cpu c.recover.new.ring c.recover.new.replies c.recover.new.choices.items lost _ f (c.in-Err.ensures.keeping c.self.inside.options.every) c.in-Err.ensures.fault.1
     (c.in-Err.ensures.watched (failure_of rules image f.going.story f.going.saved.paths) under has)
 
 pub returns-in-Some-clause-oldest : goal.returns-in-Some-clause-oldest
@@ -112,3 +111,13 @@ returns-in-None-clause-oldest g c = record {
   sends = c.in-Ok.ensures.ledger.first ∙ ap (λ (s : SessionState _). s.replies.first) c.self.view_is;
   keeping = c.in-Ok.ensures.keeping c.self.inside.options.every ∙ ap (λ (s : SessionState _). keeping_of s) c.self.view_is;
 }
+
+pub returns-in-Err-clause-keeping : goal.returns-in-Err-clause-keeping
+returns-in-Err-clause-keeping g c = c.in-Err.ensures.keeping c.self.inside.options.every ∙ ap (λ (s : SessionState _). keeping_of s) c.self.view_is
+
+pub returns-in-Some-clause-keeping : goal.returns-in-Some-clause-keeping
+returns-in-Some-clause-keeping g c =
+    ap (λ (s : SessionState _). keeping_of s) c.count_run.ensures ∙ (c.in-Ok.ensures.keeping c.self.inside.options.every ∙ ap (λ (s : SessionState _). keeping_of s) c.self.view_is)
+
+pub returns-in-None-clause-keeping : goal.returns-in-None-clause-keeping
+returns-in-None-clause-keeping g c = c.in-Ok.ensures.keeping c.self.inside.options.every ∙ ap (λ (s : SessionState _). keeping_of s) c.self.view_is

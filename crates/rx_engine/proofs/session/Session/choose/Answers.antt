@@ -1,5 +1,6 @@
 use Rattle.std.proofs.Common.{true, [], ◌∷◌, ◌++◌, refl, sym, ◌∙◌, ap, subst}
 use Rattle.rx_engine.specs.Options.{rules_of}
+use Rattle.rx_engine.specs.Leaving.{keeping_of}
 use Rattle.rx_engine.specs.Sessions.{SessionState}
 use Rattle.rx_engine.specs.Standing.{IsBetween}
 use Rattle.rx_engine.proofs.StoryLemmas.{still_takes}
@@ -8,7 +9,7 @@ use Rattle.rx_engine.proofs.session.Session.choose.Goals as goal
 
 pub returns-in-Err-clause-turns : goal.returns-in-Err-clause-turns
 returns-in-Err-clause-turns g c image began now phases coming h = (
-  run_breaks _ image began now phases coming _ c.args.self.now _ h (ap (λ (s : SessionState _). s.recorded) c.self.view_is) (c.in-Err.ensures.items ∙ ap (λ (s : SessionState _). s.choices) c.self.view_is) (ap (λ (s : SessionState _). s.taken) c.self.view_is)
+  run_breaks _ image began now phases coming _ c.args.self.now _ h (ap (λ (s : SessionState _). keeping_of s) c.self.view_is) (ap (λ (s : SessionState _). s.recorded) c.self.view_is) (c.in-Err.ensures.items ∙ ap (λ (s : SessionState _). s.choices) c.self.view_is) (ap (λ (s : SessionState _). s.taken) c.self.view_is)
       (ap (λ (s : SessionState _). s.steps) c.self.view_is),
   λ none. still_takes true _ refl none,
 )

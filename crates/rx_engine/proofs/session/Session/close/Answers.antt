@@ -26,11 +26,11 @@ pass_rest-requires-clause-sendable g c =
 
 pub returns-in-Err-clause-passes : goal.returns-in-Err-clause-passes
 returns-in-Err-clause-passes g c rules image began story hold told answers held count closing =
-    let stays = subst (λ (s : SessionState _). HoldsCheckpoints rules image (entries story) story.recoveries story.survivor s) (sym c.self.view_is) held in
+    let stays = subst (λ (s : SessionState _). HoldsCheckpoints rules image story.earlier (entries story) story.recoveries story.survivor s) (sym c.self.view_is) held in
     let mine = subst (λ (s : SessionState _). AnswersFor began story s) (sym c.self.view_is) answers in
     let stamp = sym (subst (λ (s : SessionState _). received s.log ≡ heeding.received rules.bounds (entries story)) (sym c.self.view_is) count) ∙ sym c.received-stamp.ensures.count in
     let here = subst (λ (s : SessionState _). IsClosing rules (sends story) (moment story) c.args.conn s.replies) (sym c.self.view_is) closing in
-    breaks_by rules image began _ _ _ story _ c.in-Err.fault c.answer_to.result told (record { low = mine.low; recorded = mine.recorded; choices = mine.choices; taken = mine.taken; steps = mine.steps }) c.answer_to.ensures (held_by rules image (entries story) story.recoveries story.survivor _ _ refl refl stays)
+    breaks_by rules image began _ _ _ story _ c.in-Err.fault c.answer_to.result told (record { low = mine.low; recorded = mine.recorded; choices = mine.choices; taken = mine.taken; steps = mine.steps }) c.answer_to.ensures (held_by rules image story.earlier (entries story) story.recoveries story.survivor _ _ refl refl stays)
     (c.in-Err.ensures.passes rules (sends story) (moment story) stamp here)
 
 pub pass_due-requires-clause-can : goal.pass_due-requires-clause-can
@@ -47,7 +47,7 @@ pass_due-requires-clause-gives g c =
 
 pub returns-clause-passes : goal.returns-clause-passes
 returns-clause-passes g c rules image began story hold told answers held count closing =
-    let stays = subst (λ (s : SessionState _). HoldsCheckpoints rules image (entries story) story.recoveries story.survivor s) (sym c.self.view_is) held in
+    let stays = subst (λ (s : SessionState _). HoldsCheckpoints rules image story.earlier (entries story) story.recoveries story.survivor s) (sym c.self.view_is) held in
     let stands = subst (λ (s : SessionState _). StandsClosing (g.K.Link.told c.args.link.now) c.args.conn s) (sym c.self.view_is) c.requires.stands in
     let low : rules.hold ≡ c.self.inside.options.hold = subst (λ (s : SessionState _). rules.hold ≡ s.options.hold) (sym c.self.view_is) hold in
     let mine = subst (λ (s : SessionState _). AnswersFor began story s) (sym c.self.view_is) answers in
@@ -61,7 +61,7 @@ returns-clause-passes g c rules image began story hold told answers held count c
     subst (HasPassed rules after) (sym c.closes.ensures)
     (rest_passed rules image began (g.K.Link.told c.pass_rest.new.link) story rest.0 c.args.conn c.self.inside.replies c.pass_rest.new.replies here (c.in_default.ensures.sends.trial ∙ stands.no_trial) rest.1 rest.2 rest.3 rest.4) in
     due_behind rules image began (g.K.Link.told c.pass_due.new.link) (g.K.Link.coming c.pass_due.new.link) story rest.0 c.pass_due.new.self c.pass_due.result rest.1
-    (c.pass_due.ensures.passes rules image began after low rest.2 (record { low = mine.low; recorded = mine.recorded; choices = mine.choices; taken = mine.taken; steps = mine.steps }) (held_by rules image (entries after) story.recoveries story.survivor _ _ refl refl (held_given rules image story _ rest.0 rest.1 stays)) (all ∙ sym (received_given rules.bounds story rest.0 rest.1)) passed)
+    (c.pass_due.ensures.passes rules image began after low rest.2 (record { low = mine.low; recorded = mine.recorded; choices = mine.choices; taken = mine.taken; steps = mine.steps }) (held_by rules image story.earlier (entries after) story.recoveries story.survivor _ _ refl refl (held_given rules image story _ rest.0 rest.1 stays)) (all ∙ sym (received_given rules.bounds story rest.0 rest.1)) passed)
 
 pub returns-in-Err-clause-broken : goal.returns-in-Err-clause-broken
 returns-in-Err-clause-broken g c = pass_answer c.in-Err.fault c.answer_to.result c.answer_to.ensures

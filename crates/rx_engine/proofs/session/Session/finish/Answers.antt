@@ -42,8 +42,8 @@ returns-in-Err-clause-served g c image since ends asked first last all trimmed =
     (c.in-Err.ensures.passes rules (sends e.story) (end_of e.story) (sym e.received_are ∙ sym c.received-stamp.ensures.count) (ending_ready rules image began _ _ _ c.args.answer 18446744073709551615 e)) both.1 here refl refl first last counts
     (λ more broken. unless_note c.answer_to.result _ (λ never. left_off rules image e.story.recoveries (ended_account e.story more broken) _ c.answer_to.result (fault_no_end c.in-Err.fault c.answer_to.result c.answer_to.ensures)
     (trimmed_still c.args.self.now _ (record { oldest = ap (λ (t : SessionState _). slice_get t.cpu.slots.saved 0) c.self.view_is; first = ap (λ (t : SessionState _). t.log.first) c.self.view_is; recorded = ap (λ (t : SessionState _). t.recorded) c.self.view_is; sends = c.in-Err.ensures.sends.first ∙ ap (λ (t : SessionState _). t.replies.first) c.self.view_is; keeping = ap (λ (t : SessionState _). keeping_of t) c.self.view_is }) trimmed)
-    (held_by rules image (entries e.story) e.story.recoveries e.story.survivor _ _ refl refl e.holds)
-    (passing_requests rules _ e.story.recoveries e.story.survivor _ c.in-Err.fault c.answer_to.result c.answer_to.ensures never e.holds.requests)))
+    (held_by rules image e.story.earlier (entries e.story) e.story.recoveries e.story.survivor _ _ refl refl e.holds)
+    (passing_requests rules image _ e.story.earlier (entries e.story) e.story.recoveries e.story.survivor _ c.in-Err.fault c.answer_to.result c.answer_to.ensures never e.holds.requests)))
 
 pub returns-in-Err-clause-gives : goal.returns-in-Err-clause-gives
 returns-in-Err-clause-gives g c is = absurd (fault_no_end c.in-Err.fault c.answer_to.result c.answer_to.ensures is)
@@ -70,7 +70,7 @@ returns-in-Err-note_rest-clause-served g c image since ends asked first last all
     let counts = subst (λ (s : SessionState _). last ≡ first + (began.lost + s.steps)) (sym c.self.view_is) all in
     let e = both.0 in
     let passes = c.in_default.ensures.passes rules (sends e.story) (end_of e.story) (sym e.received_are ∙ sym c.received-stamp.ensures.count) (ending_ready rules image began _ _ _ c.args.answer 18446744073709551615 e) in
-    subst (λ (s : SessionState _). (watched : HasWatched rules image began.told (g.K.Link.told c.pass_until.new.link) (g.K.Link.coming c.pass_until.new.link) (g.K.Link.takes c.pass_until.new.link) c.in-Err-note_rest.fault began.noted_before told s.recorded s.choices s.taken s.steps first last began.tables_before began.tables)
+    subst (λ (s : SessionState _). (watched : HasWatched rules image (keeping_of s) began.told (g.K.Link.told c.pass_until.new.link) (g.K.Link.coming c.pass_until.new.link) (g.K.Link.takes c.pass_until.new.link) c.in-Err-note_rest.fault began.noted_before told s.recorded s.choices s.taken s.steps first last began.tables_before began.tables)
     × UnlessNoteFault c.in-Err-note_rest.fault (HasLeft rules image watched.recovered.recoveries watched.recovered.served.session c.note_rest.new.self c.in-Err-note_rest.fault)) (sym c.in-Err-note_rest.ensures.noted.1)
     (finish_unnoted (λ recoveries account. UnlessNoteFault c.in-Err-note_rest.fault (HasLeft rules image recoveries account c.note_rest.new.self c.in-Err-note_rest.fault)) rules image began _ (g.K.Link.told c.pass_until.new.link) _ (g.K.Link.coming c.pass_until.new.link) (g.K.Link.takes c.pass_until.new.link) _ c.args.answer c.in-Err-note_rest.fault 18446744073709551615 c.pass_until.new.replies c.in_default.field-0 e c.in_default.ensures.coming
     passes both.1 c.in-Err-note_rest.ensures.noted.2 told c.in-Err-note_rest.ensures.noted.0 c.in-Err-note_rest.ensures.episodes first last counts (λ more broken. note_unless c.in-Err-note_rest.fault _ c.in-Err-note_rest.ensures.noted.2))
@@ -88,7 +88,7 @@ returns-clause-served g c image since ends asked first last all trimmed =
     let passes = c.in_default.ensures.passes rules (sends e.story) (end_of e.story) (sym e.received_are ∙ sym c.received-stamp.ensures.count) (ending_ready rules image began _ _ _ c.args.answer 18446744073709551615 e) in
     let low : c.self.inside.taken ≤ 18446744073709551615 = omega (arith, c.self.ranges) in
     let last_session = c.forget_sends.new.self in
-    let Whole : SessionState _ → Type 0 = λ (s : SessionState _). (watched : HasWatched rules image began.told (g.K.Link.told c.pass_until.new.link) (g.K.Link.coming c.pass_until.new.link) (g.K.Link.takes c.pass_until.new.link) c.args.answer began.noted_before told s.recorded s.choices s.taken s.steps first last began.tables_before began.tables)
+    let Whole : SessionState _ → Type 0 = λ (s : SessionState _). (watched : HasWatched rules image (keeping_of s) began.told (g.K.Link.told c.pass_until.new.link) (g.K.Link.coming c.pass_until.new.link) (g.K.Link.takes c.pass_until.new.link) c.args.answer began.noted_before told s.recorded s.choices s.taken s.steps first last began.tables_before began.tables)
     × UnlessNoteFault c.args.answer (HasLeft rules image watched.recovered.recoveries watched.recovered.served.session last_session c.args.answer) in
     let stood = subst (λ (s : SessionState _). IsTrimmed s) (sym c.self.view_is) trimmed in
     subst Whole (sym c.forget_sends.ensures.same)
@@ -97,9 +97,9 @@ returns-clause-served g c image since ends asked first last all trimmed =
     passes both.1 told c.in_default-note_rest.ensures.noted.0 c.in_default-note_rest.ensures.episodes first last counts
     (λ more broken. unless_note c.args.answer _ (λ never.
     left_end rules image e.story.recoveries (ended_account e.story more broken) _ last_session c.pass_until.new.replies c.args.answer 18446744073709551615 e.is_end stood e.holds
-    (subst (λ (t : SessionState _). HandledAt c.args.answer (HasHandled (keeping_of t) e.story.recoveries e.story.survivor e.story.survivor.now.state.machine.taken (stands_of t.cpu.slots.saved)) (HasHandled (keeping_of t) e.story.recoveries e.story.survivor (e.story.survivor.now.state.machine.taken + 1) (stands_of t.cpu.slots.saved)))
+    (subst (λ (t : SessionState _). HandledAt c.args.answer (HasHandled rules image (keeping_of t) e.story.earlier (entries e.story) e.story.recoveries e.story.survivor e.story.survivor.now.state.machine.taken (stands_of t.cpu.slots.saved)) (HasHandled rules image (keeping_of t) e.story.earlier (entries e.story) e.story.recoveries e.story.survivor (e.story.survivor.now.state.machine.taken + 1) (stands_of t.cpu.slots.saved)))
     (sym (c.forget_sends.ensures.same ∙ ap (λ (t : SessionState _). record t { replies = last_session.replies }) c.in_default-note_rest.ensures.noted.1))
-    (end_requests rules (entries e.story) _ _ e.story.recoveries e.story.survivor _ c.args.answer e.is_end e.stands e.holds.requests e.handled)) e.live
+    (end_requests rules image _ _ e.story.earlier (entries e.story) e.story.recoveries e.story.survivor _ c.args.answer e.is_end e.stands e.holds.requests e.handled)) e.live
     (ap (λ (s : SessionState _). s.cpu) c.forget_sends.ensures.same ∙ ap (λ (s : SessionState _). s.cpu) c.in_default-note_rest.ensures.noted.1)
     (ap (λ (s : SessionState _). keeping_of s) c.forget_sends.ensures.same ∙ ap (λ (s : SessionState _). keeping_of s) c.in_default-note_rest.ensures.noted.1)
     (ap (λ (s : SessionState _). s.log) c.forget_sends.ensures.same ∙ ap (λ (s : SessionState _). s.log) c.in_default-note_rest.ensures.noted.1)
@@ -112,5 +112,5 @@ forget_sends-requires g c =
     let ends = c.requires.ends in
     let e = subst (λ (s : SessionState _). IsEnding rules ends.image ends.began (g.K.Link.told c.args.link.now) (g.K.Link.coming c.args.link.now) s c.args.answer) (sym c.self.view_is) ends.is in
     let passes = c.in_default.ensures.passes rules (sends e.story) (end_of e.story) (sym e.received_are ∙ sym c.received-stamp.ensures.count) (ending_ready rules ends.image ends.began _ _ _ c.args.answer 18446744073709551615 e) in
-    let can = can_forget_sends rules ends.image (entries e.story) e.story.recoveries e.story.survivor _ e.holds c.pass_until.new.replies passes.3.0.shows.kept passes.3.0.shows.counted (c.in_default.ensures.sends.trial ∙ e.no_trial) in
+    let can = can_forget_sends rules ends.image e.story.earlier (entries e.story) e.story.recoveries e.story.survivor _ e.holds c.pass_until.new.replies passes.3.0.shows.kept passes.3.0.shows.counted (c.in_default.ensures.sends.trial ∙ e.no_trial) in
     record { can = subst (λ (s : SessionState _). CanForgetSends s) (sym c.in_default-note_rest.ensures.noted.1) (record { some = can.some; trial = can.trial; sends = can.sends }) }

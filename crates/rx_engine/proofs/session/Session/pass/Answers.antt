@@ -24,11 +24,11 @@ pass_until-requires-clause-sendable g c =
 
 pub returns-in-Err-clause-passes : goal.returns-in-Err-clause-passes
 returns-in-Err-clause-passes g c rules image began story told answers held count ready =
-    let stays = subst (λ (s : SessionState _). HoldsCheckpoints rules image (entries story) story.recoveries story.survivor s) (sym c.self.view_is) held in
+    let stays = subst (λ (s : SessionState _). HoldsCheckpoints rules image story.earlier (entries story) story.recoveries story.survivor s) (sym c.self.view_is) held in
     let mine = subst (λ (s : SessionState _). AnswersFor began story s) (sym c.self.view_is) answers in
     let stamp = sym (subst (λ (s : SessionState _). received s.log ≡ heeding.received rules.bounds (entries story)) (sym c.self.view_is) count) ∙ sym c.received-stamp.ensures.count in
     let here = subst (λ (s : SessionState _). IsReady rules (sends story) (moment story) c.args.until s.replies) (sym c.self.view_is) ready in
-    breaks_by rules image began _ _ _ story _ c.in-Err.fault c.answer_to.result told (record { low = mine.low; recorded = mine.recorded; choices = mine.choices; taken = mine.taken; steps = mine.steps }) c.answer_to.ensures (held_by rules image (entries story) story.recoveries story.survivor _ _ refl refl stays)
+    breaks_by rules image began _ _ _ story _ c.in-Err.fault c.answer_to.result told (record { low = mine.low; recorded = mine.recorded; choices = mine.choices; taken = mine.taken; steps = mine.steps }) c.answer_to.ensures (held_by rules image story.earlier (entries story) story.recoveries story.survivor _ _ refl refl stays)
     (c.in-Err.ensures.passes rules (sends story) (moment story) stamp here)
 
 pub returns-clause-passes : goal.returns-clause-passes

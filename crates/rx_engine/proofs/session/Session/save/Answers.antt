@@ -18,7 +18,7 @@ returns-clause-waits g c image began now phases waits =
     c.self.invariant.some_every (waits_goes rules image began now phases _ w) (waits_whole rules image began now phases _ w) (waits_counted rules image began now phases _ w))
     (behind_saved c.self.inside.recorded _ _ story.survivor.now w.hearing.saved.paths w.hearing.answers.low w.hearing.saved.early)
     ((λ i. keeping_by (c.checkpoint.ensures.capacity i) c.self.inside.options.every c.checkpoint.new.cpu.slots) ∙ saves_keeping _ _ c.self.inside.ring.capacity c.self.inside.options.every c.self.inside.cpu c.checkpoint.new.cpu c.checkpoint.ensures.saved)
-    (c.checkpoint.ensures.handles (waits_live rules image began now phases _ w)) (c.checkpoint.ensures.none_due (waits_live rules image began now phases _ w) c.self.invariant.some_every)
+    c.checkpoint.ensures.counted (c.checkpoint.ensures.handles (waits_live rules image began now phases _ w)) (c.checkpoint.ensures.none_due (waits_live rules image began now phases _ w) c.self.invariant.some_every)
 
 pub returns-clause-handled : goal.returns-clause-handled
 returns-clause-handled g c = c.checkpoint.ensures.none_due (waits_live _ c.requires.waits.2.image c.requires.waits.2.began c.requires.waits.0 c.requires.waits.1 _ (moved (sym c.self.view_is) c.requires.waits.2.is)) c.self.invariant.some_every

@@ -12,7 +12,8 @@ use Rattle.rx_engine.proofs.session.Session.save_start.Goals as goal
 
 pub returns-clause-keeps : goal.returns-clause-keeps
 returns-clause-keeps g c rules image begun =
-    c.begin_ring.ensures.keeps rules image c.args.self.now.log c.args.self.now.replies (ap (λ (s : SessionState _). s.cpu.slots.live) c.self.view_is ∙ starts_at image c.args.self.now begun) (ap (λ (log : Log). log.first) begun.log)
+    c.begin_ring.ensures.keeps rules image c.args.self.now.log c.args.self.now.replies (ap (λ (s : SessionState _). s.cpu.slots.live) c.self.view_is ∙ starts_at image c.args.self.now begun)
+    (ap (λ (s : SessionState _). s.cpu.base) c.self.view_is ∙ begun.cpu.base_is) (ap (λ (log : Log). log.first) begun.log)
     (ap (λ (ledger : Ledger). ledger.first) begun.replies)
 
 pub returns-clause-first : goal.returns-clause-first

@@ -1,6 +1,7 @@
 use Rattle.std.proofs.Common.{true, refl, sym, ◌∙◌, ap, subst}
 use Rattle.reply_ledger.specs.Ledger.{NotBefore, times_of}
 use Rattle.rx_engine.specs.Options.{rules_of}
+use Rattle.rx_engine.specs.Leaving.{keeping_of}
 use Rattle.rx_engine.specs.Sessions.{SessionState}
 use Rattle.rx_engine.specs.Standing.{entries}
 use Rattle.rx_engine.proofs.GuestLemmas.{received_is}
@@ -17,7 +18,7 @@ sent-requires-clause-later g c =
 
 pub returns-in-Err-clause-turns : goal.returns-in-Err-clause-turns
 returns-in-Err-clause-turns g c image began h =
-    (run_breaks _ image began _ _ _ _ c.args.self.now _ h (ap (λ (s : SessionState _). s.recorded) c.self.view_is) (ap (λ (s : SessionState _). s.choices) c.self.view_is) (ap (λ (s : SessionState _). s.taken) c.self.view_is) (ap (λ (s : SessionState _). s.steps) c.self.view_is), λ none. still_takes true _ refl none)
+    (run_breaks _ image began _ _ _ _ c.args.self.now _ h (ap (λ (s : SessionState _). keeping_of s) c.self.view_is) (ap (λ (s : SessionState _). s.recorded) c.self.view_is) (ap (λ (s : SessionState _). s.choices) c.self.view_is) (ap (λ (s : SessionState _). s.taken) c.self.view_is) (ap (λ (s : SessionState _). s.steps) c.self.view_is), λ none. still_takes true _ refl none)
 
 pub pass_due-requires-clause-can : goal.pass_due-requires-clause-can
 pass_due-requires-clause-can g c =

@@ -9,6 +9,7 @@ use Rattle.notes.specs.Noting.{noted}
 use Rattle.reply_ledger.specs.Ledger.{Ledger}
 use Rattle.rx_engine.specs.declared.stop.Stop.{Stop}
 use Rattle.rx_engine.specs.Serving.{CanGive, StopsBy, IsCounted, UnlessNoteFault, UnlessNoteStop}
+use Rattle.rx_engine.proofs.TableLemmas.{watched_kept}
 use Rattle.rx_engine.proofs.EndLemmas.{served_off}
 use Rattle.rx_engine.proofs.FrameLemmas.{same_rules}
 use Rattle.rx_engine.proofs.HearingLemmas.{cause_then, stops_under}
@@ -89,11 +90,12 @@ returns-in-Err-Breaks-clause-served g c image is =
     let off = stops_under image (told_since (g.K.Link.told c.args.link.now) (noted (g.N.Notes.told_choices c.args.notes.now) (g.N.Notes.told_episodes c.args.notes.now)) (noted (g.N.Notes.told_choices c.turn.new.notes) (g.N.Notes.told_episodes c.turn.new.notes)) (g.W.Watch.tables c.args.watch.now) (g.W.Watch.tables c.turn.new.watch) (lost_then c.turns.invariant.lost c.turns.self.cpu.slots.live.steps c.turn.new.self.steps (g.W.Watch.ran c.turn.new.watch + c.turns.steps) (g.W.Watch.ran c.turns.watch + c.turn.new.steps))) (g.K.Link.told c.turn.new.link) (g.K.Link.coming c.turn.new.link) (g.K.Link.takes c.turn.new.link) c.turn.new.self (Breaks c.in-Err-Breaks.answer) here rules same
     (subst (λ why. StopsBy here image (told_since (g.K.Link.told c.args.link.now) (noted (g.N.Notes.told_choices c.args.notes.now) (g.N.Notes.told_episodes c.args.notes.now)) (noted (g.N.Notes.told_choices c.turn.new.notes) (g.N.Notes.told_episodes c.turn.new.notes)) (g.W.Watch.tables c.args.watch.now) (g.W.Watch.tables c.turn.new.watch) (lost_then c.turns.invariant.lost c.turns.self.cpu.slots.live.steps c.turn.new.self.steps (g.W.Watch.ran c.turn.new.watch + c.turns.steps) (g.W.Watch.ran c.turns.watch + c.turn.new.steps))) (g.K.Link.told c.turn.new.link) (g.K.Link.coming c.turn.new.link) (g.K.Link.takes c.turn.new.link) c.turn.new.self why) c.in-Err-Breaks.field-0-is
     (c.in-Err-Breaks.ensures.turns image (told_since (g.K.Link.told c.args.link.now) (noted (g.N.Notes.told_choices c.args.notes.now) (g.N.Notes.told_episodes c.args.notes.now)) (noted (g.N.Notes.told_choices c.turns.notes) (g.N.Notes.told_episodes c.turns.notes)) (g.W.Watch.tables c.args.watch.now) (g.W.Watch.tables c.turns.watch) c.turns.invariant.lost) (lost_then c.turns.invariant.lost c.turns.self.cpu.slots.live.steps c.turn.new.self.steps (g.W.Watch.ran c.turn.new.watch + c.turns.steps) (g.W.Watch.ran c.turns.watch + c.turn.new.steps)) (between_under rules here (sym same) (c.turns.invariant.stands image is)) (λ others. lost_counts c.turns.invariant.lost c.turns.self.cpu.slots.live.steps c.turn.new.self.steps (g.W.Watch.ran c.turn.new.watch + c.turns.steps) (g.W.Watch.ran c.turns.watch + c.turn.new.steps) c.in-Err-Breaks.ensures.least))) in
-    served_off (λ recoveries account. UnlessNoteFault c.in-Err-Breaks.answer (HasLeft rules image recoveries account c.turn.new.self c.in-Err-Breaks.answer)) rules image (told_since (g.K.Link.told c.args.link.now) (noted (g.N.Notes.told_choices c.args.notes.now) (g.N.Notes.told_episodes c.args.notes.now)) (noted (g.N.Notes.told_choices c.turn.new.notes) (g.N.Notes.told_episodes c.turn.new.notes)) (g.W.Watch.tables c.args.watch.now) (g.W.Watch.tables c.turn.new.watch) (lost_then c.turns.invariant.lost c.turns.self.cpu.slots.live.steps c.turn.new.self.steps (g.W.Watch.ran c.turn.new.watch + c.turns.steps) (g.W.Watch.ran c.turns.watch + c.turn.new.steps))) (g.K.Link.told c.turn.new.link) (g.K.Link.coming c.turn.new.link) (g.K.Link.takes c.turn.new.link) c.turn.new.self c.in-Err-Breaks.answer off.0 off.1 (g.W.Watch.ran c.turn.new.watch + c.args.steps.now) (g.W.Watch.ran c.args.watch.now + c.turn.new.steps) (λ others. (lost_all c.args.steps.now c.turns.invariant.lost c.turns.self.cpu.slots.live.steps c.turn.new.self.steps c.turns.steps c.turn.new.steps (g.W.Watch.ran c.args.watch.now) (g.W.Watch.ran c.turns.watch) (g.W.Watch.ran c.turn.new.watch) c.turns.invariant.counted c.in-Err-Breaks.ensures.least))
+    watched_kept (λ recoveries account. UnlessNoteFault c.in-Err-Breaks.answer (HasLeft rules image recoveries account c.turn.new.self c.in-Err-Breaks.answer)) (c.in-Err-Breaks.ensures.keeping ∙ (c.turns.invariant.keeping ∙ begun_keeping image c.args.self.now is))
+    (served_off (λ recoveries account. UnlessNoteFault c.in-Err-Breaks.answer (HasLeft rules image recoveries account c.turn.new.self c.in-Err-Breaks.answer)) rules image (told_since (g.K.Link.told c.args.link.now) (noted (g.N.Notes.told_choices c.args.notes.now) (g.N.Notes.told_episodes c.args.notes.now)) (noted (g.N.Notes.told_choices c.turn.new.notes) (g.N.Notes.told_episodes c.turn.new.notes)) (g.W.Watch.tables c.args.watch.now) (g.W.Watch.tables c.turn.new.watch) (lost_then c.turns.invariant.lost c.turns.self.cpu.slots.live.steps c.turn.new.self.steps (g.W.Watch.ran c.turn.new.watch + c.turns.steps) (g.W.Watch.ran c.turns.watch + c.turn.new.steps))) (g.K.Link.told c.turn.new.link) (g.K.Link.coming c.turn.new.link) (g.K.Link.takes c.turn.new.link) c.turn.new.self c.in-Err-Breaks.answer off.0 off.1 (g.W.Watch.ran c.turn.new.watch + c.args.steps.now) (g.W.Watch.ran c.args.watch.now + c.turn.new.steps) (λ others. (lost_all c.args.steps.now c.turns.invariant.lost c.turns.self.cpu.slots.live.steps c.turn.new.self.steps c.turns.steps c.turn.new.steps (g.W.Watch.ran c.args.watch.now) (g.W.Watch.ran c.turns.watch) (g.W.Watch.ran c.turn.new.watch) c.turns.invariant.counted c.in-Err-Breaks.ensures.least))
     (unless_note c.in-Err-Breaks.answer _ (λ never.
     left_off rules image off.0.recoveries off.0.account c.turn.new.self c.in-Err-Breaks.answer off.0.no_end
     (trimmed_unless c.in-Err-Breaks.answer (IsTrimmed c.turn.new.self) never (subst (λ (why : Stop). UnlessNoteStop (Err why) (IsTrimmed c.turn.new.self)) c.in-Err-Breaks.field-0-is (c.in-Err-Breaks.ensures.trimmed c.turns.invariant.trimmed))) (off.0.holds never)
-    (off_requests rules (keeping_of c.turn.new.self) off.0.recoveries off.0.account.survivor _ c.in-Err-Breaks.answer off.0.no_end (off.0.holds never).requests off.0.handled never (of_link rules (g.K.Link.coming c.turn.new.link) off.0.account c.in-Err-Breaks.answer off.0.ends off.0.no_end never))))
+    (off_requests rules image (keeping_of c.turn.new.self) off.0.account.earlier _ off.0.recoveries off.0.account.survivor _ c.in-Err-Breaks.answer off.0.no_end (off.0.holds never).requests off.0.handled never (of_link rules (g.K.Link.coming c.turn.new.link) off.0.account c.in-Err-Breaks.answer off.0.ends off.0.no_end never)))))
 
 pub finish-requires-clause-ends : goal.finish-requires-clause-ends
 finish-requires-clause-ends g c =
@@ -123,11 +125,13 @@ returns-in-Err-Ends-clause-served g c image is =
     let stops = stops_under image began (g.K.Link.told c.turn.new.link) (g.K.Link.coming c.turn.new.link) (g.K.Link.takes c.turn.new.link) c.turn.new.self (Ends c.in-Err-Ends.answer) here later (sym then)
     (subst (λ why. StopsBy here image began (g.K.Link.told c.turn.new.link) (g.K.Link.coming c.turn.new.link) (g.K.Link.takes c.turn.new.link) c.turn.new.self why) c.in-Err-Ends.field-0-is
     (c.in-Err-Ends.ensures.turns image (told_since (g.K.Link.told c.args.link.now) (noted (g.N.Notes.told_choices c.args.notes.now) (g.N.Notes.told_episodes c.args.notes.now)) (noted (g.N.Notes.told_choices c.turns.notes) (g.N.Notes.told_episodes c.turns.notes)) (g.W.Watch.tables c.args.watch.now) (g.W.Watch.tables c.turns.watch) c.turns.invariant.lost) (lost_then c.turns.invariant.lost c.turns.self.cpu.slots.live.steps c.turn.new.self.steps (g.W.Watch.ran c.turn.new.watch + c.turns.steps) (g.W.Watch.ran c.turns.watch + c.turn.new.steps)) (between_under rules here (sym same) (c.turns.invariant.stands image is)) (λ others. lost_counts c.turns.invariant.lost c.turns.self.cpu.slots.live.steps c.turn.new.self.steps (g.W.Watch.ran c.turn.new.watch + c.turns.steps) (g.W.Watch.ran c.turns.watch + c.turn.new.steps) c.in-Err-Ends.ensures.least))) in
-    subst
-    (λ (r : Rules). (watched : HasWatched r image began.told (g.K.Link.told c.finish.new.link) (g.K.Link.coming c.finish.new.link) (g.K.Link.takes c.finish.new.link) c.finish.result (noted (g.N.Notes.told_choices c.args.notes.now) (g.N.Notes.told_episodes c.args.notes.now)) (noted (g.N.Notes.told_choices c.finish.new.notes) (g.N.Notes.told_episodes c.finish.new.notes)) c.finish.new.self.recorded c.finish.new.self.choices c.finish.new.self.taken c.finish.new.self.steps (g.W.Watch.ran c.turn.new.watch + c.args.steps.now) (g.W.Watch.ran c.args.watch.now + c.turn.new.steps) (g.W.Watch.tables c.args.watch.now) (g.W.Watch.tables c.turn.new.watch))
+    watched_kept (λ recoveries account. UnlessNoteFault c.finish.result (HasLeft rules image recoveries account c.finish.new.self c.finish.result))
+    (ap (λ (s : SessionState _). keeping_of s) c.finish.ensures.same ∙ (c.in-Err-Ends.ensures.keeping ∙ (c.turns.invariant.keeping ∙ begun_keeping image c.args.self.now is)))
+    (subst
+    (λ (r : Rules). (watched : HasWatched r image (keeping_of c.finish.new.self) began.told (g.K.Link.told c.finish.new.link) (g.K.Link.coming c.finish.new.link) (g.K.Link.takes c.finish.new.link) c.finish.result (noted (g.N.Notes.told_choices c.args.notes.now) (g.N.Notes.told_episodes c.args.notes.now)) (noted (g.N.Notes.told_choices c.finish.new.notes) (g.N.Notes.told_episodes c.finish.new.notes)) c.finish.new.self.recorded c.finish.new.self.choices c.finish.new.self.taken c.finish.new.self.steps (g.W.Watch.ran c.turn.new.watch + c.args.steps.now) (g.W.Watch.ran c.args.watch.now + c.turn.new.steps) (g.W.Watch.tables c.args.watch.now) (g.W.Watch.tables c.turn.new.watch))
     × UnlessNoteFault c.finish.result (HasLeft r image watched.recovered.recoveries watched.recovered.served.session c.finish.new.self c.finish.result))
     (then ∙ same) (c.finish.ensures.served image began stops.0 stops.1 (g.W.Watch.ran c.turn.new.watch + c.args.steps.now) (g.W.Watch.ran c.args.watch.now + c.turn.new.steps) (lost_all c.args.steps.now c.turns.invariant.lost c.turns.self.cpu.slots.live.steps c.turn.new.self.steps c.turns.steps c.turn.new.steps (g.W.Watch.ran c.args.watch.now) (g.W.Watch.ran c.turns.watch) (g.W.Watch.ran c.turn.new.watch) c.turns.invariant.counted c.in-Err-Ends.ensures.least)
-    (subst (λ (why : Stop). UnlessNoteStop (Err why) (IsTrimmed c.turn.new.self)) c.in-Err-Ends.field-0-is (c.in-Err-Ends.ensures.trimmed c.turns.invariant.trimmed)))
+    (subst (λ (why : Stop). UnlessNoteStop (Err why) (IsTrimmed c.turn.new.self)) c.in-Err-Ends.field-0-is (c.in-Err-Ends.ensures.trimmed c.turns.invariant.trimmed))))
 
 pub returns-in-Err-Ends-clause-went : goal.returns-in-Err-Ends-clause-went
 returns-in-Err-Ends-clause-went g c =
@@ -203,14 +207,8 @@ returns-in-Err-Ends-clause-once g c =
     (known_then old before turned c.turns.invariant.known (known_ended before turned c.in-Err-Ends.field-0 c.in-Err-Ends.answer c.in-Err-Ends.field-0-is c.in-Err-Ends.ensures.coming)) c.finish.ensures.once
 
 pub returns-in-Err-Breaks-clause-keeping : goal.returns-in-Err-Breaks-clause-keeping
-returns-in-Err-Breaks-clause-keeping g c image begun =
-    unless_note c.in-Err-Breaks.answer _ (λ never.
-    trimmed_unless c.in-Err-Breaks.answer (keeping_of c.turn.new.self ≡ keeping_of c.turns.self) never (subst (λ (why : Stop). UnlessNoteStop (Err why) (keeping_of c.turn.new.self ≡ keeping_of c.turns.self)) c.in-Err-Breaks.field-0-is c.in-Err-Breaks.ensures.keeping)
-    ∙ (c.turns.invariant.keeping ∙ begun_keeping image c.args.self.now begun))
+returns-in-Err-Breaks-clause-keeping g c image begun = c.in-Err-Breaks.ensures.keeping ∙ (c.turns.invariant.keeping ∙ begun_keeping image c.args.self.now begun)
 
 pub returns-in-Err-Ends-clause-keeping : goal.returns-in-Err-Ends-clause-keeping
 returns-in-Err-Ends-clause-keeping g c image begun =
-    unless_note c.finish.result _ (λ never.
-    ap (λ (s : SessionState _). keeping_of s) c.finish.ensures.same
-    ∙ (subst (λ (why : Stop). UnlessNoteStop (Err why) (keeping_of c.turn.new.self ≡ keeping_of c.turns.self)) c.in-Err-Ends.field-0-is c.in-Err-Ends.ensures.keeping
-    ∙ (c.turns.invariant.keeping ∙ begun_keeping image c.args.self.now begun)))
+    ap (λ (s : SessionState _). keeping_of s) c.finish.ensures.same ∙ (c.in-Err-Ends.ensures.keeping ∙ (c.turns.invariant.keeping ∙ begun_keeping image c.args.self.now begun))

@@ -1,6 +1,5 @@
-use Rattle.std.proofs.Common.{◌≡◌, ◌≤◌, None, sym, ap, subst}
+use Rattle.std.proofs.Common.{◌≡◌, ◌≤◌, None, sym, subst}
 use Rattle.item_log.specs.Log.{IsItemOf}
-use Rattle.guest_cpu.specs.Standing.{Live}
 use Rattle.run_history.specs.Machine.{Wants}
 use Rattle.run_history.specs.Run.{does}
 use Rattle.rx_engine.specs.Sessions.{SessionState}
@@ -22,4 +21,4 @@ take_item-requires-clause-short g c =
 pub returns-clause-going : goal.returns-clause-going
 returns-clause-going g c image began now phases w =
     taken_going _ image began now phases c.item.result.now c.args.self.now _ c.count_run.new.self c.take_item.new.self w c.requires.handled c.self.view_is c.item.ensures.of_events c.requires.there
-    c.take_item.ensures.kept (ap (λ (live : Live). live.standing) c.take_item.ensures.live) c.count_run.ensures
+    c.take_item.ensures.kept c.take_item.ensures.live c.count_run.ensures

@@ -12,7 +12,7 @@ use Rattle.rx_engine.specs.Serving.{ComesBetween}
 use Rattle.rx_engine.proofs.StoryLemmas.{still_takes}
 use Rattle.rx_engine.proofs.HearingLemmas.{if_ok, waits_under}
 use Rattle.rx_engine.proofs.FrameLemmas.{same_rules}
-use Rattle.rx_engine.proofs.TurnLemmas.{has_run, ran_later, ran_low, emits_later, chooses_later, ran_frame, asks_now, exits_now, fails_now, breaks_now, comes_under, run_under, fails_under, later_ok, lost_none, lost_failed, further_ok, further_adopted, steps_unless}
+use Rattle.rx_engine.proofs.TurnLemmas.{has_run, ran_later, ran_low, emits_later, chooses_later, ran_frame, asks_now, exits_now, fails_now, ran_keeping, breaks_now, comes_under, run_under, fails_under, later_ok, lost_none, lost_failed, further_ok, further_adopted, steps_unless}
 use Rattle.rx_engine.proofs.RecoverLemmas.{comes_lost}
 use Rattle.rx_engine.proofs.KnownLemmas.{known_same, known_kept, takes_given, takes_chosen, once_given, once_chosen}
 use Rattle.rx_engine.proofs.session.Session.turn.Goals as goal
@@ -122,7 +122,7 @@ returns-in-Err-clause-turns g c image began lost b counts =
     let before : Since = record began { tables = g.W.Watch.tables c.args.watch.now; noted = noted (g.N.Notes.told_choices c.args.notes.now) (g.N.Notes.told_episodes c.args.notes.now) } in
     let rules : Rules = rules_of c.args.self.now.options (g.R.AccessRule.rule c.args.self.now.cpu.rule) in
     comes_lost rules image before (g.K.Link.told c.args.link.now) (g.K.Link.phases c.args.link.now) (g.K.Link.coming c.args.link.now) (g.K.Link.takes c.args.link.now) _ (Err (stop.Breaks answer.Memory)) lost (λ others. absurd (others refl))
-    (breaks_now rules image before _ (g.K.Link.phases c.args.link.now) _ c.args.self.now _ c.run_to_event.new.self c.self.view_is b, λ none. still_takes (g.K.Link.takes c.args.link.now) _ c.requires.takes none)
+    (breaks_now rules image before _ (g.K.Link.phases c.args.link.now) _ c.args.self.now _ c.run_to_event.new.self c.self.view_is (ran_keeping c.args.self.now _ c.run_to_event.new.self c.self.view_is c.run_to_event.ensures.kept) b, λ none. still_takes (g.K.Link.takes c.args.link.now) _ c.requires.takes none)
 
 pub returns-in-Ok-Emits-clause-coming : goal.returns-in-Ok-Emits-clause-coming
 returns-in-Ok-Emits-clause-coming g c = known_kept (g.K.Link.coming c.args.link.now) (g.K.Link.coming c.send.new.link) c.send.result c.send.ensures.coming
@@ -202,3 +202,6 @@ returns-in-Err-clause-least g c =
     let counted = c.run_to_event.ensures.counted in
     let low = (ran_low g.R.AccessRule.rule c.env_now-env.result c.requires.stands.image c.requires.stands.began (g.K.Link.told c.args.link.now) (g.K.Link.phases c.args.link.now) c.args.self.now _ c.run_to_event.new.self c.run_to_event.result c.env_now-env.ensures c.self.view_is c.requires.stands.is c.run_to_event.ensures.event) in
     omega (arith, view, counted, low)
+
+pub returns-in-Err-clause-keeping : goal.returns-in-Err-clause-keeping
+returns-in-Err-clause-keeping g c = ran_keeping c.args.self.now _ c.run_to_event.new.self c.self.view_is c.run_to_event.ensures.kept
