@@ -18,7 +18,7 @@ use Rattle.guest_cpu.specs.Recording.{is_usable, chosen_standing}
 use Rattle.session_history.specs.Heeding.{items_in}
 use Rattle.schedule_file.specs.declared.recorded.Recorded.{Recorded}
 use Rattle.replay.specs.Replaying.{IsReplay, IsUnusable, Unanswered, bounds_of}
-use Rattle.replay.specs.Playing.{Stage, AreOpen, AreOpenThen, IsBetween, IsWanting, IsEnd, replay_of}
+use Rattle.replay.specs.Playing.{Stage, AreOpen, AreOpenThen, IsBetween, IsWanting, IsWholeEnd, replay_of}
 use Rattle.replay.proofs.ReplayLemmas.{replay_chooses}
 
 -- in a bare heap as many blocks are live as stand
@@ -61,7 +61,7 @@ usable_allowed s choice laid_out is =
 module _ (image : Image) (recording : Recorded) (began now : Told) (phases : Phases) (stage : Stage) where
   -- a replay that has no answer to use ends there
   pub no_choice : (coming : Option Coming) → IsWanting image recording began now phases stage → IsUnusable stage.live.guest.machine (register stage.live.guest.machine 10) (slice_get recording.choices stage.live.guest.machine.allocations)
-      → IsEnd image recording began now coming true stage (answer.Mismatch stage.live.steps)
+      → IsWholeEnd image recording began now coming true stage (answer.Mismatch stage.live.steps)
   no_choice coming wanting none =
       let playing = wanting.between.playing in
       record {
@@ -72,6 +72,8 @@ module _ (image : Image) (recording : Recorded) (began now : Told) (phases : Pha
         is = playing.base.is;
         ends = (refl, Unanswered (register stage.live.guest.machine 10) wanting.shorter wanting.between.lives wanting.wants none, playing.given, λ ended. absurd (playing.base.goes_on ended));
         failed = λ no. absurd (true≢false no);
+        given = λ _. playing.given;
+        last = λ no. absurd (true≢false no);
       }
 
   -- one that has goes on

@@ -13,13 +13,15 @@ use Rattle.rx_io.specs.Prefix.{Prefix}
 use Rattle.rx_io.specs.Sends.{Send}
 use Rattle.elf_image.specs.declared.image.Image.{Image}
 use Rattle.item_log.specs.Log as logs
+use Rattle.run_history.specs.declared.answer.Answer.{Answer}
+use Rattle.run_history.specs.declared.answer.Answer.TheVariants as answer
 use Rattle.session_history.specs.Heeding.{heeded, items_in}
 use Rattle.session_history.specs.Keeping.{phase_after}
 use Rattle.session_history.proofs.Heeding.{events_in-gave, items_in-gave}
 use Rattle.schedule_file.specs.declared.recorded.Recorded.{Recorded}
-use Rattle.replay.specs.Giving.{found_gone, piece_of, AreGiven, AreGivenInPart}
+use Rattle.replay.specs.Giving.{found_gone, piece_of, AreGiven, AreGivenInPart, IsLastSend}
 use Rattle.replay.specs.Giving as giving
-use Rattle.replay.specs.Replaying.{IsReplay, AreAsked, bounds_of}
+use Rattle.replay.specs.Replaying.{IsReplay, AreAsked, EndsBy, bounds_of}
 use Rattle.replay.specs.Hearing.{answer_of}
 use Rattle.replay.specs.Playing.{Stage, has, AreOpenThen, IsBase, IsBetween, IsSending, IsEnd, replay_of}
 use Rattle.replay.proofs.ReplayLemmas.{replay_same}
@@ -153,12 +155,41 @@ module _ (image : Image) (recording : Recorded) (began now : Told) (phases : Pha
   )
 
   -- giving failed, or memory ran out
-  pub sends_broken : (later : Told) (coming : Option Coming) (why : LinkFault) → has stage.gone conn ≡ false → Gives now later conn bytes (Err why) → IsEnd image recording began later coming true stage (answer_of why)
-  sends_broken later coming (fault.Refused kind offset) is gives = absurd gives
-  sends_broken later coming fault.ReadFault is gives = absurd gives
-  sends_broken later coming fault.WriteFault is gives =
-      let parts = cut_parts later gives.0 is gives.1 gives.2 in
-      record { entries = parts.0; sends = sending.sends ++ record { conn = conn; bytes = bytes; taken = sending.stamp } ∷ []; tells = parts.1; asked = parts.3; is = parts.2; ends = parts.4; failed = λ no. absurd (true≢false no) }
-  sends_broken later coming fault.Memory is gives =
-      let parts = cut_parts later gives.0 is gives.1 gives.2 in
-      record { entries = parts.0; sends = sending.sends ++ record { conn = conn; bytes = bytes; taken = sending.stamp } ∷ []; tells = parts.1; asked = parts.3; is = parts.2; ends = parts.4; failed = λ no. absurd (true≢false no) }
+  broken : (later : Told) (coming : Option Coming) (front : List ℕ) (end : Answer) (Gave : ℕ → List ℕ → Type 0) → has stage.gone conn ≡ false → Prefix front bytes → Tells now later (cut_entries conn front) → Gave conn bytes
+      → ((sends : List Send) (entries : List Entry) → AreGivenInPart sends (pieces_in entries) → EndsBy image recording entries coming (replay_of sends stage.live) end)
+      → IsEnd image recording began later coming true false (IsLastSend began now Gave) stage end
+  broken later coming front end Gave is whole tells gave ends =
+      let parts = cut_parts later front is whole tells in
+      record {
+        entries = parts.0;
+        sends = sending.sends ++ record { conn = conn; bytes = bytes; taken = sending.stamp } ∷ [];
+        tells = parts.1;
+        asked = parts.3;
+        is = parts.2;
+        ends = ends (sending.sends ++ record { conn = conn; bytes = bytes; taken = sending.stamp } ∷ []) parts.0 parts.4;
+        failed = λ no. absurd (true≢false no);
+        given = λ no. absurd (true≢false (sym no));
+        last = λ _. record {
+          before = sending.sends;
+          last = record { conn = conn; bytes = bytes; taken = sending.stamp };
+          are = refl;
+          entries = sending.entries;
+          tells = sending.base.tells;
+          given = sending.given;
+          gave = gave;
+        };
+      }
+
+  pub sends_broken : (later : Told) (coming : Option Coming) (why : LinkFault) (Gave : ℕ → List ℕ → Type 0) → has stage.gone conn ≡ false → Gives now later conn bytes (Err why) → Gave conn bytes
+      → IsEnd image recording began later coming true false (IsLastSend began now Gave) stage (answer_of why)
+  sends_broken later coming (fault.Refused kind offset) Gave is gives gave = absurd gives
+  sends_broken later coming fault.ReadFault Gave is gives gave = absurd gives
+  sends_broken later coming fault.WriteFault Gave is gives gave = broken later coming gives.0 answer.WriteFault Gave is gives.1 gives.2 gave (λ sends entries part. part)
+  sends_broken later coming fault.Memory Gave is gives gave = broken later coming gives.0 answer.Memory Gave is gives.1 gives.2 gave (λ sends entries part. part)
+
+-- the same of a link, by what it takes and gives still
+pub broken_end : (image : Image) (recording : Recorded) (began now : Told) (coming : Option Coming) (takes gives : Bool) (Last : List Send → Type 0) (stage : Stage) (end : Answer) → takes ≡ true → gives ≡ false
+    → IsEnd image recording began now coming true false Last stage end → IsEnd image recording began now coming takes gives Last stage end
+broken_end image recording began now coming takes gives Last stage end take give is =
+    subst (λ (t : Bool). IsEnd image recording began now coming t gives Last stage end) (sym take)
+    (subst (λ (b : Bool). IsEnd image recording began now coming true b Last stage end) (sym give) is)

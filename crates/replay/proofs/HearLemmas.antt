@@ -38,7 +38,7 @@ use Rattle.replay.specs.Giving.{found_gone, AreGiven}
 use Rattle.replay.specs.Giving as giving
 use Rattle.replay.specs.Replaying.{IsReplay, IsAsking, AreAsked, Starved, bounds_of}
 use Rattle.replay.specs.Hearing.{answer_of, LogsEvent, HeedsEvent}
-use Rattle.replay.specs.Playing.{Stage, has, AreOpen, AreOpenThen, IsWaiting, WaitsBy, IsEnd, replay_of}
+use Rattle.replay.specs.Playing.{Stage, has, AreOpen, AreOpenThen, IsWaiting, WaitsBy, IsWholeEnd, replay_of}
 use Rattle.replay.proofs.ReplayLemmas.{replay_more, replay_same}
 use Rattle.replay.proofs.JournalLemmas.{asked_took, tells_on, tells_still, last_taken-took, pieces_in-took}
 use Rattle.replay.proofs.OpenLemmas.{messages_open, item_opens, stays_then}
@@ -212,7 +212,7 @@ module _ (image : Image) (recording : Recorded) (began now later : Told) (phases
       subst (IsWaiting image recording began later after) (sym did.3) (logs_event event new.log one order enters tells did.0 did.1 did.2)
   notes_event coming event new (Err answer.LimitEvents) one order enters tells did =
       let refused = limit_events (bounds_of recording) (events_in waiting.playing.entries) event (omega (arith, did.0, waiting.playing.base.events)) in
-      subst (λ (s : Stage). IsEnd image recording began later coming true s answer.LimitEvents) (sym did.1) (record {
+      subst (λ (s : Stage). IsWholeEnd image recording began later coming true s answer.LimitEvents) (sym did.1) (record {
         entries = waiting.playing.entries ++ entry.Took event ∷ [];
         sends = waiting.playing.sends;
         tells = tells_took event tells;
@@ -220,10 +220,12 @@ module _ (image : Image) (recording : Recorded) (began now later : Told) (phases
         is = refused_replay event unheeded.LimitEvents one refused;
         ends = (refused_last event unheeded.LimitEvents one refused, given_still event);
         failed = λ no. absurd (true≢false no);
+        given = λ _. given_still event;
+        last = λ no. absurd (true≢false no);
       })
   notes_event coming event new (Err (answer.MessageTooLong conn)) one order enters tells did =
       let refused = too_long (bounds_of recording) (events_in waiting.playing.entries) event stage.log waiting.playing.base.items.shows (omega (arith, did.0, waiting.playing.base.events)) did.1 in
-      subst (λ (s : Stage). IsEnd image recording began later coming true s (answer.MessageTooLong conn)) (sym did.3) (record {
+      subst (λ (s : Stage). IsWholeEnd image recording began later coming true s (answer.MessageTooLong conn)) (sym did.3) (record {
         entries = waiting.playing.entries ++ entry.Took event ∷ [];
         sends = waiting.playing.sends;
         tells = tells_took event tells;
@@ -231,10 +233,12 @@ module _ (image : Image) (recording : Recorded) (began now later : Told) (phases
         is = refused_replay event unheeded.TooLong one refused;
         ends = (record { refused = record { before = waiting.playing.entries; event = event; last = refl; no_end = not_end event one; refused = refused }; piece = did.2 }, given_still event);
         failed = λ no. absurd (true≢false no);
+        given = λ _. given_still event;
+        last = λ no. absurd (true≢false no);
       })
   notes_event coming event new (Err answer.LimitItems) one order enters tells did =
       let refused = limit_items (bounds_of recording) (events_in waiting.playing.entries) event stage.log waiting.playing.base.items.shows waiting.playing.base.items.most (omega (arith, did.0, waiting.playing.base.events)) did.1 in
-      subst (λ (s : Stage). IsEnd image recording began later coming true s answer.LimitItems) (sym did.2) (record {
+      subst (λ (s : Stage). IsWholeEnd image recording began later coming true s answer.LimitItems) (sym did.2) (record {
         entries = waiting.playing.entries ++ entry.Took event ∷ [];
         sends = waiting.playing.sends;
         tells = tells_took event tells;
@@ -242,10 +246,12 @@ module _ (image : Image) (recording : Recorded) (began now later : Told) (phases
         is = refused_replay event unheeded.LimitItems one refused;
         ends = (refused_last event unheeded.LimitItems one refused, given_still event);
         failed = λ no. absurd (true≢false no);
+        given = λ _. given_still event;
+        last = λ no. absurd (true≢false no);
       })
   notes_event coming event new (Err answer.Memory) one order enters tells did =
       let heeds = is_heeded (bounds_of recording) waiting.playing.entries event stage.log one waiting.playing.base.items (omega (arith, did.0, waiting.playing.base.events)) did.1 in
-      subst (λ (s : Stage). IsEnd image recording began later coming true s answer.Memory) (sym did.2) (record {
+      subst (λ (s : Stage). IsWholeEnd image recording began later coming true s answer.Memory) (sym did.2) (record {
         entries = waiting.playing.entries ++ entry.Took event ∷ [];
         sends = waiting.playing.sends;
         tells = tells_took event tells;
@@ -253,6 +259,8 @@ module _ (image : Image) (recording : Recorded) (began now later : Told) (phases
         is = replay_more image recording waiting.playing.entries (waiting.playing.entries ++ entry.Took event ∷ []) heeds.more (replay_of waiting.playing.sends stage.live) heeds.brings waiting.playing.base.is;
         ends = giving.All waiting.playing.sends (pieces_in (waiting.playing.entries ++ entry.Took event ∷ [])) (given_still event);
         failed = λ no. absurd (true≢false no);
+        given = λ _. given_still event;
+        last = λ no. absurd (true≢false no);
       })
   notes_event coming event new (Err answer.Finished) one order enters tells did = absurd did
   notes_event coming event new (Err (answer.Exited code)) one order enters tells did = absurd did
@@ -271,7 +279,7 @@ module _ (image : Image) (recording : Recorded) (began now later : Told) (phases
   notes_event coming event new (Err answer.FileFault) one order enters tells did = absurd did
 
   -- the link has ended
-  ends_link : (coming : Option Coming) → Tells now later (entry.Took event.Ends ∷ []) → StillComes coming (Ok event.Ends) → IsEnd image recording began later coming true stage (answer.Mismatch stage.live.steps)
+  ends_link : (coming : Option Coming) → Tells now later (entry.Took event.Ends ∷ []) → StillComes coming (Ok event.Ends) → IsWholeEnd image recording began later coming true stage (answer.Mismatch stage.live.steps)
   ends_link coming tells last =
       let entries = waiting.playing.entries in
       let still : items_in (bounds_of recording) (entries ++ entry.Took event.Ends ∷ []) ≡ items_in (bounds_of recording) entries = ap (λ events. items_of recording.frame (heeded (bounds_of recording) events)) (events_ended entries) in
@@ -283,6 +291,8 @@ module _ (image : Image) (recording : Recorded) (began now later : Told) (phases
         is = replay_same image recording entries (entries ++ entry.Took event.Ends ∷ []) (replay_of waiting.playing.sends stage.live) still waiting.playing.base.is;
         ends = (refl, Starved waiting.shorter waiting.lives waiting.asks (all_taken ∙ ap length (sym still)) (last_taken-took entries event.Ends), given_still event.Ends, λ _. last);
         failed = λ no. absurd (true≢false no);
+        given = λ _. given_still event.Ends;
+        last = λ no. absurd (true≢false no);
       }
 
   pub heeds_event : (coming : Option Coming) (event : LinkEvent) (new : Stage) (result : Result (Unit {0}) Answer) → IsInOrder phases event → ((conn : ℕ) → after conn ≡ phases_after event phases conn)
@@ -293,10 +303,10 @@ module _ (image : Image) (recording : Recorded) (began now later : Told) (phases
   heeds_event coming event.Settles new result order enters tells last did = notes_event coming event.Settles new result refl order enters tells did
   heeds_event coming event.Ends new result order enters tells last did =
       subst (WaitsBy image recording began later after coming true new) (sym did.0)
-      (subst (λ (s : Stage). IsEnd image recording began later coming true s (answer.Mismatch stage.live.steps)) (sym did.1) (ends_link coming tells last))
+      (subst (λ (s : Stage). IsWholeEnd image recording began later coming true s (answer.Mismatch stage.live.steps)) (sym did.1) (ends_link coming tells last))
 
   -- no event was taken
-  pub takes_none : (coming before : Option Coming) (takes : Bool) (why : LinkFault) → Tells now later [] → GoesBy before (Err why) → StillComes coming (Err why) → IsEnd image recording began later coming takes stage (answer_of why)
+  pub takes_none : (coming before : Option Coming) (takes : Bool) (why : LinkFault) → Tells now later [] → GoesBy before (Err why) → StillComes coming (Err why) → IsWholeEnd image recording began later coming takes stage (answer_of why)
   takes_none coming before takes (fault.Refused kind offset) tells goes last = record {
     entries = waiting.playing.entries;
     sends = waiting.playing.sends;
@@ -305,6 +315,8 @@ module _ (image : Image) (recording : Recorded) (began now later : Told) (phases
     is = waiting.playing.base.is;
     ends = (asking, last);
     failed = λ _. asking;
+    given = λ _. waiting.playing.given;
+    last = λ no. absurd (true≢false no);
   }
   takes_none coming before takes fault.ReadFault tells goes last = record {
     entries = waiting.playing.entries;
@@ -314,6 +326,8 @@ module _ (image : Image) (recording : Recorded) (began now later : Told) (phases
     is = waiting.playing.base.is;
     ends = asking;
     failed = λ _. asking;
+    given = λ _. waiting.playing.given;
+    last = λ no. absurd (true≢false no);
   }
   takes_none coming before takes fault.WriteFault tells goes last = absurd goes
   takes_none coming before takes fault.Memory tells goes last = record {
@@ -324,4 +338,6 @@ module _ (image : Image) (recording : Recorded) (began now later : Told) (phases
     is = waiting.playing.base.is;
     ends = giving.All waiting.playing.sends (pieces_in waiting.playing.entries) waiting.playing.given;
     failed = λ _. asking;
+    given = λ _. waiting.playing.given;
+    last = λ no. absurd (true≢false no);
   }

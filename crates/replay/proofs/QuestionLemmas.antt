@@ -22,7 +22,7 @@ use Rattle.replay.specs.Giving.{AreGiven}
 use Rattle.replay.specs.Giving as giving
 use Rattle.replay.specs.Judging.{judged}
 use Rattle.replay.specs.Replaying.{EndsBy, Ended, Failed, Unused, Untaken, bounds_of}
-use Rattle.replay.specs.Playing.{Stage, has, AreOpen, AreOpenThen, IsBase, IsPlaying, IsBetween, IsWaiting, IsWanting, IsSending, IsEnd, GoesOnBy, replay_of}
+use Rattle.replay.specs.Playing.{Stage, has, AreOpen, AreOpenThen, IsBase, IsPlaying, IsBetween, IsWaiting, IsWanting, IsSending, IsEnd, IsWholeEnd, TurnsBy, GoesOnBy, replay_of}
 use Rattle.replay.proofs.RunLemmas.{Ran, same_sends, with_send, ComesTo, comes_by}
 use Rattle.replay.proofs.ReplayLemmas.{replay_ran, asked_size}
 
@@ -59,8 +59,8 @@ playing_ran image recording began now phases stage later ran playing = record {
 
 module _ (image : Image) (recording : Recorded) (began now : Told) (phases : Phases) (stage : Stage) where
   -- a replay at an end, by an answer of which the facts hold
-  ended_by : (coming : Option Coming) (playing : IsPlaying image recording began now phases stage) (end : Answer) → EndsBy image recording playing.entries coming (replay_of playing.sends stage.live) end → IsEnd image recording began now coming true stage end
-  ended_by coming playing end ends = record { entries = playing.entries; sends = playing.sends; tells = playing.base.tells; asked = playing.base.asked; is = playing.base.is; ends = ends; failed = λ no. absurd (true≢false no) }
+  ended_by : (coming : Option Coming) (playing : IsPlaying image recording began now phases stage) (end : Answer) → EndsBy image recording playing.entries coming (replay_of playing.sends stage.live) end → IsWholeEnd image recording began now coming true stage end
+  ended_by coming playing end ends = record { entries = playing.entries; sends = playing.sends; tells = playing.base.tells; asked = playing.base.asked; is = playing.base.is; ends = ends; failed = λ no. absurd (true≢false no); given = λ _. playing.given; last = λ no. absurd (true≢false no) }
 
   ends_judged : (coming : Option Coming) (playing : IsPlaying image recording began now phases stage) → (stage.live.steps < recording.steps → IsSome stage.live.ended) → (all used taken : Bool) → (stage.live.steps == recording.steps) ≡ all
       → (stage.live.guest.machine.allocations == length recording.choices) ≡ used → (stage.live.guest.machine.taken == recording.taken) ≡ taken
@@ -78,22 +78,22 @@ module _ (image : Image) (recording : Recorded) (began now : Told) (phases : Pha
       (refl, Ended low (stopped low), playing.given, λ ended. absurd (playing.base.goes_on ended))
 
   -- the guest has come to its end, or to the record's
-  pub judged_end : (coming : Option Coming) → IsPlaying image recording began now phases stage → (stage.live.steps < recording.steps → IsSome stage.live.ended) → IsEnd image recording began now coming true stage (judged recording stage.live)
+  pub judged_end : (coming : Option Coming) → IsPlaying image recording began now phases stage → (stage.live.steps < recording.steps → IsSome stage.live.ended) → IsWholeEnd image recording began now coming true stage (judged recording stage.live)
   judged_end coming playing stopped =
       ended_by coming playing (judged recording stage.live)
       (ends_judged coming playing stopped (stage.live.steps == recording.steps) (stage.live.guest.machine.allocations == length recording.choices) (stage.live.guest.machine.taken == recording.taken) refl refl refl)
 
 module _ (image : Image) (recording : Recorded) (began now : Told) (phases : Phases) (stage : Stage) (between : IsBetween image recording began now phases stage) (later : Standing) where
-  pub reached_end : (coming : Option Coming) → ComesTo recording.steps stage.live question.Reached later → IsEnd image recording began now coming true (record stage { live = later }) (judged recording later)
+  pub reached_end : (coming : Option Coming) → ComesTo recording.steps stage.live question.Reached later → IsWholeEnd image recording began now coming true (record stage { live = later }) (judged recording later)
   reached_end coming comes =
       let last = comes.1 in
       judged_end image recording began now phases (record stage { live = later }) coming (playing_ran image recording began now phases stage later comes.0 between.playing) (λ low. absurd (let no : ⊥ = omega (arith, low, last) in no))
 
-  pub exits_end : (coming : Option Coming) (code : ℕ) → ComesTo recording.steps stage.live (question.Exits code) later → IsEnd image recording began now coming true (record stage { live = later }) (judged recording later)
+  pub exits_end : (coming : Option Coming) (code : ℕ) → ComesTo recording.steps stage.live (question.Exits code) later → IsWholeEnd image recording began now coming true (record stage { live = later }) (judged recording later)
   exits_end coming code comes =
       judged_end image recording began now phases (record stage { live = later }) coming (playing_ran image recording began now phases stage later comes.0 between.playing) (λ low. ap is_some comes.1)
 
-  pub failed_end : (coming : Option Coming) (cause : Cause) → ComesTo recording.steps stage.live (question.Failed cause) later → IsEnd image recording began now coming true (record stage { live = later }) (answer.Mismatch later.steps)
+  pub failed_end : (coming : Option Coming) (cause : Cause) → ComesTo recording.steps stage.live (question.Failed cause) later → IsWholeEnd image recording began now coming true (record stage { live = later }) (answer.Mismatch later.steps)
   failed_end coming cause comes =
       let playing = playing_ran image recording began now phases stage later comes.0 between.playing in
       record {
@@ -104,9 +104,11 @@ module _ (image : Image) (recording : Recorded) (began now : Told) (phases : Pha
         is = playing.base.is;
         ends = (refl, Failed cause comes.1 comes.2 comes.3, playing.given, λ ended. absurd (playing.base.goes_on ended));
         failed = λ no. absurd (true≢false no);
+        given = λ _. playing.given;
+        last = λ no. absurd (true≢false no);
       }
 
-  pub memory_end : (coming : Option Coming) → Ran recording.steps stage.live later same_sends same_sends → IsEnd image recording began now coming true (record stage { live = later }) answer.Memory
+  pub memory_end : (coming : Option Coming) → Ran recording.steps stage.live later same_sends same_sends → IsWholeEnd image recording began now coming true (record stage { live = later }) answer.Memory
   memory_end coming ran =
       let playing = playing_ran image recording began now phases stage later ran between.playing in
       record {
@@ -117,6 +119,8 @@ module _ (image : Image) (recording : Recorded) (began now : Told) (phases : Pha
         is = playing.base.is;
         ends = giving.All playing.sends (pieces_in playing.entries) playing.given;
         failed = λ no. absurd (true≢false no);
+        given = λ _. playing.given;
+        last = λ no. absurd (true≢false no);
       }
 
   pub asks_waiting : ComesTo recording.steps stage.live question.Asks later → IsWaiting image recording began now phases (record stage { live = later })
@@ -174,9 +178,29 @@ ok_always (Ok done) P holds = holds
 ok_always (Err why) P holds = tt
 
 -- where events may be taken still
-pub takes_end : (image : Image) (recording : Recorded) (began now : Told) (coming : Option Coming) (takes : Bool) (stage : Stage) (end : Answer) → takes ≡ true → IsEnd image recording began now coming true stage end → IsEnd image recording began now coming takes stage end
-takes_end image recording began now coming takes stage end still is = subst (λ (b : Bool). IsEnd image recording began now coming b stage end) (sym still) is
+pub takes_end : (image : Image) (recording : Recorded) (began now : Told) (coming : Option Coming) (takes : Bool) (stage : Stage) (end : Answer) → takes ≡ true → IsWholeEnd image recording began now coming true stage end → IsWholeEnd image recording began now coming takes stage end
+takes_end image recording began now coming takes stage end still is = subst (λ (b : Bool). IsWholeEnd image recording began now coming b stage end) (sym still) is
 
 pub takes_goes : (image : Image) (recording : Recorded) (began now : Told) (phases : Phases) (coming : Option Coming) (takes : Bool) (stage : Stage) (result : Result (Unit {0}) Answer) → takes ≡ true
     → GoesOnBy image recording began now phases coming true stage result → GoesOnBy image recording began now phases coming takes stage result
 takes_goes image recording began now phases coming takes stage result still is = subst (λ (b : Bool). GoesOnBy image recording began now phases coming b stage result) (sym still) is
+
+-- where the link gives still, whatever is said of a last send
+pub whole_end : (image : Image) (recording : Recorded) (began now : Told) (coming : Option Coming) (takes gives : Bool) (Last : List Send → Type 0) (stage : Stage) (end : Answer) → gives ≡ true
+    → IsWholeEnd image recording began now coming takes stage end → IsEnd image recording began now coming takes gives Last stage end
+whole_end image recording began now coming takes gives Last stage end still is = record {
+  entries = is.entries;
+  sends = is.sends;
+  tells = is.tells;
+  asked = is.asked;
+  is = is.is;
+  ends = is.ends;
+  failed = is.failed;
+  given = λ _. is.given refl;
+  last = λ no. absurd (true≢false (sym still ∙ no));
+}
+
+pub whole_goes : (image : Image) (recording : Recorded) (began now : Told) (phases : Phases) (coming : Option Coming) (takes gives : Bool) (Last : List Send → Type 0) (stage : Stage) (result : Result (Unit {0}) Answer) → gives ≡ true
+    → GoesOnBy image recording began now phases coming takes stage result → TurnsBy image recording began now phases coming takes gives Last stage result
+whole_goes image recording began now phases coming takes gives Last stage (Ok done) still goes = goes
+whole_goes image recording began now phases coming takes gives Last stage (Err end) still goes = whole_end image recording began now coming takes gives Last stage end still goes

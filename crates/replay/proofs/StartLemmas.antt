@@ -1,9 +1,10 @@
 -- A replay at its start, and at its end.
-use Rattle.std.proofs.Common.{◌≡◌, ℕ, ◌+◌, ◌^◌, false, [], length, drop, Option, refl, sym, ap, subst, arith, Bool, true}
+use Rattle.std.proofs.Common.{◌≡◌, ℕ, ◌+◌, ◌^◌, false, List, [], length, drop, Option, refl, sym, ap, subst, arith, Bool, true}
 use Rattle.std.specs.Prelude.{Err}
 use Rattle.std.proofs.lemmas.Bool.{both_ways}
 use Rattle.std.proofs.lemmas.List.{length-replicate}
 use Rattle.rx_io.specs.Links.{Told, Phases, Coming, Counts, IsFresh}
+use Rattle.rx_io.specs.Sends.{Send}
 use Rattle.elf_image.specs.declared.image.Image.{Image}
 use Rattle.item_log.specs.Heard.{items_of, items_from}
 use Rattle.item_log.specs.Log.{Log}
@@ -17,8 +18,9 @@ use Rattle.guest_cpu.specs.Cpus.{start_standing}
 use Rattle.session_history.specs.Heeding.{Bounds, heeded, heeded_behind, items_in}
 use Rattle.schedule_file.specs.declared.recorded.Recorded.{Recorded}
 use Rattle.replay.specs.declared.player.Player.{Player}
+use Rattle.replay.specs.Giving.{IsLastSend, BreaksOff}
 use Rattle.replay.specs.Giving as giving
-use Rattle.replay.specs.Replaying.{HasReplayed, HasAnswerCause, bounds_of}
+use Rattle.replay.specs.Replaying.{HasReplayed, HasReplayedBy, HasAnswerCause, bounds_of}
 use Rattle.replay.specs.Playing.{Stage, stage_of, has, AreOpen, AreOpenThen, IsBetween, IsEnd, HasCause, replay_of}
 use Rattle.replay.specs.Making.{IsMade}
 use Rattle.replay.proofs.ReplayLemmas.{replay_start}
@@ -86,7 +88,7 @@ pub starts_at : (image : Image) (player : Player) → player.cpu.slots.live ≡ 
 starts_at image player is = ap (λ (s : Standing). s.steps) is
 
 -- memory ran out for a player
-pub replayed_none : (image : Image) (recording : Recorded) (told : Told) (coming : Option Coming) (takes : Bool) (steps : ℕ) → takes ≡ true → HasReplayed image recording told told coming takes answer.Memory steps steps
+abbrev pub replayed_none : (image : Image) (recording : Recorded) (told : Told) (coming : Option Coming) (takes : Bool) (steps : ℕ) → takes ≡ true → HasReplayed image recording told told coming takes answer.Memory steps steps
 replayed_none image recording told coming takes steps takes_still = record {
   entries = [];
   replay = replay_of [] (start_standing image);
@@ -98,10 +100,18 @@ replayed_none image recording told coming takes steps takes_still = record {
   counted = omega arith;
 }
 
+pub replayed_none_by : (image : Image) (recording : Recorded) (told : Told) (coming : Option Coming) (takes gives : Bool) (Last : List Send → Type 0) (steps : ℕ) → takes ≡ true → gives ≡ true
+    → HasReplayedBy image recording told told coming takes gives Last answer.Memory steps steps
+replayed_none_by image recording told coming takes gives Last steps takes_still gives_still = record {
+  replayed = replayed_none image recording told coming takes steps takes_still;
+  given = λ _. giving.Nothing;
+  last = λ no. absurd (both_ways gives no gives_still);
+}
+
 -- a replay has ended
-pub replayed_by : (image : Image) (recording : Recorded) (began now : Told) (coming : Option Coming) (takes : Bool) (stage : Stage) (end : Answer) (before after : ℕ) → after ≡ before + stage.live.steps → IsEnd image recording began now coming takes stage end
-    → HasReplayed image recording began now coming takes end before after
-replayed_by image recording began now coming takes stage end before after counted is = record {
+abbrev replayed_at : (image : Image) (recording : Recorded) (began now : Told) (coming : Option Coming) (takes gives : Bool) (Last : List Send → Type 0) (stage : Stage) (end : Answer) (before after : ℕ) → after ≡ before + stage.live.steps
+    → IsEnd image recording began now coming takes gives Last stage end → HasReplayed image recording began now coming takes end before after
+replayed_at image recording began now coming takes gives Last stage end before after counted is = record {
   entries = is.entries;
   replay = replay_of is.sends stage.live;
   tells = is.tells;
@@ -111,6 +121,17 @@ replayed_by image recording began now coming takes stage end before after counte
   failed = is.failed;
   counted = counted;
 }
+
+-- giving broke off in one call, behind which the link had gone on so far
+module _ {K : Type 0} (told : K → Told) (gives : K → Bool) (Went : K → K → Type 0) (Gave : K → K → ℕ → List ℕ → Type 0) (began mid later : K) where
+  pub replayed_by : (image : Image) (recording : Recorded) (coming : Option Coming) (takes : Bool) (stage : Stage) (end : Answer) (before after : ℕ) → Went began mid → gives mid ≡ true → after ≡ before + stage.live.steps
+      → IsEnd image recording (told began) (told later) coming takes (gives later) (IsLastSend (told began) (told mid) (Gave mid later)) stage end
+      → HasReplayedBy image recording (told began) (told later) coming takes (gives later) (BreaksOff told gives Went Gave began later) end before after
+  replayed_by image recording coming takes stage end before after went still counted is = record {
+    replayed = replayed_at image recording (told began) (told later) coming takes (gives later) (IsLastSend (told began) (told mid) (Gave mid later)) stage end before after counted is;
+    given = is.given;
+    last = λ no. record { mid = mid; went = went; gives_still = still; last = is.last no };
+  }
 
 pub answer_cause : (before now : Counts) (end : Answer) → HasCause {X = Unit {0}} before now (Err end) → HasAnswerCause before now end
 answer_cause before now end cause = record { takes = cause.takes; gives = cause.gives; read_fault = λ is. cause.read_fault (ap (λ (a : Answer). Err a) is); write_fault = λ is. cause.write_fault (ap (λ (a : Answer). Err a) is) }

@@ -1,8 +1,9 @@
 -- The pieces that a replay gives, beside the sends of its run.
-use Rattle.std.specs.Prelude.{◌≡◌, ℕ, List, [], ◌∷◌, ◌++◌, Bool, true, false, ◌&&◌, ◌||◌, ◌==◌}
+use Rattle.std.specs.Prelude.{◌≡◌, ℕ, List, [], ◌∷◌, ◌++◌, Bool, true, false, Option, ◌&&◌, ◌||◌, ◌==◌}
 use Rattle.rx_io.specs.Prefix.{Prefix}
 use Rattle.rx_io.specs.Sends.{Send}
-use Rattle.rx_io.specs.Links.{Piece}
+use Rattle.rx_io.specs.Links.{Piece, Told, Tells, Handed, TellsHanded, pieces_in}
+use Rattle.rx_io.specs.declared.journal.Entry.{Entry}
 
 -- whether one of some pieces found its connection gone
 abbrev pub found_gone : ℕ → List Piece → Bool
@@ -28,3 +29,25 @@ pub data AreGivenInPart : List Send → List Piece → Type 0 where
   Unbegun : (sends : List Send) (pieces : List Piece) (send : Send) → AreGiven sends pieces → AreGivenInPart (sends ++ send ∷ []) pieces
   Begun : (sends : List Send) (pieces : List Piece) (send : Send) (front : List ℕ) → AreGiven sends pieces → found_gone send.conn pieces ≡ false → Prefix front send.bytes
       → AreGivenInPart (sends ++ send ∷ []) (pieces ++ piece_of send.conn front false ∷ [])
+
+-- What was sent last was handed to a link in one call, of which this holds. All sends before it were given by then.
+pub record IsLastSend (began was : Told) (Gave : ℕ → List ℕ → Type 0) (sends : List Send) : Type 0 where
+  pub before : List Send
+  pub last : Send
+  pub are : sends ≡ before ++ last ∷ []
+  pub entries : List Entry
+  pub tells : Tells began was entries
+  pub given : AreGiven before (pieces_in entries)
+  pub gave : Gave last.conn last.bytes
+
+-- Giving broke off at what was sent last: a link had gone on to where it gave still and all other sends were given, and behind that
+-- came the one call for this send.
+pub record BreaksOff {K : Type 0} (told : K → Told) (gives : K → Bool) (Went : K → K → Type 0) (Gave : K → K → ℕ → List ℕ → Type 0) (began now : K) (sends : List Send) : Type 0 where
+  pub mid : K
+  pub went : Went began mid
+  pub gives_still : gives mid ≡ true
+  pub last : IsLastSend (told began) (told mid) (Gave mid now) sends
+
+-- what each link says of a call: where it tells its pieces, this is the one that it was handed last
+abbrev pub WasHanded : {K : Type 0} → (K → Told) → (K → Option Handed) → K → K → ℕ → List ℕ → Type 0
+WasHanded told handed before after conn bytes = TellsHanded (told after) (handed after) conn bytes

@@ -112,8 +112,8 @@ pub record IsSending (image : Image) (recorded : Recorded) (began now : Told) (p
   pub some : 0 < length bytes
   pub few : length bytes ≤ 65535
 
--- the replay has ended with an answer
-pub record IsEnd (image : Image) (recorded : Recorded) (began now : Told) (coming : Option Coming) (takes : Bool) (stage : Stage) (end : Answer) : Type 0 where
+-- The replay has ended with an answer. All sends are given where the link gives still; where it gives no more, this holds of them.
+pub record IsEnd (image : Image) (recorded : Recorded) (began now : Told) (coming : Option Coming) (takes gives : Bool) (Last : List Send → Type 0) (stage : Stage) (end : Answer) : Type 0 where
   pub entries : List Entry
   pub sends : List Send
   pub tells : Tells began now entries
@@ -121,16 +121,31 @@ pub record IsEnd (image : Image) (recorded : Recorded) (began now : Told) (comin
   pub is : IsReplay image recorded entries (replay_of sends stage.live)
   pub ends : EndsBy image recorded entries coming (replay_of sends stage.live) end
   pub failed : takes ≡ false → IsAsking image recorded entries (replay_of sends stage.live)
+  pub given : gives ≡ true → AreGiven sends (pieces_in entries)
+  pub last : gives ≡ false → Last sends
+
+-- no send is one that wasn't given whole
+abbrev pub NoLast : List Send → Type 0
+NoLast sends = ⊥
+
+-- it has ended while the link gives still
+abbrev pub IsWholeEnd : Image → Recorded → Told → Told → Option Coming → Bool → Stage → Answer → Type 0
+IsWholeEnd image recorded began now coming takes stage end = IsEnd image recorded began now coming takes true NoLast stage end
 
 -- it goes on, or has ended
+abbrev pub TurnsBy : Image → Recorded → Told → Told → Phases → Option Coming → Bool → Bool → (List Send → Type 0) → Stage → Result (Unit {0}) Answer → Type 0
+TurnsBy image recorded began now phases coming takes gives Last stage (Ok done) = IsBetween image recorded began now phases stage
+TurnsBy image recorded began now phases coming takes gives Last stage (Err end) = IsEnd image recorded began now coming takes gives Last stage end
+
+-- the same while the link gives still
 abbrev pub GoesOnBy : Image → Recorded → Told → Told → Phases → Option Coming → Bool → Stage → Result (Unit {0}) Answer → Type 0
 GoesOnBy image recorded began now phases coming takes stage (Ok done) = IsBetween image recorded began now phases stage
-GoesOnBy image recorded began now phases coming takes stage (Err end) = IsEnd image recorded began now coming takes stage end
+GoesOnBy image recorded began now phases coming takes stage (Err end) = IsWholeEnd image recorded began now coming takes stage end
 
 -- its guest waits still, or it has ended
 abbrev pub WaitsBy : Image → Recorded → Told → Told → Phases → Option Coming → Bool → Stage → Result (Unit {0}) Answer → Type 0
 WaitsBy image recorded began now phases coming takes stage (Ok done) = IsWaiting image recorded began now phases stage
-WaitsBy image recorded began now phases coming takes stage (Err end) = IsEnd image recorded began now coming takes stage end
+WaitsBy image recorded began now phases coming takes stage (Err end) = IsWholeEnd image recorded began now coming takes stage end
 
 -- No call of the link has failed, and it tells what comes, if it did before; or the replay has ended.
 abbrev pub LeavesBy : Option Coming → Option Coming → Bool → Bool → Result (Unit {0}) Answer → Type 0

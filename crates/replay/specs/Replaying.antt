@@ -6,6 +6,7 @@ use Rattle.rx_io.specs.declared.journal.LinkEvent.{LinkEvent}
 use Rattle.rx_io.specs.declared.journal.LinkEvent.TheVariants as event
 use Rattle.rx_io.specs.Faults.{Rose}
 use Rattle.rx_io.specs.Links.{Told, Tells, Coming, Comes, Refuses, Counts, events_in, pieces_in, HasEnded}
+use Rattle.rx_io.specs.Sends.{Send}
 use Rattle.block_book.specs.declared.choice.Choice.{Choice}
 use Rattle.block_book.specs.Answer.{is_allowed}
 use Rattle.block_book.specs.Heap.{most_blocks}
@@ -104,6 +105,12 @@ pub record HasReplayed (image : Image) (recorded : Recorded) (began now : Told) 
   pub ends : EndsBy image recorded entries coming replay end
   pub failed : takes ≡ false → IsAsking image recorded entries replay
   pub counted : after ≡ before + replay.steps
+
+-- The same, and what is known of its sends: all are given where the link gives still. Where it gives no more, this holds of them.
+pub record HasReplayedBy (image : Image) (recorded : Recorded) (began now : Told) (coming : Option Coming) (takes gives : Bool) (Last : List Send → Type 0) (end : Answer) (before after : ℕ) : Type 0 where
+  pub replayed : HasReplayed image recorded began now coming takes end before after
+  pub given : gives ≡ true → AreGiven replayed.replay.state.sends (pieces_in replayed.entries)
+  pub last : gives ≡ false → Last replayed.replay.state.sends
 
 -- Which calls of its link have failed where a replay has ended: none, but at a refusal and at a fault of reading the last take, at a fault of
 -- writing the last give, and at want of memory one of both at most. A link that told what its grammar has next tells its refusal too.

@@ -3,8 +3,10 @@ ghost use Rattle.std.specs.Prelude.{◌≡◌, true, IfOk};
 ghost use Rattle.rx_io.specs.Links.{Told};
 ghost use Rattle.elf_image.specs.declared.image.Image.{Image};
 ghost use Rattle.schedule_file.specs.declared.recorded.Recorded.{Recorded};
-ghost use Rattle.replay.specs.Playing.{stage_of, IsSending, GoesOnBy, Stands, HasCause, LeavesBy};
+ghost use Rattle.replay.specs.Giving.{IsLastSend};
+ghost use Rattle.replay.specs.Playing.{stage_of, IsSending, TurnsBy, Stands, HasCause, LeavesBy};
 
+use crate::giver::Giver;
 use crate::hearing::answer_to;
 use crate::player::Player;
 use run_history::Answer;
@@ -12,8 +14,9 @@ use rx_io::{Bytes, Given, Link};
 
 impl Player {
     // Gives what the guest has just sent, as one piece. Nothing is given to a connection that was found gone.
-    pub(crate) fn send<K: Link>(
+    pub(crate) fn send<K: Link, G: Giver<K>>(
         &mut self,
+        giver: &G,
         link: &mut K,
         conn: u16,
         bytes: &Bytes,
@@ -22,7 +25,7 @@ impl Player {
         requires takes { K.takes link.old ≡ true }
         requires gives { K.gives link.old ≡ true }
         ensures sends { (image : Image) (recorded : Recorded) (began : Told) → IsSending image recorded began (K.told link.old) (K.phases link.old) conn bytes.now (stage_of self.old)
-            → GoesOnBy image recorded began (K.told link.new) (K.phases link.new) (K.coming link.new) (K.takes link.new) (stage_of self.new) result }
+            → TurnsBy image recorded began (K.told link.new) (K.phases link.new) (K.coming link.new) (K.takes link.new) (K.gives link.new) (IsLastSend began (K.told link.old) (G.Gave link.old link.new)) (stage_of self.new) result }
         ensures cpu { self.new.cpu ≡ self.old.cpu }
         ensures takes { K.takes link.new ≡ K.takes link.old }
         ensures gives { IfOk result (λ _. K.gives link.new ≡ true) }
@@ -33,7 +36,7 @@ impl Player {
         if self.gone.has(u32::from(conn)) {
             return Ok(());
         }
-        match link.give(conn, bytes.as_slice()) {
+        match giver.give(link, conn, bytes.as_slice()) {
             Ok(Given::All) => Ok(()),
             Ok(Given::Gone(_)) => {
                 self.gone.add(u32::from(conn));

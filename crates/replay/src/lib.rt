@@ -1,6 +1,7 @@
 //! A record is replayed: the run that it tells of is executed again over the same events, and its sends are given again.
 #![tactic(auto)]
 
+mod giver;
 mod giving;
 mod hearing;
 pub mod laws;
@@ -8,4 +9,5 @@ mod player;
 mod playing;
 mod replaying;
 
-pub use replaying::replay;
+pub use giver::Giver;
+pub use replaying::{replay, replay_by};

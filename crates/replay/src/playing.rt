@@ -5,9 +5,11 @@ ghost use Rattle.block_book.specs.Heap.{is_bare};
 ghost use Rattle.run_history.specs.Machine.{Chooses, register};
 ghost use Rattle.run_history.specs.Run.{does};
 ghost use Rattle.elf_image.specs.declared.image.Image.{Image};
-ghost use Rattle.replay.specs.Playing.{stage_of, IsBetween, IsWaiting, IsWanting, GoesOnBy, Stands, HasCause, HasNoFault, LeavesBy};
+ghost use Rattle.replay.specs.Giving.{IsLastSend};
+ghost use Rattle.replay.specs.Playing.{stage_of, IsBetween, IsWaiting, IsWanting, TurnsBy, GoesOnBy, Stands, HasCause, HasNoFault, LeavesBy};
 ghost use Rattle.replay.specs.Judging.{judged};
 
+use crate::giver::Giver;
 use crate::player::Player;
 use block_book::Choice;
 use guest_cpu::Question;
@@ -25,9 +27,10 @@ fn choice_at(recorded: &Recorded, number: u64) -> Option<Choice>
 
 impl Player {
     // Runs the guest to its next question, and does what it asks for.
-    pub(crate) fn turn<K: Link, L: Ledger>(
+    pub(crate) fn turn<K: Link, G: Giver<K>, L: Ledger>(
         &mut self,
         recorded: &Recorded,
+        giver: &G,
         link: &mut K,
         steps: &mut Steps<L>,
     ) -> Result<(), Answer>
@@ -36,7 +39,7 @@ impl Player {
         requires takes { K.takes link.old ≡ true }
         requires gives { K.gives link.old ≡ true }
         ensures turns { (image : Image) (began : Told) → IsBetween image recorded.now began (K.told link.old) (K.phases link.old) (stage_of self.old)
-            → GoesOnBy image recorded.now began (K.told link.new) (K.phases link.new) (K.coming link.new) (K.takes link.new) (stage_of self.new) result }
+            → TurnsBy image recorded.now began (K.told link.new) (K.phases link.new) (K.coming link.new) (K.takes link.new) (K.gives link.new) (IsLastSend began (K.told link.old) (G.Gave link.old link.new)) (stage_of self.new) result }
         ensures later { IfOk result (λ _. self.old.cpu.slots.live.steps < self.new.cpu.slots.live.steps) }
         ensures counted { steps.new + self.old.cpu.slots.live.steps ≡ steps.old + self.new.cpu.slots.live.steps }
         ensures takes { IfOk result (λ _. K.takes link.new ≡ true) }
@@ -48,7 +51,7 @@ impl Player {
         match self.cpu.run_recorded(self.alloc, recorded.steps, steps) {
             Ok(Question::Reached) => Err(self.judge(recorded)),
             Ok(Question::Asks) => self.ask(recorded, link, steps),
-            Ok(Question::Emits(conn, bytes)) => self.send(link, conn, &bytes),
+            Ok(Question::Emits(conn, bytes)) => self.send(giver, link, conn, &bytes),
             Ok(Question::Wants(_)) => self.choose(recorded, steps),
             Ok(Question::Exits(_)) => Err(self.judge(recorded)),
             Ok(Question::Failed(_)) => Err(self.mismatch()),

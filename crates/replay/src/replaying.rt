@@ -1,8 +1,10 @@
 // A record is replayed.
 ghost use Rattle.std.specs.Prelude.{◌≡◌, ◌*◌, ◌<◌, ◌^◌, true};
 ghost use Rattle.rx_io.specs.Links.{IsFresh};
-ghost use Rattle.replay.specs.Replaying.{HasReplayed, HasAnswerCause, LeavesLink};
+ghost use Rattle.replay.specs.Giving.{BreaksOff, WasHanded};
+ghost use Rattle.replay.specs.Replaying.{HasReplayedBy, HasAnswerCause, LeavesLink};
 
+use crate::giver::{AnyGiver, Giver};
 use crate::player::Player;
 use elf_image::Image;
 use run_history::Answer;
@@ -13,6 +15,9 @@ use std::sync::ledger::Ledger;
 
 /// Replays a record over a link to which no connection was opened yet: the program runs as recorded, each send is given as one piece,
 /// and an event is taken only where the run asks for an item that wasn't received.
+///
+/// All sends are given where the link gives still at the end. Where it gives no more, the last send is the piece that it was handed last, and
+/// all sends before it are given.
 ///
 /// `Finished` exactly where the run went as recorded to the record's end, and used all of the record's answers of malloc and as many
 /// items; `Mismatch` with the number of instructions after which it doesn't go on as recorded.
@@ -28,7 +33,31 @@ pub fn replay<K: Link, L: Ledger>(
     requires fresh { IsFresh (K.phases link.old) }
     requires takes { K.takes link.old ≡ true }
     requires gives { K.gives link.old ≡ true }
-    ensures replayed { HasReplayed image.now recorded.now (K.told link.old) (K.told link.new) (K.coming link.new) (K.takes link.new) result steps.old steps.new }
+    ensures replayed { HasReplayedBy image.now recorded.now (K.told link.old) (K.told link.new) (K.coming link.new) (K.takes link.new) (K.gives link.new)
+        (BreaksOff K.told K.gives K.Went (WasHanded K.told K.handed) link.old link.new) result steps.old steps.new }
+    ensures leaves { LeavesLink (K.coming link.old) (K.coming link.new) (K.takes link.new) (K.gives link.new) result }
+    ensures cause { HasAnswerCause (K.counts link.old) (K.counts link.new) result }
+    ensures went { K.Went link.old link.new }
+{
+    replay_by(alloc, image, recorded, &AnyGiver, link, steps)
+}
+
+/// The same, with who gives the sends: what is known of the one call for a send that wasn't given whole is told by the giver.
+pub fn replay_by<K: Link, G: Giver<K>, L: Ledger>(
+    alloc: Global,
+    image: &Image,
+    recorded: &Recorded,
+    giver: &G,
+    link: &mut K,
+    steps: &mut Steps<L>,
+) -> Answer
+    requires window { image.now.window ≡ recorded.now.window * 1048576 }
+    requires short { recorded.now.steps < 2 ^ 63 }
+    requires fresh { IsFresh (K.phases link.old) }
+    requires takes { K.takes link.old ≡ true }
+    requires gives { K.gives link.old ≡ true }
+    ensures replayed { HasReplayedBy image.now recorded.now (K.told link.old) (K.told link.new) (K.coming link.new) (K.takes link.new) (K.gives link.new)
+        (BreaksOff K.told K.gives K.Went G.Gave link.old link.new) result steps.old steps.new }
     ensures leaves { LeavesLink (K.coming link.old) (K.coming link.new) (K.takes link.new) (K.gives link.new) result }
     ensures cause { HasAnswerCause (K.counts link.old) (K.counts link.new) result }
     ensures went { K.Went link.old link.new }
@@ -38,7 +67,7 @@ pub fn replay<K: Link, L: Ledger>(
         Err(AllocError) => return Answer::Memory,
     };
     'turns: loop {
-        if let Err(answer) = player.turn(recorded, link, steps) {
+        if let Err(answer) = player.turn(recorded, giver, link, steps) {
             return answer;
         }
     }

@@ -1,3 +1,3 @@
-mod EndLemmas
+mod FrontLemmas
 mod SendLemmas
 mod TrunkLemmas

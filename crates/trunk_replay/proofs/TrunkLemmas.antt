@@ -13,16 +13,16 @@ use Rattle.run_history.specs.Run.{Run}
 use Rattle.rx_engine.specs.Serving.{StaysKnown}
 use Rattle.session_history.specs.Heeding.{items_in}
 use Rattle.schedule_file.specs.declared.recorded.Recorded.{Recorded}
-use Rattle.replay.specs.Replaying.{Replay, IsReplay, IsAsking, EndsBy, HasReplayed, LeavesLink, bounds_of}
+use Rattle.replay.specs.Replaying.{Replay, IsReplay, IsAsking, EndsBy, HasReplayedBy, LeavesLink, bounds_of}
 use Rattle.trunk_wire.specs.Going.{Intake, TookFrames, TakesOn, Output, WroteFrames, GivesOn}
 use Rattle.trunk_wire.specs.Tellings.{told_events, told_pieces, trunk_told, told_nothing}
-use Rattle.trunk_session.specs.Trunk.{WritesTrunk, WritesWhole, BreaksTrunk, TakesNoPart}
+use Rattle.trunk_session.specs.Trunk.{WritesWhole, BreaksTrunk, TakesNoPart}
 use Rattle.trunk_session.proofs.ReadLemmas.{Countable}
 use Rattle.trunk_session.proofs.WriteLemmas.{Short}
-use Rattle.trunk_session.proofs.StopLemmas.{HasTaken, took_whole, took_refused}
+use Rattle.trunk_session.proofs.StopLemmas.{HasTaken, took_whole, took_refused, drained}
 use Rattle.trunk_session.proofs.ServeLemmas.{upcoming, has_taken, known_still, takes_trunk, writes_trunk, writes_whole}
-use Rattle.trunk_replay.specs.Replaying.{TookReplay, TakesReplay, WritesReplay, IsRecordedRun, ReplaysTrunk}
-use Rattle.trunk_replay.proofs.EndLemmas.{drained}
+use Rattle.trunk_replay.specs.Replaying.{TookReplay, TakesReplay, WritesFront, WritesReplay, IsRecordedRun, ReplaysTrunk}
+use Rattle.trunk_replay.proofs.FrontLemmas.{front_by}
 use Rattle.trunk_replay.proofs.SendLemmas.{sends_written}
 
 stays_known : (before now : Option Coming) → (IsSome before → IsSome now) → StaysKnown before now
@@ -43,17 +43,17 @@ module _ (image : Image) (recording : Recorded) (entries : List Entry) (replay :
 
   -- what was written, by the answer
   writes_by : (coming : Option Coming) (sink later : Option (List ℕ)) (before now : Option Coming) (takes gives : Bool) (end : Answer) → EndsBy image recording entries coming replay end → LeavesLink before now takes gives end
-      → WritesTrunk sink later (pieces_in entries) → (gives ≡ true → WritesWhole sink later (pieces_in entries)) → WritesReplay sink later replay.state.sends (pieces_in entries) end
-  writes_by coming sink later before now takes gives answer.Finished ends leaves part whole = sends_written sink later replay.state.sends (pieces_in entries) ends.3 (whole leaves.1)
-  writes_by coming sink later before now takes gives (answer.Mismatch step) ends leaves part whole = sends_written sink later replay.state.sends (pieces_in entries) ends.2 (whole leaves.1)
-  writes_by coming sink later before now takes gives (answer.InputRefused kind offset) ends leaves part whole = sends_written sink later replay.state.sends (pieces_in entries) ends.0.given (whole leaves.1)
-  writes_by coming sink later before now takes gives (answer.MessageTooLong conn) ends leaves part whole = sends_written sink later replay.state.sends (pieces_in entries) ends.1 (whole leaves.1)
-  writes_by coming sink later before now takes gives answer.LimitItems ends leaves part whole = sends_written sink later replay.state.sends (pieces_in entries) ends.1 (whole leaves.1)
-  writes_by coming sink later before now takes gives answer.LimitEvents ends leaves part whole = sends_written sink later replay.state.sends (pieces_in entries) ends.1 (whole leaves.1)
-  writes_by coming sink later before now takes gives answer.ReadFault ends leaves part whole = sends_written sink later replay.state.sends (pieces_in entries) ends.given (whole leaves)
-  writes_by coming sink later before now takes gives answer.WriteFault ends leaves part whole = part
-  writes_by coming sink later before now takes gives answer.Memory ends leaves part whole = part
-  writes_by coming sink later before now takes gives _ ends leaves part whole = absurd ends
+      → WritesFront sink later replay.state.sends → (gives ≡ true → WritesWhole sink later (pieces_in entries)) → WritesReplay sink later replay.state.sends end
+  writes_by coming sink later before now takes gives answer.Finished ends leaves front whole = sends_written sink later replay.state.sends (pieces_in entries) ends.3 (whole leaves.1)
+  writes_by coming sink later before now takes gives (answer.Mismatch step) ends leaves front whole = sends_written sink later replay.state.sends (pieces_in entries) ends.2 (whole leaves.1)
+  writes_by coming sink later before now takes gives (answer.InputRefused kind offset) ends leaves front whole = sends_written sink later replay.state.sends (pieces_in entries) ends.0.given (whole leaves.1)
+  writes_by coming sink later before now takes gives (answer.MessageTooLong conn) ends leaves front whole = sends_written sink later replay.state.sends (pieces_in entries) ends.1 (whole leaves.1)
+  writes_by coming sink later before now takes gives answer.LimitItems ends leaves front whole = sends_written sink later replay.state.sends (pieces_in entries) ends.1 (whole leaves.1)
+  writes_by coming sink later before now takes gives answer.LimitEvents ends leaves front whole = sends_written sink later replay.state.sends (pieces_in entries) ends.1 (whole leaves.1)
+  writes_by coming sink later before now takes gives answer.ReadFault ends leaves front whole = sends_written sink later replay.state.sends (pieces_in entries) ends.given (whole leaves)
+  writes_by coming sink later before now takes gives answer.WriteFault ends leaves front whole = front
+  writes_by coming sink later before now takes gives answer.Memory ends leaves front whole = front
+  writes_by coming sink later before now takes gives _ ends leaves front whole = absurd ends
 
 -- what was taken, by the answer
 took_by : (image : Image) (recording : Recorded) (entries : List Entry) (replay : Replay) (new : Intake) (before : Stream) (first : Option Coming) (gives : Bool) (end : Answer) → Countable new.told → HasTaken new before (events_in entries)
@@ -98,15 +98,17 @@ module _ (image : Image) (recording : Recorded) (entries : List Entry) (replay :
 pub replays : (image : Image) (recording : Recorded) (old new : Intake) (out later : Output) (began : Told) (end : Answer) (before after counted : ℕ) → IsFresh old.phases → old.took ≡ 0 → out.wrote ≡ 0
     → old.takes ≡ true → out.gives ≡ true → Countable new.told → Short later.told → began ≡ told_nothing old.told out.told → TakesOn old.takes old new → GivesOn out.gives out later
     → LeavesLink (upcoming old) (upcoming new) new.takes later.gives end
-    → HasReplayed image recording began (trunk_told (told_events new.told new.took new.phases new.takes) (told_pieces later.told later.wrote later.gives)) (upcoming new) new.takes end before after
+    → HasReplayedBy image recording began (trunk_told (told_events new.told new.took new.phases new.takes) (told_pieces later.told later.wrote later.gives)) (upcoming new) new.takes later.gives (WritesFront out.told later.told) end before after
     → after ≡ before + counted → ReplaysTrunk image recording old.told new.told out.told later.told end counted
-replays image recording old new out later began end before after counted is_fresh none nothing takes gives few short start taken_on given_on leaves replayed count =
+replays image recording old new out later began end before after counted is_fresh none nothing takes gives few short start taken_on given_on leaves has count =
+    let replayed = has.replayed in
     let went : TookFrames old new = subst (λ b. TakesOn b old new) takes taken_on in
     let wrote : WroteFrames out later = subst (λ b. GivesOn b out later) gives given_on in
     let events = subst (λ (told : Told). Grew told.events (told_events new.told new.took new.phases new.takes) (events_in replayed.entries)) start replayed.tells.events in
     let pieces = subst (λ (told : Told). Grew told.pieces (told_pieces later.told later.wrote later.gives) (pieces_in replayed.entries)) start replayed.tells.pieces in
     let part = writes_trunk out later (pieces_in replayed.entries) nothing short wrote pieces in
     let whole : later.gives ≡ true → WritesWhole out.told later.told (pieces_in replayed.entries) = λ is. writes_whole out later (pieces_in replayed.entries) nothing short wrote is pieces in
+    let front = front_by out.told later.told replayed.replay.state.sends (pieces_in replayed.entries) later.gives has.given has.last whole in
     record {
       entries = replayed.entries;
       replay = replayed.replay;
@@ -118,6 +120,7 @@ replays image recording old new out later began end before after counted is_fres
       all_counted = let all = replayed.counted in omega (arith, all, count);
       took = takes_trunk old new (events_in replayed.entries) (IsAsking image recording replayed.entries replayed.replay) replayed.failed is_fresh none few went events;
       takes = takes_replay image recording replayed.entries replayed.replay old new is_fresh none few went events later.gives end takes leaves replayed.ends;
-      writes = writes_by image recording replayed.entries replayed.replay (upcoming new) out.told later.told (upcoming old) (upcoming new) new.takes later.gives end replayed.ends leaves part whole;
+      wrote = part;
+      writes = writes_by image recording replayed.entries replayed.replay (upcoming new) out.told later.told (upcoming old) (upcoming new) new.takes later.gives end replayed.ends leaves front whole;
       breaks = breaks_by image recording replayed.entries replayed.replay old new is_fresh none few went events (upcoming new) (upcoming old) (upcoming new) later.gives out.told later.told end replayed.ends leaves whole;
     }

@@ -3,6 +3,7 @@ use Rattle.std.specs.Prelude.{◌≡◌, ℕ, List, map, false, Option, None, So
 use Rattle.std.specs.Io.KnownBytes.{Appends}
 use Rattle.rx_io.specs.Links.{Coming, Piece, events_in, pieces_in, HasEnded}
 use Rattle.rx_io.specs.Outside.{Stream, IsDrained}
+use Rattle.rx_io.specs.Prefix.{Prefix}
 use Rattle.rx_io.specs.Sends.{Send}
 use Rattle.rx_io.specs.declared.journal.Entry.{Entry}
 use Rattle.elf_image.specs.declared.image.Image.{Image}
@@ -25,12 +26,21 @@ abbrev pub WritesSends : Option (List ℕ) → Option (List ℕ) → List Send �
 WritesSends None new sends = Unit {0}
 WritesSends (Some old) new sends = Appends (Some old) new (frames (sent_pieces sends))
 
--- What was written where a replay has ended: the frames of the sends of its run. At a fault of writing and want of memory it is the frames of
--- pieces, of which the last one may be cut.
-abbrev pub WritesReplay : Option (List ℕ) → Option (List ℕ) → List Send → List Piece → Answer → Type 0
-WritesReplay old new sends pieces answer.WriteFault = WritesTrunk old new pieces
-WritesReplay old new sends pieces answer.Memory = WritesTrunk old new pieces
-WritesReplay old new sends pieces end = WritesSends old new sends
+-- a first part of these bytes was written, perhaps none of them, perhaps all, where the sink tells its bytes
+abbrev pub WritesFirst : Option (List ℕ) → Option (List ℕ) → List ℕ → Type 0
+WritesFirst None new bytes = Unit {0}
+WritesFirst (Some old) new bytes = (written : List ℕ) × Prefix written bytes × Appends (Some old) new written
+
+-- what was written is a first part of the frames of these sends
+abbrev pub WritesFront : Option (List ℕ) → Option (List ℕ) → List Send → Type 0
+WritesFront old new sends = WritesFirst old new (frames (sent_pieces sends))
+
+-- What was written where a replay has ended: the frames of the sends of its run. At a fault of writing and want of memory it is a first part of
+-- them, and so of no other frame.
+abbrev pub WritesReplay : Option (List ℕ) → Option (List ℕ) → List Send → Answer → Type 0
+WritesReplay old new sends answer.WriteFault = WritesFront old new sends
+WritesReplay old new sends answer.Memory = WritesFront old new sends
+WritesReplay old new sends end = WritesSends old new sends
 
 -- What was taken there: the frames of events. At a refusal what is refused was taken too; at a fault of reading and want of memory perhaps a part of
 -- one frame more. At each other answer not one byte more was. At Mismatch no byte is left where the link has ended.
@@ -54,7 +64,8 @@ IsRecordedRun image recorded entries replay end = Unit {0}
 
 -- What a replay leaves that was done over a source and a sink: one account of it, what stands behind its answer, and its count of instructions. The bytes
 -- that the source lost are the frames of the account's events; a part of one more frame was asked for by the run. Those that the sink gained are
--- the frames of its sends, of which a last one may be cut at a fault of writing and at want of memory. A frame was broken off on one side at most.
+-- the frames of its pieces, of which a last one may be cut; and they are the frames of its sends, or at a fault of writing and want of memory a first
+-- part of these. A frame was broken off on one side at most.
 pub record ReplaysTrunk (image : Image) (recorded : Recorded) (source source_later : Option Stream) (sink sink_later : Option (List ℕ)) (end : Answer) (counted : ℕ) : Type 0 where
   pub entries : List Entry
   pub replay : Replay
@@ -66,5 +77,6 @@ pub record ReplaysTrunk (image : Image) (recorded : Recorded) (source source_lat
   pub all_counted : replay.steps ≡ counted
   pub took : TakesTrunk source source_later (events_in entries) coming (IsAsking image recorded entries replay)
   pub takes : TakesReplay source source_later entries end
-  pub writes : WritesReplay sink sink_later replay.state.sends (pieces_in entries) end
+  pub wrote : WritesTrunk sink sink_later (pieces_in entries)
+  pub writes : WritesReplay sink sink_later replay.state.sends end
   pub breaks : BreaksTrunk source source_later sink sink_later (events_in entries) (pieces_in entries) end

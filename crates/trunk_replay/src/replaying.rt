@@ -4,8 +4,9 @@ ghost use Rattle.rx_io.specs.Faults.{Rose};
 ghost use Rattle.run_history.specs.declared.answer.Answer.TheVariants as answer;
 ghost use Rattle.trunk_replay.specs.Replaying.{ReplaysTrunk};
 
+use crate::frame_giver::FrameGiver;
 use elf_image::Image;
-use replay::replay;
+use replay::replay_by;
 use run_history::Answer;
 use rx_io::{Sink, Source, Steps};
 use schedule_file::Recorded;
@@ -14,8 +15,8 @@ use std::sync::ledger::Ledger;
 use trunk_wire::TrunkLink;
 
 /// Replays a record over a source and a sink, and answers how that ended. The frames of events are taken from `input`, none before the
-/// run asks for an item, and no byte behind one; each send of the run goes to `output` as a frame. `alloc` is for the payloads and for the
-/// program's memory.
+/// run asks for an item, and no byte behind one; each send of the run goes to `output` as a frame. Behind a fault of writing or want of
+/// memory a first part of the frames of the sends so far was written. `alloc` is for the payloads and for the program's memory.
 pub fn replay_trunk<S: Source, K: Sink, L: Ledger>(
     alloc: Global,
     image: &Image,
@@ -36,5 +37,5 @@ pub fn replay_trunk<S: Source, K: Sink, L: Ledger>(
     ensures write_fault { result ≡ answer.WriteFault → Rose (K.faults output.old) (K.faults output.new) }
 {
     let mut link = TrunkLink::make(alloc, &mut *input, &mut *output);
-    replay(alloc, image, recorded, &mut link, steps)
+    replay_by(alloc, image, recorded, &FrameGiver, &mut link, steps)
 }

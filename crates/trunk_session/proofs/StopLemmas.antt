@@ -56,7 +56,7 @@ none_left : (phases : Phases) (at : ℕ) (bytes : List ℕ) → event_at phases 
 none_left phases at [] is = refl
 none_left phases at (byte ∷ bytes) is = absurd (front_no_end phases at (byte ∷ bytes) is)
 
-drained : (told : Option Stream) (took : ℕ) (phases : Phases) (takes : Bool) (refused : Option Refusal) → takes ≡ true → IfSome (told_coming told took phases takes refused) (λ next. next ≡ Comes event.Ends) → IsDrained told
+pub drained : (told : Option Stream) (took : ℕ) (phases : Phases) (takes : Bool) (refused : Option Refusal) → takes ≡ true → IfSome (told_coming told took phases takes refused) (λ next. next ≡ Comes event.Ends) → IsDrained told
 drained None took phases takes refused is ends = tt
 drained (Some stream) took phases true refused is ends = none_left phases took stream.left ends
 drained (Some stream) took phases false refused is ends = let no : ⊥ = cc in absurd no

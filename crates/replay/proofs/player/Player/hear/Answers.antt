@@ -3,7 +3,7 @@ use Rattle.rx_io.specs.Links.{events_in}
 use Rattle.run_history.specs.declared.answer.Answer.{Answer}
 use Rattle.event_gate.proofs.Ordering.{in_order_shown}
 use Rattle.replay.specs.Replaying.{LeavesLink}
-use Rattle.replay.specs.Playing.{IsEnd, WaitsBy, stage_of}
+use Rattle.replay.specs.Playing.{IsWholeEnd, WaitsBy, stage_of}
 use Rattle.replay.proofs.HearLemmas.{heeds_event, takes_none}
 use Rattle.replay.proofs.LeavingLemmas.{heeds_none, leaves_both, leaves_untaken, taken_known}
 use Rattle.replay.proofs.player.Player.hear.Goals as goal
@@ -21,7 +21,7 @@ returns-in-Ok-clause-hears g c image recording began waiting =
 
 pub returns-in-Err-clause-hears : goal.returns-in-Err-clause-hears
 returns-in-Err-clause-hears g c image recording began waiting =
-    subst (λ (end : Answer). IsEnd image recording began (g.K.Link.told c.next.new.self) (g.K.Link.coming c.next.new.self) (g.K.Link.takes c.next.new.self) (stage_of c.args.self.now) end) (sym c.answer_to.ensures)
+    subst (λ (end : Answer). IsWholeEnd image recording began (g.K.Link.told c.next.new.self) (g.K.Link.coming c.next.new.self) (g.K.Link.takes c.next.new.self) (stage_of c.args.self.now) end) (sym c.answer_to.ensures)
     (takes_none image recording began (g.K.Link.told c.args.link.now) (g.K.Link.told c.next.new.self) (g.K.Link.phases c.args.link.now) (g.K.Link.phases c.next.new.self) (stage_of c.args.self.now) waiting c.requires.none_left
     (g.K.Link.coming c.next.new.self) (g.K.Link.coming c.args.link.now) (g.K.Link.takes c.next.new.self) c.in-Err.fault c.in-Err.ensures.told c.in-Err.ensures.grammar c.in-Err.ensures.last)
 

@@ -1,12 +1,13 @@
-use Rattle.std.proofs.Common.{ℕ, Bool, true, List, sym, ◌∙◌, ap, subst}
+use Rattle.std.proofs.Common.{ℕ, Bool, true, false, List, sym, ◌∙◌, ap, subst}
 use Rattle.std.specs.Prelude.{Ok, Err, slice_set}
 use Rattle.rx_io.specs.declared.journal.Given.{Given}
 use Rattle.rx_io.specs.declared.journal.Given.TheVariants.{All, Gone}
 use Rattle.rx_io.specs.Links.{Gives}
+use Rattle.rx_io.specs.Sends.{Send}
 use Rattle.run_history.specs.declared.answer.Answer.{Answer}
+use Rattle.replay.specs.Giving.{IsLastSend}
 use Rattle.replay.specs.Playing.{IsBetween, IsEnd, stage_of, has}
-use Rattle.replay.proofs.QuestionLemmas.{takes_end}
-use Rattle.replay.proofs.GivingLemmas.{sends_none, sends_whole, sends_cut, sends_broken}
+use Rattle.replay.proofs.GivingLemmas.{sends_none, sends_whole, sends_cut, sends_broken, broken_end}
 use Rattle.replay.proofs.player.Player.send.Goals as goal
 
 pub returns-then-has-clause-sends : goal.returns-then-has-clause-sends
@@ -16,29 +17,32 @@ returns-then-has-clause-sends g c image recording began sending =
 
 pub returns-in-Ok-All-clause-sends : goal.returns-in-Ok-All-clause-sends
 returns-in-Ok-All-clause-sends g c image recording began sending =
-    let gives : Gives (g.K.Link.told c.args.link.now) (g.K.Link.told c.give.new.self) c.args.conn c.args.bytes.now (Ok All) =
-    subst (λ (bytes : List ℕ). Gives (g.K.Link.told c.args.link.now) (g.K.Link.told c.give.new.self) c.args.conn bytes (Ok All)) c.as_slice.ensures
-    (subst (λ (given : Given). Gives (g.K.Link.told c.args.link.now) (g.K.Link.told c.give.new.self) c.args.conn c.as_slice.result.now (Ok given)) c.in-Ok-All.field-0-is c.in-Ok-All.ensures.told) in
+    let gives : Gives (g.K.Link.told c.args.link.now) (g.K.Link.told c.give.new.link) c.args.conn c.args.bytes.now (Ok All) =
+    subst (λ (bytes : List ℕ). Gives (g.K.Link.told c.args.link.now) (g.K.Link.told c.give.new.link) c.args.conn bytes (Ok All)) c.as_slice.ensures
+    (subst (λ (given : Given). Gives (g.K.Link.told c.args.link.now) (g.K.Link.told c.give.new.link) c.args.conn c.as_slice.result.now (Ok given)) c.in-Ok-All.field-0-is c.in-Ok-All.ensures.told) in
     sends_whole image recording began (g.K.Link.told c.args.link.now) (g.K.Link.phases c.args.link.now) c.args.conn c.args.bytes.now (stage_of c.args.self.now) sending
-    (g.K.Link.told c.give.new.self) (g.K.Link.phases c.give.new.self)
+    (g.K.Link.told c.give.new.link) (g.K.Link.phases c.give.new.link)
     (ap (has c.args.self.now.gone) (sym c.from.ensures) ∙ sym c.has.ensures.value ∙ c.if-has.false) gives c.in-Ok-All.ensures.phases
 
 pub returns-in-Ok-Gone-clause-sends : goal.returns-in-Ok-Gone-clause-sends
 returns-in-Ok-Gone-clause-sends g c image recording began sending =
-    let gives : Gives (g.K.Link.told c.args.link.now) (g.K.Link.told c.give.new.self) c.args.conn c.args.bytes.now (Ok (Gone c.in-Ok-Gone.field-0-0)) =
-    subst (λ (bytes : List ℕ). Gives (g.K.Link.told c.args.link.now) (g.K.Link.told c.give.new.self) c.args.conn bytes (Ok (Gone c.in-Ok-Gone.field-0-0))) c.as_slice.ensures
-    (subst (λ (given : Given). Gives (g.K.Link.told c.args.link.now) (g.K.Link.told c.give.new.self) c.args.conn c.as_slice.result.now (Ok given)) c.in-Ok-Gone.field-0-is c.in-Ok-Gone.ensures.told) in
+    let gives : Gives (g.K.Link.told c.args.link.now) (g.K.Link.told c.give.new.link) c.args.conn c.args.bytes.now (Ok (Gone c.in-Ok-Gone.field-0-0)) =
+    subst (λ (bytes : List ℕ). Gives (g.K.Link.told c.args.link.now) (g.K.Link.told c.give.new.link) c.args.conn bytes (Ok (Gone c.in-Ok-Gone.field-0-0))) c.as_slice.ensures
+    (subst (λ (given : Given). Gives (g.K.Link.told c.args.link.now) (g.K.Link.told c.give.new.link) c.args.conn c.as_slice.result.now (Ok given)) c.in-Ok-Gone.field-0-is c.in-Ok-Gone.ensures.told) in
     let done = sends_cut image recording began (g.K.Link.told c.args.link.now) (g.K.Link.phases c.args.link.now) c.args.conn c.args.bytes.now (stage_of c.args.self.now) sending
-    (g.K.Link.told c.give.new.self) (g.K.Link.phases c.give.new.self) c.in-Ok-Gone.field-0-0 (g.met.K.Link.below c.args.link.now c.args.conn sending.here)
+    (g.K.Link.told c.give.new.link) (g.K.Link.phases c.give.new.link) c.in-Ok-Gone.field-0-0 (g.met.K.Link.below c.args.link.now c.args.conn sending.here)
     (ap (has c.args.self.now.gone) (sym c.from.ensures) ∙ sym c.has.ensures.value ∙ c.if-has.false) gives.1 c.in-Ok-Gone.ensures.phases in
-    subst (λ (flags : List Bool). IsBetween image recording began (g.K.Link.told c.give.new.self) (g.K.Link.phases c.give.new.self) (record (stage_of c.args.self.now) { gone = flags }))
+    subst (λ (flags : List Bool). IsBetween image recording began (g.K.Link.told c.give.new.link) (g.K.Link.phases c.give.new.link) (record (stage_of c.args.self.now) { gone = flags }))
     (ap (λ (n : ℕ). slice_set c.args.self.now.gone n true) (sym c.from-in-Ok-Gone.ensures) ∙ sym c.add.ensures) done
 
 pub returns-in-Err-clause-sends : goal.returns-in-Err-clause-sends
 returns-in-Err-clause-sends g c image recording began sending =
-    takes_end image recording began (g.K.Link.told c.give.new.self) (g.K.Link.coming c.give.new.self) (g.K.Link.takes c.give.new.self) (stage_of c.args.self.now) c.answer_to.result (c.in-Err.ensures.takes ∙ c.requires.takes)
-    (subst (λ (end : Answer). IsEnd image recording began (g.K.Link.told c.give.new.self) (g.K.Link.coming c.give.new.self) true (stage_of c.args.self.now) end) (sym c.answer_to.ensures)
+    let Last : List Send → Type 0 = IsLastSend began (g.K.Link.told c.args.link.now) (g.G.Giver.Gave c.args.link.now c.give.new.link) in
+    broken_end image recording began (g.K.Link.told c.give.new.link) (g.K.Link.coming c.give.new.link) (g.K.Link.takes c.give.new.link) (g.K.Link.gives c.give.new.link) Last (stage_of c.args.self.now) c.answer_to.result
+    (c.in-Err.ensures.takes ∙ c.requires.takes) c.in-Err.ensures.gives
+    (subst (λ (end : Answer). IsEnd image recording began (g.K.Link.told c.give.new.link) (g.K.Link.coming c.give.new.link) true false Last (stage_of c.args.self.now) end) (sym c.answer_to.ensures)
     (sends_broken image recording began (g.K.Link.told c.args.link.now) (g.K.Link.phases c.args.link.now) c.args.conn c.args.bytes.now (stage_of c.args.self.now) sending
-    (g.K.Link.told c.give.new.self) (g.K.Link.coming c.give.new.self) c.in-Err.fault
+    (g.K.Link.told c.give.new.link) (g.K.Link.coming c.give.new.link) c.in-Err.fault (g.G.Giver.Gave c.args.link.now c.give.new.link)
     (ap (has c.args.self.now.gone) (sym c.from.ensures) ∙ sym c.has.ensures.value ∙ c.if-has.false)
-    (subst (λ (bytes : List ℕ). Gives (g.K.Link.told c.args.link.now) (g.K.Link.told c.give.new.self) c.args.conn bytes (Err c.in-Err.fault)) c.as_slice.ensures c.in-Err.ensures.told)))
+    (subst (λ (bytes : List ℕ). Gives (g.K.Link.told c.args.link.now) (g.K.Link.told c.give.new.link) c.args.conn bytes (Err c.in-Err.fault)) c.as_slice.ensures c.in-Err.ensures.told)
+    (subst (λ (bytes : List ℕ). g.G.Giver.Gave c.args.link.now c.give.new.link c.args.conn bytes) c.as_slice.ensures c.in-Err.ensures.gave)))

@@ -1,12 +1,13 @@
-use Rattle.std.proofs.Common.{◌<◌, sym, subst, arith, true}
+use Rattle.std.proofs.Common.{◌<◌, ◌∙◌, sym, subst, arith, true}
 use Rattle.std.specs.Prelude.{Err}
 use Rattle.run_history.specs.declared.answer.Answer.{Answer}
 use Rattle.run_history.specs.declared.answer.Answer.TheVariants.{Memory}
 use Rattle.guest_cpu.specs.declared.event.Question.TheVariants as question
 use Rattle.guest_cpu.specs.Cpus.{CpuState, live_of}
-use Rattle.replay.specs.Playing.{stage_of, IsEnd}
+use Rattle.replay.specs.Giving.{IsLastSend}
+use Rattle.replay.specs.Playing.{stage_of, IsWholeEnd}
 use Rattle.replay.proofs.RunLemmas.{same_sends, ComesTo, comes_by}
-use Rattle.replay.proofs.QuestionLemmas.{reached_end, exits_end, failed_end, memory_end, asks_waiting, wants_wanting, emits_sending, comes_to, wants_first, rises_behind, if_ok, ok_always, takes_end, takes_goes}
+use Rattle.replay.proofs.QuestionLemmas.{reached_end, exits_end, failed_end, memory_end, asks_waiting, wants_wanting, emits_sending, comes_to, wants_first, rises_behind, if_ok, ok_always, takes_end, takes_goes, whole_end, whole_goes}
 use Rattle.replay.proofs.player.Player.turn.Goals as goal
 
 pub ask-requires-clause-waits : goal.ask-requires-clause-waits
@@ -66,16 +67,19 @@ returns-in-Ok-Reached-clause-turns g c image began between =
     let until = c.args.recorded.now.steps in
     let comes : ComesTo until c.args.self.now.cpu.slots.live question.Reached c.run_recorded.new.self.slots.live =
     comes_to until c.args.self.now.cpu.base (live_of c.args.self.now.cpu) (live_of c.run_recorded.new.self) c.in-Ok-Reached.field-0 question.Reached between.lives c.in-Ok-Reached.field-0-is c.in-Ok-Reached.ensures.question in
-    takes_end image c.args.recorded.now began (g.K.Link.told c.args.link.now) (g.K.Link.coming c.args.link.now) (g.K.Link.takes c.args.link.now) (record (stage_of c.args.self.now) { live = c.run_recorded.new.self.slots.live }) c.judge.result c.requires.takes
-    (subst (λ (end : Answer). IsEnd image c.args.recorded.now began (g.K.Link.told c.args.link.now) (g.K.Link.coming c.args.link.now) true (record (stage_of c.args.self.now) { live = c.run_recorded.new.self.slots.live }) end) (sym c.judge.ensures)
-    (reached_end image c.args.recorded.now began (g.K.Link.told c.args.link.now) (g.K.Link.phases c.args.link.now) (stage_of c.args.self.now) between c.run_recorded.new.self.slots.live (g.K.Link.coming c.args.link.now) comes))
+    whole_end image c.args.recorded.now began (g.K.Link.told c.args.link.now) (g.K.Link.coming c.args.link.now) (g.K.Link.takes c.args.link.now) (g.K.Link.gives c.args.link.now) (IsLastSend began (g.K.Link.told c.args.link.now) (g.G.Giver.Gave c.args.link.now c.args.link.now)) (record (stage_of c.args.self.now) { live = c.run_recorded.new.self.slots.live }) c.judge.result c.requires.gives
+    (takes_end image c.args.recorded.now began (g.K.Link.told c.args.link.now) (g.K.Link.coming c.args.link.now) (g.K.Link.takes c.args.link.now) (record (stage_of c.args.self.now) { live = c.run_recorded.new.self.slots.live }) c.judge.result c.requires.takes
+    (subst (λ (end : Answer). IsWholeEnd image c.args.recorded.now began (g.K.Link.told c.args.link.now) (g.K.Link.coming c.args.link.now) true (record (stage_of c.args.self.now) { live = c.run_recorded.new.self.slots.live }) end) (sym c.judge.ensures)
+    (reached_end image c.args.recorded.now began (g.K.Link.told c.args.link.now) (g.K.Link.phases c.args.link.now) (stage_of c.args.self.now) between c.run_recorded.new.self.slots.live (g.K.Link.coming c.args.link.now) comes)))
 
 pub returns-in-Ok-Asks-clause-turns : goal.returns-in-Ok-Asks-clause-turns
 returns-in-Ok-Asks-clause-turns g c image began between =
     let until = c.args.recorded.now.steps in
     let comes : ComesTo until c.args.self.now.cpu.slots.live question.Asks c.run_recorded.new.self.slots.live =
     comes_to until c.args.self.now.cpu.base (live_of c.args.self.now.cpu) (live_of c.run_recorded.new.self) c.in-Ok-Asks.field-0 question.Asks between.lives c.in-Ok-Asks.field-0-is c.in-Ok-Asks.ensures.question in
-    c.ask.ensures.turns image began (asks_waiting image c.args.recorded.now began (g.K.Link.told c.args.link.now) (g.K.Link.phases c.args.link.now) (stage_of c.args.self.now) between c.run_recorded.new.self.slots.live comes)
+    whole_goes image c.args.recorded.now began (g.K.Link.told c.ask.new.link) (g.K.Link.phases c.ask.new.link) (g.K.Link.coming c.ask.new.link) (g.K.Link.takes c.ask.new.link) (g.K.Link.gives c.ask.new.link) (IsLastSend began (g.K.Link.told c.args.link.now) (g.G.Giver.Gave c.args.link.now c.ask.new.link)) (stage_of c.ask.new.self) c.ask.result
+    (c.ask.ensures.gives ∙ c.requires.gives)
+    (c.ask.ensures.turns image began (asks_waiting image c.args.recorded.now began (g.K.Link.told c.args.link.now) (g.K.Link.phases c.args.link.now) (stage_of c.args.self.now) between c.run_recorded.new.self.slots.live comes))
 
 pub returns-in-Ok-Asks-clause-later : goal.returns-in-Ok-Asks-clause-later
 returns-in-Ok-Asks-clause-later g c =
@@ -106,9 +110,10 @@ returns-in-Ok-Wants-clause-turns g c image began between =
     let until = c.args.recorded.now.steps in
     let comes : ComesTo until c.args.self.now.cpu.slots.live (question.Wants c.in-Ok-Wants.field-0-0) c.run_recorded.new.self.slots.live =
     comes_to until c.args.self.now.cpu.base (live_of c.args.self.now.cpu) (live_of c.run_recorded.new.self) c.in-Ok-Wants.field-0 (question.Wants c.in-Ok-Wants.field-0-0) between.lives c.in-Ok-Wants.field-0-is c.in-Ok-Wants.ensures.question in
-    takes_goes image c.args.recorded.now began (g.K.Link.told c.args.link.now) (g.K.Link.phases c.args.link.now) (g.K.Link.coming c.args.link.now) (g.K.Link.takes c.args.link.now) (stage_of c.choose.new.self) c.choose.result c.requires.takes
+    whole_goes image c.args.recorded.now began (g.K.Link.told c.args.link.now) (g.K.Link.phases c.args.link.now) (g.K.Link.coming c.args.link.now) (g.K.Link.takes c.args.link.now) (g.K.Link.gives c.args.link.now) (IsLastSend began (g.K.Link.told c.args.link.now) (g.G.Giver.Gave c.args.link.now c.args.link.now)) (stage_of c.choose.new.self) c.choose.result c.requires.gives
+    (takes_goes image c.args.recorded.now began (g.K.Link.told c.args.link.now) (g.K.Link.phases c.args.link.now) (g.K.Link.coming c.args.link.now) (g.K.Link.takes c.args.link.now) (stage_of c.choose.new.self) c.choose.result c.requires.takes
     (c.choose.ensures.turns image began (g.K.Link.told c.args.link.now) (g.K.Link.phases c.args.link.now) (g.K.Link.coming c.args.link.now)
-    (wants_wanting image c.args.recorded.now began (g.K.Link.told c.args.link.now) (g.K.Link.phases c.args.link.now) (stage_of c.args.self.now) between c.run_recorded.new.self.slots.live c.in-Ok-Wants.field-0-0 comes))
+    (wants_wanting image c.args.recorded.now began (g.K.Link.told c.args.link.now) (g.K.Link.phases c.args.link.now) (stage_of c.args.self.now) between c.run_recorded.new.self.slots.live c.in-Ok-Wants.field-0-0 comes)))
 
 pub returns-in-Ok-Wants-clause-later : goal.returns-in-Ok-Wants-clause-later
 returns-in-Ok-Wants-clause-later g c =
@@ -123,21 +128,24 @@ returns-in-Ok-Exits-clause-turns g c image began between =
     let until = c.args.recorded.now.steps in
     let comes : ComesTo until c.args.self.now.cpu.slots.live (question.Exits c.in-Ok-Exits.field-0-0) c.run_recorded.new.self.slots.live =
     comes_to until c.args.self.now.cpu.base (live_of c.args.self.now.cpu) (live_of c.run_recorded.new.self) c.in-Ok-Exits.field-0 (question.Exits c.in-Ok-Exits.field-0-0) between.lives c.in-Ok-Exits.field-0-is c.in-Ok-Exits.ensures.question in
-    takes_end image c.args.recorded.now began (g.K.Link.told c.args.link.now) (g.K.Link.coming c.args.link.now) (g.K.Link.takes c.args.link.now) (record (stage_of c.args.self.now) { live = c.run_recorded.new.self.slots.live }) c.judge-in-Ok-Exits.result c.requires.takes
-    (subst (λ (end : Answer). IsEnd image c.args.recorded.now began (g.K.Link.told c.args.link.now) (g.K.Link.coming c.args.link.now) true (record (stage_of c.args.self.now) { live = c.run_recorded.new.self.slots.live }) end) (sym c.judge-in-Ok-Exits.ensures)
-    (exits_end image c.args.recorded.now began (g.K.Link.told c.args.link.now) (g.K.Link.phases c.args.link.now) (stage_of c.args.self.now) between c.run_recorded.new.self.slots.live (g.K.Link.coming c.args.link.now) c.in-Ok-Exits.field-0-0 comes))
+    whole_end image c.args.recorded.now began (g.K.Link.told c.args.link.now) (g.K.Link.coming c.args.link.now) (g.K.Link.takes c.args.link.now) (g.K.Link.gives c.args.link.now) (IsLastSend began (g.K.Link.told c.args.link.now) (g.G.Giver.Gave c.args.link.now c.args.link.now)) (record (stage_of c.args.self.now) { live = c.run_recorded.new.self.slots.live }) c.judge-in-Ok-Exits.result c.requires.gives
+    (takes_end image c.args.recorded.now began (g.K.Link.told c.args.link.now) (g.K.Link.coming c.args.link.now) (g.K.Link.takes c.args.link.now) (record (stage_of c.args.self.now) { live = c.run_recorded.new.self.slots.live }) c.judge-in-Ok-Exits.result c.requires.takes
+    (subst (λ (end : Answer). IsWholeEnd image c.args.recorded.now began (g.K.Link.told c.args.link.now) (g.K.Link.coming c.args.link.now) true (record (stage_of c.args.self.now) { live = c.run_recorded.new.self.slots.live }) end) (sym c.judge-in-Ok-Exits.ensures)
+    (exits_end image c.args.recorded.now began (g.K.Link.told c.args.link.now) (g.K.Link.phases c.args.link.now) (stage_of c.args.self.now) between c.run_recorded.new.self.slots.live (g.K.Link.coming c.args.link.now) c.in-Ok-Exits.field-0-0 comes)))
 
 pub returns-in-Ok-Failed-clause-turns : goal.returns-in-Ok-Failed-clause-turns
 returns-in-Ok-Failed-clause-turns g c image began between =
     let until = c.args.recorded.now.steps in
     let comes : ComesTo until c.args.self.now.cpu.slots.live (question.Failed c.in-Ok-Failed.field-0-0) c.run_recorded.new.self.slots.live =
     comes_to until c.args.self.now.cpu.base (live_of c.args.self.now.cpu) (live_of c.run_recorded.new.self) c.in-Ok-Failed.field-0 (question.Failed c.in-Ok-Failed.field-0-0) between.lives c.in-Ok-Failed.field-0-is c.in-Ok-Failed.ensures.question in
-    takes_end image c.args.recorded.now began (g.K.Link.told c.args.link.now) (g.K.Link.coming c.args.link.now) (g.K.Link.takes c.args.link.now) (record (stage_of c.args.self.now) { live = c.run_recorded.new.self.slots.live }) c.mismatch.result c.requires.takes
-    (subst (λ (end : Answer). IsEnd image c.args.recorded.now began (g.K.Link.told c.args.link.now) (g.K.Link.coming c.args.link.now) true (record (stage_of c.args.self.now) { live = c.run_recorded.new.self.slots.live }) end) (sym c.mismatch.ensures)
-    (failed_end image c.args.recorded.now began (g.K.Link.told c.args.link.now) (g.K.Link.phases c.args.link.now) (stage_of c.args.self.now) between c.run_recorded.new.self.slots.live (g.K.Link.coming c.args.link.now) c.in-Ok-Failed.field-0-0 comes))
+    whole_end image c.args.recorded.now began (g.K.Link.told c.args.link.now) (g.K.Link.coming c.args.link.now) (g.K.Link.takes c.args.link.now) (g.K.Link.gives c.args.link.now) (IsLastSend began (g.K.Link.told c.args.link.now) (g.G.Giver.Gave c.args.link.now c.args.link.now)) (record (stage_of c.args.self.now) { live = c.run_recorded.new.self.slots.live }) c.mismatch.result c.requires.gives
+    (takes_end image c.args.recorded.now began (g.K.Link.told c.args.link.now) (g.K.Link.coming c.args.link.now) (g.K.Link.takes c.args.link.now) (record (stage_of c.args.self.now) { live = c.run_recorded.new.self.slots.live }) c.mismatch.result c.requires.takes
+    (subst (λ (end : Answer). IsWholeEnd image c.args.recorded.now began (g.K.Link.told c.args.link.now) (g.K.Link.coming c.args.link.now) true (record (stage_of c.args.self.now) { live = c.run_recorded.new.self.slots.live }) end) (sym c.mismatch.ensures)
+    (failed_end image c.args.recorded.now began (g.K.Link.told c.args.link.now) (g.K.Link.phases c.args.link.now) (stage_of c.args.self.now) between c.run_recorded.new.self.slots.live (g.K.Link.coming c.args.link.now) c.in-Ok-Failed.field-0-0 comes)))
 
 pub returns-in-Err-clause-turns : goal.returns-in-Err-clause-turns
 returns-in-Err-clause-turns g c image began between =
-    takes_end image c.args.recorded.now began (g.K.Link.told c.args.link.now) (g.K.Link.coming c.args.link.now) (g.K.Link.takes c.args.link.now) (record (stage_of c.args.self.now) { live = c.run_recorded.new.self.slots.live }) Memory c.requires.takes
+    whole_end image c.args.recorded.now began (g.K.Link.told c.args.link.now) (g.K.Link.coming c.args.link.now) (g.K.Link.takes c.args.link.now) (g.K.Link.gives c.args.link.now) (IsLastSend began (g.K.Link.told c.args.link.now) (g.G.Giver.Gave c.args.link.now c.args.link.now)) (record (stage_of c.args.self.now) { live = c.run_recorded.new.self.slots.live }) Memory c.requires.gives
+    (takes_end image c.args.recorded.now began (g.K.Link.told c.args.link.now) (g.K.Link.coming c.args.link.now) (g.K.Link.takes c.args.link.now) (record (stage_of c.args.self.now) { live = c.run_recorded.new.self.slots.live }) Memory c.requires.takes
     (memory_end image c.args.recorded.now began (g.K.Link.told c.args.link.now) (g.K.Link.phases c.args.link.now) (stage_of c.args.self.now) between c.run_recorded.new.self.slots.live (g.K.Link.coming c.args.link.now)
-    (comes_by c.args.recorded.now.steps c.args.self.now.cpu.base (live_of c.args.self.now.cpu) (live_of c.run_recorded.new.self) (Err _) between.lives c.in-Err.ensures.question).0)
+    (comes_by c.args.recorded.now.steps c.args.self.now.cpu.base (live_of c.args.self.now.cpu) (live_of c.run_recorded.new.self) (Err _) between.lives c.in-Err.ensures.question).0))

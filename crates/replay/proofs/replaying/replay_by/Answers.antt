@@ -1,8 +1,9 @@
 use Rattle.std.proofs.Common.{arith}
+use Rattle.replay.specs.Giving.{BreaksOff}
 use Rattle.replay.specs.Playing.{stage_of}
 use Rattle.replay.proofs.LoopLemmas.{cause_then}
-use Rattle.replay.proofs.StartLemmas.{starts_between, starts_at, replayed_none, replayed_by}
-use Rattle.replay.proofs.replaying.replay.Goals as goal
+use Rattle.replay.proofs.StartLemmas.{starts_between, starts_at, replayed_none_by, replayed_by}
+use Rattle.replay.proofs.replaying.replay_by.Goals as goal
 
 pub turns-init : goal.turns-init
 turns-init g c =
@@ -19,14 +20,17 @@ turns-init g c =
     }
 
 pub returns-in-Err-clause-replayed : goal.returns-in-Err-clause-replayed
-returns-in-Err-clause-replayed g c = replayed_none c.args.image.now c.args.recorded.now (g.K.Link.told c.args.link.now) (g.K.Link.coming c.args.link.now) (g.K.Link.takes c.args.link.now) c.args.steps.now c.requires.takes
+returns-in-Err-clause-replayed g c =
+    replayed_none_by c.args.image.now c.args.recorded.now (g.K.Link.told c.args.link.now) (g.K.Link.coming c.args.link.now) (g.K.Link.takes c.args.link.now) (g.K.Link.gives c.args.link.now)
+    (BreaksOff g.K.Link.told g.K.Link.gives g.K.Link.Went g.G.Giver.Gave c.args.link.now c.args.link.now) c.args.steps.now c.requires.takes c.requires.gives
 
 pub returns-in-Err-turn-clause-replayed : goal.returns-in-Err-turn-clause-replayed
 returns-in-Err-turn-clause-replayed g c =
     let before = c.turns.invariant.steps in
     let counted = c.in-Err-turn.ensures.counted in
-    replayed_by c.args.image.now c.args.recorded.now (g.K.Link.told c.args.link.now) (g.K.Link.told c.turn.new.link) (g.K.Link.coming c.turn.new.link) (g.K.Link.takes c.turn.new.link) (stage_of c.turn.new.self) c.in-Err-turn.answer c.args.steps.now c.turn.new.steps
-    (omega (arith, before, counted)) (c.in-Err-turn.ensures.turns c.args.image.now (g.K.Link.told c.args.link.now) c.turns.invariant.between)
+    replayed_by g.K.Link.told g.K.Link.gives g.K.Link.Went g.G.Giver.Gave c.args.link.now c.turns.link c.turn.new.link c.args.image.now c.args.recorded.now (g.K.Link.coming c.turn.new.link) (g.K.Link.takes c.turn.new.link)
+    (stage_of c.turn.new.self) c.in-Err-turn.answer c.args.steps.now c.turn.new.steps c.turns.invariant.went c.turns.invariant.gives_still (omega (arith, before, counted))
+    (c.in-Err-turn.ensures.turns c.args.image.now (g.K.Link.told c.args.link.now) c.turns.invariant.between)
 
 pub turns-preserved : goal.turns-preserved
 turns-preserved g c =

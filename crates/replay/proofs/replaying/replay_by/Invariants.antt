@@ -1,6 +1,6 @@
 use Rattle.std.proofs.Common.{◌-◌}
 use Rattle.replay.proofs.LoopLemmas.{HasTurned}
-use Rattle.replay.proofs.replaying.replay.Given as goal
+use Rattle.replay.proofs.replaying.replay_by.Given as goal
 
 abbrev pub invariant-turns : goal.invariant-turns
 invariant-turns g l =
