@@ -93,6 +93,13 @@ fn push_bytes(out: &mut String, bytes: &[u8]) -> Result<(), AllocError> {
     Ok(())
 }
 
+// Puts bytes behind a text, with what stands in front of them and behind them.
+fn push_name(out: &mut String, front: &str, bytes: &[u8], behind: &str) -> Result<(), AllocError> {
+    out.push_str(front)?;
+    push_bytes(out, bytes)?;
+    out.push_str(behind)
+}
+
 // The label that stands among a statement's operands, as the last of them.
 fn label_in(operands: &[u8]) -> &[u8] {
     if let Ok((_, _, last)) = three(operands) {
@@ -107,6 +114,38 @@ fn label_in(operands: &[u8]) -> &[u8] {
     }
 }
 
+// Why a line has nothing that is known.
+fn push_no_line(alloc: Global, out: &mut String, bytes: &[u8]) -> Result<(), AllocError> {
+    if let Some(byte) = bytes.iter().find(|byte| !is_allowed(**byte)) {
+        out.push_str("a line has tabs and the bytes from the space to ~, and not the byte ")?;
+        let number = format!(in alloc; "{}", *byte)?;
+        return out.push_str(number.as_str());
+    }
+    let (word, _) = split_word(trimmed(bytes));
+    push_name(
+        out,
+        "`",
+        word,
+        "` begins no statement that is known, and no label with its colon",
+    )
+}
+
+// Why a line isn't known, though it is one.
+fn unknown(line: Line<'_>, section: Section) -> &'static str {
+    match line.words {
+        Some(words) => {
+            if stands_in(section, words.form) {
+                return "the text section has no bytes up to here, the last line";
+            }
+            match section {
+                Section::Text => "this stands in the data section, behind `.data`",
+                Section::Data => "this stands in the text section, behind `.text`",
+            }
+        }
+        None => "the text section has no bytes up to here, the last line",
+    }
+}
+
 // Why a line isn't known.
 fn push_unknown(
     alloc: Global,
@@ -114,28 +153,9 @@ fn push_unknown(
     bytes: &[u8],
     section: Section,
 ) -> Result<(), AllocError> {
-    let Some(line) = line_of(bytes) else {
-        if let Some(byte) = bytes.iter().find(|byte| !is_allowed(**byte)) {
-            out.push_str("a line has tabs and the bytes from the space to ~, and not the byte ")?;
-            let number = format!(in alloc; "{}", *byte)?;
-            return out.push_str(number.as_str());
-        }
-        let (word, _) = split_word(trimmed(bytes));
-        out.push_str("`")?;
-        push_bytes(out, word)?;
-        return out.push_str("` begins no statement that is known, and no label with its colon");
-    };
-    match line.words {
-        Some(words) => {
-            if stands_in(section, words.form) {
-                return out.push_str("the text section has no bytes up to here, the last line");
-            }
-            match section {
-                Section::Text => out.push_str("this stands in the data section, behind `.data`"),
-                Section::Data => out.push_str("this stands in the text section, behind `.text`"),
-            }
-        }
-        None => out.push_str("the text section has no bytes up to here, the last line"),
+    match line_of(bytes) {
+        Some(line) => out.push_str(unknown(line, section)),
+        None => push_no_line(alloc, out, bytes),
     }
 }
 
@@ -143,11 +163,11 @@ fn push_unknown(
 fn push_right(out: &mut String, line: Line<'_>, kind: u8) -> Result<(), AllocError> {
     let Line { label, words } = line;
     if kind == 5 {
-        out.push_str("the label `")?;
-        if let Some(name) = label {
-            push_bytes(out, name.as_slice())?;
-        }
-        return out.push_str("` is defined on an earlier line");
+        let name = match label {
+            Some(name) => name.as_slice(),
+            None => &[],
+        };
+        return push_name(out, "the label `", name, "` is defined on an earlier line");
     }
     let Some(words) = words else {
         return out.push_str("no statement stands here");
@@ -161,11 +181,12 @@ fn push_right(out: &mut String, line: Line<'_>, kind: u8) -> Result<(), AllocErr
             out.push_str(range_of(words.form))?;
             out.push_str(", and both sections together have at most 524288 bytes")
         }
-        _ => {
-            out.push_str("the label `")?;
-            push_bytes(out, label_in(words.operands.as_slice()))?;
-            out.push_str("` is defined on no line")
-        }
+        _ => push_name(
+            out,
+            "the label `",
+            label_in(words.operands.as_slice()),
+            "` is defined on no line",
+        ),
     }
 }
 
@@ -174,8 +195,7 @@ fn push_right(out: &mut String, line: Line<'_>, kind: u8) -> Result<(), AllocErr
 pub fn explain(alloc: Global, text: &[u8], kind: u8, line: u32) -> Result<String, AllocError> {
     let (bytes, section) = line_at(text, line);
     let mut out = format!(in alloc; "line {line}: ")?;
-    push_bytes(&mut out, trimmed(bytes))?;
-    out.push_str(": ")?;
+    push_name(&mut out, "", trimmed(bytes), ": ")?;
     if kind == 1 {
         push_unknown(alloc, &mut out, bytes, section)?;
         return Ok(out);

@@ -1,5 +1,6 @@
 mod Numbers
 mod Listed
+mod Arguing
 mod Taking
 mod Asking
 mod Pieces

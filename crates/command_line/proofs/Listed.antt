@@ -1,6 +1,7 @@
 -- Lists that a loop goes over by index, with each element read by a function.
-use Rattle.std.proofs.Common.{◌≡◌, ◌∙◌, ◌<◌, ◌≤◌, ◌+◌, ◌&&◌, ◌||◌, ℕ, Bool, true, false, ap, refl, sym, arith, List, [], ◌∷◌, map, length, drop, suc, zero, drop_of_length-le}
+use Rattle.std.proofs.Common.{◌≡◌, ◌∙◌, ◌<◌, ◌≤◌, ◌+◌, ◌&&◌, ◌||◌, ℕ, Bool, true, false, ap, refl, sym, arith, List, [], ◌∷◌, map, fold, get_or, length, drop, suc, zero, drop_of_length-le}
 use Rattle.std.specs.List.{list_all, list_any, slice_index_or}
+use Rattle.std.proofs.lemmas.List.{at_drop_more}
 
 pub list_any-map : {X Y : Type 0} (p : Y → Bool) (f : X → Y) (xs : List X) → list_any (λ x. p (f x)) xs ≡ list_any p (map f xs)
 list_any-map p f [] = refl
@@ -44,3 +45,13 @@ all_broken p f xs i x lt at miss same = sym (all_here p f xs i (i + 1) x lt (ome
 pub all_past : {X Y : Type 0} (p : Y → Bool) (f : X → Y) (xs : List X) (i : ℕ) → length xs ≤ i
     → list_all p (map f (drop i xs)) ≡ list_all p (map f xs) → true ≡ list_all p (map f xs)
 all_past p f xs i past same = sym (ap (λ ys. list_all p (map f ys)) (drop_of_length-le xs past)) ∙ same
+
+-- a loop that folds a list, each element read by f and then by g: one element more, and the end
+pub fold_next : {X Y Z A : Type 0} (add : A → Z → A) (g : Y → Z) (f : X → Y) (xs : List X) (i : ℕ) (none : X) (now after total : A) → i < length xs
+    → after ≡ add now (g (f (get_or xs i none))) → fold add now (map g (map f (drop i xs))) ≡ total → fold add after (map g (map f (drop (i + 1) xs))) ≡ total
+fold_next add g f xs i none now after total lt step same =
+    ap (λ a. fold add a (map g (map f (drop (i + 1) xs)))) step ∙ sym (at_drop_more (λ ys. fold add now (map g (map f ys))) xs i none lt) ∙ same
+
+pub fold_past : {X Y Z A : Type 0} (add : A → Z → A) (g : Y → Z) (f : X → Y) (xs : List X) (i : ℕ) (now total : A) → length xs ≤ i
+    → fold add now (map g (map f (drop i xs))) ≡ total → now ≡ total
+fold_past add g f xs i now total past same = sym (ap (λ ys. fold add now (map g (map f ys))) (drop_of_length-le xs past)) ∙ same

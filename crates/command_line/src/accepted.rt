@@ -6,10 +6,10 @@ ghost use Rattle.command_line.specs.Parts.{parts_of, texts_of};
 ghost use Rattle.command_line.specs.Table.{asm_form, record_row, replay_form, report_row, run_form, form_read, row_read};
 ghost use Rattle.command_line.specs.Commands.{command_of, differ, fits, is_asm, is_replay, is_run, positional};
 
-use crate::command::{ASM, REPLAY};
+use crate::command::{ASM, ASM_NAME, REPLAY, REPLAY_NAME};
 use crate::options::{CommandRow, OptionRow};
 use crate::parts::{are_complete, are_names, are_taken, given, positional};
-use crate::run_words::{RECORD, REPORT, RUN};
+use crate::run_words::{RECORD, REPORT, RUN, RUN_NAME};
 
 // Whether the words have the form of this command.
 fn have_form(words: &[String], command: &CommandRow) -> bool
@@ -141,19 +141,19 @@ pub(crate) fn find_command<'a>(words: &'a [String]) -> Option<Asked<'a>>
     let [command, rest @ ..] = words else {
         return None;
     };
-    if command.as_str() == RUN.name {
+    if command.as_str() == RUN_NAME {
         if !are_run_words(rest) {
             return None;
         }
         return Some(Asked::Run(rest));
     }
-    if command.as_str() == ASM.name {
+    if command.as_str() == ASM_NAME {
         if !are_asm_words(rest) {
             return None;
         }
         return Some(Asked::Asm(rest));
     }
-    if command.as_str() == REPLAY.name {
+    if command.as_str() == REPLAY_NAME {
         if !are_replay_words(rest) {
             return None;
         }

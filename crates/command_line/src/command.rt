@@ -13,9 +13,12 @@ pub const RECORDED: &str = "RECORD";
 /// The options of `asm`.
 pub const ASM_OPTIONS: [OptionRow; 0] = [];
 
+// The name of the command that assembles.
+pub(crate) const ASM_NAME: &str = "asm";
+
 /// Assembles a program.
 pub const ASM: CommandRow = CommandOf {
-    name: "asm",
+    name: ASM_NAME,
     positionals: &[SOURCE, OUT],
     options: &ASM_OPTIONS,
 };
@@ -23,9 +26,12 @@ pub const ASM: CommandRow = CommandOf {
 /// The options of `replay`.
 pub const REPLAY_OPTIONS: [OptionRow; 0] = [];
 
+// The name of the command that replays.
+pub(crate) const REPLAY_NAME: &str = "replay";
+
 /// Replays a record.
 pub const REPLAY: CommandRow = CommandOf {
-    name: "replay",
+    name: REPLAY_NAME,
     positionals: &[PROGRAM, RECORDED],
     options: &REPLAY_OPTIONS,
 };

@@ -93,9 +93,12 @@ pub const RUN_OPTIONS: [OptionRow; 10] = [
     RECORD, REPORT, FORM, FRAME, WINDOW, HOLD, RING, EVERY, FRAMES, BUDGET,
 ];
 
+// The name of the command.
+pub(crate) const RUN_NAME: &str = "run";
+
 /// Runs a program.
 pub const RUN: CommandRow = CommandOf {
-    name: "run",
+    name: RUN_NAME,
     positionals: &[PROGRAM],
     options: &RUN_OPTIONS,
 };

@@ -1,15 +1,22 @@
 // What is wrong with words that are refused, for a person.
 use crate::accepted::{name_at, recording, report};
-use crate::command::{ASM, COMMANDS, OUT, SOURCE};
+use crate::command::{ASM_NAME, COMMANDS, OUT, SOURCE};
 use crate::options::{CommandRow, OptionRow, Takes, TakesOf, is_named, takes_value};
 use crate::parts::{Part, given, is_there, next_part, positional};
-use crate::run_words::{PROGRAM, RUN};
+use crate::run_words::{PROGRAM, RUN_NAME};
 use crate::texts::is_name;
 use std::alloc::{AllocError, Global};
 
+static ALL: [CommandRow; 3] = COMMANDS;
+
+// The commands.
+fn commands() -> &'static [CommandRow] {
+    &ALL
+}
+
 // The command of this name.
-fn command_named(name: &str) -> Option<CommandRow> {
-    for command in COMMANDS {
+fn command_named(name: &str) -> Option<&'static CommandRow> {
+    for command in commands() {
         if command.name == name {
             return Some(command);
         }
@@ -48,6 +55,27 @@ pub fn range_of(alloc: Global, takes: &Takes) -> Result<String, AllocError> {
     }
 }
 
+// A line of a complaint.
+fn told(line: Result<String, AllocError>) -> Result<Option<String>, AllocError> {
+    match line {
+        Ok(line) => Ok(Some(line)),
+        Err(error) => Err(error),
+    }
+}
+
+// What is wrong with the value of an option, which stands at this place.
+fn wrong_value(
+    alloc: Global,
+    takes: &Takes,
+    place: usize,
+    word: &str,
+    value: &str,
+) -> Result<Option<String>, AllocError> {
+    let range = range_of(alloc, takes)?;
+    let given = if value.is_empty() { "nothing" } else { value };
+    told(format!(in alloc; "word {place}: {word} is {range}, not {given}"))
+}
+
 // What is wrong with an option and its value. `behind` is what follows them.
 fn wrong_option(
     alloc: Global,
@@ -58,24 +86,15 @@ fn wrong_option(
     before: &[String],
 ) -> Result<Option<String>, AllocError> {
     let Some(row) = row_named(command.options, word) else {
-        let line = format!(in alloc; "word {place}: {word} is no option of {}", command.name)?;
-        return Ok(Some(line));
+        return told(format!(in alloc; "word {place}: {word} is no option of {}", command.name));
     };
     if is_there(before, word) {
-        let line = format!(in alloc; "word {place}: {word} is given once, not again")?;
-        return Ok(Some(line));
+        return told(format!(in alloc; "word {place}: {word} is given once, not again"));
     }
     if is_name(value) && takes_value(&row.takes, value) {
         return Ok(None);
     }
-    let range = range_of(alloc, &row.takes)?;
-    let at = place.saturating_add(1);
-    if value.is_empty() {
-        let line = format!(in alloc; "word {at}: {word} is {range}, not nothing")?;
-        return Ok(Some(line));
-    }
-    let line = format!(in alloc; "word {at}: {word} is {range}, not {value}")?;
-    Ok(Some(line))
+    wrong_value(alloc, &row.takes, place.saturating_add(1), word, value)
 }
 
 // What is wrong with a positional behind so many others.
@@ -87,20 +106,18 @@ fn wrong_name(
     seen: usize,
 ) -> Result<Option<String>, AllocError> {
     if seen >= command.positionals.len() {
-        let line = format!(in alloc;
+        return told(format!(in alloc;
             "word {place}: {word} is one name too many for {}",
             command.name
-        )?;
-        return Ok(Some(line));
+        ));
     }
     if is_name(word) {
         return Ok(None);
     }
-    let line = format!(in alloc;
+    told(format!(in alloc;
         "word {place}: {} is a name, not nothing",
         command.positionals[seen]
-    )?;
-    Ok(Some(line))
+    ))
 }
 
 // What is wrong with the first part that is wrong. The words stand behind the command.
@@ -156,8 +173,7 @@ fn missing(
     let place = words.len().saturating_add(2);
     for (i, name) in command.positionals.iter().enumerate() {
         if positional(words, i).is_none() {
-            let line = format!(in alloc; "word {place}: {name} is missing")?;
-            return Ok(Some(line));
+            return told(format!(in alloc; "word {place}: {name} is missing"));
         }
     }
     missing_option(alloc, command, place, words)
@@ -173,8 +189,7 @@ fn missing_option(
     for row in command.options {
         if row.default.is_none() && given(words, row).is_none() {
             let range = range_of(alloc, &row.takes)?;
-            let line = format!(in alloc; "word {place}: --{} is missing, {range}", row.name)?;
-            return Ok(Some(line));
+            return told(format!(in alloc; "word {place}: --{} is missing, {range}", row.name));
         }
     }
     Ok(None)
@@ -204,10 +219,7 @@ fn alike(
         return Ok(None);
     }
     let place = last_place(words, one);
-    let line = format!(in alloc;
-        "word {place}: {first} and {second} are two names, not {one} twice"
-    )?;
-    Ok(Some(line))
+    told(format!(in alloc; "word {place}: {first} and {second} are two names, not {one} twice"))
 }
 
 // Which names of `run` are alike.
@@ -233,26 +245,45 @@ fn alike_of_asm(alloc: Global, words: &[String]) -> Result<Option<String>, Alloc
     alike(alloc, words, SOURCE, source, OUT, out)
 }
 
-// What is wrong with the words behind a command. Empty where nothing is.
+// Which names of a command are alike.
+fn alike_of(
+    alloc: Global,
+    command: &CommandRow,
+    words: &[String],
+) -> Result<Option<String>, AllocError> {
+    if command.name == RUN_NAME {
+        return alike_of_run(alloc, words);
+    }
+    if command.name == ASM_NAME {
+        return alike_of_asm(alloc, words);
+    }
+    Ok(None)
+}
+
+// What is wrong with the words behind a command.
+fn wrong_of(
+    alloc: Global,
+    command: &CommandRow,
+    words: &[String],
+) -> Result<Option<String>, AllocError> {
+    let wrong = wrong_part(alloc, command, words)?;
+    if wrong.is_some() {
+        return Ok(wrong);
+    }
+    let wrong = missing(alloc, command, words)?;
+    if wrong.is_some() {
+        return Ok(wrong);
+    }
+    alike_of(alloc, command, words)
+}
+
+// The same as a text, which is empty where nothing is wrong.
 fn complaint_of(
     alloc: Global,
     command: &CommandRow,
     words: &[String],
 ) -> Result<String, AllocError> {
-    if let Some(line) = wrong_part(alloc, command, words)? {
-        return Ok(line);
-    }
-    if let Some(line) = missing(alloc, command, words)? {
-        return Ok(line);
-    }
-    let wrong = if command.name == RUN.name {
-        alike_of_run(alloc, words)?
-    } else if command.name == ASM.name {
-        alike_of_asm(alloc, words)?
-    } else {
-        None
-    };
-    match wrong {
+    match wrong_of(alloc, command, words)? {
         Some(line) => Ok(line),
         None => Ok(String::new(alloc)),
     }
@@ -261,7 +292,7 @@ fn complaint_of(
 // The names of the commands, as a choice.
 fn command_names(alloc: Global) -> Result<String, AllocError> {
     let mut line = String::new(alloc);
-    for command in COMMANDS {
+    for command in commands() {
         if !line.is_empty() {
             line.push_str(" or ")?;
         }
@@ -278,7 +309,7 @@ pub fn complaint(alloc: Global, words: &[String]) -> Result<String, AllocError> 
         return format!(in alloc; "word 1: the command is missing, {names}");
     };
     match command_named(word.as_str()) {
-        Some(command) => complaint_of(alloc, &command, rest),
+        Some(command) => complaint_of(alloc, command, rest),
         None => {
             let names = command_names(alloc)?;
             format!(in alloc; "word 1: the command is {names}, not {word}")
@@ -324,11 +355,11 @@ fn add_options(alloc: Global, lines: String, rows: &[OptionRow]) -> Result<Strin
 /// where the name is that of none.
 pub fn usage(alloc: Global, name: &str) -> Result<String, AllocError> {
     if let Some(command) = command_named(name) {
-        return usage_of(alloc, &command);
+        return usage_of(alloc, command);
     }
     let mut lines = String::new(alloc);
-    for command in COMMANDS {
-        let more = usage_of(alloc, &command)?;
+    for command in commands() {
+        let more = usage_of(alloc, command)?;
         lines.push_str(more.as_str())?;
     }
     Ok(lines)
