@@ -1,6 +1,7 @@
 pub mod TurnEvents
 pub mod OneMore
 pub mod WritingLemmas
+pub mod WritingOnce
 pub mod TurnWrites
 pub mod TakeLemmas
 pub mod QuietRuns

@@ -15,7 +15,7 @@ use Rattle.guest_cpu.specs.Running.{RunsBy}
 use Rattle.guest_cpu.specs.Serving.{standing_of}
 use Rattle.guest_cpu.specs.Receiving.{received_range}
 use Rattle.guest_runs.specs.Runs.{IsBounded, RunsOn, TakesOn}
-use Rattle.guest_runs.specs.Writing.{RunsWriting, TakesWriting}
+use Rattle.guest_runs.specs.Writing.{Writes, RunsWriting, TakesWriting}
 
 -- a guest at its start is the run of no instruction
 pub record IsStart (image : Image) (budget : ℕ) : Type 0 where
@@ -39,6 +39,12 @@ RunsWrite =
     (limits : Limits) (items : List Item) (plan : List Override) (env : Env) (base : ℕ) (first : Path) (old new : Live) (result : Result Event AllocError) →
     first.state.ended ≡ None → env_at plan first.state.machine.taken ≡ env → old.standing ≡ standing_of first → RunsBy event.Emits (turn limits env) base old result new →
     RunsWriting limits items plan base first old.written result new
+
+-- a run writes the same pages in whatever environments it went from one place to another
+abbrev pub WritesOnce : Type 0
+WritesOnce =
+    (limits : Limits) (items : List Item) (base : ℕ) (first : Path) (before : List Bool) (second : Path) (one other : List Bool) →
+    Writes limits items base first before second one → Writes limits items base first before second other → one ≡ other
 
 -- a guest that asks for the item of a number takes it
 abbrev pub TakesServe : Type 0

@@ -1,5 +1,5 @@
 //! Laws of a guest and its run, each as the contract of a function that does nothing.
-ghost use Rattle.guest_runs.specs.Laws.{AsksWants, RunsServe, RunsStart, RunsWrite, TakesServe, TakesWrite};
+ghost use Rattle.guest_runs.specs.Laws.{AsksWants, RunsServe, RunsStart, RunsWrite, TakesServe, TakesWrite, WritesOnce};
 
 /// A guest at its start is the run of no instruction.
 pub fn runs_start()
@@ -14,6 +14,11 @@ pub fn runs_serve()
 /// The pages that it has marked as written are those that the run writes.
 pub fn runs_write()
     ensures { RunsWrite }
+{}
+
+/// The pages that a run writes from one place to another are fixed by these two.
+pub fn writes_once()
+    ensures { WritesOnce }
 {}
 
 /// A guest that asks for an item takes it.

@@ -52,7 +52,7 @@ in_force_adopted plan checkpoint env point from = record {
 }
 
 -- at the start no item was taken
-start_taken : (image : Image) (checkpoint : Path) → checkpoint ≡ origin image → checkpoint.state.machine.taken ≡ 0
+pub start_taken : (image : Image) (checkpoint : Path) → checkpoint ≡ origin image → checkpoint.state.machine.taken ≡ 0
 unfolding M.start M.start_machine
 start_taken image checkpoint is = ap (λ (p : Path). p.state.machine.taken) is
 

@@ -9,3 +9,4 @@ pub mod Recoveries
 pub mod TrimLemmas
 pub mod ForgetLemmas
 pub mod Handled
+pub mod WrittenOnce

@@ -3,6 +3,7 @@
 
 mod checkpoints;
 mod forgetting;
+pub mod laws;
 mod recovering;
 
 pub use checkpoints::{begin_ring, checkpoint};
