@@ -1,5 +1,5 @@
 // What a session passes to its link.
-ghost use Rattle.std.specs.Prelude.{◌≡◌, ◌≤◌, None, IfOk};
+ghost use Rattle.std.specs.Prelude.{◌≡◌, None, IfOk};
 ghost use Rattle.rx_io.specs.Links.{Told};
 ghost use Rattle.elf_image.specs.declared.image.Image.{Image};
 ghost use Rattle.item_log.specs.Log.{received};
@@ -7,16 +7,16 @@ ghost use Rattle.session_history.specs.Heeding as heeding;
 ghost use Rattle.session_history.specs.Lawful.{Rules};
 ghost use Rattle.session_history.specs.Giving.{IsReady, IsClosing};
 ghost use Rattle.reply_ledger.specs.Ledger.{IsOpened};
-ghost use Rattle.rx_engine.specs.Standing.{Since, Story, entries, moment, sends, IsTold, AnswersFor, HasPassed};
-ghost use Rattle.rx_engine.specs.Leaving.{HoldsCheckpoints};
-ghost use Rattle.rx_engine.specs.Serving.{IsAnswerTo, CanGive, OnlyGives, BreaksPassing, HasStopCause, CanPass, PassesStory, PassesDue, StandsClosing};
+ghost use Rattle.session_state.specs.Standing.{Since, Story, entries, moment, sends, IsTold, AnswersFor, HasPassed};
+ghost use Rattle.session_state.specs.Leaving.{HoldsCheckpoints};
+ghost use Rattle.session_state.specs.Serving.{IsAnswerTo, CanGive, OnlyGives, BreaksPassing, HasStopCause, CanPass, PassesStory, PassesDue, StandsClosing};
 
 use crate::Session;
-use crate::stop::Stop;
 use guest_space::AccessRule;
 use reply_gate::{PassFault, pass_rest, pass_until};
 use run_history::Answer;
 use rx_io::Link;
+use session_state::Stop;
 
 /// A fault of passing, as a session's answer.
 pub fn answer_to(fault: PassFault) -> Answer

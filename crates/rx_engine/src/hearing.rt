@@ -1,19 +1,18 @@
 // What a session hears of its link.
 ghost use Rattle.std.specs.Prelude.{◌≡◌, ◌<◌, ◌≤◌, true, IfOk};
-ghost use Rattle.rx_io.specs.Links.{Told};
 ghost use Rattle.elf_image.specs.declared.image.Image.{Image};
 ghost use Rattle.item_log.specs.Log.{received};
-ghost use Rattle.rx_engine.specs.Options.{rules_of};
-ghost use Rattle.rx_engine.specs.Standing.{Since, IsWaitingFor};
-ghost use Rattle.rx_engine.specs.Leaving.{IsHandled};
-ghost use Rattle.rx_engine.specs.Serving.{IsStopAt, CanGive, HasStopCause, UnlessBroken, TakesBy, StaysKnown, BreaksOnce, HasSameGuest, StandsWaiting, WaitsBy, IsUnnoted};
+ghost use Rattle.session_state.specs.Options.{rules_of};
+ghost use Rattle.session_state.specs.Standing.{Since, IsWaitingFor};
+ghost use Rattle.session_state.specs.Leaving.{IsHandled};
+ghost use Rattle.session_state.specs.Serving.{IsStopAt, CanGive, HasStopCause, UnlessBroken, TakesBy, StaysKnown, BreaksOnce, HasSameGuest, StandsWaiting, WaitsBy, IsUnnoted};
 
 use crate::Session;
-use crate::stop::Stop;
 use event_gate::{HearFault, Heard, hear};
 use guest_space::AccessRule;
 use run_history::Answer;
 use rx_io::Link;
+use session_state::Stop;
 
 // What an event that wasn't heard means for a session.
 fn stop_at(fault: HearFault) -> Stop

@@ -3,18 +3,18 @@ ghost use Rattle.std.specs.Prelude.{◌≡◌, ℕ, ◌+◌, ◌≤◌, true, No
 ghost use Rattle.rx_io.specs.Links.{Told, Phases, Coming};
 ghost use Rattle.elf_image.specs.declared.image.Image.{Image};
 ghost use Rattle.notes.specs.Noting.{noted};
-ghost use Rattle.rx_engine.specs.Options.{rules_of};
-ghost use Rattle.rx_engine.specs.Standing.{Since, IsFailing};
-ghost use Rattle.rx_engine.specs.Leaving.{keeping_of, KeepsOldest};
-ghost use Rattle.rx_engine.specs.Serving.{CanGive, HasStopCause, HasNoteStop, IsNoteAnswer, UnlessBroken, UnlessMemory, TakesBy, BreaksOnce, StaysKnown, IsCounted, HasSameFrame, ComesBetween, StandsFailing, AdoptsBy, IsAdoptedLater, HasSameOpen, UnlessNoteStop, end_of};
+ghost use Rattle.session_state.specs.Options.{rules_of};
+ghost use Rattle.session_state.specs.Standing.{Since, IsFailing};
+ghost use Rattle.session_state.specs.Leaving.{keeping_of, KeepsOldest};
+ghost use Rattle.session_state.specs.Serving.{CanGive, HasStopCause, HasNoteStop, IsNoteAnswer, UnlessBroken, UnlessMemory, TakesBy, BreaksOnce, StaysKnown, IsCounted, HasSameFrame, ComesBetween, StandsFailing, AdoptsBy, IsAdoptedLater, HasSameOpen, UnlessNoteStop, end_of};
 
 use crate::Session;
-use crate::stop::Stop;
 use guest_space::AccessRule;
 use notes::Notes;
 use recovery_gate::{Adopted, Recovered, recover};
 use run_history::{Answer, Cause};
 use rx_io::{IoFault, Link, Steps};
+use session_state::Stop;
 use std::alloc::AllocError;
 use std::sync::ledger::Ledger;
 use trial_plan::Watch;

@@ -1,5 +1,5 @@
 // The checkpoints of a session.
-ghost use Rattle.std.specs.Prelude.{◌≡◌, ◌<◌, ◌≤◌, ◌+◌, ◌^◌, ℕ, [], ◌∷◌, length, drop, true, Option, IfOk, IfSome, slice_get};
+ghost use Rattle.std.specs.Prelude.{◌≡◌, ◌<◌, ◌+◌, ◌^◌, ℕ, [], ◌∷◌, length, true, Option, IfOk, IfSome, slice_get};
 ghost use Rattle.rx_io.specs.Links.{Told, Phases, Coming};
 ghost use Rattle.reply_ledger.specs.Ledger.{is_open};
 ghost use Rattle.reply_ledger.specs.Trimming.{trimmed};
@@ -9,20 +9,19 @@ ghost use Rattle.run_history.specs.Served.{origin};
 ghost use Rattle.session_history.specs.Lawful.{Rules};
 ghost use Rattle.recovery_gate.specs.Rings.{KeepsRing, SavesIf, is_due};
 ghost use Rattle.recovery_gate.specs.Handling.{alone, stands_of};
-ghost use Rattle.rx_engine.specs.Options.{rules_of};
-ghost use Rattle.rx_engine.specs.Sessions.{IsBegun};
-ghost use Rattle.rx_engine.specs.Standing.{Since, IsWaitingFor};
-ghost use Rattle.rx_engine.specs.Leaving.{IsHandled, keeping_of, IsRecorded, IsTrimmed, CanForgetSends};
-ghost use Rattle.rx_engine.specs.Serving.{IsReadyToServe, StandsWaiting, WaitsBy, BreaksNoting, HasNoteStop, NotesRest, HasNoteRest, UnlessNoteStop};
+ghost use Rattle.session_state.specs.Options.{rules_of};
+ghost use Rattle.session_state.specs.Sessions.{IsBegun};
+ghost use Rattle.session_state.specs.Standing.{Since, IsWaitingFor};
+ghost use Rattle.session_state.specs.Leaving.{IsHandled, keeping_of, IsRecorded, IsTrimmed, CanForgetSends};
+ghost use Rattle.session_state.specs.Serving.{IsReadyToServe, StandsWaiting, WaitsBy, BreaksNoting, HasNoteStop, NotesRest, HasNoteRest, UnlessNoteStop};
 
 use crate::Session;
 use crate::recovering::note_answer;
-use crate::stop::Stop;
-use block_book::Choice;
 use guest_space::AccessRule;
 use notes::Notes;
 use recovery_gate::{begin_ring, checkpoint, forget};
 use run_history::Answer;
+use session_state::{Stop, note_up_to};
 
 impl<R: AccessRule> Session<R> {
     /// Saves the start of the program as the first checkpoint.
@@ -72,15 +71,9 @@ impl<R: AccessRule> Session<R> {
         ensures fixed { N.fixed notes.new ≡ N.fixed notes.old }
     {
         let safe = self.cpu.oldest_marks().choices;
-        if safe <= self.recorded {
-            return Ok(());
-        }
-        let count = (safe - self.recorded) as usize;
-        if let Err(fault) = notes.choices(&self.choices[..count]) {
+        if let Err(fault) = note_up_to(notes, safe, &mut self.recorded, &mut self.choices) {
             return Err(Stop::Breaks(note_answer(fault)));
         }
-        drop_front(&mut self.choices, count);
-        self.recorded = safe;
         Ok(())
     }
 
@@ -115,22 +108,10 @@ impl<R: AccessRule> Session<R> {
         ensures works { IfOk result (λ _. N.works notes.new ≡ N.works notes.old) }
         ensures fixed { N.fixed notes.new ≡ N.fixed notes.old }
     {
-        if self.choices.is_empty() {
-            return Ok(());
+        let all = self.recorded + self.choices.len() as u64;
+        match note_up_to(notes, all, &mut self.recorded, &mut self.choices) {
+            Ok(()) => Ok(()),
+            Err(fault) => Err(note_answer(fault)),
         }
-        if let Err(fault) = notes.choices(&self.choices) {
-            return Err(note_answer(fault));
-        }
-        self.recorded += self.choices.len() as u64;
-        self.choices.clear();
-        Ok(())
     }
-}
-
-// A list without its first elements. It keeps its room.
-fn drop_front(choices: &mut Vec<Choice>, count: usize)
-    requires { count ≤ length choices.old.items }
-    ensures { choices.new.items ≡ drop count choices.old.items }
-{
-    choices.drain(..count);
 }

@@ -1,5 +1,5 @@
 // A session from its begin to its end.
-ghost use Rattle.std.specs.Prelude.{◌≡◌, ◌≢◌, ℕ, ◌+◌, ◌<◌, ◌≤◌, true, false, Option, IfOk};
+ghost use Rattle.std.specs.Prelude.{◌≡◌, ℕ, ◌+◌, ◌<◌, ◌≤◌, true, false, Option, IfOk};
 ghost use Rattle.rx_io.specs.Links.{Told, Phases, Coming, IsFresh};
 ghost use Rattle.elf_image.specs.declared.image.Image.{Image};
 ghost use Rattle.item_log.specs.Log.{received};
@@ -7,16 +7,15 @@ ghost use Rattle.run_history.specs.declared.answer.Answer.TheVariants as answer;
 ghost use Rattle.guest_cpu.specs.declared.event.Event.TheVariants as event;
 ghost use Rattle.session_history.specs.Ends.{IsEnd};
 ghost use Rattle.notes.specs.Noting.{noted};
-ghost use Rattle.rx_engine.specs.Options.{rules_of, keeping_for};
-ghost use Rattle.rx_engine.specs.Sessions.{IsBegun};
-ghost use Rattle.rx_engine.specs.Standing.{Since, IsGoing, IsBetween, IsAsking, IsWaitingFor, IsEnding};
-ghost use Rattle.rx_engine.specs.Recovered.{HasRecovered, HasWatched};
-ghost use Rattle.rx_engine.specs.Leaving.{IsHandled, keeping_of, IsTrimmed, KeepsOldest, HasLeft};
-ghost use Rattle.rx_engine.specs.Serving.{CanGive, HasStopCause, HasNoteStop, HasAnswerCause, HasNoteCause, UnlessBroken, UnlessMemory, TakesAtEnd, TakesBy, BreaksPassing, BreaksAt, BreaksOnce, StaysKnown, IsCounted, IsOkOrMemory, HasSameFrame, HasRun, GoesFurther, StandsBetween, StandsWaiting, StandsEmitting, StandsEnding, ComesBetween, IsReadyToServe, IsUnnoted, UnlessNoteStop, UnlessNoteFault};
+ghost use Rattle.session_state.specs.Options.{rules_of, keeping_for};
+ghost use Rattle.session_state.specs.Sessions.{IsBegun};
+ghost use Rattle.session_state.specs.Standing.{Since, IsGoing, IsBetween, IsAsking, IsWaitingFor, IsEnding};
+ghost use Rattle.session_state.specs.Recovered.{HasRecovered, HasWatched};
+ghost use Rattle.session_state.specs.Leaving.{IsHandled, keeping_of, IsTrimmed, KeepsOldest, HasLeft};
+ghost use Rattle.session_state.specs.Serving.{CanGive, HasStopCause, HasNoteStop, HasAnswerCause, HasNoteCause, UnlessBroken, UnlessMemory, TakesAtEnd, TakesBy, BreaksPassing, BreaksAt, BreaksOnce, StaysKnown, IsCounted, IsOkOrMemory, HasSameFrame, HasRun, GoesFurther, StandsBetween, StandsWaiting, StandsEmitting, StandsEnding, ComesBetween, IsReadyToServe, IsUnnoted, UnlessNoteStop, UnlessNoteFault};
 
 use crate::Session;
 use crate::giving::answer_to;
-use crate::stop::Stop;
 use block_book::Choice;
 use guest_cpu::Event;
 use guest_space::AccessRule;
@@ -24,6 +23,7 @@ use notes::Notes;
 use reply_gate::pass_until;
 use run_history::Answer;
 use rx_io::{Bytes, Link, Steps};
+use session_state::Stop;
 use std::sync::ledger::Ledger;
 use trial_plan::{NoWatch, Watch};
 

@@ -1,9 +1,9 @@
 // A session of a program over a link.
-ghost use Rattle.std.specs.Prelude.{◌≡◌, ◌≤◌, IfOk};
-ghost use Rattle.rx_engine.specs.Options.{AreInRange};
-ghost use Rattle.rx_engine.specs.Sessions.{IsBegun, env_of};
+ghost use Rattle.std.specs.Prelude.{◌≡◌, IfOk};
+ghost use Rattle.session_state.specs.Options.{AreInRange};
+ghost use Rattle.session_state.specs.Sessions.{IsBegun, env_of};
 
-use crate::{Left, Options};
+use crate::Left;
 use alloc_env::Env;
 use block_book::{Choice, Choices};
 use ckpt_ring::Ring;
@@ -12,6 +12,7 @@ use guest_cpu::Cpu;
 use guest_space::AccessRule;
 use item_log::ItemLog;
 use reply_ledger::Replies;
+use session_state::Options;
 use std::alloc::{AllocError, Global};
 use std::marker::Model;
 
@@ -37,8 +38,8 @@ pub struct Session<R: AccessRule> {
 }
 
 impl<R: AccessRule> Model for Session<R> {
-    ghost use Rattle.rx_engine.specs.Options.{AreInRange};
-    ghost use Rattle.rx_engine.specs.Sessions.{SessionState};
+    ghost use Rattle.session_state.specs.Options.{AreInRange};
+    ghost use Rattle.session_state.specs.Sessions.{SessionState};
 
     ghost Value = { SessionState R };
 
@@ -60,13 +61,17 @@ impl<R: AccessRule + Drop> Session<R> {
         ensures { IfOk result (IsBegun image.now options.now rule) }
     {
         let frames = options.frames * (options.window / PAGE);
+        let ring = Ring::make(alloc, options.ring)?;
+        let log = ItemLog::make(alloc, options.frame, options.max_items)?;
+        let replies = Replies::make(alloc)?;
+        let cpu = Cpu::make(alloc, image, options.ring, frames, rule)?;
         Ok(Session {
             alloc,
             options: *options,
-            cpu: Cpu::make(alloc, image, options.ring, frames, rule)?,
-            ring: Ring::make(alloc, options.ring)?,
-            log: ItemLog::make(alloc, options.frame, options.max_items)?,
-            replies: Replies::make(alloc)?,
+            cpu,
+            ring,
+            log,
+            replies,
             events: 0,
             recorded: 0,
             choices: Vec::new(alloc),

@@ -4,7 +4,7 @@ use Rattle.std.proofs.lemmas.List.{length-take-le, take-append-drop}
 use Rattle.std.proofs.lemmas.Option.{option_and_then_some}
 use Rattle.episodes.specs.declared.episode.Episode.{Episode}
 use Rattle.notes.specs.Noting.{noted}
-use Rattle.rx_engine.specs.Recovered.{HasNoted}
+use Rattle.session_state.specs.Recovered.{HasNoted}
 use Rattle.block_book.specs.declared.choice.Choice.{Choice}
 use Rattle.rx_io.specs.declared.bytes.Item.{Item}
 use Rattle.rx_io.specs.Outside.{Stream, IsDrained}

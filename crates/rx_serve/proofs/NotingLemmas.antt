@@ -15,9 +15,9 @@ use Rattle.run_report.specs.declared.form.Form.{Form}
 use Rattle.recovery_gate.specs.Handling.{Keeping}
 use Rattle.session_history.specs.Lawful.{Rules}
 use Rattle.trunk_session.specs.Serving.{ServesTrunk}
-use Rattle.rx_engine.specs.Options.{AreInRange, rules_of, keeping_for}
-use Rattle.rx_engine.specs.Serving.{IsNoteAnswer, UnlessNoteFault}
-use Rattle.rx_engine.specs.declared.options.Options.{Options}
+use Rattle.session_state.specs.Options.{AreInRange, rules_of, keeping_for}
+use Rattle.session_state.specs.Serving.{IsNoteAnswer, UnlessNoteFault}
+use Rattle.session_state.specs.declared.options.Options.{Options}
 use Rattle.rx_io.specs.Named.{Contents}
 use Rattle.rx_io.specs.Outside.{Stream}
 use Rattle.rx_io.specs.declared.fault.IoFault.{IoFault}

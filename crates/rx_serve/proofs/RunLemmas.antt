@@ -8,10 +8,10 @@ use Rattle.rx_io.specs.Outside.{Stream}
 use Rattle.elf_image.specs.declared.image.Image.{Image}
 use Rattle.run_history.specs.declared.answer.Answer.{Answer}
 use Rattle.run_history.specs.declared.answer.Answer.TheVariants as answer
-use Rattle.rx_engine.specs.Options.{AreInRange, rules_of, keeping_for}
-use Rattle.rx_engine.specs.Sessions.{SessionState, IsBegun}
-use Rattle.rx_engine.specs.Serving.{IsReadyToServe, IsNoteAnswer}
-use Rattle.rx_engine.specs.declared.options.Options.{Options}
+use Rattle.session_state.specs.Options.{AreInRange, rules_of, keeping_for}
+use Rattle.session_state.specs.Sessions.{SessionState, IsBegun}
+use Rattle.session_state.specs.Serving.{IsReadyToServe, IsNoteAnswer}
+use Rattle.session_state.specs.declared.options.Options.{Options}
 use Rattle.schedule_file.specs.declared.recorded.TheConstants.{MAX_TAKEN}
 use Rattle.rx_serve.specs.declared.ending.End.{End}
 use Rattle.rx_serve.specs.Commands.{RunEnds}

@@ -3,8 +3,8 @@ use Rattle.std.proofs.Common.{◌≡◌, ◌≤◌, arith, sym, subst}
 use Rattle.command_line.specs.Commands.{RunValue}
 use Rattle.command_line.specs.Ranges.{AreInRange as RangesHold}
 use Rattle.elf_image.specs.Layout.{IsWindow}
-use Rattle.rx_engine.specs.Options.{AreInRange}
-use Rattle.rx_engine.specs.declared.options.Options.{Options}
+use Rattle.session_state.specs.Options.{AreInRange}
+use Rattle.session_state.specs.declared.options.Options.{Options}
 use Rattle.rx_serve.specs.Settings.{options_of}
 
 pub window_few : (value : RunValue) → RangesHold value → value.window ≤ 64

@@ -7,7 +7,7 @@ use Rattle.elf_image.specs.declared.image.Image.{Image}
 use Rattle.rx_io.specs.declared.fault.IoFault.{IoFault}
 use Rattle.run_history.specs.declared.answer.Answer.{Answer}
 use Rattle.run_history.specs.declared.answer.Answer.TheVariants as answer
-use Rattle.rx_engine.specs.Serving.{IsNoteAnswer}
+use Rattle.session_state.specs.Serving.{IsNoteAnswer}
 use Rattle.session_history.specs.Ends.{IsEnd}
 use Rattle.rx_serve.specs.declared.ending.End.{End}
 use Rattle.rx_serve.specs.Assembly.{Assembles, HasAsmCause}
@@ -15,7 +15,7 @@ use Rattle.rx_serve.specs.Ended.{HasNoSession, IsUntouched}
 use Rattle.rx_serve.specs.Headline.{Headline}
 use Rattle.rx_serve.specs.Loading.{HasImage, HasLoadCause}
 use Rattle.rx_serve.specs.Noting.{StartsFiles, ServesNoted, ClosesFiles, HaveTexts}
-use Rattle.rx_engine.specs.Options.{keeping_for}
+use Rattle.session_state.specs.Options.{keeping_for}
 use Rattle.rx_serve.specs.Replaying.{ReplaysFile}
 use Rattle.rx_serve.specs.Settings.{window_of, options_of, rules_of_run}
 

@@ -16,7 +16,7 @@ use Rattle.run_history.specs.declared.answer.Answer.{Answer}
 use Rattle.run_report.specs.declared.form.Form.{Form}
 use Rattle.run_report.specs.declared.form.Form.TheVariants as form
 use Rattle.run_report.specs.Report as report
-use Rattle.rx_engine.specs.Serving.{IsNoteAnswer, UnlessNoteFault}
+use Rattle.session_state.specs.Serving.{IsNoteAnswer, UnlessNoteFault}
 use Rattle.rx_io.specs.Named.{Contents}
 use Rattle.rx_io.specs.Outside.{Stream}
 use Rattle.rx_io.specs.declared.fault.IoFault.{IoFault}

@@ -2,8 +2,8 @@
 use Rattle.std.specs.Prelude.{ℕ, ◌*◌, ◌^◌, true}
 use Rattle.command_line.specs.Commands.{RunValue}
 use Rattle.session_history.specs.Lawful.{Rules}
-use Rattle.rx_engine.specs.declared.options.Options.{Options}
-use Rattle.rx_engine.specs.Options.{rules_of}
+use Rattle.session_state.specs.declared.options.Options.{Options}
+use Rattle.session_state.specs.Options.{rules_of}
 use Rattle.rx_serve.specs.declared.settings.TheConstants.{MAX_ITEMS, MAX_EVENTS}
 
 -- the bytes of the program's window

@@ -1,9 +1,9 @@
 -- A session that was begun is ready to serve.
 use Rattle.std.proofs.Common.{sym, subst}
 use Rattle.elf_image.specs.declared.image.Image.{Image}
-use Rattle.rx_engine.specs.declared.options.Options.{Options}
-use Rattle.rx_engine.specs.Sessions.{SessionState, IsBegun}
-use Rattle.rx_engine.specs.Serving.{IsReadyToServe}
+use Rattle.session_state.specs.declared.options.Options.{Options}
+use Rattle.session_state.specs.Sessions.{SessionState, IsBegun}
+use Rattle.session_state.specs.Serving.{IsReadyToServe}
 
 module _ {R : Type 0} where
   pub ready : (image : Image) (options : Options) (rule : R) (session : SessionState R) → IsBegun image options rule session → IsReadyToServe session

@@ -2,8 +2,8 @@
 ghost use Rattle.std.specs.Prelude.{◌≡◌, ◌<◌, true, false, if◌then◌else◌, IfOk};
 ghost use Rattle.rx_io.specs.Links.{IsFresh};
 ghost use Rattle.rx_io.specs.MemoryLinks.{link_phases, link_takes, link_gives};
-ghost use Rattle.rx_engine.specs.Options.{AreInRange};
-ghost use Rattle.rx_engine.specs.Serving.{IsReadyToServe};
+ghost use Rattle.session_state.specs.Options.{AreInRange};
+ghost use Rattle.session_state.specs.Serving.{IsReadyToServe};
 
 use crate::failure_count::FailureCount;
 use crate::programs::image_of;
@@ -145,15 +145,36 @@ fn serve_row(
     )
 }
 
-// How the session of a row ends, as words.
-pub(crate) fn played(alloc: Global, row: &Row<'_>) -> Result<String, Fail> {
-    let image = image_of(alloc, row.program)?;
-    let mut session = begin(alloc, &image, row)?;
-    let mut link = link_played(alloc, row)?;
-    let mut notes = notes_played(alloc, row)?;
+// Plays a session to its end, and tells how it ended, as words.
+fn play(
+    alloc: Global,
+    mut session: Session<AllMapped>,
+    mut link: ShortLink<MemoryLink>,
+    mut notes: ShortNotes<NoteList>,
+) -> Result<String, Fail>
+    requires begun { IsReadyToServe session }
+    requires fresh { IsFresh (link_phases link.link) }
+    requires takes { (if link.takes then link_takes link.link else false) ≡ true }
+    requires gives { (if link.gives then link_gives link.link else false) ≡ true }
+{
     let mut watch = FailureCount { failures: 0 };
     let answer = serve_row(&mut session, &mut link, &mut notes, &mut watch);
     let left = session.into_end();
-    let ended = shown(alloc, answer, link.link.journal(), &left, &notes.notes)?;
-    Ok(format!(in alloc; "{ended} watched={}", watch.failures)?)
+    shown(
+        alloc,
+        answer,
+        link.link.journal(),
+        &left,
+        &notes.notes,
+        watch.failures,
+    )
+}
+
+// How the session of a row ends, as words.
+pub(crate) fn played(alloc: Global, row: &Row<'_>) -> Result<String, Fail> {
+    let image = image_of(alloc, row.program)?;
+    let link = link_played(alloc, row)?;
+    let notes = notes_played(alloc, row)?;
+    let session = begin(alloc, &image, row)?;
+    play(alloc, session, link, notes)
 }

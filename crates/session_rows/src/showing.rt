@@ -99,17 +99,19 @@ fn end_shown(alloc: Global, answer: Answer, journal: &[Entry]) -> Result<String,
     Ok(format!(in alloc; "{answer} {journal}")?)
 }
 
-// How a session ended: its answer, the journal of its link, its run's blocks, what it left and what it noted.
+// How a session ended: its answer, the journal of its link, its run's blocks, what it left and what it noted, and at how many failures
+// its watch looked.
 pub(crate) fn shown(
     alloc: Global,
     answer: Answer,
     journal: &[Entry],
     left: &Left<AllMapped>,
     notes: &NoteList,
+    watched: u64,
 ) -> Result<String, Fail> {
     let ended = end_shown(alloc, answer, journal)?;
     let blocks = all_blocks(alloc, left, notes)?;
     let kept = left_shown(alloc, left)?;
     let noted = notes_shown(alloc, notes)?;
-    Ok(format!(in alloc; "{ended} blocks={blocks} {kept} {noted}")?)
+    Ok(format!(in alloc; "{ended} blocks={blocks} {kept} {noted} watched={watched}")?)
 }

@@ -10,7 +10,7 @@ use Rattle.elf_image.specs.declared.image.Image.{Image}
 use Rattle.run_history.specs.declared.answer.Answer.{Answer}
 use Rattle.run_history.specs.declared.answer.Answer.TheVariants as answer
 use Rattle.run_history.specs.Run.{Run}
-use Rattle.rx_engine.specs.Serving.{StaysKnown}
+use Rattle.session_state.specs.Serving.{StaysKnown}
 use Rattle.session_history.specs.Heeding.{items_in}
 use Rattle.schedule_file.specs.declared.recorded.Recorded.{Recorded}
 use Rattle.replay.specs.Replaying.{Replay, IsReplay, IsAsking, EndsBy, HasReplayedBy, LeavesLink, bounds_of}

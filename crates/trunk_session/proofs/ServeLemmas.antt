@@ -14,12 +14,12 @@ use Rattle.run_history.specs.declared.answer.Answer.TheVariants as answer
 use Rattle.session_history.specs.Account.{Session, journal_of}
 use Rattle.session_history.specs.Ends.{IsEnd, EndsBy, WasAsked}
 use Rattle.recovery_gate.specs.Handling.{Keeping}
-use Rattle.rx_engine.specs.Recovered.{HasRecovered, HasNoted}
+use Rattle.session_state.specs.Recovered.{HasRecovered, HasNoted}
 use Rattle.notes.specs.Noting.{Noted}
 use Rattle.trial_history.specs.Episodes.{episode_of}
 use Rattle.session_history.specs.Heeding.{Bounds}
 use Rattle.session_history.specs.Lawful.{Rules}
-use Rattle.rx_engine.specs.Serving.{StaysKnown, TakesAtEnd, BreaksAt}
+use Rattle.session_state.specs.Serving.{StaysKnown, TakesAtEnd, BreaksAt}
 use Rattle.trunk_wire.specs.Calls.{count_after}
 use Rattle.trunk_wire.specs.Frames.{frames}
 use Rattle.trunk_wire.specs.Going.{AreInOrder, phases_behind, Intake, IsTail, TookFrames, TakesOn, Output, WroteFrames, GivesOn}

@@ -10,7 +10,7 @@ use Rattle.run_history.specs.declared.answer.Answer.TheVariants as answer
 use Rattle.session_history.specs.Account.{Session}
 use Rattle.session_history.specs.Ends.{IsEnd, EndsBy}
 use Rattle.session_history.specs.Lawful.{Rules}
-use Rattle.rx_engine.specs.Serving.{TakesAtEnd}
+use Rattle.session_state.specs.Serving.{TakesAtEnd}
 use Rattle.trunk_wire.specs.Calls.{count_after, IsRefused}
 use Rattle.trunk_wire.specs.Frames.{header_of, AreFramesOf}
 use Rattle.trunk_wire.specs.Going.{AreInOrder, phases_behind, Intake, IsTail}

@@ -17,7 +17,7 @@ use Rattle.notes.specs.Noting.{Noted}
 use Rattle.trial_history.specs.Episodes.{Recovery, episode_of, AreRecovered}
 use Rattle.trial_plan.specs.Trying.{steps_of}
 use Rattle.recovery_gate.specs.Handling.{Keeping, HaveRings}
-use Rattle.rx_engine.specs.Recovered.{spent, AreLastTrials, GivesUpBy, HasNoted}
+use Rattle.session_state.specs.Recovered.{spent, AreLastTrials, GivesUpBy, HasNoted}
 use Rattle.trunk_session.specs.Trunk.{TakesTrunk, StopsTrunk, WritesTrunk, WritesWhole, BreaksTrunk, Carries}
 
 -- an answer of a session: one of its ends, a fault of reading, of writing or of its notes, or want of memory

@@ -4,9 +4,9 @@ ghost use Rattle.rx_io.specs.Faults.{Rose};
 ghost use Rattle.elf_image.specs.declared.image.Image.{Image};
 ghost use Rattle.run_history.specs.declared.answer.Answer.TheVariants as answer;
 ghost use Rattle.notes.specs.Noting.{noted};
-ghost use Rattle.rx_engine.specs.Options.{rules_of, keeping_for};
-ghost use Rattle.rx_engine.specs.Serving.{IsReadyToServe, HasNoteCause, UnlessNoteFault};
-ghost use Rattle.rx_engine.specs.Sessions.{IsBegun};
+ghost use Rattle.session_state.specs.Options.{rules_of, keeping_for};
+ghost use Rattle.session_state.specs.Serving.{IsReadyToServe, HasNoteCause, UnlessNoteFault};
+ghost use Rattle.session_state.specs.Sessions.{IsBegun};
 ghost use Rattle.trunk_session.specs.Serving.{IsOfSession, ServesTrunk};
 
 use guest_space::AccessRule;

@@ -1,8 +1,8 @@
 use Rattle.std.proofs.Common.{◌≡◌, ℕ, ◌+◌, ◌∙◌, ap, rules}
 use Rattle.command_line.specs.Commands.{run_shown}
 use Rattle.elf_image.specs.declared.image.Image.{Image}
-use Rattle.rx_engine.specs.Options.{rules_of, keeping_for}
-use Rattle.rx_engine.specs.Sessions.{IsBegun}
+use Rattle.session_state.specs.Options.{rules_of, keeping_for}
+use Rattle.session_state.specs.Sessions.{IsBegun}
 use Rattle.rx_serve.specs.Noting.{ServesNoted}
 use Rattle.rx_serve.proofs.NotingLemmas.{serves_noted}
 use Rattle.rx_serve.proofs.noting.serve_noted.Goals as goal

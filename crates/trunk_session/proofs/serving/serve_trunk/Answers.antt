@@ -1,8 +1,8 @@
 use Rattle.std.proofs.Common.{◌≡◌, ℕ, ◌+◌, rules, sym, ◌∙◌}
 use Rattle.elf_image.specs.declared.image.Image.{Image}
 use Rattle.notes.specs.Noting.{noted}
-use Rattle.rx_engine.specs.Options.{rules_of, keeping_for}
-use Rattle.rx_engine.specs.Sessions.{IsBegun}
+use Rattle.session_state.specs.Options.{rules_of, keeping_for}
+use Rattle.session_state.specs.Sessions.{IsBegun}
 use Rattle.trunk_wire.specs.Tellings.{told_nothing}
 use Rattle.trunk_wire.specs.TrunkLinks.{intake_of, output_of}
 use Rattle.trunk_session.specs.Serving.{ServesTrunk}

@@ -1,13 +1,13 @@
 use Rattle.std.specs.Prelude.{slice_get}
-use Rattle.rx_engine.specs.Leaving.{keeping_of}
-use Rattle.rx_engine.proofs.HeldLemmas.{slots_oldest}
+use Rattle.session_state.specs.Leaving.{keeping_of}
+use Rattle.session_state.proofs.HeldLemmas.{slots_oldest}
 use Rattle.std.proofs.Common.{◌∙◌, ◌≡◌, ◌+◌, ◌^◌, ◌<◌, ◌≤◌, refl, sym, ap, subst, arith}
 use Rattle.rv_exec.specs.Stepping.{limits_of}
 use Rattle.recovery_gate.specs.Recovering.{HasToRecover}
-use Rattle.rx_engine.specs.Options.{rules_of}
-use Rattle.rx_engine.specs.Sessions.{SessionState}
-use Rattle.rx_engine.specs.Standing.{Since}
-use Rattle.rx_engine.proofs.AdoptLemmas.{counts_seen, adopting_in, failure_of, failing_moved, to_recover, adopt_none, adopting_at, adopt_some, adopt_least, adopt_breaks, adopted_later}
+use Rattle.session_state.specs.Options.{rules_of}
+use Rattle.session_state.specs.Sessions.{SessionState}
+use Rattle.session_state.specs.Standing.{Since}
+use Rattle.session_state.proofs.AdoptLemmas.{counts_seen, adopting_in, failure_of, failing_moved, to_recover, adopt_none, adopting_at, adopt_some, adopt_least, adopt_breaks, adopted_later}
 use Rattle.rx_engine.proofs.session.Session.adopt.Goals as goal
 
 pub recover-requires : goal.recover-requires

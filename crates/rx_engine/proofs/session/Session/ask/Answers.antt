@@ -1,14 +1,14 @@
 use Rattle.std.proofs.Common.{None, sym, ◌∙◌, subst}
 use Rattle.session_history.specs.Lawful.{Rules}
 use Rattle.notes.specs.Noting.{noted}
-use Rattle.rx_engine.specs.Options.{rules_of}
-use Rattle.rx_engine.specs.Standing.{Since}
-use Rattle.rx_engine.specs.Serving.{StopsBy}
-use Rattle.rx_engine.proofs.FrameLemmas.{saved_frame, same_rules, noted_frame, forgot_frame}
-use Rattle.rx_engine.proofs.HearingLemmas.{waits_under, stops_under}
-use Rattle.rx_engine.proofs.KnownLemmas.{noted_still}
-use Rattle.rx_engine.proofs.ChoiceLemmas.{waits_untold}
-use Rattle.rx_engine.proofs.TurnLemmas.{comes_under}
+use Rattle.session_state.specs.Options.{rules_of}
+use Rattle.session_state.specs.Standing.{Since}
+use Rattle.session_state.specs.Serving.{StopsBy}
+use Rattle.session_state.proofs.FrameLemmas.{saved_frame, same_rules, noted_frame, forgot_frame}
+use Rattle.session_state.proofs.HearingLemmas.{waits_under, stops_under}
+use Rattle.session_state.proofs.KnownLemmas.{noted_still}
+use Rattle.session_state.proofs.ChoiceLemmas.{waits_untold}
+use Rattle.session_state.proofs.TurnLemmas.{comes_under}
 use Rattle.rx_engine.proofs.session.Session.ask.Goals as goal
 
 pub note_choices-requires : goal.note_choices-requires

@@ -1,8 +1,8 @@
 use Rattle.std.proofs.Common.{Err, refl, sym, ap, arith}
 use Rattle.session_history.specs.Lawful.{Rules}
-use Rattle.rx_engine.specs.Options.{rules_of}
-use Rattle.rx_engine.proofs.HearingLemmas.{same_then, same_rules, waits_under, stops_under, cause_then, no_cause}
-use Rattle.rx_engine.proofs.KnownLemmas.{known_same, known_then, known_unless, once_then}
+use Rattle.session_state.specs.Options.{rules_of}
+use Rattle.session_state.proofs.HearingLemmas.{same_then, same_rules, waits_under, stops_under, cause_then, no_cause}
+use Rattle.session_state.proofs.KnownLemmas.{known_same, known_then, known_unless, once_then}
 use Rattle.rx_engine.proofs.session.Session.await_item.Goals as goal
 
 pub waits-init : goal.waits-init

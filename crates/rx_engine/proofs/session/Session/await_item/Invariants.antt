@@ -1,6 +1,6 @@
 use Rattle.std.proofs.Common.{◌-◌}
-use Rattle.rx_engine.specs.Options.{rules_of}
-use Rattle.rx_engine.proofs.HearingLemmas.{HasAwaited}
+use Rattle.session_state.specs.Options.{rules_of}
+use Rattle.session_state.proofs.HearingLemmas.{HasAwaited}
 use Rattle.rx_engine.proofs.session.Session.await_item.Given as goal
 
 abbrev pub invariant-waits : goal.invariant-waits

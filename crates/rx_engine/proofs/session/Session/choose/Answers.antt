@@ -1,10 +1,10 @@
 use Rattle.std.proofs.Common.{true, [], ◌∷◌, ◌++◌, refl, sym, ◌∙◌, ap, subst}
-use Rattle.rx_engine.specs.Options.{rules_of}
-use Rattle.rx_engine.specs.Leaving.{keeping_of}
-use Rattle.rx_engine.specs.Sessions.{SessionState}
-use Rattle.rx_engine.specs.Standing.{IsBetween}
-use Rattle.rx_engine.proofs.StoryLemmas.{still_takes}
-use Rattle.rx_engine.proofs.ServeLemmas.{run_breaks, run_chooses}
+use Rattle.session_state.specs.Options.{rules_of}
+use Rattle.session_state.specs.Leaving.{keeping_of}
+use Rattle.session_state.specs.Sessions.{SessionState}
+use Rattle.session_state.specs.Standing.{IsBetween}
+use Rattle.session_state.proofs.StoryLemmas.{still_takes}
+use Rattle.session_state.proofs.ServeLemmas.{run_breaks, run_chooses}
 use Rattle.rx_engine.proofs.session.Session.choose.Goals as goal
 
 pub returns-in-Err-clause-turns : goal.returns-in-Err-clause-turns

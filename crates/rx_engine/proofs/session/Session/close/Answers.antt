@@ -3,14 +3,14 @@ use Rattle.item_log.specs.Log.{received}
 use Rattle.reply_ledger.specs.Ledger.{Ledger}
 use Rattle.session_history.specs.Heeding as heeding
 use Rattle.session_history.specs.Giving.{IsClosing}
-use Rattle.rx_engine.specs.Sessions.{SessionState}
-use Rattle.rx_engine.specs.Standing.{Story, entries, moment, sends, then_story, AnswersFor, HasPassed}
-use Rattle.rx_engine.specs.Serving.{CanGive, CanPass, StandsClosing}
-use Rattle.rx_engine.proofs.PassLemmas.{stamped_by, sendable_kept, breaks_by, rest_ok}
-use Rattle.rx_engine.proofs.PassingLemmas.{closing_can, closed_can, gives_closed, rest_passed, received_given, due_behind}
-use Rattle.rx_engine.specs.Leaving.{HoldsCheckpoints}
-use Rattle.rx_engine.proofs.HeldLemmas.{held_by, held_given}
-use Rattle.rx_engine.proofs.KnownLemmas.{pass_answer}
+use Rattle.session_state.specs.Sessions.{SessionState}
+use Rattle.session_state.specs.Standing.{Story, entries, moment, sends, then_story, AnswersFor, HasPassed}
+use Rattle.session_state.specs.Serving.{CanGive, CanPass, StandsClosing}
+use Rattle.session_state.proofs.PassLemmas.{stamped_by, sendable_kept, breaks_by, rest_ok}
+use Rattle.session_state.proofs.PassingLemmas.{closing_can, closed_can, gives_closed, rest_passed, received_given, due_behind}
+use Rattle.session_state.specs.Leaving.{HoldsCheckpoints}
+use Rattle.session_state.proofs.HeldLemmas.{held_by, held_given}
+use Rattle.session_state.proofs.KnownLemmas.{pass_answer}
 use Rattle.rx_engine.proofs.session.Session.close.Goals as goal
 
 pub pass_rest-requires-clause-stamped : goal.pass_rest-requires-clause-stamped

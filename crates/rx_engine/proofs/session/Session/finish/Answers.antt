@@ -1,21 +1,21 @@
 use Rattle.std.specs.Prelude.{IfSome, slice_get}
 use Rattle.reply_ledger.specs.Trimming as ledgers
 use Rattle.std.proofs.Common.{◌≡◌, ◌+◌, ap, false, ◌≤◌, length, refl, sym, ◌∙◌, subst, arith}
-use Rattle.rx_engine.specs.Options.{rules_of}
-use Rattle.rx_engine.specs.Recovered.{HasWatched}
-use Rattle.rx_engine.specs.Sessions.{SessionState}
-use Rattle.rx_engine.specs.Standing.{Since, entries, sends, IsAsking, IsEnding}
+use Rattle.session_state.specs.Options.{rules_of}
+use Rattle.session_state.specs.Recovered.{HasWatched}
+use Rattle.session_state.specs.Sessions.{SessionState}
+use Rattle.session_state.specs.Standing.{Since, entries, sends, IsAsking, IsEnding}
 use Rattle.notes.specs.Noting.{noted}
 use Rattle.recovery_gate.specs.Handling.{HasHandled, stands_of}
-use Rattle.rx_engine.specs.Leaving.{HandledAt, keeping_of, IsTrimmed, CanForgetSends, HasLeft}
-use Rattle.rx_engine.specs.Serving.{CanPass, UnlessNoteFault}
-use Rattle.rx_engine.proofs.HeldLemmas.{held_by, trimmed_still}
-use Rattle.rx_engine.proofs.LeavingLemmas.{unless_note, note_unless, can_forget_sends, left_off, left_end, end_requests, passing_requests}
-use Rattle.rx_engine.proofs.EndLemmas.{end_of, ended_account}
-use Rattle.rx_engine.proofs.PassLemmas.{stamped_by, sendable_kept}
-use Rattle.rx_engine.proofs.ChoiceLemmas.{ending_few}
-use Rattle.rx_engine.proofs.PassingLemmas.{ending_can, ending_ready, finish_ok, finish_fault, finish_unnoted}
-use Rattle.rx_engine.proofs.KnownLemmas.{fault_no_end, takes_no_end, once_passing}
+use Rattle.session_state.specs.Leaving.{HandledAt, keeping_of, IsTrimmed, CanForgetSends, HasLeft}
+use Rattle.session_state.specs.Serving.{CanPass, UnlessNoteFault}
+use Rattle.session_state.proofs.HeldLemmas.{held_by, trimmed_still}
+use Rattle.session_state.proofs.LeavingLemmas.{unless_note, note_unless, can_forget_sends, left_off, left_end, end_requests, passing_requests}
+use Rattle.session_state.proofs.EndLemmas.{end_of, ended_account}
+use Rattle.session_state.proofs.PassLemmas.{stamped_by, sendable_kept}
+use Rattle.session_state.proofs.ChoiceLemmas.{ending_few}
+use Rattle.session_state.proofs.PassingLemmas.{ending_can, ending_ready, finish_ok, finish_fault, finish_unnoted}
+use Rattle.session_state.proofs.KnownLemmas.{fault_no_end, takes_no_end, once_passing}
 use Rattle.rx_engine.proofs.session.Session.finish.Goals as goal
 
 pub pass_until-requires-clause-stamped : goal.pass_until-requires-clause-stamped

@@ -1,11 +1,11 @@
 use Rattle.std.proofs.Common.{sym, subst}
-use Rattle.rx_engine.specs.Sessions.{SessionState}
-use Rattle.rx_engine.specs.Leaving.{IsRecorded}
-use Rattle.rx_engine.proofs.LeavingLemmas.{forgot_up}
-use Rattle.rx_engine.specs.Options.{rules_of}
-use Rattle.rx_engine.specs.Standing.{entries}
-use Rattle.rx_engine.proofs.HearingLemmas.{moved}
-use Rattle.rx_engine.proofs.ChoiceLemmas.{waits_forgets, waits_forgot}
+use Rattle.session_state.specs.Sessions.{SessionState}
+use Rattle.session_state.specs.Leaving.{IsRecorded}
+use Rattle.session_state.proofs.LeavingLemmas.{forgot_up}
+use Rattle.session_state.specs.Options.{rules_of}
+use Rattle.session_state.specs.Standing.{entries}
+use Rattle.session_state.proofs.HearingLemmas.{moved}
+use Rattle.session_state.proofs.ChoiceLemmas.{waits_forgets, waits_forgot}
 use Rattle.rx_engine.proofs.session.Session.forget.Goals as goal
 
 pub forget-requires : goal.forget-requires

@@ -5,16 +5,16 @@ use Rattle.rx_io.specs.declared.journal.LinkEvent.TheVariants as event
 use Rattle.event_gate.specs.Calls.{ComesLast}
 use Rattle.session_history.specs.Lawful.{Rules}
 use Rattle.run_history.specs.declared.answer.Answer.TheVariants as answer
-use Rattle.rx_engine.specs.declared.stop.Stop.TheVariants as stop
-use Rattle.rx_engine.specs.Sessions.{SessionState}
-use Rattle.rx_engine.specs.Leaving.{IsHandled}
-use Rattle.rx_engine.specs.Options.{rules_of}
-use Rattle.rx_engine.specs.Standing.{Story, entries, sends, then_story}
-use Rattle.rx_engine.proofs.GuestLemmas.{received_is}
-use Rattle.rx_engine.proofs.HearingLemmas.{moved, items_heard, close_heard, settle_heard, end_heard, heard_can, heard_opened, heard_closing, heard_settled, heard_last, heard_saved, story_heard, items_hearing, waits_due, waits_closed, waits_settled, due_unless, story_unless, if_ok, all_taken, one_counted, quiet_event, stops_by, ends_by}
-use Rattle.rx_engine.proofs.HeldLemmas.{held_of}
-use Rattle.rx_engine.proofs.StoryLemmas.{still_takes}
-use Rattle.rx_engine.proofs.KnownLemmas.{known_heard, known_stopped, takes_given, takes_stopped, once_heard, once_stopped}
+use Rattle.session_state.specs.declared.stop.Stop.TheVariants as stop
+use Rattle.session_state.specs.Sessions.{SessionState}
+use Rattle.session_state.specs.Leaving.{IsHandled}
+use Rattle.session_state.specs.Options.{rules_of}
+use Rattle.session_state.specs.Standing.{Story, entries, sends, then_story}
+use Rattle.session_state.proofs.GuestLemmas.{received_is}
+use Rattle.session_state.proofs.HearingLemmas.{moved, items_heard, close_heard, settle_heard, end_heard, heard_can, heard_opened, heard_closing, heard_settled, heard_last, heard_saved, story_heard, items_hearing, waits_due, waits_closed, waits_settled, due_unless, story_unless, if_ok, all_taken, one_counted, quiet_event, stops_by, ends_by}
+use Rattle.session_state.proofs.HeldLemmas.{held_of}
+use Rattle.session_state.proofs.StoryLemmas.{still_takes}
+use Rattle.session_state.proofs.KnownLemmas.{known_heard, known_stopped, takes_given, takes_stopped, once_heard, once_stopped}
 use Rattle.rx_engine.proofs.session.Session.hear.Goals as goal
 
 pub pass_due-requires-clause-can : goal.pass_due-requires-clause-can

@@ -2,13 +2,13 @@ use Rattle.std.proofs.Common.{◌≡◌, refl, sym, ◌∙◌, subst}
 use Rattle.item_log.specs.Log.{received}
 use Rattle.session_history.specs.Heeding as heeding
 use Rattle.session_history.specs.Giving.{IsReady}
-use Rattle.rx_engine.specs.Sessions.{SessionState}
-use Rattle.rx_engine.specs.Standing.{entries, moment, sends, AnswersFor}
-use Rattle.rx_engine.specs.Serving.{CanPass}
-use Rattle.rx_engine.proofs.PassLemmas.{stamped_by, sendable_kept, passes_ok, breaks_by}
-use Rattle.rx_engine.specs.Leaving.{HoldsCheckpoints}
-use Rattle.rx_engine.proofs.HeldLemmas.{held_by}
-use Rattle.rx_engine.proofs.KnownLemmas.{pass_answer}
+use Rattle.session_state.specs.Sessions.{SessionState}
+use Rattle.session_state.specs.Standing.{entries, moment, sends, AnswersFor}
+use Rattle.session_state.specs.Serving.{CanPass}
+use Rattle.session_state.proofs.PassLemmas.{stamped_by, sendable_kept, passes_ok, breaks_by}
+use Rattle.session_state.specs.Leaving.{HoldsCheckpoints}
+use Rattle.session_state.proofs.HeldLemmas.{held_by}
+use Rattle.session_state.proofs.KnownLemmas.{pass_answer}
 use Rattle.rx_engine.proofs.session.Session.pass.Goals as goal
 
 pub pass_until-requires-clause-stamped : goal.pass_until-requires-clause-stamped

@@ -1,6 +1,6 @@
 use Rattle.std.proofs.Common.{◌≡◌, ◌+◌, ◌<◌, sym, subst, arith}
-use Rattle.rx_engine.specs.Sessions.{SessionState}
-use Rattle.rx_engine.proofs.PassingLemmas.{due_ready, due_passed, none_due}
+use Rattle.session_state.specs.Sessions.{SessionState}
+use Rattle.session_state.proofs.PassingLemmas.{due_ready, due_passed, none_due}
 use Rattle.rx_engine.proofs.session.Session.pass_due.Goals as goal
 
 pub returns-in-Some-clause-passes : goal.returns-in-Some-clause-passes

@@ -1,13 +1,13 @@
 use Rattle.std.proofs.Common.{sym, ◌∙◌, ap, subst}
-use Rattle.rx_engine.specs.declared.options.Options.{Options}
-use Rattle.rx_engine.specs.Options.{rules_of}
-use Rattle.rx_engine.specs.Standing.{IsGoing, IsWaitingFor, entries}
-use Rattle.rx_engine.proofs.GuestLemmas.{received_is}
-use Rattle.rx_engine.proofs.NeedLemmas.{going_can}
-use Rattle.rx_engine.proofs.HeldLemmas.{held_of, guest_oldest, passed_oldest, oldest_then}
-use Rattle.rx_engine.proofs.DueLemmas.{comes_between, unless_due}
-use Rattle.rx_engine.proofs.FrameLemmas.{guest_frame, same_rules}
-use Rattle.rx_engine.proofs.KnownLemmas.{known_on, counted_same, takes_given, once_given}
+use Rattle.session_state.specs.declared.options.Options.{Options}
+use Rattle.session_state.specs.Options.{rules_of}
+use Rattle.session_state.specs.Standing.{IsGoing, IsWaitingFor, entries}
+use Rattle.session_state.proofs.GuestLemmas.{received_is}
+use Rattle.session_state.proofs.NeedLemmas.{going_can}
+use Rattle.session_state.proofs.HeldLemmas.{held_of, guest_oldest, passed_oldest, oldest_then}
+use Rattle.session_state.proofs.DueLemmas.{comes_between, unless_due}
+use Rattle.session_state.proofs.FrameLemmas.{guest_frame, same_rules}
+use Rattle.session_state.proofs.KnownLemmas.{known_on, counted_same, takes_given, once_given}
 use Rattle.rx_engine.proofs.session.Session.receive.Goals as goal
 
 pub take-requires-clause-waits : goal.take-requires-clause-waits

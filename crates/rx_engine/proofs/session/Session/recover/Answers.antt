@@ -1,19 +1,19 @@
 use Rattle.std.proofs.Common.{◌≡◌, ℕ, ◌+◌, None, Some, Err, refl, sym, ◌∙◌, ap}
-use Rattle.rx_engine.specs.declared.options.Options.{Options}
+use Rattle.session_state.specs.declared.options.Options.{Options}
 use Rattle.notes.specs.Noting.{noted}
-use Rattle.rx_engine.specs.declared.stop.Stop.TheVariants as stop
-use Rattle.rx_engine.specs.Options.{rules_of}
-use Rattle.rx_engine.specs.Sessions.{SessionState}
-use Rattle.rx_engine.specs.Standing.{Since, entries}
-use Rattle.rx_engine.specs.Serving.{end_of}
-use Rattle.rx_engine.proofs.GuestLemmas.{received_is}
-use Rattle.rx_engine.proofs.NeedLemmas.{going_can}
-use Rattle.rx_engine.proofs.HeldLemmas.{held_of}
-use Rattle.rx_engine.proofs.DueLemmas.{comes_between}
-use Rattle.rx_engine.proofs.FaultLemmas.{note_answered}
-use Rattle.rx_engine.proofs.StartLemmas.{lost_then, lost_counts}
-use Rattle.rx_engine.proofs.StoryLemmas.{still_takes}
-use Rattle.rx_engine.proofs.RecoverLemmas.{failing_told, broken_told, ends_adopted, goes_adopted, comes_lost, lost_behind, noted_episode, one_more}
+use Rattle.session_state.specs.declared.stop.Stop.TheVariants as stop
+use Rattle.session_state.specs.Options.{rules_of}
+use Rattle.session_state.specs.Sessions.{SessionState}
+use Rattle.session_state.specs.Standing.{Since, entries}
+use Rattle.session_state.specs.Serving.{end_of}
+use Rattle.session_state.proofs.GuestLemmas.{received_is}
+use Rattle.session_state.proofs.NeedLemmas.{going_can}
+use Rattle.session_state.proofs.HeldLemmas.{held_of}
+use Rattle.session_state.proofs.DueLemmas.{comes_between}
+use Rattle.session_state.proofs.FaultLemmas.{note_answered}
+use Rattle.session_state.proofs.StartLemmas.{lost_then, lost_counts}
+use Rattle.session_state.proofs.StoryLemmas.{still_takes}
+use Rattle.session_state.proofs.RecoverLemmas.{failing_told, broken_told, ends_adopted, goes_adopted, comes_lost, lost_behind, noted_episode, one_more}
 use Rattle.rx_engine.proofs.session.Session.recover.Goals as goal
 
 pub returns-in-Err-clause-turns : goal.returns-in-Err-clause-turns

@@ -1,11 +1,11 @@
 use Rattle.std.proofs.Common.{sym, ap, ◌∙◌}
-use Rattle.rx_engine.specs.Options.{rules_of}
-use Rattle.rx_engine.specs.Standing.{entries}
-use Rattle.rx_engine.proofs.HearingLemmas.{moved}
-use Rattle.rx_engine.proofs.SaveLemmas.{waits_goes, waits_asks, waits_whole, waits_counted, waits_saved, waits_live, saves_keeping, behind_saved}
+use Rattle.session_state.specs.Options.{rules_of}
+use Rattle.session_state.specs.Standing.{entries}
+use Rattle.session_state.proofs.HearingLemmas.{moved}
+use Rattle.session_state.proofs.SaveLemmas.{waits_goes, waits_asks, waits_whole, waits_counted, waits_saved, waits_live, saves_keeping, behind_saved}
 use Rattle.recovery_gate.specs.Handling.{keeping_by}
-use Rattle.rx_engine.specs.Leaving.{keeping_of}
-use Rattle.rx_engine.specs.Sessions.{SessionState}
+use Rattle.session_state.specs.Leaving.{keeping_of}
+use Rattle.session_state.specs.Sessions.{SessionState}
 use Rattle.rx_engine.proofs.session.Session.save.Goals as goal
 
 pub returns-clause-waits : goal.returns-clause-waits

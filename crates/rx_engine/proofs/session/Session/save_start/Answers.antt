@@ -1,13 +1,13 @@
 use Rattle.std.proofs.Common.{◌≡◌, sym, ◌∙◌, ap}
 use Rattle.item_log.specs.Log.{Log}
 use Rattle.reply_ledger.specs.Ledger.{Ledger}
-use Rattle.rx_engine.specs.Sessions.{SessionState}
+use Rattle.session_state.specs.Sessions.{SessionState}
 use Rattle.ckpt_ring.specs.Slots.{Slots}
 use Rattle.guest_cpu.specs.Standing.{Standing}
 use Rattle.trial_plan.specs.Sessions.{taken_in}
 use Rattle.recovery_gate.specs.Handling.{alone, keeping_by}
-use Rattle.rx_engine.specs.Leaving.{keeping_of}
-use Rattle.rx_engine.proofs.StartLemmas.{starts_at, starts_none}
+use Rattle.session_state.specs.Leaving.{keeping_of}
+use Rattle.session_state.proofs.StartLemmas.{starts_at, starts_none}
 use Rattle.rx_engine.proofs.session.Session.save_start.Goals as goal
 
 pub returns-clause-keeps : goal.returns-clause-keeps

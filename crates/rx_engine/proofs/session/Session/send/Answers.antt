@@ -1,15 +1,15 @@
 use Rattle.std.proofs.Common.{true, refl, sym, ◌∙◌, ap, subst}
 use Rattle.reply_ledger.specs.Ledger.{NotBefore, times_of}
-use Rattle.rx_engine.specs.Options.{rules_of}
-use Rattle.rx_engine.specs.Leaving.{keeping_of}
-use Rattle.rx_engine.specs.Sessions.{SessionState}
-use Rattle.rx_engine.specs.Standing.{entries}
-use Rattle.rx_engine.proofs.GuestLemmas.{received_is}
-use Rattle.rx_engine.proofs.NeedLemmas.{emits_later, going_can, sent_going}
-use Rattle.rx_engine.proofs.HeldLemmas.{held_of}
-use Rattle.rx_engine.proofs.DueLemmas.{comes_between, unless_due}
-use Rattle.rx_engine.proofs.StoryLemmas.{still_takes}
-use Rattle.rx_engine.proofs.ServeLemmas.{run_breaks}
+use Rattle.session_state.specs.Options.{rules_of}
+use Rattle.session_state.specs.Leaving.{keeping_of}
+use Rattle.session_state.specs.Sessions.{SessionState}
+use Rattle.session_state.specs.Standing.{entries}
+use Rattle.session_state.proofs.GuestLemmas.{received_is}
+use Rattle.session_state.proofs.NeedLemmas.{emits_later, going_can, sent_going}
+use Rattle.session_state.proofs.HeldLemmas.{held_of}
+use Rattle.session_state.proofs.DueLemmas.{comes_between, unless_due}
+use Rattle.session_state.proofs.StoryLemmas.{still_takes}
+use Rattle.session_state.proofs.ServeLemmas.{run_breaks}
 use Rattle.rx_engine.proofs.session.Session.send.Goals as goal
 
 pub sent-requires-clause-later : goal.sent-requires-clause-later

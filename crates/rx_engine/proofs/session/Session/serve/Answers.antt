@@ -1,8 +1,8 @@
 use Rattle.notes.specs.Noting.{noted}
-use Rattle.rx_engine.specs.Options.{rules_of, keeping_for}
-use Rattle.rx_engine.specs.Leaving.{HasLeft}
-use Rattle.rx_engine.specs.Serving.{UnlessNoteFault}
-use Rattle.rx_engine.proofs.TableLemmas.{counted_alone}
+use Rattle.session_state.specs.Options.{rules_of, keeping_for}
+use Rattle.session_state.specs.Leaving.{HasLeft}
+use Rattle.session_state.specs.Serving.{UnlessNoteFault}
+use Rattle.session_state.proofs.TableLemmas.{counted_alone}
 use Rattle.rx_engine.proofs.session.Session.serve.Goals as goal
 
 pub returns-clause-served : goal.returns-clause-served

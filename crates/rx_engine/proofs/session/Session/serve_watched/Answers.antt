@@ -1,22 +1,22 @@
 use Rattle.std.proofs.Common.{◌≡◌, Err, ◌+◌, refl, sym, ◌∙◌, ap, subst, arith}
 use Rattle.session_history.specs.Lawful.{Rules}
-use Rattle.rx_engine.specs.Recovered.{HasWatched}
-use Rattle.rx_engine.specs.Options.{rules_of}
-use Rattle.rx_engine.specs.declared.stop.Stop.TheVariants.{Breaks, Ends}
-use Rattle.rx_engine.specs.Sessions.{SessionState}
-use Rattle.rx_engine.specs.Standing.{Since, told_since, IsBrokenOff}
+use Rattle.session_state.specs.Recovered.{HasWatched}
+use Rattle.session_state.specs.Options.{rules_of}
+use Rattle.session_state.specs.declared.stop.Stop.TheVariants.{Breaks, Ends}
+use Rattle.session_state.specs.Sessions.{SessionState}
+use Rattle.session_state.specs.Standing.{Since, told_since, IsBrokenOff}
 use Rattle.notes.specs.Noting.{noted}
 use Rattle.reply_ledger.specs.Ledger.{Ledger}
-use Rattle.rx_engine.specs.declared.stop.Stop.{Stop}
-use Rattle.rx_engine.specs.Serving.{CanGive, StopsBy, IsCounted, UnlessNoteFault, UnlessNoteStop}
-use Rattle.rx_engine.proofs.TableLemmas.{watched_kept}
-use Rattle.rx_engine.proofs.EndLemmas.{served_off}
-use Rattle.rx_engine.proofs.FrameLemmas.{same_rules}
-use Rattle.rx_engine.proofs.HearingLemmas.{cause_then, stops_under}
-use Rattle.rx_engine.specs.Leaving.{keeping_of, IsTrimmed, HasLeft}
-use Rattle.rx_engine.proofs.LeavingLemmas.{unless_note, trimmed_unless, left_off, off_requests, of_link}
-use Rattle.rx_engine.proofs.StartLemmas.{starts_trimmed, begun_keeping, starts_between, starts_counted, starts_giving, frame_then, between_under, lost_then, lost_counts, lost_all}
-use Rattle.rx_engine.proofs.KnownLemmas.{known_same, known_then, known_ended, takes_ended, takes_no_end, once_at, once_broke}
+use Rattle.session_state.specs.declared.stop.Stop.{Stop}
+use Rattle.session_state.specs.Serving.{CanGive, StopsBy, IsCounted, UnlessNoteFault, UnlessNoteStop}
+use Rattle.session_state.proofs.TableLemmas.{watched_kept}
+use Rattle.session_state.proofs.EndLemmas.{served_off}
+use Rattle.session_state.proofs.FrameLemmas.{same_rules}
+use Rattle.session_state.proofs.HearingLemmas.{cause_then, stops_under}
+use Rattle.session_state.specs.Leaving.{keeping_of, IsTrimmed, HasLeft}
+use Rattle.session_state.proofs.LeavingLemmas.{unless_note, trimmed_unless, left_off, off_requests, of_link}
+use Rattle.session_state.proofs.StartLemmas.{starts_trimmed, begun_keeping, starts_between, starts_counted, starts_giving, frame_then, between_under, lost_then, lost_counts, lost_all}
+use Rattle.session_state.proofs.KnownLemmas.{known_same, known_then, known_ended, takes_ended, takes_no_end, once_at, once_broke}
 use Rattle.rx_engine.proofs.session.Session.serve_watched.Goals as goal
 
 pub turns-init : goal.turns-init

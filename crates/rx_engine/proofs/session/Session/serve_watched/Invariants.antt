@@ -1,6 +1,6 @@
 use Rattle.std.proofs.Common.{◌≡◌, ◌+◌, ◌-◌, ◌*◌}
 use Rattle.notes.specs.Noting.{noted}
-use Rattle.rx_engine.proofs.StartLemmas.{HasTurned}
+use Rattle.session_state.proofs.StartLemmas.{HasTurned}
 use Rattle.rx_engine.proofs.session.Session.serve_watched.Given as goal
 
 abbrev pub invariant-turns : goal.invariant-turns

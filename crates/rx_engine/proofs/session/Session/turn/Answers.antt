@@ -1,20 +1,20 @@
 use Rattle.std.proofs.Common.{◌≡◌, ◌+◌, ◌<◌, ◌≤◌, Err, arith, refl, sym, ◌∙◌, ap, subst, inl}
 use Rattle.session_history.specs.Lawful.{Rules}
 use Rattle.run_history.specs.declared.answer.Answer.TheVariants as answer
-use Rattle.rx_engine.specs.declared.stop.Stop.TheVariants as stop
+use Rattle.session_state.specs.declared.stop.Stop.TheVariants as stop
 use Rattle.guest_cpu.specs.declared.event.Event.TheVariants as event
 use Rattle.guest_cpu.specs.Cpus.{CpuState}
-use Rattle.rx_engine.specs.Options.{rules_of}
-use Rattle.rx_engine.specs.Sessions.{SessionState}
-use Rattle.rx_engine.specs.Standing.{Since}
+use Rattle.session_state.specs.Options.{rules_of}
+use Rattle.session_state.specs.Sessions.{SessionState}
+use Rattle.session_state.specs.Standing.{Since}
 use Rattle.notes.specs.Noting.{noted}
-use Rattle.rx_engine.specs.Serving.{ComesBetween}
-use Rattle.rx_engine.proofs.StoryLemmas.{still_takes}
-use Rattle.rx_engine.proofs.HearingLemmas.{if_ok, waits_under}
-use Rattle.rx_engine.proofs.FrameLemmas.{same_rules}
-use Rattle.rx_engine.proofs.TurnLemmas.{has_run, ran_later, ran_low, emits_later, chooses_later, ran_frame, asks_now, exits_now, fails_now, ran_keeping, breaks_now, comes_under, run_under, fails_under, later_ok, lost_none, lost_failed, further_ok, further_adopted, steps_unless}
-use Rattle.rx_engine.proofs.RecoverLemmas.{comes_lost}
-use Rattle.rx_engine.proofs.KnownLemmas.{known_same, known_kept, takes_given, takes_chosen, once_given, once_chosen}
+use Rattle.session_state.specs.Serving.{ComesBetween}
+use Rattle.session_state.proofs.StoryLemmas.{still_takes}
+use Rattle.session_state.proofs.HearingLemmas.{if_ok, waits_under}
+use Rattle.session_state.proofs.FrameLemmas.{same_rules}
+use Rattle.session_state.proofs.TurnLemmas.{has_run, ran_later, ran_low, emits_later, chooses_later, ran_frame, asks_now, exits_now, fails_now, ran_keeping, breaks_now, comes_under, run_under, fails_under, later_ok, lost_none, lost_failed, further_ok, further_adopted, steps_unless}
+use Rattle.session_state.proofs.RecoverLemmas.{comes_lost}
+use Rattle.session_state.proofs.KnownLemmas.{known_same, known_kept, takes_given, takes_chosen, once_given, once_chosen}
 use Rattle.rx_engine.proofs.session.Session.turn.Goals as goal
 
 pub ask-requires-clause-waits : goal.ask-requires-clause-waits

@@ -1,6 +1,0 @@
-pub mod Options
-pub mod Sessions
-pub mod Recovered
-pub mod Leaving
-pub mod Standing
-pub mod Serving

@@ -1,0 +1,602 @@
+-- What a failure makes of a session: it goes on as a trial, or gives up.
+use Rattle.std.proofs.Common.{◌≡◌, inl, inr, ℕ, zero, suc, ◌+◌, ◌-◌, ◌^◌, ◌<◌, ◌≤◌, List, [], ◌∷◌, ◌++◌, length, map, take, drop, Option, None, Some, false, refl, sym, ◌∙◌, ap, subst, arith, append-nil, append_assoc, length-drop}
+use Rattle.std.specs.Prelude.{◌≢◌, ◌⊎◌, sum, option_map}
+use Rattle.std.proofs.lemmas.List.{map-append}
+use Rattle.std.proofs.lemmas.List.Sums.{sum_by-append}
+use Rattle.std.proofs.lemmas.Option.{none-some}
+use Rattle.block_book.specs.declared.choice.Choice.{Choice}
+use Rattle.alloc_env.specs.declared.env.Env.{Env}
+use Rattle.rx_io.specs.declared.journal.Entry.{Entry}
+use Rattle.rx_io.specs.Links.{Phases, Told, Tells, Grew, Coming, events_in}
+use Rattle.elf_image.specs.declared.image.Image.{Image}
+use Rattle.reply_ledger.specs.Ledger.{Ledger}
+use Rattle.reply_ledger.specs.Trials.{discarded}
+use Rattle.ckpt_ring.specs.Rings.{Checkpoints}
+use Rattle.run_history.specs.declared.answer.Answer.{Answer}
+use Rattle.run_history.specs.declared.answer.Answer.TheVariants as answer
+use Rattle.run_history.specs.declared.answer.Cause.{Cause}
+use Rattle.run_history.specs.Machine.{Wants, Fails}
+use Rattle.run_history.specs.Served.{Limits, Override, Path, FailsBy, AsksFor}
+use Rattle.guest_cpu.specs.Standing.{Standing}
+use Rattle.guest_cpu.specs.Cpus.{CpuState}
+use Rattle.session_history.specs.Heeding.{heeded, items_in, received}
+use Rattle.session_history.specs.Opened.{opens}
+use Rattle.session_history.specs.Lawful.{Rules, Survivor, Chapter, entries_of, LeavesNothing}
+use Rattle.session_history.specs.Keeping.{KeepsReplies, KeepsItems, KeepsPhases}
+use Rattle.session_history.specs.Serving.{first_survivor}
+use Rattle.session_history.proofs.Paths.{served_same}
+use Rattle.session_history.proofs.Sessions.{serving_adopts}
+use Rattle.trial_history.specs.Tables.{Trial, survivor_in}
+use Rattle.trial_history.specs.Episodes.{Recovery, episode_of, IsRecovery, AreRecovered, adopted_by}
+use Rattle.trial_history.specs.EpisodeLaws.{GoesOnAs}
+use Rattle.trial_history.proofs.Asking.{asks_under_all}
+use Rattle.trial_history.proofs.Going.{steps_later}
+use Rattle.trial_history.proofs.Recovered.{recovery_adopts}
+use Rattle.trial_history.proofs.Survivors.{recovered_then}
+use Rattle.trial_plan.specs.Sessions.{Failure}
+use Rattle.trial_plan.specs.Trying.{steps_of}
+use Rattle.trial_plan.specs.Walking.{HasSameBytes}
+use Rattle.recovery_gate.specs.declared.recovering.Adopted.{Adopted}
+use Rattle.recovery_gate.specs.Rings.{KeepsRing, AreBehind, IsInForce}
+use Rattle.recovery_gate.specs.Recovering.{recovery_of, HasToRecover, HasAdoptedRun, LeavesRun, HasRecovery, KeepsSlots}
+use Rattle.trial_history.specs.Chains.{AreChained}
+use Rattle.std.proofs.lemmas.Option.{slice_get_within}
+use Rattle.std.proofs.lemmas.List.{length-take-le}
+use Rattle.ckpt_ring.specs.Rings.{without_newer}
+use Rattle.recovery_gate.specs.Handling.{Keeping, HaveRings, HasHandled, stands_of, keeping_by}
+use Rattle.recovery_gate.proofs.Handled.{handled_adopts, has_ring, stands_up_to}
+use Rattle.session_state.specs.Leaving.{keeping_of}
+use Rattle.session_state.proofs.HeldLemmas.{held_by, held_of, rings_of, rings_kept, note_at_none}
+use Rattle.recovery_gate.specs.declared.recovering.Recovered.{Recovered}
+use Rattle.recovery_gate.proofs.RingLemmas.{ring_fails}
+use Rattle.session_state.specs.Recovered.{spent, told_of, HasGivenUp, IsNoteFault}
+use Rattle.session_state.specs.Serving.{AdoptsTo, Adopting, end_of}
+use Rattle.notes.specs.Noting.{Noted}
+use Rattle.episodes.specs.declared.episode.Episode.{Episode}
+use Rattle.episodes.specs.declared.episode.Try.{Try}
+use Rattle.trial_plan.specs.Watching.{TellsMore, TellsTable}
+use Rattle.session_state.specs.Recovered.{AreTables}
+use Rattle.session_state.specs.Standing.{unwatched}
+use Rattle.session_state.proofs.TableLemmas.{TellsOne, told_unwatched, tables_here, tables_memory, tables_given_up, tables_then}
+use Rattle.session_history.specs.Ends.{before_end}
+use Rattle.session_history.proofs.Sessions.{serving_account}
+use Rattle.session_state.specs.Sessions.{SessionState}
+use Rattle.session_state.specs.Standing.{Since, Story, entries, sends, IsTold, AnswersFor, IsGoing, IsFailing, IsEnding, IsBrokenOff, HasNotedMore}
+use Rattle.session_state.proofs.EventLemmas.{owes_nothing}
+use Rattle.session_state.proofs.GuestLemmas.{none_lost, none_noted, answers_as, notes_here, received_is, broken_noting}
+use Rattle.session_state.proofs.StoryLemmas.{account_of, journal_of_story}
+use Rattle.session_state.proofs.NoteLemmas.{grew_on}
+use Rattle.session_state.proofs.FaultLemmas.{note_no_end, note_ends}
+
+-- what was spent with one recovery more
+spent_more : (recoveries : List Recovery) (recovery : Recovery) → spent (recoveries ++ recovery ∷ []) ≡ spent recoveries + ((recovery.survivor.now.steps - recovery.survivor.begun.steps) + steps_of recovery.trials)
+spent_more recoveries recovery =
+    let f : Recovery → ℕ = λ (r : Recovery). (r.survivor.now.steps - r.survivor.begun.steps) + steps_of r.trials in
+    let parts : sum (map f (recoveries ++ recovery ∷ [])) ≡ sum (map f recoveries) + sum (map f (recovery ∷ [])) = ap sum (map-append f recoveries (recovery ∷ [])) ∙ sum_by-append (λ x. x) (map f recoveries) (map f (recovery ∷ [])) in
+    omega (arith, parts)
+
+-- the story behind a recovery that adopted a trial
+abbrev pub adopted_story : Story → Recovery → Trial → Story
+adopted_story story recovery trial = record {
+  earlier = story.earlier ++ record { survivor = story.survivor; entries = story.since } ∷ [];
+  recoveries = story.recoveries ++ recovery ∷ [];
+  survivor = adopted_by recovery trial;
+  since = [];
+}
+
+entries_then : (chapters : List Chapter) (chapter : Chapter) → entries_of (chapters ++ chapter ∷ []) ≡ entries_of chapters ++ chapter.entries
+entries_then [] chapter = append-nil chapter.entries
+entries_then (first ∷ chapters) chapter = ap (λ es. first.entries ++ es) (entries_then chapters chapter) ∙ sym (append_assoc first.entries (entries_of chapters) chapter.entries)
+
+-- it has the same entries
+same_entries : (story : Story) (recovery : Recovery) (trial : Trial) → entries (adopted_story story recovery trial) ≡ entries story
+same_entries story recovery trial =
+    append-nil (entries_of (story.earlier ++ record { survivor = story.survivor; entries = story.since } ∷ []))
+    ∙ entries_then story.earlier (record { survivor = story.survivor; entries = story.since })
+
+-- it is told, where so many instructions were counted
+told_adopted : (rules : Rules) (image : Image) (began : Since) (now : Told) (story : Story) (recovery : Recovery) (trial : Trial) (lost : ℕ) (noted : Noted) (tables : Option (List (List Try))) → IsTold rules image began now story → LeavesNothing rules (entries_of story.earlier) story.since story.survivor → recovery.survivor ≡ story.survivor → IsRecovery rules image (entries story) recovery
+    → survivor_in recovery.trials ≡ Some trial → lost + trial.path.steps ≡ began.lost + story.survivor.now.steps + steps_of recovery.trials → Grew began.noted.episodes noted.episodes (episode_of recovery ∷ [])
+    → TellsOne rules (entries story) recovery began.tables tables → IsTold rules image (record began { lost = lost; noted = noted; tables = tables }) now (adopted_story story recovery trial)
+told_adopted rules image began now story recovery trial lost noted tables told leaves is was found counts grew one =
+    let g : GoesOnAs rules image (entries story) recovery trial = recovery_adopts rules image (entries story) recovery trial was found in
+    let early : trial.path.state.machine.taken ≤ story.survivor.now.state.machine.taken = subst (λ (s : Survivor). trial.path.state.machine.taken ≤ s.now.state.machine.taken) is g.early in
+    let enough : story.survivor.now.state.machine.taken ≤ received rules.bounds (entries story) = told.serving.carries.taken in
+    let more : spent (story.recoveries ++ recovery ∷ []) ≡ spent story.recoveries + ((story.survivor.now.steps - story.survivor.begun.steps) + steps_of recovery.trials) =
+    spent_more story.recoveries recovery ∙ ap (λ (s : Survivor). spent story.recoveries + ((s.now.steps - s.begun.steps) + steps_of recovery.trials)) is in
+    let later : story.survivor.begun.steps ≤ story.survivor.now.steps = steps_later rules.limits (items_in rules.bounds (entries story)) story.survivor.plan story.survivor.begun story.survivor.now told.way in
+    let before : spent story.recoveries ≡ began.lost + story.survivor.begun.steps = told.counted in
+    let first = recovered_then rules image [] (first_survivor image) story.earlier story.recoveries recovery story.since trial
+    (subst (λ (s : Survivor). AreRecovered rules image [] (first_survivor image) story.earlier story.recoveries s) (sym is) told.recovered) was found in
+    record {
+      serving =
+          serving_adopts rules image story.earlier story.survivor story.since (adopted_by recovery trial).plan trial.path told.serving leaves g.ran (omega (arith, early, enough)) g.covers g.feasible;
+      way = served_same rules.limits (items_in rules.bounds (entries (adopted_story story recovery trial))) (adopted_by recovery trial).plan trial.path;
+      tells = subst (Tells began.told now) (sym (same_entries story recovery trial)) told.tells;
+      counted = omega (arith, more, later, before, counts);
+      recovered =
+          subst
+          (λ (s : Survivor). AreRecovered rules image [] (first_survivor image) (story.earlier ++ record { survivor = s; entries = story.since } ∷ []) (story.recoveries ++ recovery ∷ []) (adopted_by recovery trial)) is first;
+      episodes =
+          subst (Grew began.noted_before.episodes noted.episodes) (sym (map-append episode_of story.recoveries (recovery ∷ [])))
+          (grew_on began.noted_before.episodes began.noted.episodes noted.episodes (map episode_of story.recoveries) (episode_of recovery ∷ []) told.episodes grew);
+      tables = tables_then rules story recovery began.tables_before began.tables tables told.tables one;
+    }
+
+-- a run that fails doesn't stand at its request
+pub asks_or_fails : (limits : Limits) (plan : List Override) (path : Path) (cause : Cause) (item : ℕ) → AsksFor limits [] path item → FailsBy limits plan path cause → ⊥
+asks_or_fails limits plan path cause item asks fails =
+    let here : AsksFor limits plan path item = asks_under_all limits [] plan path item asks in
+    let never : Wants ≡ Fails cause = sym here.asks ∙ fails.fails in absurd (cc)
+
+-- the failure of a session
+abbrev pub failure_of : Rules → Image → Story → List Path → Failure
+failure_of rules image story paths = record { rules = rules; image = image; entries = entries story; plan = story.survivor.plan; failed = story.survivor.now; ring = paths }
+
+-- the ledger has no trial: so nothing of it is discarded
+discards_none : (ledger : Ledger) → ledger.trial ≡ None → discarded ledger ≡ ledger
+discards_none ledger none = ap (λ t. record ledger { trial = t }) (sym none)
+
+-- what was counted behind an adoption
+some_counts : (before after lost began steps old failed to tried : ℕ) → after ≡ before + tried → lost + steps + before ≡ began + old + after → steps ≡ to → old ≡ failed → lost + to ≡ began + failed + tried
+some_counts before after lost began steps old failed to tried counted counts is same = omega (arith, counted, counts, is, same)
+
+-- the same by other words for the counts
+pub counts_seen : (lost began steps live old seen before after : ℕ) → lost + steps + before ≡ began + old + after → steps ≡ live → old ≡ seen → lost + live + before ≡ began + seen + after
+counts_seen lost began steps live old seen before after counts is same = omega (arith, counts, is, same)
+
+-- checkpoints that stand still have used so many answers of malloc
+behind_drop : (count index : ℕ) (ring : List Path) → AreBehind count ring → AreBehind count (drop index ring)
+behind_drop count zero ring behind = behind
+behind_drop count (suc index) [] behind = behind
+behind_drop count (suc index) (newest ∷ older) behind = behind_drop count index older behind.1
+
+module _ {R : Type 0} where
+  -- the session answers for the run that it adopted, of which the first answers of malloc are those that are noted
+  answers_adopted : (began : Since) (noted : Noted) (story next : Story) (old new : SessionState R) → new.recorded ≡ old.recorded → new.recorded ≤ length next.survivor.now.choices → new.choices ≡ drop new.recorded next.survivor.now.choices
+      → new.taken ≡ next.survivor.now.state.machine.taken → new.steps ≡ next.survivor.now.steps → take old.recorded next.survivor.now.choices ≡ take old.recorded story.survivor.now.choices → AnswersFor began story old
+      → Grew began.noted.choices noted.choices [] → (lost : ℕ) → AnswersFor (record began { lost = lost; noted = noted }) next new
+  answers_adopted began noted story next old new same low chose taken steps front answers grew lost = record {
+    low = low;
+    recorded =
+        subst (Grew began.noted_before.choices noted.choices) (append-nil (take old.recorded story.survivor.now.choices) ∙ (sym front ∙ ap (λ n. take n next.survivor.now.choices) (sym same)))
+        (grew_on began.noted_before.choices began.noted.choices noted.choices (take old.recorded story.survivor.now.choices) [] answers.recorded grew);
+    choices = chose;
+    taken = taken;
+    steps = steps;
+  }
+
+  -- whatever its watch tells
+  answers_told : (began : Since) (story : Story) (session : SessionState R) (tables : Option (List (List Try))) → AnswersFor began story session → AnswersFor (record began { tables = tables }) story session
+  answers_told began story session tables answers = record { low = answers.low; recorded = answers.recorded; choices = answers.choices; taken = answers.taken; steps = answers.steps }
+
+  -- what is asked for before a recovery
+  pub to_recover : (rules : Rules) (image : Image) (began : Since) (now : Told) (phases : Phases) (cause : Cause) (session : SessionState R) (f : IsFailing rules image began now phases cause session) → rules.limits.budget ≤ 2 ^ 24 → rules.bounds.max_items ≤ 2 ^ 20
+      → HasToRecover session.taken cause session.cpu.slots.live.guest.machine.pc (failure_of rules image f.going.story f.going.saved.paths) session.cpu session.ring session.recorded session.choices session.log session.replies
+  to_recover rules image began now phases cause session f budget items =
+      let g = f.going in
+      let story : Story = g.story in
+      record {
+        failed = record {
+          has = ring_fails rules image (entries story) story.survivor.plan story.survivor.now g.saved.paths session.cpu session.ring session.log session.replies items g.goes.items g.passed.replies g.told.serving.carries g.saved.ring;
+          point_is = sym g.answers.taken;
+          few_steps = budget;
+        };
+        ring = g.saved.ring;
+        chose = g.answers.choices;
+        early = g.saved.early;
+        fails = f.fails;
+        pc_is = sym (ap (λ (s : Standing). s.guest.machine.pc) g.goes.guest);
+      }
+
+  -- the table that was told of a failure is that of its recovery
+  table_of : (rules : Rules) (image : Image) (began : Since) (now : Told) (phases : Phases) (cause : Cause) (session : SessionState R) (f : IsFailing rules image began now phases cause session) (trials : List Trial) (old new : Option (List (List Try)))
+      → TellsTable (failure_of rules image f.going.story f.going.saved.paths) session.taken old new
+      → TellsOne rules (entries f.going.story) (recovery_of (failure_of rules image f.going.story f.going.saved.paths) f.going.story.survivor.begun cause trials) old new
+  table_of rules image began now phases cause session f trials old new told =
+      subst (λ n. TellsTable (failure_of rules image f.going.story f.going.saved.paths) n old new) f.going.answers.taken told
+
+  -- the session behind a walk and an adoption
+  abbrev pub walked : SessionState R → CpuState R → Checkpoints → Ledger → List Choice → SessionState R
+  walked old cpu ring replies choices = record old { cpu = cpu; ring = ring; replies = replies; choices = choices }
+
+  abbrev pub goes_as : SessionState R → CpuState R → Checkpoints → Ledger → List Choice → Env → ℕ → SessionState R
+  goes_as old cpu ring replies choices env until =
+      record old { cpu = cpu; ring = ring; replies = replies; choices = choices; env = env; until = until; taken = cpu.slots.live.guest.machine.taken; steps = cpu.slots.live.steps }
+
+  -- a failure comes at no request: the requests before it were handled
+  failed_requests : (rules : Rules) (image : Image) (began : Since) (now : Told) (phases : Phases) (cause : Cause) (old : SessionState R) (f : IsFailing rules image began now phases cause old)
+      → HasHandled rules image (keeping_of old) f.going.story.earlier (entries f.going.story) f.going.story.recoveries f.going.story.survivor f.going.story.survivor.now.state.machine.taken (stands_of old.cpu.slots.saved)
+  failed_requests rules image began now phases cause old f =
+      let story : Story = f.going.story in
+      elim f.going.saved.requests [
+        | inl h ↦ h
+        | inr there ↦ absurd (asks_or_fails rules.limits story.survivor.plan story.survivor.now cause story.survivor.now.state.machine.taken there.0 f.fails)
+      ]
+
+  -- it gave up, where none of these trials survived
+  abbrev given_up_by : (rules : Rules) (image : Image) (began : Since) (now : Told) (phases : Phases) (cause : Cause) (old : SessionState R) (keeping : Keeping) (f : IsFailing rules image began now phases cause old) (trials : List Trial) → keeping ≡ keeping_of old
+      → IsRecovery rules image (entries f.going.story) (recovery_of (failure_of rules image f.going.story f.going.saved.paths) f.going.story.survivor.begun cause trials) → survivor_in trials ≡ None
+      → HasGivenUp rules image keeping f.going.story.earlier f.going.story.since f.going.story.recoveries f.going.story.survivor trials cause
+  given_up_by rules image began now phases cause old keeping f trials same was none =
+      let story : Story = f.going.story in
+      let k = f.going.saved.ring in
+      record {
+        ring = f.going.saved.paths;
+        some = k.some;
+        stands = stands_of old.cpu.slots.saved;
+        handled =
+            subst (λ (kept : Keeping). HasHandled rules image kept story.earlier (entries story) story.recoveries story.survivor story.survivor.now.state.machine.taken (stands_of old.cpu.slots.saved)) (sym same)
+            (failed_requests rules image began now phases cause old f);
+        ringed = has_ring old.cpu.slots.saved f.going.saved.paths k.as_many k.saved;
+        recovers = was;
+        none = none;
+        owes_nothing = owes_nothing rules story f.due f.going.passed.done;
+      }
+
+  -- no trial survived
+  pub gives_up : (rules : Rules) (image : Image) (began : Since) (now : Told) (phases : Phases) (coming : Option Coming) (cause : Cause) (old : SessionState R) (cpu : CpuState R) (ring : Checkpoints) (replies : Ledger) (choices : List Choice)
+      (f : IsFailing rules image began now phases cause old) (trials : List Trial) (lost before after : ℕ) (noted : Noted) (tables : Option (List (List Try))) → cpu.slots.saved ≡ old.cpu.slots.saved → keeping_by ring.capacity old.options.every cpu.slots ≡ keeping_of old → IsRecovery rules image (entries f.going.story) (recovery_of (failure_of rules image f.going.story f.going.saved.paths) f.going.story.survivor.begun cause trials)
+      → survivor_in trials ≡ None → replies ≡ discarded old.replies → choices ≡ old.choices → after ≡ before + steps_of trials → lost + old.steps + before ≡ began.lost + old.steps + after
+      → HasNotedMore began.noted noted [] (told_of f.going.story.survivor cause trials ∷ []) → TellsOne rules (entries f.going.story) (recovery_of (failure_of rules image f.going.story f.going.saved.paths) f.going.story.survivor.begun cause trials) began.tables tables
+      → IsEnding rules image (record began { lost = lost; noted = noted; tables = tables }) now coming (walked old cpu ring replies choices) (answer.GaveUp old.taken cause)
+  gives_up rules image began now phases coming cause old cpu ring replies choices f trials lost before after noted tables slots keeping was none ledger chose counted counts more one =
+      let g = f.going in
+      let story : Story = g.story in
+      let same : replies ≡ old.replies = ledger ∙ discards_none old.replies g.passed.no_trial in
+      let given_up : HasGivenUp rules image (keeping_by ring.capacity old.options.every cpu.slots) story.earlier story.since story.recoveries story.survivor trials cause = given_up_by rules image began now phases cause old (keeping_by ring.capacity old.options.every cpu.slots) f trials keeping was none in
+      record {
+        story = story;
+        trials = trials;
+        lost = began.lost;
+        lost_is = omega (arith, counted, counts);
+        noted = began.noted;
+        last = told_of story.survivor cause trials ∷ [];
+        last_noted = more;
+        told = told_unwatched rules image began now story g.told;
+        tables = tables_given_up rules image (keeping_by ring.capacity old.options.every cpu.slots) story.earlier story.since story.survivor story.recoveries trials cause (answer.GaveUp old.taken cause) given_up began.tables_before began.tables tables g.told.tables one;
+        answers = answers_told began story (walked old cpu ring replies choices) tables (answers_as began story old (walked old cpu ring replies choices) refl chose refl refl g.answers);
+        received_are = received_is rules.bounds (entries story) old.log g.goes.items;
+        replies = subst (λ (l : Ledger). KeepsReplies rules.bounds (entries story) None (sends story) l) (sym same) g.passed.replies;
+        no_trial = ap (λ (l : Ledger). l.trial) same ∙ g.passed.no_trial;
+        closed = λ send stands closing owed. g.passed.done send stands owed;
+        holds = held_by rules image story.earlier (entries story) story.recoveries story.survivor old (walked old cpu ring replies choices) slots keeping (held_of rules image story old g.saved);
+        handled = λ is. absurd is;
+        live = tt;
+        is_end = tt;
+        stands = (f.fails, sym g.answers.taken);
+        tried = inr (cause, given_up, refl);
+        gave_up = given_up;
+      }
+
+  -- what stands behind a recovery that adopted a trial
+  adopted_requests : (rules : Rules) (image : Image) (began : Since) (now : Told) (phases : Phases) (cause : Cause) (old : SessionState R) (cpu : CpuState R) (ring : Checkpoints) (replies : Ledger) (choices : List Choice) (adopted : Adopted)
+      (f : IsFailing rules image began now phases cause old) (trials : List Trial) (trial : Trial) → survivor_in trials ≡ Some trial
+      → HasAdoptedRun (failure_of rules image f.going.story f.going.saved.paths) (recovery_of (failure_of rules image f.going.story f.going.saved.paths) f.going.story.survivor.begun cause trials) trial adopted cpu ring old.recorded choices old.log replies
+      → KeepsSlots (Some adopted) old.cpu cpu → keeping_by ring.capacity old.options.every cpu.slots ≡ keeping_of old
+      → HasHandled rules image (keeping_by ring.capacity old.options.every cpu.slots) (f.going.story.earlier ++ record { survivor = f.going.story.survivor; entries = f.going.story.since } ∷ [])
+      (entries (adopted_story f.going.story (recovery_of (failure_of rules image f.going.story f.going.saved.paths) f.going.story.survivor.begun cause trials) trial)) (f.going.story.recoveries ++ recovery_of (failure_of rules image f.going.story f.going.saved.paths) f.going.story.survivor.begun cause trials ∷ [])
+      (adopted_by (recovery_of (failure_of rules image f.going.story f.going.saved.paths) f.going.story.survivor.begun cause trials) trial) trial.path.state.machine.taken (stands_of cpu.slots.saved)
+  adopted_requests rules image began now phases cause old cpu ring replies choices adopted f trials trial found run slots keeping =
+      let g = f.going in
+      let story : Story = g.story in
+      let recovery : Recovery = recovery_of (failure_of rules image story g.saved.paths) story.survivor.begun cause trials in
+      let next : Story = adopted_story story recovery trial in
+      let k = g.saved.ring in
+      let before = failed_requests rules image began now phases cause old f in
+      let within : run.index < length g.saved.paths = slice_get_within g.saved.paths run.index trial.chance.checkpoint run.from in
+      let left : length (drop run.index g.saved.paths) ≡ length g.saved.paths - run.index = length-drop run.index g.saved.paths in
+      let cut : length cpu.slots.saved ≡ length old.cpu.slots.saved - slots.0 = ap length slots.2 ∙ length-take-le (length old.cpu.slots.saved - slots.0) old.cpu.slots.saved (omega arith) in
+      let as_many = run.ring.as_many in
+      let many = k.as_many in
+      let low = slots.1 in
+      let index : slots.0 ≡ run.index = omega (arith, within, left, cut, as_many, many, low) in
+      subst (λ (kept : Keeping). HasHandled rules image kept next.earlier (entries next) (story.recoveries ++ recovery ∷ []) (adopted_by recovery trial) trial.path.state.machine.taken (stands_of cpu.slots.saved)) (sym keeping)
+      (handled_adopts rules image (keeping_of old) story.earlier (record { survivor = story.survivor; entries = story.since }) (entries story) (entries next) story.recoveries recovery (adopted_by recovery trial) (stands_of old.cpu.slots.saved) (stands_of cpu.slots.saved) trial run.index
+      refl before (has_ring old.cpu.slots.saved g.saved.paths k.as_many k.saved) found run.from
+      (stands_up_to run.index old.cpu.slots.saved cpu.slots.saved (slots.2 ∙ ap (λ n. without_newer n old.cpu.slots.saved) index)))
+
+  -- the session goes on as a trial that asks for the next item
+  pub adopts_going : (rules : Rules) (image : Image) (began : Since) (now : Told) (phases : Phases) (cause : Cause) (old : SessionState R) (cpu : CpuState R) (ring : Checkpoints) (replies : Ledger) (choices : List Choice) (adopted : Adopted)
+      (f : IsFailing rules image began now phases cause old) (trials : List Trial) (trial : Trial) (lost : ℕ) → IsRecovery rules image (entries f.going.story) (recovery_of (failure_of rules image f.going.story f.going.saved.paths) f.going.story.survivor.begun cause trials)
+      → survivor_in trials ≡ Some trial
+      → HasAdoptedRun (failure_of rules image f.going.story f.going.saved.paths) (recovery_of (failure_of rules image f.going.story f.going.saved.paths) f.going.story.survivor.begun cause trials) trial adopted cpu ring old.recorded choices old.log replies
+      → KeepsSlots (Some adopted) old.cpu cpu → keeping_by ring.capacity old.options.every cpu.slots ≡ keeping_of old
+      → HasSameBytes old.replies replies → adopted.code ≡ None → lost + trial.path.steps ≡ began.lost + f.going.story.survivor.now.steps + steps_of trials
+      → (noted : Noted) → HasNotedMore began.noted noted [] (told_of f.going.story.survivor cause trials ∷ []) → (tables : Option (List (List Try))) → TellsOne rules (entries f.going.story) (recovery_of (failure_of rules image f.going.story f.going.saved.paths) f.going.story.survivor.begun cause trials) began.tables tables
+      → IsGoing rules image (record began { lost = lost; noted = noted; tables = tables }) now phases (goes_as old cpu ring replies choices adopted.env (old.taken + 4))
+  adopts_going rules image began now phases cause old cpu ring replies choices adopted f trials trial lost was found run slots keeping bytes asks counts noted more tables one =
+      let g = f.going in
+      let story : Story = g.story in
+      let recovery : Recovery = recovery_of (failure_of rules image story g.saved.paths) story.survivor.begun cause trials in
+      let next : Story = adopted_story story recovery trial in
+      let same : entries next ≡ entries story = same_entries story recovery trial in
+      let lives : trial.path.state.ended ≡ None = sym run.code_is ∙ asks in
+      let at_point : AsksFor rules.limits [] trial.path story.survivor.now.state.machine.taken = run.asks lives in
+      let point : old.taken ≡ story.survivor.now.state.machine.taken = g.answers.taken in
+      let taken : trial.path.state.machine.taken ≡ story.survivor.now.state.machine.taken = at_point.taken in
+      let until : old.taken + 4 ≡ trial.path.state.machine.taken + 4 = omega (arith, point, taken) in
+      let few : story.survivor.now.state.machine.taken ≤ rules.bounds.max_items = g.goes.few in
+      record {
+        story = next;
+        told = told_adopted rules image began now story recovery trial lost noted tables g.told (owes_nothing rules story f.due g.passed.done) refl was found counts more.episodes_more one;
+        answers = answers_told (record began { lost = lost; noted = noted }) next (goes_as old cpu ring replies choices adopted.env (old.taken + 4)) tables (answers_adopted began noted story next old (goes_as old cpu ring replies choices adopted.env (old.taken + 4)) refl run.low run.chose
+            (ap (λ (s : Standing). s.guest.machine.taken) run.stands) (ap (λ (s : Standing). s.steps) run.stands) run.front g.answers more.choices_more lost);
+        goes = record {
+          lives = lives;
+          guest = run.stands;
+          bounded = run.goes.bounded lives;
+          few = omega (arith, taken, few);
+          within = λ conn may. ap (λ es. opens conn (heeded rules.bounds (events_in es))) same ∙ run.goes.within conn may;
+          items = subst (λ es. KeepsItems rules.bounds es old.log) (sym same) g.goes.items;
+          events = g.goes.events ∙ ap (λ es. length (events_in es)) (sym same);
+          phases_are = subst (λ (es : List Entry). KeepsPhases es phases) (sym same) g.goes.phases_are;
+        };
+        saved = record {
+          paths = drop run.index g.saved.paths;
+          ring = subst (λ es. KeepsRing rules image es (adopted_by recovery trial).plan trial.path (drop run.index g.saved.paths) cpu ring old.log replies) (sym same) run.ring;
+          early = behind_drop old.recorded run.index g.saved.paths g.saved.early;
+          requests = inl (adopted_requests rules image began now phases cause old cpu ring replies choices adopted f trials trial found run slots keeping);
+          in_force =
+              subst (λ n. IsInForce (adopted_by recovery trial).plan n adopted.env (old.taken + 4)) (sym taken)
+              (subst (λ n. IsInForce (adopted_by recovery trial).plan story.survivor.now.state.machine.taken adopted.env n) (sym (ap (λ n. n + 4) point)) run.in_force);
+          past = inr (until, subst (AsksFor rules.limits [] trial.path) (sym taken) at_point);
+        };
+        passed = record {
+          replies = subst (λ es. KeepsReplies rules.bounds es None trial.path.state.sends replies) (sym same) run.replies;
+          no_trial = bytes.no_trial;
+          done = λ send stands due. absurd due;
+        };
+        latest = λ last found. absurd (none-some last found);
+      }
+
+  -- the trial ended itself
+  pub adopts_ending : (rules : Rules) (image : Image) (began : Since) (now : Told) (phases : Phases) (coming : Option Coming) (cause : Cause) (old : SessionState R) (cpu : CpuState R) (ring : Checkpoints) (replies : Ledger) (choices : List Choice)
+      (adopted : Adopted) (code : ℕ) (f : IsFailing rules image began now phases cause old) (trials : List Trial) (trial : Trial) (lost : ℕ)
+      → IsRecovery rules image (entries f.going.story) (recovery_of (failure_of rules image f.going.story f.going.saved.paths) f.going.story.survivor.begun cause trials) → survivor_in trials ≡ Some trial
+      → HasAdoptedRun (failure_of rules image f.going.story f.going.saved.paths) (recovery_of (failure_of rules image f.going.story f.going.saved.paths) f.going.story.survivor.begun cause trials) trial adopted cpu ring old.recorded choices old.log replies
+      → KeepsSlots (Some adopted) old.cpu cpu → keeping_by ring.capacity old.options.every cpu.slots ≡ keeping_of old
+      → HasSameBytes old.replies replies → adopted.code ≡ Some code → lost + trial.path.steps ≡ began.lost + f.going.story.survivor.now.steps + steps_of trials
+      → (noted : Noted) → HasNotedMore began.noted noted [] (told_of f.going.story.survivor cause trials ∷ []) → (tables : Option (List (List Try))) → TellsOne rules (entries f.going.story) (recovery_of (failure_of rules image f.going.story f.going.saved.paths) f.going.story.survivor.begun cause trials) began.tables tables
+      → IsEnding rules image (record began { lost = lost; noted = noted; tables = tables }) now coming (goes_as old cpu ring replies choices adopted.env (old.taken + 4)) (answer.Exited code)
+  adopts_ending rules image began now phases coming cause old cpu ring replies choices adopted code f trials trial lost was found run slots keeping bytes exits counts noted more tables one =
+      let g = f.going in
+      let story : Story = g.story in
+      let recovery : Recovery = recovery_of (failure_of rules image story g.saved.paths) story.survivor.begun cause trials in
+      let next : Story = adopted_story story recovery trial in
+      let same : entries next ≡ entries story = same_entries story recovery trial in
+      let then = told_adopted rules image began now story recovery trial lost noted tables g.told (owes_nothing rules story f.due g.passed.done) refl was found counts more.episodes_more one in
+      record {
+        story = next;
+        trials = [];
+        lost = lost;
+        lost_is = none_lost lost;
+        noted = noted;
+        last = [];
+        last_noted = none_noted noted;
+        told = told_unwatched rules image (record began { lost = lost; noted = noted; tables = tables }) now next then;
+        tables = tables_here rules image (keeping_by ring.capacity old.options.every cpu.slots) next.earlier next.since next.survivor next.recoveries [] (answer.Exited code) began.tables_before tables then.tables;
+        answers = answers_told (record began { lost = lost; noted = noted }) next (goes_as old cpu ring replies choices adopted.env (old.taken + 4)) tables (answers_adopted began noted story next old (goes_as old cpu ring replies choices adopted.env (old.taken + 4)) refl run.low run.chose
+            (ap (λ (s : Standing). s.guest.machine.taken) run.stands) (ap (λ (s : Standing). s.steps) run.stands) run.front g.answers more.choices_more lost);
+        received_are = received_is rules.bounds (entries story) old.log g.goes.items ∙ ap (received rules.bounds) (sym same);
+        replies = subst (λ es. KeepsReplies rules.bounds es None trial.path.state.sends replies) (sym same) run.replies;
+        no_trial = bytes.no_trial;
+        closed = λ send stands closing owed. absurd owed;
+        holds = record {
+          paths = drop run.index g.saved.paths;
+          some = run.ring.some;
+          chained = subst (λ es. AreChained rules.limits (items_in rules.bounds es) (adopted_by recovery trial).plan image trial.path (drop run.index g.saved.paths)) (sym same) run.ring.chained;
+          are = run.ring.are;
+          as_many = run.ring.as_many;
+          saved = run.ring.saved;
+          requests = inl (adopted_requests rules image began now phases cause old cpu ring replies choices adopted f trials trial found run slots keeping);
+        };
+        handled = λ is. absurd is;
+        live = run.stands;
+        is_end = tt;
+        stands = sym run.code_is ∙ exits;
+        tried = inl (refl, refl);
+        gave_up = tt;
+      }
+
+  -- the episode of a recovery that adopted isn't noted: the session is broken off as the trial
+  adopted_unnoted : (rules : Rules) (image : Image) (began : Since) (now : Told) (coming : Option Coming) (story : Story) (recovery : Recovery) (trial : Trial) (lost : ℕ) (session : SessionState R) (fault : Answer) (tables : Option (List (List Try))) → IsTold rules image began now story → LeavesNothing rules (entries_of story.earlier) story.since story.survivor
+      → recovery.survivor ≡ story.survivor → IsRecovery rules image (entries story) recovery → survivor_in recovery.trials ≡ Some trial → lost + trial.path.steps ≡ began.lost + story.survivor.now.steps + steps_of recovery.trials
+      → AnswersFor (record began { lost = lost }) (adopted_story story recovery trial) session → HaveRings rules image (keeping_of session) (story.earlier ++ record { survivor = story.survivor; entries = story.since } ∷ []) (story.recoveries ++ recovery ∷ []) → IsNoteFault fault → TellsOne rules (entries story) recovery began.tables tables
+      → IsBrokenOff rules image (record began { lost = lost; tables = tables }) now coming session fault
+  adopted_unnoted rules image began now coming story recovery trial lost session fault tables told leaves is was found counts answers rings note one =
+      let next : Story = adopted_story story recovery trial in
+      let nobody : Noted = record { choices = None; episodes = None } in
+      let then = told_adopted rules image (unwatched (record began { noted_before = nobody; noted = nobody })) now story recovery trial lost nobody None
+      (record { serving = told.serving; way = told.way; tells = told.tells; counted = told.counted; recovered = told.recovered; episodes = tt; tables = refl }) leaves is was found counts tt refl in
+      (broken_noting (λ account. Unit {0}) rules image (record began { lost = lost; tables = tables }) nobody nobody now coming session next fault then
+      (tables_here rules image (keeping_of session) next.earlier next.since next.survivor next.recoveries [] fault began.tables_before tables (tables_then rules story recovery began.tables_before began.tables tables told.tables one))
+      (notes_here (record began { lost = lost }) next session fault (map episode_of story.recoveries) (episode_of recovery ∷ []) told.episodes answers (map-append episode_of story.recoveries (recovery ∷ [])) (omega arith) (λ some. note)
+      (note_no_end fault note)) answers.taken answers.steps (note_ends rules coming (account_of next) fault note) (note_no_end fault note) rings (λ never. absurd (never note)) (λ is. absurd (note_at_none fault note is)) tt).0
+
+  -- what is counted otherwise at want of memory isn't counted at all
+  abbrev pub off_lost : (rules : Rules) (image : Image) (began : Since) (now : Told) (coming : Option Coming) (session : SessionState R) (end : Answer) (lost : ℕ) → (end ≢ answer.Memory → lost ≡ began.lost) → IsBrokenOff rules image began now coming session end
+      → IsBrokenOff rules image (record began { lost = lost }) now coming session end
+  off_lost rules image began now coming session end lost same off = record {
+    account = off.account;
+    tells = off.tells;
+    is_account = off.is_account;
+    ends = off.ends;
+    pieces = off.pieces;
+    no_end = off.no_end;
+    recoveries = off.recoveries;
+    holds = off.holds;
+    handled = off.handled;
+    recovered = off.recovered;
+    ringed = off.ringed;
+    trials = off.trials;
+    last = off.last;
+    tried = off.tried;
+    notes = off.notes;
+    tables = off.tables;
+    taken = off.taken;
+    steps = off.steps;
+    counted = λ others. off.counted others ∙ ap (λ n. n + off.account.survivor.begun.steps) (sym (same others));
+    later = off.later;
+  }
+
+  -- memory ran out: the session answers for the run that failed
+  pub adopt_breaks : (rules : Rules) (image : Image) (began : Since) (now : Told) (phases : Phases) (coming : Option Coming) (cause : Cause) (old : SessionState R) (cpu : CpuState R) (ring : Checkpoints) (replies : Ledger) (choices : List Choice) (lost : ℕ) (tables : Option (List (List Try)))
+      → (f : IsFailing rules image began now phases cause old) → keeping_by ring.capacity old.options.every cpu.slots ≡ keeping_of old → choices ≡ old.choices → (tables ≡ began.tables) ⊎ TellsTable (failure_of rules image f.going.story f.going.saved.paths) old.taken began.tables tables
+      → IsBrokenOff rules image (record began { lost = lost; tables = tables }) now coming (walked old cpu ring replies choices) answer.Memory
+  adopt_breaks rules image began now phases coming cause old cpu ring replies choices lost tables f keeping chose looked =
+      let story : Story = f.going.story in
+      let told = f.going.told in
+      let answers = answers_as began story old (walked old cpu ring replies choices) refl chose refl refl f.going.answers in
+      let all : List Episode = map episode_of story.recoveries in
+      off_lost rules image (record began { tables = tables }) now coming (walked old cpu ring replies choices) answer.Memory lost (λ others. absurd (others refl))
+      (broken_noting (λ account. Unit {0}) rules image (record began { tables = tables }) began.noted_before began.noted now coming (walked old cpu ring replies choices) story answer.Memory (told_unwatched rules image began now story told)
+      (elim looked [
+        | inl same ↦ tables_here rules image (keeping_by ring.capacity old.options.every cpu.slots) story.earlier story.since story.survivor story.recoveries [] answer.Memory began.tables_before tables (subst (λ (t : Option (List (List Try))). TellsMore began.tables_before t (AreTables rules [] story.earlier story.recoveries)) (sym same) told.tables)
+        | inr more ↦ tables_memory rules image (keeping_by ring.capacity old.options.every cpu.slots) story.earlier story.since story.survivor story.recoveries (recovery_of (failure_of rules image story f.going.saved.paths) story.survivor.begun cause []) [] began.tables_before began.tables tables told.tables (table_of rules image began now phases cause old f [] began.tables tables more)
+      ])
+      (notes_here began story (walked old cpu ring replies choices) answer.Memory all [] told.episodes answers (sym (append-nil all)) (omega arith) (λ some. absurd (omega (arith, some))) (λ is. is)) answers.taken answers.steps tt (λ is. is) (rings_kept rules image story old (walked old cpu ring replies choices) keeping f.going.saved) (λ never. absurd (never tt)) (λ is. absurd is) tt).0
+
+  -- behind a failure the number is higher, up to which an environment is in force
+  pub adopted_later : (rules : Rules) (image : Image) (began : Since) (now : Told) (phases : Phases) (cause : Cause) (old : SessionState R) → IsFailing rules image began now phases cause old → (old.until < old.taken + 4) × (old.taken ≤ rules.bounds.max_items)
+  adopted_later rules image began now phases cause old f =
+      let g = f.going in
+      let taken : old.taken ≡ g.story.survivor.now.state.machine.taken = g.answers.taken in
+      let few : g.story.survivor.now.state.machine.taken ≤ rules.bounds.max_items = g.goes.few in
+      let past : old.until < g.story.survivor.now.state.machine.taken + 4 = elim g.saved.past [
+        | inl past ↦ past
+        | inr there ↦ absurd (asks_or_fails rules.limits g.story.survivor.plan g.story.survivor.now cause g.story.survivor.now.state.machine.taken there.1 f.fails)
+      ] in
+      (omega (arith, taken, past), omega (arith, taken, few))
+
+  -- a session that is seen in another way fails still
+  pub failing_moved : {rules : Rules} {image : Image} {began : Since} {now : Told} {phases : Phases} {cause : Cause} {s t : SessionState R} → s ≡ t → IsFailing rules image began now phases cause s → IsFailing rules image began now phases cause t
+  failing_moved {rules = rules} {image = image} {began = began} {now = now} {phases = phases} {cause = cause} same = subst (λ (s : SessionState R). IsFailing rules image began now phases cause s) same
+
+  -- the point of a failure by another word for it
+  pub adopting_at : {rules : Rules} {image : Image} {began : Since} {now : Told} {phases : Phases} {coming : Option Coming} {cause : Cause} {session : SessionState R} {recovered : Recovered} {one other : ℕ} → one ≡ other
+      → Adopting rules image began now phases coming one cause session recovered → Adopting rules image began now phases coming other cause session recovered
+  adopting_at {rules = rules} {image = image} {began = began} {now = now} {phases = phases} {coming = coming} {cause = cause} {session = session} {recovered = recovered} same =
+      subst (λ n. Adopting rules image began now phases coming n cause session recovered) same
+
+  -- a session that is seen in another way goes on so still
+  pub adopting_in : {rules : Rules} {image : Image} {began : Since} {now : Told} {phases : Phases} {coming : Option Coming} {point : ℕ} {cause : Cause} {recovered : Recovered} {s t : SessionState R} → s ≡ t → Adopting rules image began now phases coming point cause s recovered
+      → Adopting rules image began now phases coming point cause t recovered
+  adopting_in {rules = rules} {image = image} {began = began} {now = now} {phases = phases} {coming = coming} {point = point} {cause = cause} {recovered = recovered} same = subst (λ (s : SessionState R). Adopting rules image began now phases coming point cause s recovered) same
+
+  -- what a recovery left of it
+  abbrev pub Left : (rules : Rules) (image : Image) (began : Since) (now : Told) (phases : Phases) (cause : Cause) (old : SessionState R) → IsFailing rules image began now phases cause old → Recovered → CpuState R → Checkpoints → Ledger → List Choice → ℕ → ℕ → Type 0
+  Left rules image began now phases cause old f recovered cpu ring replies choices before after =
+      HasRecovery (failure_of rules image f.going.story f.going.saved.paths) f.going.story.survivor.begun cause recovered cpu old.ring ring old.recorded old.choices choices old.log old.replies replies before after
+
+  -- no trial survived, and the episode isn't noted
+  gave_up_unnoted : (rules : Rules) (image : Image) (began : Since) (now : Told) (coming : Option Coming) (cause : Cause) (story : Story) (paths : List Path) (trials : List Trial) (lost : ℕ) (session : SessionState R) (fault : Answer) (tables : Option (List (List Try))) → IsTold rules image began now story
+      → (given_up : HasGivenUp rules image (keeping_of session) story.earlier story.since story.recoveries story.survivor trials cause) → lost ≡ began.lost + steps_of trials → AnswersFor began story session → IsNoteFault fault
+      → TellsOne rules (entries story) (record { survivor = story.survivor; cause = cause; ring = given_up.ring; trials = trials }) began.tables tables → IsBrokenOff rules image (record began { lost = lost; tables = tables }) now coming session fault
+  gave_up_unnoted rules image began now coming cause story paths trials lost session fault tables told given_up counts answers note one =
+      let is : entries story ≡ before_end (account_of story) = refl in
+      record {
+        account = account_of story;
+        tells = subst (Tells began.told now) (sym (journal_of_story story)) told.tells;
+        is_account = serving_account rules image story.earlier story.survivor story.since false told.serving;
+        ends = note_ends rules coming (account_of story) fault note;
+        pieces = tt;
+        no_end = note_no_end fault note;
+        recoveries = story.recoveries;
+        holds = λ never. absurd (never note);
+        handled = λ is. absurd (note_at_none fault note is);
+        recovered = told.recovered;
+        ringed = rings_of rules image (keeping_of session) story.earlier (entries story) story.recoveries story.survivor story.survivor.now.state.machine.taken given_up.stands given_up.handled;
+        trials = trials;
+        last = told_of story.survivor cause trials ∷ [];
+        tried = inr (cause, given_up, refl);
+        notes = notes_here began story session fault (map episode_of story.recoveries) (told_of story.survivor cause trials ∷ []) told.episodes answers refl (omega arith) (λ some. note) (note_no_end fault note);
+        tables = tables_given_up rules image (keeping_of session) story.earlier story.since story.survivor story.recoveries trials cause fault given_up began.tables_before began.tables tables told.tables one;
+        taken = answers.taken;
+        steps = answers.steps;
+        counted = λ others. let before = told.counted in omega (arith, before, counts);
+        later = steps_later rules.limits (items_in rules.bounds (entries story)) story.survivor.plan story.survivor.begun story.survivor.now told.way;
+      }
+
+  pub adopt_none : (rules : Rules) (image : Image) (began : Since) (now : Told) (phases : Phases) (coming : Option Coming) (cause : Cause) (old : SessionState R) (cpu : CpuState R) (ring : Checkpoints) (replies : Ledger) (choices : List Choice) (recovered : Recovered)
+      (lost before after : ℕ) (tables : Option (List (List Try))) (f : IsFailing rules image began now phases cause old) → Left rules image began now phases cause old f recovered cpu ring replies choices before after → KeepsSlots recovered.adopted old.cpu cpu → keeping_by ring.capacity old.options.every cpu.slots ≡ keeping_of old → recovered.adopted ≡ None → lost + old.steps + before ≡ began.lost + old.steps + after
+      → TellsTable (failure_of rules image f.going.story f.going.saved.paths) old.taken began.tables tables → Adopting rules image (record began { lost = lost; tables = tables }) now phases coming old.taken cause (walked old cpu ring replies choices) recovered
+  adopt_none rules image began now phases coming cause old cpu ring replies choices recovered lost before after tables f h slots keeping is counts told =
+      let g = f.going in
+      let story : Story = g.story in
+      let failure : Failure = failure_of rules image story g.saved.paths in
+      let stay : cpu.slots.saved ≡ old.cpu.slots.saved = subst (λ (a : Option Adopted). KeepsSlots a old.cpu cpu) is slots in
+      let leaves = subst (λ a. LeavesRun failure (recovery_of failure story.survivor.begun cause h.trials) cpu old.ring ring old.recorded old.choices choices old.log old.replies replies a) is h.leaves in
+      let end : end_of old.taken cause recovered.adopted ≡ Some (answer.GaveUp old.taken cause) = ap (end_of old.taken cause) is in
+      let counted = h.counted in
+      let given_up : HasGivenUp rules image (keeping_by ring.capacity old.options.every cpu.slots) story.earlier story.since story.recoveries story.survivor h.trials cause =
+      given_up_by rules image began now phases cause old (keeping_by ring.capacity old.options.every cpu.slots) f h.trials keeping h.recovers leaves.0 in
+      let one = table_of rules image began now phases cause old f h.trials began.tables tables told in
+      record {
+        goes = λ noted more.
+            subst (AdoptsTo rules image (record began { lost = lost; noted = noted; tables = tables }) now phases coming (walked old cpu ring replies choices)) (sym end)
+            (gives_up rules image began now phases coming cause old cpu ring replies choices f h.trials lost before after noted tables stay keeping h.recovers leaves.0 leaves.3 leaves.2 h.counted counts
+            (subst (λ (e : Episode). HasNotedMore began.noted noted [] (e ∷ [])) h.episode_is more) one);
+        breaks = λ fault note.
+            gave_up_unnoted rules image began now coming cause story g.saved.paths h.trials lost (walked old cpu ring replies choices) fault tables g.told given_up (omega (arith, counted, counts))
+            (answers_as began story old (walked old cpu ring replies choices) refl leaves.2 refl refl g.answers) note one;
+      }
+
+  pub adopt_some : (rules : Rules) (image : Image) (began : Since) (now : Told) (phases : Phases) (coming : Option Coming) (cause : Cause) (old : SessionState R) (cpu : CpuState R) (ring : Checkpoints) (replies : Ledger) (choices : List Choice) (recovered : Recovered) (adopted : Adopted)
+      (lost before after : ℕ) (tables : Option (List (List Try))) (f : IsFailing rules image began now phases cause old) → Left rules image began now phases cause old f recovered cpu ring replies choices before after → KeepsSlots recovered.adopted old.cpu cpu → keeping_by ring.capacity old.options.every cpu.slots ≡ keeping_of old → HasSameBytes old.replies replies → recovered.adopted ≡ Some adopted
+      → lost + cpu.slots.live.steps + before ≡ began.lost + old.steps + after → TellsTable (failure_of rules image f.going.story f.going.saved.paths) old.taken began.tables tables
+      → Adopting rules image (record began { lost = lost; tables = tables }) now phases coming old.taken cause (goes_as old cpu ring replies choices adopted.env (old.taken + 4)) recovered
+  adopt_some rules image began now phases coming cause old cpu ring replies choices recovered adopted lost before after tables f h slots keeping bytes is counts told =
+      let g = f.going in
+      let story : Story = g.story in
+      let failure : Failure = failure_of rules image story g.saved.paths in
+      let recovery : Recovery = recovery_of failure story.survivor.begun cause h.trials in
+      let leaves = subst (λ a. LeavesRun failure recovery cpu old.ring ring old.recorded old.choices choices old.log old.replies replies a) is h.leaves in
+      let trial : Trial = leaves.0 in
+      let run = leaves.2 in
+      let new : SessionState R = goes_as old cpu ring replies choices adopted.env (old.taken + 4) in
+      let all = some_counts before after lost began.lost cpu.slots.live.steps old.steps story.survivor.now.steps trial.path.steps (steps_of h.trials) h.counted counts (ap (λ (s : Standing). s.steps) run.stands) g.answers.steps in
+      let episode = λ (noted : Noted) (more : HasNotedMore began.noted noted [] (recovered.episode ∷ [])). subst (λ (e : Episode). HasNotedMore began.noted noted [] (e ∷ [])) h.episode_is more in
+      record {
+        goes = λ noted more.
+            subst (AdoptsTo rules image (record began { lost = lost; noted = noted; tables = tables }) now phases coming new) (sym (ap (end_of old.taken cause) is))
+            (of_code adopted.code refl noted (episode noted more));
+        breaks = λ fault note.
+            adopted_unnoted rules image began now coming story recovery trial lost new fault tables g.told (owes_nothing rules story f.due g.passed.done) refl h.recovers leaves.1 all
+            (record {
+              low = run.low;
+              recorded = subst (Grew began.noted_before.choices began.noted.choices) (sym run.front) g.answers.recorded;
+              choices = run.chose;
+              taken = ap (λ (s : Standing). s.guest.machine.taken) run.stands;
+              steps = ap (λ (s : Standing). s.steps) run.stands;
+            })
+            (rings_of rules image (keeping_of new) (adopted_story story recovery trial).earlier (entries (adopted_story story recovery trial)) (story.recoveries ++ recovery ∷ []) (adopted_by recovery trial) trial.path.state.machine.taken (stands_of cpu.slots.saved)
+            (adopted_requests rules image began now phases cause old cpu ring replies choices adopted f h.trials trial leaves.1 run (subst (λ (a : Option Adopted). KeepsSlots a old.cpu cpu) is slots) keeping)) note (table_of rules image began now phases cause old f h.trials began.tables tables told);
+      }
+    where
+      of_code : (code : Option ℕ) → adopted.code ≡ code → (noted : Noted) → HasNotedMore began.noted noted [] (told_of f.going.story.survivor cause h.trials ∷ [])
+          → AdoptsTo rules image (record began { lost = lost; noted = noted; tables = tables }) now phases coming (goes_as old cpu ring replies choices adopted.env (old.taken + 4)) (option_map answer.Exited adopted.code)
+      of_code None asks noted more =
+          let failure : Failure = failure_of rules image f.going.story f.going.saved.paths in
+          let leaves = subst (λ a. LeavesRun failure (recovery_of failure f.going.story.survivor.begun cause h.trials) cpu old.ring ring old.recorded old.choices choices old.log old.replies replies a) is h.leaves in
+          subst (λ code. AdoptsTo rules image (record began { lost = lost; noted = noted; tables = tables }) now phases coming (goes_as old cpu ring replies choices adopted.env (old.taken + 4)) (option_map answer.Exited code)) (sym asks)
+          (adopts_going rules image began now phases cause old cpu ring replies choices adopted f h.trials leaves.0 lost h.recovers leaves.1 leaves.2 (subst (λ (a : Option Adopted). KeepsSlots a old.cpu cpu) is slots) keeping bytes asks
+          (some_counts before after lost began.lost cpu.slots.live.steps old.steps f.going.story.survivor.now.steps leaves.0.path.steps (steps_of h.trials) h.counted counts (ap (λ (s : Standing). s.steps) leaves.2.stands) f.going.answers.steps) noted more tables (table_of rules image began now phases cause old f h.trials began.tables tables told))
+      of_code (Some code) exits noted more =
+          let failure : Failure = failure_of rules image f.going.story f.going.saved.paths in
+          let leaves = subst (λ a. LeavesRun failure (recovery_of failure f.going.story.survivor.begun cause h.trials) cpu old.ring ring old.recorded old.choices choices old.log old.replies replies a) is h.leaves in
+          subst (λ code. AdoptsTo rules image (record began { lost = lost; noted = noted; tables = tables }) now phases coming (goes_as old cpu ring replies choices adopted.env (old.taken + 4)) (option_map answer.Exited code)) (sym exits)
+          (adopts_ending rules image began now phases coming cause old cpu ring replies choices adopted code f h.trials leaves.0 lost h.recovers leaves.1 leaves.2 (subst (λ (a : Option Adopted). KeepsSlots a old.cpu cpu) is slots) keeping bytes exits
+          (some_counts before after lost began.lost cpu.slots.live.steps old.steps f.going.story.survivor.now.steps leaves.0.path.steps (steps_of h.trials) h.counted counts (ap (λ (s : Standing). s.steps) leaves.2.stands) f.going.answers.steps) noted more tables (table_of rules image began now phases cause old f h.trials began.tables tables told))
+
+  -- the run that is adopted has no more instructions than were counted
+  pub adopt_least : (rules : Rules) (image : Image) (began : Since) (now : Told) (phases : Phases) (cause : Cause) (old : SessionState R) (cpu : CpuState R) (ring : Checkpoints) (replies : Ledger) (choices : List Choice) (recovered : Recovered) (adopted : Adopted)
+      (before after : ℕ) (f : IsFailing rules image began now phases cause old) → Left rules image began now phases cause old f recovered cpu ring replies choices before after → recovered.adopted ≡ Some adopted → cpu.slots.live.steps + before ≤ after + old.steps
+  adopt_least rules image began now phases cause old cpu ring replies choices recovered adopted before after f h is =
+      let failure : Failure = failure_of rules image f.going.story f.going.saved.paths in
+      let leaves = subst (λ a. LeavesRun failure (recovery_of failure f.going.story.survivor.begun cause h.trials) cpu old.ring ring old.recorded old.choices choices old.log old.replies replies a) is h.leaves in
+      let enough : leaves.0.path.steps ≤ f.going.story.survivor.now.steps + steps_of h.trials = leaves.2.enough in
+      let counted = h.counted in
+      let steps : cpu.slots.live.steps ≡ leaves.0.path.steps = ap (λ (s : Standing). s.steps) leaves.2.stands in
+      let same : old.steps ≡ f.going.story.survivor.now.steps = f.going.answers.steps in
+      omega (arith, enough, counted, steps, same)

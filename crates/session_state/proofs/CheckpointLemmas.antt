@@ -1,0 +1,75 @@
+-- The checkpoints of a session beside its story, as its survivor goes on.
+use Rattle.std.proofs.Common.{◌≡◌, ◌⊎◌, inl, inr, ℕ, ◌+◌, ◌<◌, ◌≤◌, List, [], sym, ◌∙◌, ap, subst, arith}
+use Rattle.rx_io.specs.declared.bytes.Item.{Item}
+use Rattle.trial_history.proofs.Planned.{past_request}
+use Rattle.alloc_env.specs.declared.env.Env.{Env}
+use Rattle.elf_image.specs.declared.image.Image.{Image}
+use Rattle.item_log.specs.Log.{Log}
+use Rattle.ckpt_ring.specs.Rings.{Checkpoints}
+use Rattle.run_history.specs.Served.{Limits, Override, Path, Served, AsksFor}
+use Rattle.guest_cpu.specs.Cpus.{CpuState, live_of, with_live}
+use Rattle.guest_cpu.specs.Standing.{Standing}
+use Rattle.guest_runs.specs.Writing.{Writes}
+use Rattle.ckpt_ring.specs.Slots.{Saved}
+use Rattle.session_history.specs.Serving.{gone_on}
+use Rattle.recovery_gate.specs.Handling.{Keeping, stands_of}
+use Rattle.session_state.specs.Leaving.{HandlesRequests, keeping_of}
+use Rattle.session_history.specs.Heeding.{items_in}
+use Rattle.session_history.specs.Lawful.{Rules}
+use Rattle.recovery_gate.specs.Rings.{KeepsRing, AreBehind, IsInForce}
+use Rattle.recovery_gate.proofs.RingLemmas.{ring_on, ring_beside}
+use Rattle.recovery_gate.proofs.Forces.{in_force_later}
+use Rattle.session_state.specs.Sessions.{SessionState}
+use Rattle.session_state.specs.Standing.{Story, entries, KeepsCheckpoints}
+use Rattle.session_state.proofs.StoryLemmas.{on_story}
+
+-- an environment and a number that are the same
+pub in_force_by : (plan : List Override) (taken : ℕ) (env other : Env) (until till : ℕ) → other ≡ env → till ≡ until → IsInForce plan taken env until → IsInForce plan taken other till
+in_force_by plan taken env other until till same still is = subst (λ (e : Env). IsInForce plan taken e till) (sym same) (subst (λ n. IsInForce plan taken env n) (sym still) is)
+
+-- a run past a failure goes on past it; one that stands at it, at its request, takes the item
+pub past_on : (limits : Limits) (items : List Item) (plan : List Override) (now to : Path) (until till : ℕ) → Served limits items plan now to → now.state.machine.taken ≤ to.state.machine.taken → till ≡ until
+    → (until < now.state.machine.taken + 4) ⊎ ((until ≡ now.state.machine.taken + 4) × AsksFor limits [] now now.state.machine.taken) → (till < to.state.machine.taken + 4) ⊎ ((till ≡ to.state.machine.taken + 4) × AsksFor limits [] to to.state.machine.taken)
+past_on limits items plan now to until till served more same (inl past) = inl (omega (arith, past, more, same))
+past_on limits items plan now to until till served more same (inr there) =
+    elim (past_request limits items plan now to there.1 served) [
+      | inl stays ↦ subst (λ (p : Path). (till < p.state.machine.taken + 4) ⊎ ((till ≡ p.state.machine.taken + 4) × AsksFor limits [] p p.state.machine.taken)) stays (inr (same ∙ there.0, there.1))
+      | inr later ↦ inl (let is : until ≡ now.state.machine.taken + 4 = there.0 in omega (arith, is, later, same))
+    ]
+
+module _ {R : Type 0} where
+  -- all but the live state of the guest, the replies, the counts and the answers of malloc that aren't noted is the same
+  pub record HasSameSide (old new : SessionState R) : Type 0 where
+    pub recorded : new.recorded ≡ old.recorded
+    pub log : new.log ≡ old.log
+    pub events : new.events ≡ old.events
+    pub cpu : new.cpu ≡ with_live (live_of new.cpu) old.cpu
+    pub ring : new.ring ≡ old.ring
+    pub env : new.env ≡ old.env
+    pub until : new.until ≡ old.until
+    pub options : new.options ≡ old.options
+
+  side_keeping : (old new : SessionState R) → HasSameSide old new → keeping_of new ≡ keeping_of old
+  side_keeping old new side = λ i. record { ring = (side.ring i).capacity; every = (side.options i).every; pages = (side.cpu i).slots.pages; frames = (side.cpu i).slots.frames }
+
+  -- the survivor goes on: its checkpoints stay, and its environment
+  pub saved_on : (rules : Rules) (image : Image) (story : Story) (old new : SessionState R) (to : Path) → HasSameSide old new → new.replies.first ≡ old.replies.first → Served rules.limits (items_in rules.bounds (entries story)) story.survivor.plan story.survivor.now to
+      → Writes rules.limits (items_in rules.bounds (entries story)) old.cpu.base story.survivor.now old.cpu.written to new.cpu.written
+      → story.survivor.now.state.machine.taken ≤ to.state.machine.taken → HandlesRequests rules image (keeping_of old) story.earlier (entries story) story.recoveries (gone_on story.survivor to) (stands_of old.cpu.slots.saved) → KeepsCheckpoints rules image story old → KeepsCheckpoints rules image (on_story story to) new
+  saved_on rules image story old new to side first served wrote more requests k =
+      let plan : List Override = story.survivor.plan in
+      let now : Path = story.survivor.now in
+      record {
+        paths = k.paths;
+        ring =
+            subst (λ (c : Checkpoints). KeepsRing rules image (entries story) plan to k.paths new.cpu c new.log new.replies) (sym side.ring)
+            (ring_beside rules image (entries story) plan to k.paths new.cpu old.ring old.log new.log old.replies new.replies (ap (λ (l : Log). l.first) side.log) first
+            (ring_on rules image (entries story) plan now to k.paths old.cpu new.cpu (live_of new.cpu) old.ring old.log old.replies served wrote side.cpu k.ring));
+        early = subst (λ n. AreBehind n k.paths) (sym side.recorded) k.early;
+        requests =
+            subst (λ (k : Keeping). HandlesRequests rules image k story.earlier (entries story) story.recoveries (gone_on story.survivor to) (stands_of new.cpu.slots.saved)) (sym (side_keeping old new side))
+            (subst (λ (saved : List (Saved Standing)). HandlesRequests rules image (keeping_of old) story.earlier (entries story) story.recoveries (gone_on story.survivor to) (stands_of saved)) (sym (ap (λ (cpu : CpuState R). cpu.slots.saved) side.cpu)) requests);
+        in_force =
+            in_force_by plan to.state.machine.taken old.env new.env old.until new.until side.env side.until (in_force_later plan now.state.machine.taken to.state.machine.taken old.env old.until more k.in_force);
+        past = past_on rules.limits (items_in rules.bounds (entries story)) plan now to old.until new.until served more side.until k.past;
+      }

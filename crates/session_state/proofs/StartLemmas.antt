@@ -1,0 +1,217 @@
+-- Where a session stands at its begin, and after each turn.
+use Rattle.std.proofs.Common.{inl, ◌-◌, ◌≡◌, ℕ, zero, suc, ◌+◌, ◌*◌, ◌/◌, ◌≤◌, Bool, true, false, List, [], ◌∷◌, ◌++◌, length, take, drop, Option, None, refl, sym, ◌∙◌, ap, subst, arith}
+use Rattle.block_book.specs.Heap.{Heap}
+use Rattle.rx_io.specs.Links.{Phases, Told, Grew, Coming, IsFresh, Counts}
+use Rattle.elf_image.specs.declared.image.Image.{Image}
+use Rattle.item_log.specs.Log as logs
+use Rattle.reply_ledger.specs.Ledger.{Ledger, no_replies}
+use Rattle.reply_ledger.specs.Inside as I
+use Rattle.reply_ledger.specs.Shows as S
+use Rattle.reply_ledger.specs.Ledger as ledgers
+use Rattle.alloc_env.specs.declared.env.Env.TheVariants.{Plain}
+use Rattle.ckpt_ring.specs.Rings.{Checkpoints}
+use Rattle.guest_cpu.specs.Cpus.{CpuState}
+use Rattle.trial_history.proofs.Survivors.{recovered_first}
+use Rattle.recovery_gate.specs.Rings.{KeepsRing}
+use Rattle.recovery_gate.proofs.Forces.{in_force_none}
+use Rattle.run_history.specs.Served.{origin}
+use Rattle.guest_cpu.specs.Standing.{Standing}
+use Rattle.guest_cpu.specs.Serving.{standing_of}
+use Rattle.guest_runs.specs.Laws.{IsStart}
+use Rattle.guest_runs.proofs.RunLemmas.{runs_start}
+use Rattle.std.specs.Option.{unwrap_or}
+use Rattle.std.specs.Prelude.{replicate, slice_get}
+use Rattle.run_history.specs.Machine.{no_connections}
+use Rattle.run_history.specs.Machine as M
+use Rattle.rx_io.specs.Sends.{Send}
+use Rattle.session_history.specs.Heeding as H
+use Rattle.session_history.specs.Heeding.{Bounds, items_in}
+use Rattle.session_history.specs.Keeping.{KeepsReplies}
+use Rattle.session_history.specs.Owing.{Stands}
+use Rattle.session_history.specs.Lawful.{Rules}
+use Rattle.session_history.proofs.Paths.{served_same}
+use Rattle.session_history.proofs.Sessions.{serving_first}
+use Rattle.session_state.specs.Options.{rules_of, keeping_for}
+use Rattle.session_state.specs.Sessions.{SessionState, IsBegun}
+use Rattle.notes.specs.Noting.{Noted}
+use Rattle.episodes.specs.declared.episode.Try.{Try}
+use Rattle.session_state.specs.Recovered.{AreTables}
+use Rattle.session_state.proofs.TableLemmas.{tells_none}
+use Rattle.session_state.proofs.GuestLemmas.{none_noted}
+use Rattle.session_state.specs.Standing.{Since, Story, IsBetween, told_since}
+use Rattle.session_state.proofs.CheckpointLemmas.{in_force_by}
+use Rattle.session_state.proofs.TellLemmas.{tells_same}
+use Rattle.recovery_gate.specs.Handling.{alone, stands_of, keeping_by}
+use Rattle.recovery_gate.proofs.Handled.{handled_first}
+use Rattle.session_state.specs.Leaving.{IsTrimmed, keeping_of}
+use Rattle.session_state.proofs.LeavingLemmas.{start_trimmed}
+use Rattle.session_state.specs.Serving.{CanGive, StaysKnown, IsCounted, HasSameFrame}
+
+-- the story of no event
+abbrev first_story : Image → Story
+first_story image = record { earlier = []; recoveries = []; survivor = record { plan = []; begun = origin image; now = origin image }; since = [] }
+
+-- of no send there is none
+none_stands : (send : Send) → Stands [] send → ⊥
+none_stands send stands = by stands.earlier stands.split
+  where
+    by : (earlier : List Send) → [] ≡ earlier ++ send ∷ stands.later → ⊥
+    by [] same = cc
+    by (first ∷ more) same = cc
+
+-- where no connection is open, none is
+none_open : (count conn : ℕ) → unwrap_or (slice_get (replicate count false) conn) false ≡ false
+none_open zero conn = refl
+none_open (suc count) zero = refl
+none_open (suc count) (suc conn) = none_open count conn
+
+none_known : (conn : ℕ) → unwrap_or (slice_get no_connections conn) false ≡ false
+unfolding no_connections
+none_known conn = none_open 4096 conn
+
+-- a ledger without replies is that of an empty journal
+first_replies : (bounds : Bounds) → KeepsReplies bounds [] None [] no_replies
+unfolding H.heeded_behind I.earlier_at S.stamped_of ledgers.connection_of ledgers.stamped_to ledgers.is_open
+first_replies bounds = record {
+  shows = record { counted = omega arith; kept = refl; opened = λ conn none. refl; earlier = λ conn. refl; passed = λ conn. refl };
+  opened = λ conn. refl;
+  may = λ conn. refl;
+  gone = λ conn is. absurd (let no : ⊥ = cc in no);
+  given_up = λ conn may. omega arith;
+  sendable = tt;
+}
+
+-- how many instructions were counted behind a turn that aren't of the survivor's run: so many as all of them are more
+abbrev pub lost_then : ℕ → ℕ → ℕ → ℕ → ℕ → ℕ
+lost_then lost live steps before after = (lost + live + after) - (steps + before)
+
+pub lost_counts : (lost live steps before after : ℕ) → steps + before ≤ after + live → lost_then lost live steps before after + steps + before ≡ lost + live + after
+lost_counts lost live steps before after least = omega (arith, least)
+
+-- and with what the watch has counted: before the first turn, before this one, and behind it
+pub lost_all : (first lost live steps before after began ran later : ℕ) → began + before ≡ ran + first + (lost + live) → steps + (later + before) ≤ ran + after + live
+    → began + after ≡ later + first + (lost_then lost live steps (later + before) (ran + after) + steps)
+lost_all first lost live steps before after began ran later counted least = omega (arith, counted, least)
+
+module _ {R : Type 0} where
+  -- its guest stands at the start
+  pub starts_at : (image : Image) (session : SessionState R) → IsBegun image session.options session.cpu.rule session → session.cpu.slots.live ≡ standing_of (origin image)
+  starts_at image session begun = let start : IsStart image 0 = runs_start image 0 in begun.cpu.live_is ∙ sym start.stands
+
+  -- it keeps its checkpoints as its options say
+  pub begun_keeping : (image : Image) (session : SessionState R) → IsBegun image session.options session.cpu.rule session → keeping_of session ≡ keeping_for session.options
+  begun_keeping image session begun =
+      let same : image.window / 4096 ≡ session.options.window / 4096 = ap (λ n. n / 4096) (sym begun.window) in
+      let pages : session.cpu.slots.pages ≡ session.options.window / 4096 = begun.cpu.pages_are ∙ same in
+      let frames : session.cpu.slots.frames ≡ session.options.frames * (session.options.window / 4096) = begun.cpu.frames_are ∙ ap (λ n. session.options.frames * n) same in
+      λ i. record { ring = (begun.ring i).capacity; every = session.options.every; pages = pages i; frames = frames i }
+
+  pub starts_none : (image : Image) (session : SessionState R) → IsBegun image session.options session.cpu.rule session → session.cpu.slots.live.guest.machine.taken ≡ 0
+  unfolding M.start M.start_machine
+  starts_none image session begun = ap (λ (s : Standing). s.guest.machine.taken) begun.cpu.live_is
+
+  -- it begins with its start as its first checkpoint
+  starts_saved : (permits : R → Heap → ℕ → ℕ → Bool) (image : Image) (now : Told) (noted : Noted) (tables : Option (List (List Try))) (phases : Phases) (session : SessionState R) (cpu : CpuState R) (ring : Checkpoints) → IsBegun image session.options session.cpu.rule session → IsFresh phases
+      → KeepsRing (rules_of session.options (permits session.cpu.rule)) image [] [] (origin image) (origin image ∷ []) cpu ring session.log session.replies → cpu.slots.live ≡ session.cpu.slots.live
+      → stands_of cpu.slots.saved ≡ alone 0 cpu.slots.pages → IsBetween (rules_of session.options (permits session.cpu.rule)) image (told_since now noted noted tables tables 0) now phases (record session { cpu = cpu; ring = ring })
+  unfolding M.start M.start_machine H.heeded_behind
+  starts_saved permits image now noted tables phases session cpu ring begun fresh keeps live stands =
+      let rules : Rules = rules_of session.options (permits session.cpu.rule) in
+      let start : IsStart image rules.limits.budget = runs_start image rules.limits.budget in
+      record {
+        going = record {
+          story = first_story image;
+          told = record {
+            serving = serving_first rules image;
+            way = served_same rules.limits (items_in rules.bounds []) [] (origin image);
+            tells = tells_same now;
+            recovered = recovered_first rules image;
+            counted = refl;
+            episodes = (none_noted noted).episodes_more;
+            tables = tells_none tables (AreTables (rules_of session.options (permits session.cpu.rule)) [] [] []) tt;
+          };
+          answers = record {
+            low = omega (arith, begun.none_recorded);
+            recorded = subst (λ n. Grew noted.choices noted.choices (take n [])) (sym begun.none_recorded) (none_noted noted).choices_more;
+            choices = begun.no_choices ∙ sym (ap (λ n. drop n []) begun.none_recorded);
+            taken = begun.no_items;
+            steps = begun.no_steps;
+          };
+          goes = record {
+            lives = start.lives;
+            guest = live ∙ (begun.cpu.live_is ∙ sym start.stands);
+            bounded = start.bounded;
+            few = omega arith;
+            within = λ conn may. absurd (let none : unwrap_or (slice_get no_connections conn) false ≡ false = none_known conn in let no : ⊥ = cc in no);
+            items = record { all_heeded = refl; shows = begun.shows; most = ap (λ (log : logs.Log). log.max_items) begun.log };
+            events = begun.no_events;
+            phases_are = fresh;
+          };
+          saved = record { paths = origin image ∷ []; ring = keeps; early = (omega (arith, begun.none_recorded), tt); requests = inl (handled_first rules image (keeping_by ring.capacity session.options.every cpu.slots) [] (first_story image).survivor (stands_of cpu.slots.saved) stands); in_force = in_force_by [] 0 Plain session.env 0 session.until begun.plain begun.until_none (in_force_none 0); past = inl (let none : session.until ≡ 0 = begun.until_none in omega (arith, none)) };
+          passed = record { replies = subst (λ (ledger : Ledger). KeepsReplies rules.bounds [] None [] ledger) (sym begun.replies) (first_replies rules.bounds); no_trial = ap (λ (ledger : Ledger). ledger.trial) begun.replies; done = λ send stands due. absurd due };
+          latest = λ last found. absurd (let no : ⊥ = cc in no);
+        };
+        due = λ send stands is taken. absurd (none_stands send stands);
+      }
+
+  pub starts_between : (permits : R → Heap → ℕ → ℕ → Bool) (image : Image) (now : Told) (noted : Noted) (tables : Option (List (List Try))) (phases : Phases) (session after : SessionState R) → IsBegun image session.options session.cpu.rule session → IsFresh phases
+      → ((rules : Rules) → KeepsRing rules image [] [] (origin image) (origin image ∷ []) after.cpu after.ring session.log session.replies) → after ≡ record session { cpu = after.cpu; ring = after.ring } → after.cpu.slots.live ≡ session.cpu.slots.live
+      → stands_of after.cpu.slots.saved ≡ alone 0 after.cpu.slots.pages → IsBetween (rules_of session.options (permits session.cpu.rule)) image (told_since now noted noted tables tables 0) now phases after
+  starts_between permits image now noted tables phases session after begun fresh keeps same live stands =
+      subst (λ (s : SessionState R). IsBetween (rules_of session.options (permits session.cpu.rule)) image (told_since now noted noted tables tables 0) now phases s) (sym same)
+      (starts_saved permits image now noted tables phases session after.cpu after.ring begun fresh (keeps (rules_of session.options (permits session.cpu.rule))) live stands)
+
+  -- how far a session has come that serves
+  pub record HasTurned (Went Fixed Works : Type 0) (permits : R → Heap → ℕ → ℕ → Bool) (before now : Told) (noted_before noted : Noted) (tables_before tables : Option (List (List Try))) (faults_before faults : ℕ) (phases : Phases) (coming upcoming : Option Coming) (from to : Counts) (takes gives : Bool) (gives_to : ℕ → Bool) (first last : ℕ) (old new : SessionState R) : Type 0 where
+    pub lost : ℕ
+    pub stands : (image : Image) → IsBegun image old.options old.cpu.rule old → IsBetween (rules_of old.options (permits old.cpu.rule)) image (told_since before noted_before noted tables_before tables lost) now phases new
+    pub frame : HasSameFrame old new
+    pub known : StaysKnown coming upcoming
+    pub takes_still : takes ≡ true
+    pub can_give : CanGive gives gives_to new.replies
+    pub marked : IsCounted new
+    pub trimmed : IsTrimmed new
+    pub keeping : keeping_of new ≡ keeping_of old
+    pub counted : last ≡ first + (lost + new.cpu.slots.live.steps)
+    pub no_takes_fell : from.takes ≤ to.takes
+    pub no_gives_fell : from.gives ≤ to.gives
+    pub no_faults_fell : faults_before ≤ faults
+    pub fixed : Fixed
+    pub works : Works
+    pub went : Went
+
+  -- it gives to each connection that is open: none was opened
+  pub starts_giving : (image : Image) (session : SessionState R) (gives : Bool) (gives_to : ℕ → Bool) → IsBegun image session.options session.cpu.rule session → gives ≡ true → CanGive gives gives_to session.replies
+  unfolding ledgers.is_open ledgers.connection_of
+  starts_giving image session gives gives_to begun still = record {
+    gives_still = still;
+    connected = λ conn is. absurd (let none : ledgers.is_open session.replies.connections conn ≡ false = ap (λ (ledger : Ledger). ledgers.is_open ledger.connections conn) begun.replies in let no : ⊥ = cc in no);
+  }
+
+  -- nothing lies before its first checkpoint
+  pub starts_trimmed : (rules : Rules) (image : Image) (session after : SessionState R) → IsBegun image session.options session.cpu.rule session
+      → KeepsRing rules image [] [] (origin image) (origin image ∷ []) after.cpu after.ring session.log session.replies → after ≡ record session { cpu = after.cpu; ring = after.ring } → IsTrimmed after
+  unfolding M.start M.start_machine
+  starts_trimmed rules image session after begun keeps same =
+      let log : after.log ≡ session.log = ap (λ (s : SessionState R). s.log) same in
+      let replies : after.replies ≡ session.replies = ap (λ (s : SessionState R). s.replies) same in
+      let first : after.log.first ≡ 0 = ap (λ (l : logs.Log). l.first) (log ∙ begun.log) in
+      let recorded : after.recorded ≡ 0 = ap (λ (s : SessionState R). s.recorded) same ∙ begun.none_recorded in
+      let sends : after.replies.first ≡ 0 = ap (λ (l : Ledger). l.first) (replies ∙ begun.replies) in
+      start_trimmed rules image [] [] (origin image) (origin image ∷ []) after
+      (subst (λ (l : logs.Log). KeepsRing rules image [] [] (origin image) (origin image ∷ []) after.cpu after.ring l after.replies) (sym log)
+      (subst (λ (l : Ledger). KeepsRing rules image [] [] (origin image) (origin image ∷ []) after.cpu after.ring session.log l) (sym replies) keeps))
+      (origin image) (ap (slice_get (origin image ∷ [])) (let none : length (origin image ∷ []) - 1 ≡ 0 = omega arith in none)) first recorded (omega (arith, sends))
+
+  pub starts_counted : (image : Image) (session after : SessionState R) → IsBegun image session.options session.cpu.rule session → after ≡ record session { cpu = after.cpu; ring = after.ring } → after.cpu.slots.live ≡ session.cpu.slots.live → IsCounted after
+  unfolding M.start M.start_machine
+  starts_counted image session after begun same live = record {
+    taken = ap (λ (s : SessionState R). s.taken) same ∙ (begun.no_items ∙ sym (ap (λ (s : Standing). s.guest.machine.taken) (live ∙ begun.cpu.live_is)));
+    steps = ap (λ (s : SessionState R). s.steps) same ∙ (begun.no_steps ∙ sym (ap (λ (s : Standing). s.steps) (live ∙ begun.cpu.live_is)));
+  }
+
+  pub frame_then : (old mid new : SessionState R) → HasSameFrame old mid → HasSameFrame mid new → HasSameFrame old new
+  frame_then old mid new first second = record { options = second.options ∙ first.options; rule = second.rule ∙ first.rule }
+
+  pub between_under : {image : Image} {began : Since} {now : Told} {phases : Phases} {session : SessionState R} (first second : Rules) → first ≡ second → IsBetween first image began now phases session → IsBetween second image began now phases session
+  between_under {image = image} {began = began} {now = now} {phases = phases} {session = session} first second same = subst (λ (rules : Rules). IsBetween rules image began now phases session) same

@@ -1,0 +1,105 @@
+-- What a session leaves: the checkpoints of the run that it answers for, and what a trial from them would need.
+use Rattle.std.specs.Prelude.{◌≡◌, ◌⊎◌, false, [], ℕ, ◌+◌, ◌-◌, ◌<◌, ◌≤◌, List, length, None, Some, IfSome, option_map, slice_get}
+use Rattle.rx_io.specs.declared.journal.Entry.{Entry}
+use Rattle.elf_image.specs.declared.image.Image.{Image}
+use Rattle.ckpt_ring.specs.Rings.{from_newest}
+use Rattle.run_history.specs.declared.answer.Answer.{Answer}
+use Rattle.run_history.specs.declared.answer.Answer.TheVariants as answer
+use Rattle.run_history.specs.Served.{Path, AsksFor}
+use Rattle.guest_cpu.specs.Serving.{standing_of}
+use Rattle.session_history.specs.Heeding.{items_in}
+use Rattle.session_history.specs.Lawful.{Rules, Survivor, Chapter}
+use Rattle.session_history.specs.Account.{Session}
+use Rattle.session_history.specs.Ends.{IsEnd, before_end}
+use Rattle.trial_history.specs.Chains.{AreCheckpoints, AreChained}
+use Rattle.trial_history.specs.Episodes.{Recovery}
+use Rattle.recovery_gate.specs.Handling.{Keeping, Stand, is_far, HasHandled, stands_of, keeping_by}
+use Rattle.session_state.specs.Sessions.{SessionState}
+
+-- an end but that at which no trial survived
+abbrev pub UnlessGaveUp : Answer → Type 0 → Type 0
+UnlessGaveUp (answer.GaveUp point cause) P = Unit {0}
+UnlessGaveUp end P = P
+
+-- an answer at which the program waits for an item
+abbrev pub IsAtRequest : Answer → Type 0
+IsAtRequest answer.Finished = Unit {0}
+IsAtRequest (answer.InputRefused kind offset) = Unit {0}
+IsAtRequest (answer.MessageTooLong conn) = Unit {0}
+IsAtRequest answer.LimitItems = Unit {0}
+IsAtRequest answer.LimitEvents = Unit {0}
+IsAtRequest answer.ReadFault = Unit {0}
+IsAtRequest _ = ⊥
+
+-- What holds before the last request was handled, or behind it: at an answer at which the program waits, it was; where it ended or failed, it made
+-- none; and at a fault of writing either may be.
+abbrev pub HandledAt : Answer → Type 0 → Type 0 → Type 0
+HandledAt (answer.Exited code) before behind = before
+HandledAt (answer.GaveUp point cause) before behind = before
+HandledAt answer.WriteFault before behind = before ⊎ behind
+HandledAt end before behind = behind
+
+-- Beside the last survivor its requests so far were handled. Or it stands at its request, and that was handled too, so that no checkpoint is due.
+abbrev pub HandlesRequests : Rules → Image → Keeping → List Chapter → List Entry → List Recovery → Survivor → List Stand → Type 0
+HandlesRequests rules image keeping chapters entries recoveries survivor stands =
+    HasHandled rules image keeping chapters entries recoveries survivor survivor.now.state.machine.taken stands
+    ⊎ (AsksFor rules.limits [] survivor.now survivor.now.state.machine.taken × HasHandled rules image keeping chapters entries recoveries survivor (survivor.now.state.machine.taken + 1) stands × (is_far keeping.every survivor.now.state.machine.taken (from_newest stands 0) ≡ false))
+
+module _ {R : Type 0} where
+  -- how a session keeps its checkpoints
+  abbrev pub keeping_of : SessionState R → Keeping
+  keeping_of session = keeping_by session.ring.capacity session.options.every session.cpu.slots
+
+  -- no checkpoint is due with the items taken so far
+  abbrev pub IsHandled : SessionState R → Type 0
+  IsHandled session = is_far session.options.every session.taken (from_newest (stands_of session.cpu.slots.saved) 0) ≡ false
+
+  -- The saved slots of a session's guest are checkpoints of the survivor's run, at least one. As runs, from the newest to the oldest, each goes
+  -- on as the one before it, and the survivor goes on as the newest. Each slot holds the state where its run stands.
+  pub record HoldsCheckpoints (rules : Rules) (image : Image) (chapters : List Chapter) (entries : List Entry) (recoveries : List Recovery) (survivor : Survivor) (session : SessionState R) : Type 0 where
+    pub paths : List Path
+    pub some : 0 < length paths
+    pub chained : AreChained rules.limits (items_in rules.bounds entries) survivor.plan image survivor.now paths
+    pub are : AreCheckpoints rules.limits image paths
+    pub as_many : length session.cpu.slots.saved ≡ length paths
+    pub saved : (index : ℕ) → index < length paths → option_map (λ one. one.state) (from_newest session.cpu.slots.saved index) ≡ option_map standing_of (slice_get paths index)
+    pub requests : HandlesRequests rules image (keeping_of session) chapters entries recoveries survivor (stands_of session.cpu.slots.saved)
+
+  -- as many answers of malloc are recorded as the oldest checkpoint had used
+  abbrev pub IsRecorded : SessionState R → Type 0
+  IsRecorded session = IfSome (slice_get session.cpu.slots.saved 0) (λ oldest. session.recorded ≡ oldest.state.guest.machine.allocations)
+
+  -- All is given up and recorded that no trial needs: the items from before the oldest checkpoint, and no others; and of the answers of malloc
+  -- those that it had used. No send is given up that came later.
+  pub record IsTrimmed (session : SessionState R) : Type 0 where
+    pub items : IfSome (slice_get session.cpu.slots.saved 0) (λ oldest. session.log.first ≡ oldest.state.guest.machine.taken)
+    pub recorded : IsRecorded session
+    pub sends : IfSome (slice_get session.cpu.slots.saved 0) (λ oldest. session.replies.first ≤ oldest.state.sends)
+
+  -- what is asked for before sends are given up: there is an oldest checkpoint, no trial is under way, and what it had sent was sent
+  pub record CanForgetSends (session : SessionState R) : Type 0 where
+    pub some : 0 < length session.cpu.slots.saved
+    pub trial : session.replies.trial ≡ None
+    pub sends : IfSome (slice_get session.cpu.slots.saved 0) (λ oldest. oldest.state.sends ≤ session.replies.first + length session.replies.kept)
+
+  -- the oldest checkpoint stands, and nothing more was given up or recorded
+  pub record KeepsOldest (old new : SessionState R) : Type 0 where
+    pub oldest : slice_get new.cpu.slots.saved 0 ≡ slice_get old.cpu.slots.saved 0
+    pub first : new.log.first ≡ old.log.first
+    pub recorded : new.recorded ≡ old.recorded
+    pub sends : new.replies.first ≡ old.replies.first
+    pub keeping : keeping_of new ≡ keeping_of old
+
+  -- What a session leaves at an end or at a fault of its link, by its account: the checkpoints of the survivor's run. The items from before the
+  -- oldest one were given up, and no others. At an end so were the sends; and the guest stands where the survivor does, unless none survived.
+  -- At a fault as many answers of malloc are recorded as the oldest one had used. Those checkpoints stand that the requests so far left.
+  pub record HasLeft (rules : Rules) (image : Image) (recoveries : List Recovery) (account : Session) (session : SessionState R) (end : Answer) : Type 0 where
+    pub holds : HoldsCheckpoints rules image account.earlier (before_end account) recoveries account.survivor session
+    pub oldest : Path
+    pub oldest_is : slice_get holds.paths (length holds.paths - 1) ≡ Some oldest
+    pub items : session.log.first ≡ oldest.state.machine.taken
+    pub sends : IsEnd end → session.replies.first ≡ length oldest.state.sends
+    pub stands : IsEnd end → UnlessGaveUp end (session.cpu.slots.live ≡ standing_of account.survivor.now)
+    pub recorded : (IsEnd end → ⊥) → session.recorded ≡ length oldest.choices
+    pub requests : HandledAt end (HasHandled rules image (keeping_of session) account.earlier (before_end account) recoveries account.survivor account.survivor.now.state.machine.taken (stands_of session.cpu.slots.saved))
+        (HasHandled rules image (keeping_of session) account.earlier (before_end account) recoveries account.survivor (account.survivor.now.state.machine.taken + 1) (stands_of session.cpu.slots.saved))

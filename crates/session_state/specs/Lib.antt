@@ -1,0 +1,7 @@
+pub mod Options
+pub mod Sessions
+pub mod Recovered
+pub mod Leaving
+pub mod Standing
+pub mod Serving
+pub mod Recording

@@ -1,0 +1,35 @@
+-- What a session is asked for.
+use Rattle.std.specs.Prelude.{ℕ, ◌*◌, ◌/◌, ◌≤◌, ◌^◌, Bool}
+use Rattle.block_book.specs.Heap.{Heap}
+use Rattle.rv_exec.specs.Stepping.{limits_of}
+use Rattle.session_history.specs.Lawful.{Rules}
+use Rattle.recovery_gate.specs.Handling.{Keeping}
+use Rattle.session_state.specs.declared.options.Options.{Options}
+
+-- each number is in its range
+pub record AreInRange (options : Options) : Type 0 where
+  pub hold : options.hold ≤ 1000
+  pub some_ring : 1 ≤ options.ring
+  pub few_ring : options.ring ≤ 16
+  pub some_every : 1 ≤ options.every
+  pub few_every : options.every ≤ 64
+  pub some_frames : 2 ≤ options.frames
+  pub few_frames : options.frames ≤ 16
+  pub some_budget : 1 ≤ options.budget
+  pub few_budget : options.budget ≤ 2 ^ 24
+  pub some_items : 1 ≤ options.max_items
+  pub few_items : options.max_items ≤ 2 ^ 20
+  pub some_events : 1 ≤ options.max_events
+  pub few_events : options.max_events ≤ 2 ^ 32
+
+-- how a session with these options keeps its checkpoints
+abbrev pub keeping_for : Options → Keeping
+keeping_for options = record { ring = options.ring; every = options.every; pages = options.window / 4096; frames = options.frames * (options.window / 4096) }
+
+-- what a session with these options allows its guest, by an access rule, and its link
+abbrev pub rules_of : Options → (Heap → ℕ → ℕ → Bool) → Rules
+rules_of options permits = record {
+  limits = limits_of options.budget permits;
+  bounds = record { framing = options.frame; max_items = options.max_items; max_events = options.max_events };
+  hold = options.hold;
+}

@@ -1,0 +1,51 @@
+-- What a contract sees of a session.
+use Rattle.std.specs.Prelude.{◌≡◌, ℕ, ◌*◌, ◌/◌, List, [], nat_lt, if◌then◌else◌}
+use Rattle.alloc_env.specs.declared.env.Env.{Env}
+use Rattle.alloc_env.specs.declared.env.Env.TheVariants.{Plain}
+use Rattle.block_book.specs.declared.choice.Choice.{Choice}
+use Rattle.elf_image.specs.declared.image.Image.{Image}
+use Rattle.ckpt_ring.specs.Rings.{Checkpoints, checkpoints}
+use Rattle.guest_cpu.specs.Cpus.{CpuState, IsFreshCpu}
+use Rattle.item_log.specs.Log.{Log, empty_log}
+use Rattle.item_log.specs.Log as logs
+use Rattle.reply_ledger.specs.Ledger.{Ledger, no_replies}
+use Rattle.session_state.specs.declared.options.Options.{Options}
+use Rattle.session_state.specs.Options.{AreInRange}
+
+-- A session: its options, its guest with its checkpoints, the items and the replies; how many events came; of the run that it answers for
+-- how many answers of malloc are recorded, the others, the items taken and the instructions; and an environment, up to a number of items
+pub record SessionState (R : Type 0) : Type 0 where
+  pub options : Options
+  pub cpu : CpuState R
+  pub ring : Checkpoints
+  pub log : Log
+  pub replies : Ledger
+  pub events : ℕ
+  pub recorded : ℕ
+  pub choices : List Choice
+  pub taken : ℕ
+  pub steps : ℕ
+  pub env : Env
+  pub until : ℕ
+
+-- the environment in force: that of a session, with fewer items taken than its number; else Plain
+abbrev pub env_of : {R : Type 0} → SessionState R → Env
+env_of session = if nat_lt session.taken session.until then session.env else Plain
+
+-- a session that was begun and hasn't served
+pub record IsBegun {R : Type 0} (image : Image) (options : Options) (rule : R) (session : SessionState R) : Type 0 where
+  pub options_are : session.options ≡ options
+  pub in_range : AreInRange options
+  pub window : options.window ≡ image.window
+  pub cpu : IsFreshCpu image options.ring (options.frames * (image.window / 4096)) rule session.cpu
+  pub ring : session.ring ≡ checkpoints options.ring []
+  pub log : session.log ≡ empty_log options.frame options.max_items
+  pub shows : logs.Shows options.frame [] session.log
+  pub replies : session.replies ≡ no_replies
+  pub no_events : session.events ≡ 0
+  pub none_recorded : session.recorded ≡ 0
+  pub no_choices : session.choices ≡ []
+  pub no_items : session.taken ≡ 0
+  pub no_steps : session.steps ≡ 0
+  pub plain : session.env ≡ Plain
+  pub until_none : session.until ≡ 0

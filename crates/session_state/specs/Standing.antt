@@ -1,0 +1,233 @@
+-- Where a session stands between two events of its guest.
+use Rattle.std.specs.Prelude.{◌≡◌, ◌≢◌, ◌⊎◌, ℕ, ◌+◌, ◌<◌, ◌≤◌, List, [], ◌++◌, length, map, take, drop, true, false, Option, None, Some}
+use Rattle.rx_io.specs.declared.journal.Entry.{Entry}
+use Rattle.rx_io.specs.Links.{Phases, Told, Tells, Coming, Grew, events_in}
+use Rattle.rx_io.specs.Sends.{Send}
+use Rattle.elf_image.specs.declared.image.Image.{Image}
+use Rattle.reply_ledger.specs.Ledger.{Ledger}
+use Rattle.run_history.specs.declared.answer.Answer.{Answer}
+use Rattle.run_history.specs.declared.answer.Answer.TheVariants as answer
+use Rattle.run_history.specs.declared.answer.Cause.{Cause}
+use Rattle.run_history.specs.Call.{may_send}
+use Rattle.run_history.specs.Served.{Path, Served, FailsBy, AsksFor}
+use Rattle.guest_cpu.specs.Serving.{standing_of}
+use Rattle.guest_runs.specs.Runs.{IsBounded}
+use Rattle.session_history.specs.Heeding.{heeded, items_in, received, AreHeeded}
+use Rattle.item_log.specs.Log as logs
+use Rattle.session_history.specs.Opened.{opens, is_open}
+use Rattle.session_history.specs.Owing.{Moment, journal, Latest, latest, received_before, Stands, IsDueBy, IsPassed, OwesNothing, place_at}
+use Rattle.session_history.specs.Lawful.{Rules, Survivor, is_closing, Chapter, entries_of}
+use Rattle.session_history.specs.Account.{Session, journal_of, IsAccount}
+use Rattle.session_history.specs.Serving.{moment_of, Serving, first_survivor}
+use Rattle.session_history.specs.Keeping.{KeepsReplies, KeepsItems, KeepsPhases}
+use Rattle.session_history.specs.Giving.{AreGiven}
+use Rattle.session_history.specs.Ends.{IsEnd, IsWaiting, StandsAt, EndsBy, before_end}
+use Rattle.trial_history.specs.Tables.{Trial}
+use Rattle.trial_plan.specs.Trying.{steps_of}
+use Rattle.session_state.specs.Recovered.{spent, GivesUpBy, AreLastTrials, HasNoted, IsNoteFault, AreTables, AreAllTables}
+use Rattle.recovery_gate.specs.Handling.{HaveRings, HasHandled, stands_of}
+use Rattle.session_state.specs.Leaving.{HoldsCheckpoints, UnlessGaveUp, IsAtRequest, HandlesRequests, keeping_of}
+use Rattle.trial_plan.specs.Watching.{TellsMore}
+use Rattle.trial_history.specs.Episodes.{Recovery, episode_of, AreRecovered}
+use Rattle.recovery_gate.specs.Rings.{KeepsRing, AreBehind, IsInForce}
+use Rattle.block_book.specs.declared.choice.Choice.{Choice}
+use Rattle.episodes.specs.declared.episode.Episode.{Episode}
+use Rattle.episodes.specs.declared.episode.Try.{Try}
+use Rattle.notes.specs.Noting.{Noted}
+use Rattle.session_state.specs.Sessions.{SessionState}
+
+-- a session so far, as data: the chapters of earlier survivors, with the recovery behind each, the survivor, and the entries of its time
+pub record Story : Type 0 where
+  pub earlier : List Chapter
+  pub recoveries : List Recovery
+  pub survivor : Survivor
+  pub since : List Entry
+
+abbrev pub entries : Story → List Entry
+entries story = entries_of story.earlier ++ story.since
+
+abbrev pub moment : Story → Moment
+moment story = moment_of story.earlier story.since story.survivor.now.state.machine.taken
+
+abbrev pub sends : Story → List Send
+sends story = story.survivor.now.state.sends
+
+-- the story with more entries
+abbrev pub then_story : Story → List Entry → Story
+then_story story more = record story { since = story.since ++ more }
+
+-- Since when a session is told: what its link, its notes and its watch had told when it began, what the notes and the watch tell now, and how
+-- many instructions were counted that aren't of the survivor's run, which is counted from its start.
+pub record Since : Type 0 where
+  pub told : Told
+  pub noted_before : Noted
+  pub noted : Noted
+  pub tables_before : Option (List (List Try))
+  pub tables : Option (List (List Try))
+  pub lost : ℕ
+
+abbrev pub told_since : Told → Noted → Noted → Option (List (List Try)) → Option (List (List Try)) → ℕ → Since
+told_since told noted_before noted tables_before tables lost = record { told = told; noted_before = noted_before; noted = noted; tables_before = tables_before; tables = tables; lost = lost }
+
+-- where nobody watches no table is told
+abbrev pub unwatched : Since → Since
+unwatched began = record began { tables_before = None; tables = None }
+
+-- notes tell these answers of malloc and these episodes more
+pub record HasNotedMore (before now : Noted) (choices : List Choice) (episodes : List Episode) : Type 0 where
+  pub choices_more : Grew before.choices now.choices choices
+  pub episodes_more : Grew before.episodes now.episodes episodes
+
+-- it is told by one account, by what the link told since the session began, by its notes, which have an episode of each recovery, and by its
+-- watch, which has a table of each
+pub record IsTold (rules : Rules) (image : Image) (began : Since) (now : Told) (story : Story) : Type 0 where
+  pub serving : Serving rules image story.earlier story.survivor story.since
+  pub way : Served rules.limits (items_in rules.bounds (entries story)) story.survivor.plan story.survivor.begun story.survivor.now
+  pub tells : Tells began.told now (entries story)
+  pub counted : spent story.recoveries ≡ began.lost + story.survivor.begun.steps
+  pub recovered : AreRecovered rules image [] (first_survivor image) story.earlier story.recoveries story.survivor
+  pub episodes : Grew began.noted_before.episodes began.noted.episodes (map episode_of story.recoveries)
+  pub tables : TellsMore began.tables_before began.tables (AreTables rules [] story.earlier story.recoveries)
+
+module _ {R : Type 0} where
+  -- a session answers for the survivor's run: of its answers of malloc the first ones are noted, and it has the others
+  pub record AnswersFor (began : Since) (story : Story) (session : SessionState R) : Type 0 where
+    pub low : session.recorded ≤ length story.survivor.now.choices
+    pub recorded : Grew began.noted_before.choices began.noted.choices (take session.recorded story.survivor.now.choices)
+    pub choices : session.choices ≡ drop session.recorded story.survivor.now.choices
+    pub taken : session.taken ≡ story.survivor.now.state.machine.taken
+    pub steps : session.steps ≡ story.survivor.now.steps
+
+  -- its guest is the survivor, its log has the items of the journal, and it knows the link's phases
+  pub record GoesWith (rules : Rules) (story : Story) (session : SessionState R) (phases : Phases) : Type 0 where
+    pub lives : story.survivor.now.state.ended ≡ None
+    pub guest : session.cpu.slots.live ≡ standing_of story.survivor.now
+    pub bounded : IsBounded rules.limits.budget story.survivor.now
+    pub few : story.survivor.now.state.machine.taken ≤ rules.bounds.max_items
+    pub within : (conn : ℕ) → may_send story.survivor.now.state.machine conn ≡ true → opens conn (heeded rules.bounds (events_in (entries story))) ≡ true
+    pub items : KeepsItems rules.bounds (entries story) session.log
+    pub events : session.events ≡ length (events_in (entries story))
+    pub phases_are : KeepsPhases (entries story) phases
+
+  -- it has the survivor's checkpoints, those that its requests left, before which all answers of malloc were used that are noted, and the environment in which the survivor runs: past the failure behind which it was adopted, or there
+  pub record KeepsCheckpoints (rules : Rules) (image : Image) (story : Story) (session : SessionState R) : Type 0 where
+    pub paths : List Path
+    pub ring : KeepsRing rules image (entries story) story.survivor.plan story.survivor.now paths session.cpu session.ring session.log session.replies
+    pub early : AreBehind session.recorded paths
+    pub requests : HandlesRequests rules image (keeping_of session) story.earlier (entries story) story.recoveries story.survivor (stands_of session.cpu.slots.saved)
+    pub in_force : IsInForce story.survivor.plan story.survivor.now.state.machine.taken session.env session.until
+    pub past : (session.until < story.survivor.now.state.machine.taken + 4) ⊎ ((session.until ≡ story.survivor.now.state.machine.taken + 4) × AsksFor rules.limits [] story.survivor.now story.survivor.now.state.machine.taken)
+
+-- what the latest event makes owed was passed
+abbrev pub IsLatestDone : Rules → Moment → List Send → Type 0
+IsLatestDone rules moment sends =
+    (send : Send) (stands : Stands sends send) → IsDueBy rules.bounds (place_at moment) send.conn send.taken (latest moment.since) → IsPassed rules.bounds (journal moment) sends send stands
+
+-- fewer items than this number were received before the latest event
+abbrev pub IsLatestBefore : Rules → Moment → ℕ → Type 0
+IsLatestBefore rules moment number = (last : Latest) → latest moment.since ≡ Some last → received_before rules.bounds (place_at moment) last < number
+
+-- what is due with the items that the survivor has taken was passed
+abbrev pub HasPassedDue : Rules → Story → Type 0
+HasPassedDue rules story =
+    (send : Send) (stands : Stands (sends story) send) → is_open rules.bounds (entries story) send.conn ≡ true → send.taken + rules.hold ≤ story.survivor.now.state.machine.taken → IsPassed rules.bounds (entries story) (sends story) send stands
+
+-- what the close of a connection, the latest event, makes owed was passed
+abbrev pub IsCloseDone : Rules → Moment → List Send → Type 0
+IsCloseDone rules moment sends =
+    (send : Send) (stands : Stands sends send) → is_closing rules.bounds moment send.conn ≡ true → IsDueBy rules.bounds (place_at moment) send.conn send.taken (latest moment.since) → IsPassed rules.bounds (journal moment) sends send stands
+
+-- the ledger of a session beside its story: it has the survivor's sends, and what was due is passed
+pub record HasPassed (rules : Rules) (story : Story) (ledger : Ledger) : Type 0 where
+  pub replies : KeepsReplies rules.bounds (entries story) None (sends story) ledger
+  pub no_trial : ledger.trial ≡ None
+  pub done : IsLatestDone rules (moment story) (sends story)
+
+-- its guest waits for the item that is received next, it owes nothing, and no event was refused: so an event is asked for
+abbrev pub IsAsking : Rules → Story → Type 0
+IsAsking rules story = IsWaiting rules (entries story) story.survivor × OwesNothing rules.bounds rules.hold (moment story) (sends story) × AreHeeded rules.bounds (entries story)
+
+module _ {R : Type 0} where
+  -- a session that goes on, of which what is due may still have to be passed
+  pub record IsGoing (rules : Rules) (image : Image) (began : Since) (now : Told) (phases : Phases) (session : SessionState R) : Type 0 where
+    pub story : Story
+    pub told : IsTold rules image began now story
+    pub answers : AnswersFor began story session
+    pub goes : GoesWith rules story session phases
+    pub saved : KeepsCheckpoints rules image story session
+    pub passed : HasPassed rules story session.replies
+    pub latest : IsLatestBefore rules (moment story) story.survivor.now.state.machine.taken
+
+  -- between two events of the guest: what is due was passed
+  pub record IsBetween (rules : Rules) (image : Image) (began : Since) (now : Told) (phases : Phases) (session : SessionState R) : Type 0 where
+    pub going : IsGoing rules image began now phases session
+    pub due : HasPassedDue rules going.story
+
+  -- where the guest waits for an item, of which what is due may still have to be passed
+  pub record IsHearing (rules : Rules) (image : Image) (began : Since) (now : Told) (phases : Phases) (session : SessionState R) : Type 0 where
+    pub story : Story
+    pub told : IsTold rules image began now story
+    pub answers : AnswersFor began story session
+    pub goes : GoesWith rules story session phases
+    pub saved : KeepsCheckpoints rules image story session
+    pub passed : HasPassed rules story session.replies
+    pub asks : AsksFor rules.limits story.survivor.plan story.survivor.now story.survivor.now.state.machine.taken
+    pub latest : IsLatestBefore rules (moment story) (story.survivor.now.state.machine.taken + 1)
+
+  -- where it waits for an item, and what is due was passed
+  pub record IsWaitingFor (rules : Rules) (image : Image) (began : Since) (now : Told) (phases : Phases) (session : SessionState R) : Type 0 where
+    pub hearing : IsHearing rules image began now phases session
+    pub due : HasPassedDue rules hearing.story
+
+  -- where its guest fails at its next instruction, and what is due was passed
+  pub record IsFailing (rules : Rules) (image : Image) (began : Since) (now : Told) (phases : Phases) (cause : Cause) (session : SessionState R) : Type 0 where
+    pub going : IsGoing rules image began now phases session
+    pub due : HasPassedDue rules going.story
+    pub fails : FailsBy rules.limits going.story.survivor.plan going.story.survivor.now cause
+
+  -- at one of its ends, before what is left is passed
+  pub record IsEnding (rules : Rules) (image : Image) (began : Since) (now : Told) (coming : Option Coming) (session : SessionState R) (end : Answer) : Type 0 where
+    pub story : Story
+    pub trials : List Trial
+    pub lost : ℕ
+    pub lost_is : began.lost ≡ lost + steps_of trials
+    pub noted : Noted
+    pub last : List Episode
+    pub last_noted : HasNotedMore noted began.noted [] last
+    pub told : IsTold rules image (unwatched (record began { lost = lost; noted = noted })) now story
+    pub tables : TellsMore began.tables_before began.tables (AreAllTables rules image (keeping_of session) story.earlier story.since story.survivor story.recoveries trials last end)
+    pub answers : AnswersFor (record began { lost = lost; noted = noted }) story session
+    pub received_are : logs.received session.log ≡ received rules.bounds (entries story)
+    pub replies : KeepsReplies rules.bounds (entries story) None (sends story) session.replies
+    pub no_trial : session.replies.trial ≡ None
+    pub closed : IsCloseDone rules (moment story) (sends story)
+    pub holds : HoldsCheckpoints rules image story.earlier (entries story) story.recoveries story.survivor session
+    pub handled : IsAtRequest end → HasHandled rules image (keeping_of session) story.earlier (entries story) story.recoveries story.survivor (story.survivor.now.state.machine.taken + 1) (stands_of session.cpu.slots.saved)
+    pub live : UnlessGaveUp end (session.cpu.slots.live ≡ standing_of story.survivor.now)
+    pub is_end : IsEnd end
+    pub stands : StandsAt rules (entries story) coming story.survivor end
+    pub tried : AreLastTrials rules image (keeping_of session) story.earlier story.since story.recoveries story.survivor trials last
+    pub gave_up : GivesUpBy rules image (keeping_of session) story.earlier story.since story.recoveries story.survivor trials end
+
+  -- a session that was broken off, by no end of its own
+  pub record IsBrokenOff (rules : Rules) (image : Image) (began : Since) (now : Told) (coming : Option Coming) (session : SessionState R) (end : Answer) : Type 0 where
+    pub account : Session
+    pub tells : Tells began.told now (journal_of account)
+    pub is_account : IsAccount rules image account false
+    pub ends : EndsBy rules coming account end
+    pub pieces : AreGiven account.ending
+    pub no_end : IsEnd end → ⊥
+    pub recoveries : List Recovery
+    pub holds : (IsNoteFault end → ⊥) → HoldsCheckpoints rules image account.earlier (before_end account) recoveries account.survivor session
+    pub handled : IsAtRequest end → HasHandled rules image (keeping_of session) account.earlier (before_end account) recoveries account.survivor (account.survivor.now.state.machine.taken + 1) (stands_of session.cpu.slots.saved)
+    pub recovered : AreRecovered rules image [] (first_survivor image) account.earlier recoveries account.survivor
+    pub ringed : HaveRings rules image (keeping_of session) account.earlier recoveries
+    pub trials : List Trial
+    pub last : List Episode
+    pub tried : AreLastTrials rules image (keeping_of session) account.earlier account.since recoveries account.survivor trials last
+    pub notes : HasNoted began.noted_before began.noted end account.survivor.now.choices (map episode_of recoveries ++ last) session.recorded session.choices
+    pub tables : TellsMore began.tables_before began.tables (AreAllTables rules image (keeping_of session) account.earlier account.since account.survivor recoveries trials last end)
+    pub taken : session.taken ≡ account.survivor.now.state.machine.taken
+    pub steps : session.steps ≡ account.survivor.now.steps
+    pub counted : end ≢ answer.Memory → spent recoveries + steps_of trials ≡ began.lost + account.survivor.begun.steps
+    pub later : account.survivor.begun.steps ≤ account.survivor.now.steps
