@@ -1,6 +1,6 @@
 -- A page of the live space that moves to a free frame.
-use Rattle.std.proofs.Common.{◌≡◌, ℕ, zero, suc, ◌+◌, ◌*◌, ◌<◌, Bool, true, false, ◌||◌, nat_lt, cond, Some, None, List, [], ◌∷◌, ◌++◌, length, map, take, drop, get_or, set, All, refl, sym, ap, subst, ◌∙◌, inl, inr, arith}
-use Rattle.std.proofs.lemmas.Bool.{cases_Bool, cases_eq, lt-ltb, ltb-true, or_parts, false≢true}
+use Rattle.std.proofs.Common.{◌≡◌, ℕ, zero, suc, ◌+◌, ◌*◌, ◌<◌, ◌≤◌, ◌⊎◌, Bool, true, false, ◌||◌, nat_lt, cond, Some, None, List, [], ◌∷◌, ◌++◌, length, map, take, drop, get_or, set, All, refl, sym, ap, subst, ◌∙◌, inl, inr, arith}
+use Rattle.std.proofs.lemmas.Bool.{cases_lt, cases_Bool, cases_eq, lt-ltb, ltb-true, or_parts, false≢true}
 use Rattle.std.proofs.lemmas.List.{get_or-set_same, get_or-set_other, length-set, length-append, take_at}
 use Rattle.std.proofs.lemmas.List.Elements.{All-head, All-tail, All-cons, All-nil}
 use Rattle.cow_pages.specs.Pages.{Pages, has, different, saved_numbers, used_of}
@@ -262,3 +262,18 @@ moved_owns pages frames held n count from to pool whole moved live counts free r
     subst (λ s. Owns s (pages_of pages frames (take n (moved ++ drop (length moved) pool)) (set live page fresh) slots) page) is
     (subst (λ xs. Owns (pages_of pages frames pool live slots) (pages_of pages frames xs (set live page fresh) slots) page) (sym e)
     (copy_owns pages frames held pool live counts rest reserved slots page fresh mine less hit))
+
+-- the frame that is taken is another one than that of the page
+pub moved_apart : (pages frames held from to : ℕ) (pool live counts free rest : List ℕ) (reserved : ℕ) (slots : List Slot) (page fresh : ℕ) → IsSound pages frames held pool live counts free reserved slots → page < pages → free ≡ rest ++ fresh ∷ []
+    → from ≡ 4096 * get_or live page 0 → to ≡ 4096 * fresh → (from + 4096 ≤ to) ⊎ (to + 4096 ≤ from)
+moved_apart pages frames held from to pool live counts free rest reserved slots page fresh so less top start place =
+    let mine : IsSound pages frames held pool live counts (rest ++ fresh ∷ []) reserved slots = subst (λ xs. IsSound pages frames held pool live counts xs reserved slots) top so in
+    let none : has fresh live ≡ false = (or_parts (nat_lt 0 (get_or counts fresh 0)) (has fresh live) (top_unused counts live rest fresh mine.stack)).1 in
+    let inside : page < length live = omega (arith, so.live_table.size, less) in
+    elim (cases_lt (get_or live page 0) fresh) [
+      | inl below ↦ inl (omega (arith, below, start, place))
+      | inr above ↦ elim (cases_lt fresh (get_or live page 0)) [
+        | inl more ↦ inr (omega (arith, more, start, place))
+        | inr most ↦ absurd (not-at fresh live none page inside (omega (arith, above, most)))
+      ]
+    ]

@@ -10,3 +10,4 @@ pub mod SlotSteps
 pub mod RunSteps
 pub mod Making
 pub mod SavingOver
+pub mod PutThere

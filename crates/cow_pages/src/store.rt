@@ -5,6 +5,7 @@ ghost use Rattle.cow_pages.specs.Pages.{held_of, used_of, slot_at, IsLawful, IsM
 ghost use Rattle.cow_pages.specs.Writes.{is_shared, Writes, Owns};
 ghost use Rattle.cow_pages.specs.Little.{little_number, little_bytes};
 
+use crate::frame_copy::copy_frame;
 use crate::little::{half_bytes, half_of, word_bytes, word_of};
 use crate::slot::{Slot, blank_slots};
 use crate::tables::{count_table, give_up, renew_table, row, uncount_table};
@@ -349,9 +350,7 @@ impl PageStore {
         };
         let from = shared as usize * PAGE as usize;
         let to = fresh as usize * PAGE as usize;
-        self.pool
-            .as_mut_slice()
-            .copy_within(from..from + PAGE as usize, to);
+        copy_frame(self.pool.as_mut_slice(), from, to);
         self.live[page] = fresh;
         fresh
     }

@@ -1,7 +1,7 @@
-use Rattle.std.proofs.Common.{◌<◌, ◌+◌, ◌-◌, ◌*◌, length, sym, ap, subst, ◌∙◌, arith}
+use Rattle.std.proofs.Common.{◌<◌, ◌*◌, length, sym, ap, subst, ◌∙◌, arith}
 use Rattle.std.proofs.lemmas.List.{get_or_read}
 use Rattle.cow_pages.specs.Writes.{is_shared}
-use Rattle.cow_pages.proofs.Copying.{free_there, moved_sound, moved_owns}
+use Rattle.cow_pages.proofs.Copying.{free_there, moved_sound, moved_owns, moved_apart}
 use Rattle.cow_pages.proofs.store.PageStore.copy_page.Goals as goal
 
 pub unreachable-requires : goal.unreachable-requires
@@ -11,13 +11,20 @@ unreachable-requires c =
     let some = free_there _ _ _ _ _ _ _ _ _ c.args.page c.self.invariant less hit in
     omega (arith, some, c.self.inside.free.ok, c.in_default.ensures.cases)
 
+pub copy_frame-requires-clause-apart : goal.copy_frame-requires-clause-apart
+copy_frame-requires-clause-apart c =
+    let less : c.args.page < c.self.inside.pages = subst (λ s. c.args.page < s.pages) (sym c.self.view_is) c.requires.inside in
+    let inside : c.args.page < length c.self.inside.live.items = omega (arith, c.self.invariant.live_table.size) in
+    let number = get_or_read c.self.inside.live.items c.args.page c.index-shared.result.now inside c.index-shared.ensures 0 in
+    moved_apart _ _ _ (c.index-shared.result.now * 4096) (c.in-Some.fresh * 4096) _ _ _ _ _ _ _ c.args.page c.in-Some.fresh c.self.invariant less c.in-Some.ensures.items (omega (arith, number)) (omega arith)
+
 pub invariant_of-self : goal.invariant_of-self
 invariant_of-self c =
     let less : c.args.page < c.self.inside.pages = subst (λ s. c.args.page < s.pages) (sym c.self.view_is) c.requires.inside in
     let inside : c.args.page < length c.self.inside.live.items = omega (arith, c.self.invariant.live_table.size) in
     let number = get_or_read c.self.inside.live.items c.args.page c.index-shared.result.now inside c.index-shared.ensures 0 in
     let from = c.index-shared.result.now * 4096 in
-    moved_sound _ _ _ _ (from + 4096 - from) from (c.in-Some.fresh * 4096) _ _ _ _ _ _ _ _ _ _ _ _ c.in-Some.fresh c.self.invariant c.self.view_is c.requires.inside c.requires.shared c.in-Some.ensures.items c.copy_within.ensures.after c.as_mut_slice.ensures.value (omega (arith, number)) (omega arith) (omega arith) c.self.inside.pool.ok.0 c.pop.ensures.capacity
+    moved_sound _ _ _ _ 4096 from (c.in-Some.fresh * 4096) _ _ _ _ _ _ _ _ _ _ _ _ c.in-Some.fresh c.self.invariant c.self.view_is c.requires.inside c.requires.shared c.in-Some.ensures.items c.copy_frame.ensures c.as_mut_slice.ensures.value (omega (arith, number)) (omega arith) (omega arith) c.self.inside.pool.ok.0 c.pop.ensures.capacity
 
 pub returns-clause-owns : goal.returns-clause-owns
 returns-clause-owns c =
@@ -25,4 +32,4 @@ returns-clause-owns c =
     let inside : c.args.page < length c.self.inside.live.items = omega (arith, c.self.invariant.live_table.size) in
     let number = get_or_read c.self.inside.live.items c.args.page c.index-shared.result.now inside c.index-shared.ensures 0 in
     let from = c.index-shared.result.now * 4096 in
-    moved_owns _ _ _ _ (from + 4096 - from) from (c.in-Some.fresh * 4096) _ _ _ _ _ _ _ _ _ _ _ c.in-Some.fresh c.self.invariant c.self.view_is c.requires.inside c.requires.shared c.in-Some.ensures.items c.copy_within.ensures.after c.as_mut_slice.ensures.value (omega (arith, number)) (omega arith) (omega arith) c.self.inside.pool.ok.0
+    moved_owns _ _ _ _ 4096 from (c.in-Some.fresh * 4096) _ _ _ _ _ _ _ _ _ _ _ c.in-Some.fresh c.self.invariant c.self.view_is c.requires.inside c.requires.shared c.in-Some.ensures.items c.copy_frame.ensures c.as_mut_slice.ensures.value (omega (arith, number)) (omega arith) (omega arith) c.self.inside.pool.ok.0
