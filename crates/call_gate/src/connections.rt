@@ -7,33 +7,34 @@ use rx_io::Item;
 use std::alloc::{AllocError, Global};
 use std::marker::Model;
 
-// How many connections there are.
-const CONNECTIONS: usize = 4096;
+// How many words have a bit for each connection.
+const WORDS: usize = 64;
 
 /// The connections below 4096 that a guest may send to.
 #[derive(Debug, Drop)]
 pub struct ConnSet {
-    flags: Vec<bool>,
+    // Connection c is bit c % 64 of word c / 64.
+    words: Vec<u64>,
 }
 
 impl Model for ConnSet {
     ghost use Rattle.std.specs.Prelude.{◌≡◌, List, Bool, length};
+    ghost use Rattle.call_gate.specs.Flags.{flags_of};
 
     ghost Value = { List Bool };
 
-    ghost view = { λ c. c.flags.items };
+    ghost view = { λ c. flags_of c.words.items };
 
-    ghost invariant = { λ c. length c.flags.items ≡ 4096 };
+    ghost invariant = { λ c. length c.words.items ≡ 64 };
 }
 
 impl ConnSet {
     /// No connection.
-    #[tactic(auto, unfolding(run_history::specs::Machine::no_connections))]
     pub fn make(alloc: Global) -> Result<ConnSet, AllocError>
         ensures { IfOk result (λ connections. connections ≡ no_connections) }
     {
         Ok(ConnSet {
-            flags: vec![in alloc; false; CONNECTIONS]?,
+            words: vec![in alloc; 0; WORDS]?,
         })
     }
 
@@ -42,24 +43,22 @@ impl ConnSet {
         ensures value { result ≡ unwrap_or (slice_get self.now conn) false }
         ensures small { IsTrue result → conn < 4096 }
     {
-        let conn = conn as usize;
-        conn < self.flags.len() && self.flags[conn]
+        let word = conn as usize / 64;
+        word < self.words.len() && (self.words[word] >> (conn % 64)) & 1 == 1
     }
 
-    /// Adds a connection.
+    /// Adds a connection. One of 4096 or above changes nothing.
     pub fn add(&mut self, conn: u32)
-        requires { conn < 4096 }
         ensures { self.new ≡ slice_set self.old conn true }
     {
-        self.flags[conn as usize] = true;
+        self.set(conn, true);
     }
 
-    /// Removes a connection.
+    /// Removes a connection. One of 4096 or above changes nothing.
     pub fn remove(&mut self, conn: u32)
-        requires { conn < 4096 }
         ensures { self.new ≡ slice_set self.old conn false }
     {
-        self.flags[conn as usize] = false;
+        self.set(conn, false);
     }
 
     /// The connections once an item was taken. An item of a connection of 4096 or above changes nothing.
@@ -67,9 +66,9 @@ impl ConnSet {
         ensures { self.new ≡ connections_after item.now self.old }
     {
         if item.kind == 1 {
-            self.set(item.conn, true);
+            self.set(u32::from(item.conn), true);
         } else if item.kind == 3 {
-            self.set(item.conn, false);
+            self.set(u32::from(item.conn), false);
         }
     }
 
@@ -77,16 +76,21 @@ impl ConnSet {
     pub fn copy_from(&mut self, other: &ConnSet)
         ensures { self.new ≡ other.now }
     {
-        self.flags.copy_from_slice(&other.flags);
+        self.words.copy_from_slice(&other.words);
     }
 
     // Adds or removes a connection. One of 4096 or above changes nothing.
-    fn set(&mut self, conn: u16, may: bool)
+    fn set(&mut self, conn: u32, may: bool)
         ensures { self.new ≡ slice_set self.old conn may }
     {
-        let conn = usize::from(conn);
-        if conn < self.flags.len() {
-            self.flags[conn] = may;
+        let word = conn as usize / 64;
+        if word < self.words.len() {
+            let bit = 1u64 << (conn % 64);
+            if may {
+                self.words[word] |= bit;
+            } else {
+                self.words[word] &= !bit;
+            }
         }
     }
 }
