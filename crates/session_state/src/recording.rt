@@ -8,7 +8,7 @@ use notes::Notes;
 use rx_io::IoFault;
 
 /// Notes the answers of malloc up to the first `safe` ones of a run, of which the first `recorded` ones are noted, and `choices` are those behind
-/// them. What is noted now leaves the list, which keeps its room.
+/// them. What is noted now leaves the list.
 ///
 /// # Errors
 ///
