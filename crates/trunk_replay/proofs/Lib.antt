@@ -1,3 +1,7 @@
+mod FrameFronts
+mod HeededFronts
+mod SameBytes
+mod SameRun
 mod FrontLemmas
 mod SendLemmas
 mod TrunkLemmas

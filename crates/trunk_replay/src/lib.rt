@@ -2,6 +2,7 @@
 #![tactic(auto)]
 
 mod frame_giver;
+pub mod laws;
 mod replaying;
 
 pub use replaying::replay_trunk;
