@@ -8,3 +8,5 @@ pub mod HeadlineLemmas
 pub mod RunLemmas
 mod RecordLemmas
 mod ReplayLemmas
+mod ChoiceRanges
+mod CommandLemmas

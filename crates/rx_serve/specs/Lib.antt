@@ -8,3 +8,4 @@ pub mod Noting
 pub mod Headline
 pub mod Replaying
 pub mod Commands
+pub mod Laws

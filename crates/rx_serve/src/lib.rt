@@ -3,6 +3,7 @@
 
 mod assembly;
 mod ending;
+pub mod laws;
 mod loading;
 mod noting;
 mod replaying;
