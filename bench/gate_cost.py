@@ -1,5 +1,5 @@
 #!/usr/bin/env python3
-"""What the merge gate costs, and of what the repository consists, crate by crate: the tables of docs/PROOFS.md.
+"""What the merge gate costs, and of what the repository consists, crate by crate: of which bench/RESULTS.md has the first table.
 
 `gate_cost.py gate` runs `rt ci --anew` at the top of the repository, looks at its processes in /proc while it runs, and
 prints a table in Markdown: minutes of processor time for the proof of each crate, for the proof of its tests, and for

@@ -11,8 +11,8 @@ the same way; and, by a second session with as many connections that is begun at
 processor. With --count no time is taken: valgrind's callgrind counts the host's instructions for each of the first and of the last
 messages, as differences of whole runs.
 
-rx keeps all items of a session, so the number of messages that one takes is limited: opens and messages together are at most 1,048,576.
-With --over a message more than that comes at the end, and the session has to end with status 6.
+A session takes at most 1,048,576 items, opens and messages together. With --over a message more than that comes at the end, and the session
+has to end with status 6.
 
 usage: load.py [--connections N] [--messages N] [--part N] [--over | --count] [RX]
 RX is the built rx, crates/rx/out/rx unless it is given. The status is 1 where a reply is wrong, or the last messages, by turns or counted,
@@ -30,9 +30,13 @@ import threading
 import time
 
 from running import Server
-from second.trunk import OPENS, frame, piece_frame
 
 HERE = os.path.dirname(os.path.abspath(__file__))
+sys.path.insert(0, os.path.join(HERE, "..", "compare"))
+
+# pylint: disable=wrong-import-position
+from second.trunk import OPENS, frame, piece_frame  # noqa: E402
+
 ECHO = os.path.join(HERE, "..", "guests", "echo")
 
 MOST_ITEMS = 1 << 20

@@ -30,12 +30,16 @@ import time
 
 import speed
 from running import AT_ONCE, Server, last_processor
-from second.assembler import assemble
-from second.guests import program
-from second.machine import executable
-from second.trunk import OPENS, frame, piece_frame
 
 HERE = os.path.dirname(os.path.abspath(__file__))
+sys.path.insert(0, os.path.join(HERE, "..", "compare"))
+
+# pylint: disable=wrong-import-position
+from second.assembler import assemble  # noqa: E402
+from second.guests import program  # noqa: E402
+from second.machine import executable  # noqa: E402
+from second.trunk import OPENS, frame, piece_frame  # noqa: E402
+
 
 RAREST = 64  # --every
 ALONE = 200  # messages that are given one by one

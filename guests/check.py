@@ -1,7 +1,7 @@
 #!/usr/bin/env python3
 """Checks the shipped guests: that they are executables that rx takes, and that they reply, fail and recover as they should.
 
-What the given rx can't run yet runs in the second engine (bench/second), and all of it where no rx is given. Each line says
+What the given rx can't run yet runs in the second engine (compare/second), and all of it where no rx is given. Each line says
 which it was.
 
 usage: check.py [RX]
@@ -16,7 +16,7 @@ import sys
 import tempfile
 
 HERE = os.path.dirname(os.path.abspath(__file__))
-sys.path.insert(0, os.path.join(HERE, "..", "bench"))
+sys.path.insert(0, os.path.join(HERE, "..", "compare"))
 
 # pylint: disable=wrong-import-position
 from second.assembler import assemble  # noqa: E402

@@ -1,5 +1,5 @@
 #!/usr/bin/env python3
-"""Runs a program as `rx run` does, in the second engine (bench/second) in place of rx.
+"""Runs a program as `rx run` does, in the second engine (compare/second) in place of rx.
 
 Standard input, standard output, the record, the report and the status are those of rx. The program has to be one that rx takes:
 that isn't looked at here. Options that aren't given have the values that rx gives them. All of the input is read at once.
@@ -14,7 +14,7 @@ import struct
 import sys
 
 HERE = os.path.dirname(os.path.abspath(__file__))
-sys.path.insert(0, os.path.join(HERE, "..", "bench"))
+sys.path.insert(0, os.path.join(HERE, "..", "compare"))
 
 # pylint: disable=wrong-import-position
 from second.command import run  # noqa: E402

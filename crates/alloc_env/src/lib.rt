@@ -1,4 +1,9 @@
 //! The answers of malloc and free in each environment: plain, with padding, zeroed, isolated, with delayed recycling, and all of these.
+//!
+//! An environment says where a block is placed, whether its bytes are zeroed, and when a freed one may be used again.
+//! The heap itself is a `Book` of `block_book`: this crate only chooses in it.
+//! The laws say of the definitions alone what the clauses say of the two calls.
+//! No call takes memory. No clause says that.
 #![tactic(auto)]
 
 mod bad_free;

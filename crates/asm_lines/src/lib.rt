@@ -1,4 +1,8 @@
 //! What stands on a line of an assembler's text: its label, its statement with the operands, or what is wrong with it.
+//!
+//! A line is read by itself: what stands before it or behind it has no part in that.
+//! Where statements and labels lie is no part of this crate: `rv_asm` lays them out.
+//! What `explain` says of a flaw is for a person, and has no clause.
 #![tactic(auto)]
 
 mod bytes;

@@ -1,4 +1,11 @@
 //! The blocks of one heap: which stand, where a new one is placed, and what C allows malloc to answer.
+//!
+//! Live blocks stand in one list with delayed ones, which were freed and are kept from use.
+//! A block's extent has its padding on both sides, and no two share a byte.
+//! What C knows of a block is without the padding.
+//! `place` serves an environment, which chooses. `put` serves a replay, which was told the answer.
+//! What a run calls its heap are the live blocks alone: the law `live_blocks_follow` ties each change to them.
+//! Only `Book::make` takes memory. No clause says that.
 #![tactic(auto)]
 
 mod block;

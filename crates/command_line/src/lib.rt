@@ -1,4 +1,8 @@
 //! The words behind the program's own name, as a command with its names and numbers.
+//!
+//! One table tells each option with its values and its default.
+//! Values and defaults are read by `clap`. That it has no fault at words that `is_command` takes is proved.
+//! `complaint`, `range_of` and `usage` are sentences for a person, and have no clause.
 #![tactic(auto)]
 
 mod accepted;

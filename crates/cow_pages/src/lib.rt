@@ -1,4 +1,9 @@
 //! Pages of 4096 bytes that are shared by copy on write: a live space, and numbered slots that it is saved in.
+//!
+//! A slot and the live space have a frame in common until the live space is written there.
+//! One can rest on this: no write to the live space changes a slot, and no save copies a byte.
+//! A call other than `make` takes no memory and refuses nothing: what it needs it requires.
+//! Which of the free frames a page gets isn't promised.
 #![tactic(auto)]
 
 mod frame_copy;

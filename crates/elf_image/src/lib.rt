@@ -1,4 +1,8 @@
 //! Program files: what an executable of RV32IM says of memory, or the first reason for which it is refused.
+//!
+//! An `Image` is valid by its type: no refusal holds of its window, its segments and its entry.
+//! Reading says exactly the first refusal that holds, or the image, for all bytes. What is written is read back.
+//! The texts of the refusals have no clause.
 #![tactic(auto)]
 
 mod elf_refusal;

@@ -1,4 +1,8 @@
 //! Example guests: programs of RV32IM as assembler's texts, most of them with a fault planted.
+//!
+//! They are texts for tests: the clauses say which names there are, and that each text is headed by its name.
+//! That each assembles, and replies or fails as it says, is tested and not proved.
+//! No program uses them.
 #![tactic(auto)]
 
 mod catalogue;

@@ -2,7 +2,7 @@
 use Rattle.std.proofs.Common.{◌≡◌, ℕ, ◌+◌, List, [], ◌∷◌, ◌++◌, length, length-append, Bool, true, Option, None, Some, Ok, sym, ap, ◌∙◌, append_assoc, append-nil, zero-add, unwrap_or, subst}
 use Rattle.std.proofs.lemmas.Bool.{false≢true}
 use Rattle.block_book.specs.declared.choice.Choice.{Choice}
-use Rattle.episodes.specs.declared.episode.Episode.{Episode}
+use Rattle.session_notes.specs.declared.episode.Episode.{Episode}
 use Rattle.rx_io.specs.Named.{Contents, Adds, AddsFront}
 use Rattle.run_report.specs.declared.form.Form.{Form}
 use Rattle.run_report.specs.Report.{episode_text}

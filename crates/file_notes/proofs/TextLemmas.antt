@@ -1,6 +1,6 @@
 -- The texts of episodes.
 use Rattle.std.proofs.Common.{◌≡◌, ℕ, suc, ◌+◌, List, [], ◌∷◌, ◌++◌, length, sym, ap, ◌∙◌, append_assoc, append-nil, arith, add-zero}
-use Rattle.episodes.specs.declared.episode.Episode.{Episode}
+use Rattle.session_notes.specs.declared.episode.Episode.{Episode}
 use Rattle.run_report.specs.declared.form.Form.{Form}
 use Rattle.run_report.specs.Report.{episode_text}
 use Rattle.file_notes.specs.Texts.{episode_texts}

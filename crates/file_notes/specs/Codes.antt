@@ -5,8 +5,8 @@ use Rattle.std.specs.Coded.{Coded, code_by, coded×, coded⊎, coded_ℕ, coded_
 use base.Stored.{coded_unit}
 use Rattle.block_book.specs.declared.choice.Choice.{Choice}
 use Rattle.block_book.specs.contracts.choice.Choice as choice
-use Rattle.episodes.specs.declared.episode.Episode.{Episode}
-use Rattle.episodes.specs.contracts.episode.Episode as episode
+use Rattle.session_notes.specs.declared.episode.Episode.{Episode}
+use Rattle.session_notes.specs.contracts.episode.Episode as episode
 use Rattle.file_notes.specs.Left.{Left, Nothing, InRecord, InReport}
 use Rattle.file_notes.specs.Past.{Had, Past}
 

@@ -3,7 +3,7 @@ use Rattle.std.specs.Prelude.{◌≡◌, ℕ, Bool, true, false, List, [], ◌++
 use Rattle.std.specs.Coded.{Unit-prop}
 use Rattle.std.proofs.Props.{props}
 use Rattle.block_book.specs.declared.choice.Choice.{Choice}
-use Rattle.episodes.specs.declared.episode.Episode.{Episode}
+use Rattle.session_notes.specs.declared.episode.Episode.{Episode}
 use Rattle.rx_io.specs.Named.{Contents}
 use Rattle.run_report.specs.declared.form.Form.{Form}
 use Rattle.file_notes.specs.Left.{Left, is_whole}

@@ -1,7 +1,7 @@
 -- What stands in the two files at the end.
 use Rattle.std.specs.Prelude.{ℕ, List}
 use Rattle.block_book.specs.declared.choice.Choice.{Choice}
-use Rattle.episodes.specs.declared.episode.Episode.{Episode}
+use Rattle.session_notes.specs.declared.episode.Episode.{Episode}
 use Rattle.msg_frame.specs.declared.framing.Framing.{Framing}
 use Rattle.rx_io.specs.Named.{Contents}
 use Rattle.run_report.specs.declared.form.Form.{Form}

@@ -1,7 +1,7 @@
 -- What a call that failed leaves behind.
 use Rattle.std.specs.Prelude.{◌≡◌, ℕ, Bool, true, false, List, [], take, Result, Ok, Err}
 use Rattle.block_book.specs.declared.choice.Choice.{Choice}
-use Rattle.episodes.specs.declared.episode.Episode.{Episode}
+use Rattle.session_notes.specs.declared.episode.Episode.{Episode}
 use Rattle.rx_io.specs.declared.fault.IoFault.{IoFault}
 use Rattle.rx_io.specs.declared.fault.IoFault.TheVariants.{Memory}
 use Rattle.run_report.specs.declared.form.Form.{Form}

@@ -1,7 +1,7 @@
 -- What notes in two files have.
 use Rattle.std.specs.Prelude.{List, Option}
 use Rattle.block_book.specs.declared.choice.Choice.{Choice}
-use Rattle.episodes.specs.declared.episode.Episode.{Episode}
+use Rattle.session_notes.specs.declared.episode.Episode.{Episode}
 use Rattle.rx_io.specs.Named.{Contents}
 use Rattle.rx_io.specs.declared.files.Files.{Ghosts}
 use Rattle.run_report.specs.declared.form.Form.{Form}

@@ -1,7 +1,7 @@
 -- What stands in the two files of the notes.
 use Rattle.std.specs.Prelude.{◌≡◌, ◌≢◌, ℕ, List, ◌++◌, length, Option, None, Some}
 use Rattle.block_book.specs.declared.choice.Choice.{Choice}
-use Rattle.episodes.specs.declared.episode.Episode.{Episode}
+use Rattle.session_notes.specs.declared.episode.Episode.{Episode}
 use Rattle.rx_io.specs.Named.{Contents}
 use Rattle.run_report.specs.declared.form.Form.{Form}
 use Rattle.schedule_file.specs.Lines.{choice_lines}

@@ -1,6 +1,6 @@
 -- The text of a whole report, and what of it some episodes make.
 use Rattle.std.specs.Prelude.{ℕ, suc, List, [], ◌∷◌, ◌++◌}
-use Rattle.episodes.specs.declared.episode.Episode.{Episode}
+use Rattle.session_notes.specs.declared.episode.Episode.{Episode}
 use Rattle.run_report.specs.declared.form.Form.{Form}
 use Rattle.run_report.specs.Report.{head_text, episode_text, end_text}
 

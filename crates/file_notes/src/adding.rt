@@ -6,10 +6,10 @@ ghost use Rattle.run_report.specs.Report.{episode_text};
 ghost use Rattle.schedule_file.specs.Lines.{choice_lines};
 
 use block_book::Choice;
-use episodes::Episode;
 use run_report::{Form, episode_text};
 use rx_io::{Bytes, Files, IoFault};
 use schedule_file::choice_text;
+use session_notes::Episode;
 use std::alloc::{AllocError, Global};
 
 // The lines of some answers of malloc.

@@ -6,10 +6,9 @@ use crate::adding::{add_choices, add_episode};
 use crate::file_names::FileNames;
 use crate::past::{Fresh, LostChoices, LostEpisode, MoreChoices, OneEpisode, Past};
 use block_book::Choice;
-use episodes::Episode;
-use notes::Notes;
 use run_report::Form;
 use rx_io::{Files, IoFault};
+use session_notes::{Episode, Notes};
 use std::alloc::Global;
 
 /// A session's notes in two files: the record and the report.
@@ -77,7 +76,7 @@ impl<'n, F: Files> Notes for FileNotes<'n, F> {
     ghost use Rattle.std.specs.Prelude.{◌≡◌, ◌<◌, ◌∷◌, [], length, IfOk, Some, Option};
     ghost use Rattle.rx_io.specs.Faults.{HasCause};
     ghost use Rattle.rx_io.specs.Named.{Contents};
-    ghost use Rattle.notes.specs.Noting.{IsNoted};
+    ghost use Rattle.session_notes.specs.Noting.{IsNoted};
     ghost use Rattle.run_report.specs.declared.form.Form.{Form};
     ghost use Rattle.file_notes.specs.Names.{Names};
     ghost use Rattle.file_notes.specs.Left.{InRecord, InReport, Leaves, is_whole};

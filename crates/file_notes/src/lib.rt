@@ -1,4 +1,10 @@
 //! A session's notes as two files: its record and its report.
+//!
+//! The two names are different; each call requires it. No other file changes.
+//! The report is started behind the whole first line of the record.
+//! After a call that failed nothing more is added, and want of memory is answered.
+//! What was noted is remembered for proofs alone, and nothing is kept for it at run time.
+//! Where the files don't tell what they have, as real ones, nothing is said of what stands there.
 #![tactic(auto)]
 
 mod adding;

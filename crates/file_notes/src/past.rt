@@ -7,9 +7,9 @@ ghost use Rattle.file_notes.specs.Codes.{past_code};
 
 use crate::file_names::FileNames;
 use block_book::Choice;
-use episodes::Episode;
 use run_report::Form;
 use rx_io::Files;
+use session_notes::Episode;
 use std::marker::Model;
 
 // What is remembered of a value.

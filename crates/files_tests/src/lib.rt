@@ -1,9 +1,9 @@
-//! The tests of programs as text: what no clause of lines, the assembler and the example guests says.
+//! Tests of records and reports as text, and of notes in two files: what no clause of their crates says.
 #![tactic(auto)]
 
 #[cfg(test)]
-mod asm_lines_tests;
+mod file_notes_tests;
 #[cfg(test)]
-mod example_guests_tests;
+mod run_report_tests;
 #[cfg(test)]
-mod rv_asm_tests;
+mod schedule_file_tests;

@@ -1,4 +1,11 @@
 //! The memory of a guest: a flat memory of spans with permissions, on shared pages.
+//!
+//! All goes byte by byte, exact at the ends of each span and at any alignment.
+//! `read_bytes`, `write_bytes` and `zero` require that these bytes may be touched, and don't test it.
+//! Who calls them asks `allows` before.
+//! `fetch_by`, `load_by` and `store_by` are quick ways that may find nothing. `fetch`, `load` and `store` decide.
+//! An `AccessRule` says what else has to hold of an access, by the blocks of the heap. `AllMapped` refuses nothing.
+//! Only `make` and `read_bytes` take memory.
 #![tactic(auto)]
 
 mod access_rule;

@@ -4,7 +4,7 @@ use Rattle.std.specs.List.{slice_get}
 use Rattle.std.specs.Option.{unwrap_or}
 use Rattle.std.proofs.lemmas.List.{drop-append-le, drop-drop}
 use Rattle.rx_io.specs.declared.bytes.Item.{Item}
-use Rattle.rx_io.specs.declared.journal.LinkEvent.{LinkEvent}
+use Rattle.links.specs.declared.journal.LinkEvent.{LinkEvent}
 use Rattle.msg_frame.specs.declared.framing.Framing.{Framing}
 use Rattle.item_log.specs.Connections.{none_open, in_order}
 use Rattle.item_log.specs.Heard.{Heard, brought, hear, heard_from, behind_items, items_of}

@@ -1,7 +1,7 @@
 -- Which connections are open, and the bytes of their messages that aren't whole yet.
 use Rattle.std.specs.Prelude.{ℕ, List, Bool, true, not, ◌&&◌, nat_lt, Option, None, is_some, slice_index_or, replicate}
-use Rattle.rx_io.specs.declared.journal.LinkEvent.{LinkEvent}
-use Rattle.rx_io.specs.declared.journal.LinkEvent.TheVariants.{Opens, Piece, Closes, Settles, Ends}
+use Rattle.links.specs.declared.journal.LinkEvent.{LinkEvent}
+use Rattle.links.specs.declared.journal.LinkEvent.TheVariants.{Opens, Piece, Closes, Settles, Ends}
 use Rattle.item_log.specs.declared.kinds.TheConstants.{CONNECTIONS}
 
 -- no connection is open

@@ -1,8 +1,8 @@
 -- The items of the events of a link.
 use Rattle.std.specs.Prelude.{ℕ, List, [], ◌∷◌, ◌++◌, map, Option, Some, None, unwrap_or, if◌then◌else◌, slice_set}
 use Rattle.rx_io.specs.declared.bytes.Item.{Item}
-use Rattle.rx_io.specs.declared.journal.LinkEvent.{LinkEvent}
-use Rattle.rx_io.specs.declared.journal.LinkEvent.TheVariants.{Opens, Piece, Closes, Settles, Ends}
+use Rattle.links.specs.declared.journal.LinkEvent.{LinkEvent}
+use Rattle.links.specs.declared.journal.LinkEvent.TheVariants.{Opens, Piece, Closes, Settles, Ends}
 use Rattle.msg_frame.specs.declared.framing.Framing.{Framing}
 use Rattle.msg_frame.specs.Messages.{Parts, cut}
 use Rattle.item_log.specs.declared.kinds.TheConstants.{OPENED, MESSAGE, CLOSED}

@@ -1,6 +1,6 @@
 -- What holds of the items of every list of events.
 use Rattle.std.specs.Prelude.{◌≡◌, List, [], ◌∷◌, ◌++◌, drop, length, Some, None}
-use Rattle.rx_io.specs.declared.journal.LinkEvent.{LinkEvent}
+use Rattle.links.specs.declared.journal.LinkEvent.{LinkEvent}
 use Rattle.msg_frame.specs.declared.framing.Framing.{Framing}
 use Rattle.item_log.specs.declared.kinds.TheConstants.{CONNECTIONS}
 use Rattle.item_log.specs.Heard.{Heard, hear, heard, behind_items, items_by, items_of}

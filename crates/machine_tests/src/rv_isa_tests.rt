@@ -300,7 +300,7 @@ static NO_ROWS: [u32; 28] = [
 ];
 
 /// The number of words that decode, of a million pseudo-random ones, by a program that was written from the manual
-/// alone: bench/count_words.py at the top of the repository.
+/// alone: tools/count_words.py at the top of the repository.
 const COUNT_OF_THE_LISTING: u32 = 45063;
 
 #[test]

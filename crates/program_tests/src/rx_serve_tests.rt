@@ -272,7 +272,7 @@ overflow;; 0100000000 0200000300 68690a; Finished 0 2 [] 81 2; 0200000300 68690a
 ";
 
 // Guests that fail. Where their blocks stand is in their records. All are recovered but the first tell_over, which told where its block stands; dirty never fails, and has one checkpoint
-// at a time. The values are those of `bench/second` too, which was written from the rules.
+// at a time. The values are those of `compare/second` too, which was written from the rules.
 const RECOVERED: &str = "\
 overflow;; 0100000000 0200002800 7878787878787878787878787878787878787878787878787878787878787878787878787878780a; Finished 0 2 [] 303 2; 0200002800 7878787878787878787878787878787878787878787878787878787878787878787878787878780a;
 unset;; 0100000000 0200000300 68690a; Finished 0 2 [] 106 2; 0200000300 68690a;

@@ -3,7 +3,7 @@ use Rattle.std.proofs.Common.{◌≡◌, inl, inr, ℕ, Bool, true, false, not, 
 use Rattle.std.specs.Prelude.{slice_get, nat_lt, ◌==◌}
 use Rattle.std.specs.List.{list_all}
 use Rattle.std.proofs.lemmas.Bool.{and_parts, ltb-false, eqb-false, true≢false}
-use Rattle.rx_io.specs.Links.{Told, Phases, Coming}
+use Rattle.links.specs.Links.{Told, Phases, Coming}
 use Rattle.block_book.specs.declared.block.Block.{Block}
 use Rattle.block_book.specs.declared.choice.Choice.{Choice}
 use Rattle.block_book.specs.Answer.{live_blocks, is_allowed}

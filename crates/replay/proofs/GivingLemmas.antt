@@ -4,11 +4,11 @@ use Rattle.std.specs.Prelude.{Err, slice_set, ◌==◌, ◌&&◌, ◌||◌}
 use Rattle.std.proofs.lemmas.Bool.{eqb-true, eqb-false, true≢false}
 use Rattle.std.proofs.lemmas.Option.{unwrap_or-slice_get}
 use Rattle.std.proofs.lemmas.List.{get_or-set_same, get_or-set_other, take-append-drop}
-use Rattle.rx_io.specs.declared.journal.Entry.{Entry}
-use Rattle.rx_io.specs.declared.journal.Entry.TheVariants as entry
-use Rattle.rx_io.specs.declared.journal.LinkFault.{LinkFault}
-use Rattle.rx_io.specs.declared.journal.LinkFault.TheVariants as fault
-use Rattle.rx_io.specs.Links.{Told, Tells, Phases, Coming, Gives, cut_entries, pieces_in}
+use Rattle.links.specs.declared.journal.Entry.{Entry}
+use Rattle.links.specs.declared.journal.Entry.TheVariants as entry
+use Rattle.links.specs.declared.journal.LinkFault.{LinkFault}
+use Rattle.links.specs.declared.journal.LinkFault.TheVariants as fault
+use Rattle.links.specs.Links.{Told, Tells, Phases, Coming, Gives, cut_entries, pieces_in}
 use Rattle.rx_io.specs.Prefix.{Prefix}
 use Rattle.rx_io.specs.Sends.{Send}
 use Rattle.elf_image.specs.declared.image.Image.{Image}

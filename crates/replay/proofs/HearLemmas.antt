@@ -6,13 +6,13 @@ use Rattle.std.proofs.Math.ListN.{drop_of_length-le}
 use Rattle.std.proofs.lemmas.Bool.{eqb-true, eqb-false, eq-eqb, both_ways, true≢false}
 use Rattle.std.proofs.lemmas.Option.{same_Some}
 use Rattle.rx_io.specs.declared.bytes.Item.{Item}
-use Rattle.rx_io.specs.declared.journal.Entry.{Entry}
-use Rattle.rx_io.specs.declared.journal.Entry.TheVariants as entry
-use Rattle.rx_io.specs.declared.journal.LinkEvent.{LinkEvent}
-use Rattle.rx_io.specs.declared.journal.LinkEvent.TheVariants as event
-use Rattle.rx_io.specs.declared.journal.LinkFault.{LinkFault}
-use Rattle.rx_io.specs.declared.journal.LinkFault.TheVariants as fault
-use Rattle.rx_io.specs.Links.{Told, Tells, Phases, Coming, Open, Closed, IsInOrder, phases_after, GoesBy, StillComes, events_in, pieces_in}
+use Rattle.links.specs.declared.journal.Entry.{Entry}
+use Rattle.links.specs.declared.journal.Entry.TheVariants as entry
+use Rattle.links.specs.declared.journal.LinkEvent.{LinkEvent}
+use Rattle.links.specs.declared.journal.LinkEvent.TheVariants as event
+use Rattle.links.specs.declared.journal.LinkFault.{LinkFault}
+use Rattle.links.specs.declared.journal.LinkFault.TheVariants as fault
+use Rattle.links.specs.Links.{Told, Tells, Phases, Coming, Open, Closed, IsInOrder, phases_after, GoesBy, StillComes, events_in, pieces_in}
 use Rattle.elf_image.specs.declared.image.Image.{Image}
 use Rattle.msg_frame.specs.declared.framing.Framing.{Framing}
 use Rattle.msg_frame.specs.Messages.{Parts, cut}
@@ -29,10 +29,10 @@ use Rattle.session_history.specs.Heeding.{Bounds, Unheeded, refusal, heeded, ite
 use Rattle.session_history.specs.Heeding as unheeded
 use Rattle.session_history.specs.Keeping.{KeepsItems, phase_after}
 use Rattle.session_history.specs.Ends.{IsLastRefused}
-use Rattle.event_gate.proofs.Phasing.{phases_behind}
-use Rattle.event_gate.proofs.Ordering.{in_order_shown}
-use Rattle.event_gate.proofs.Refusing.{IsEvent, events_behind, items_behind, logged_keeps, limit_events, too_long, limit_items, is_heeded, heeded_with, keeps_items, heeded_without, events_ended}
-use Rattle.event_gate.proofs.ItemLemmas.{received_is}
+use Rattle.link_gate.proofs.Phasing.{phases_behind}
+use Rattle.link_gate.proofs.Ordering.{in_order_shown}
+use Rattle.link_gate.proofs.Refusing.{IsEvent, events_behind, items_behind, logged_keeps, limit_events, too_long, limit_items, is_heeded, heeded_with, keeps_items, heeded_without, events_ended}
+use Rattle.link_gate.proofs.ItemLemmas.{received_is}
 use Rattle.schedule_file.specs.declared.recorded.Recorded.{Recorded}
 use Rattle.replay.specs.Giving.{found_gone, AreGiven}
 use Rattle.replay.specs.Giving as giving

@@ -1,11 +1,11 @@
 -- One more entry behind the journal of a replay.
 use Rattle.std.proofs.Common.{◌≡◌, ◌⊎◌, inl, inr, ℕ, Bool, true, false, List, [], ◌∷◌, ◌++◌, drop, Option, Some, None, refl, sym, ◌∙◌, ap, subst, append-nil, append_assoc}
 use Rattle.std.specs.Prelude.{◌&&◌, ◌||◌, ◌==◌, unwrap_or}
-use Rattle.rx_io.specs.declared.journal.Entry.{Entry}
-use Rattle.rx_io.specs.declared.journal.Entry.TheVariants as entry
-use Rattle.rx_io.specs.declared.journal.LinkEvent.{LinkEvent}
-use Rattle.rx_io.specs.Links.{Piece, Told, Tells, Grew, events_in, pieces_in, last_taken}
-use Rattle.rx_io.proofs.Journaled.{pieces_in-append}
+use Rattle.links.specs.declared.journal.Entry.{Entry}
+use Rattle.links.specs.declared.journal.Entry.TheVariants as entry
+use Rattle.links.specs.declared.journal.LinkEvent.{LinkEvent}
+use Rattle.links.specs.Links.{Piece, Told, Tells, Grew, events_in, pieces_in, last_taken}
+use Rattle.links.proofs.Journaled.{pieces_in-append}
 use Rattle.session_history.proofs.Heeding.{events_in-append}
 use Rattle.elf_image.specs.declared.image.Image.{Image}
 use Rattle.schedule_file.specs.declared.recorded.Recorded.{Recorded}

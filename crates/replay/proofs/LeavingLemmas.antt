@@ -1,11 +1,11 @@
 -- Which calls of its link have failed behind a turn, and where a replay has ended.
 use Rattle.std.proofs.Common.{◌≡◌, ℕ, Bool, true, false, true≢false, List, length, Option, None, Some, sym, subst, inl, inr}
 use Rattle.std.specs.Prelude.{Result, Ok, Err, IsSome, ◌==◌, if◌then◌else◌}
-use Rattle.rx_io.specs.Links.{Told, Coming, GoesBy, StaysTold, Gives}
-use Rattle.rx_io.specs.declared.journal.LinkEvent.{LinkEvent}
-use Rattle.rx_io.specs.declared.journal.LinkEvent.TheVariants as event
-use Rattle.rx_io.specs.declared.journal.LinkFault.{LinkFault}
-use Rattle.rx_io.specs.declared.journal.LinkFault.TheVariants as fault
+use Rattle.links.specs.Links.{Told, Coming, GoesBy, StaysTold, Gives}
+use Rattle.links.specs.declared.journal.LinkEvent.{LinkEvent}
+use Rattle.links.specs.declared.journal.LinkEvent.TheVariants as event
+use Rattle.links.specs.declared.journal.LinkFault.{LinkFault}
+use Rattle.links.specs.declared.journal.LinkFault.TheVariants as fault
 use Rattle.run_history.specs.declared.answer.Answer.{Answer}
 use Rattle.run_history.specs.declared.answer.Answer.TheVariants as answer
 use Rattle.guest_cpu.specs.Standing.{Standing}

@@ -1,7 +1,7 @@
 -- What the loops of a replay keep.
 use Rattle.std.proofs.Common.{◌≡◌, ℕ, ◌+◌, ◌≤◌, Bool, true, arith}
 use Rattle.std.specs.Prelude.{Result, Ok, Option, IsSome}
-use Rattle.rx_io.specs.Links.{Told, Phases, Coming, Counts}
+use Rattle.links.specs.Links.{Told, Phases, Coming, Counts}
 use Rattle.rx_io.proofs.Composing.{rose_later}
 use Rattle.elf_image.specs.declared.image.Image.{Image}
 use Rattle.run_history.specs.declared.answer.Answer.{Answer}

@@ -4,7 +4,7 @@ use Rattle.std.specs.Prelude.{slice_get}
 use Rattle.std.proofs.Math.Seq.{drop-cons}
 use Rattle.std.proofs.lemmas.Option.{slice_get_within, get_or_from_slice_get}
 use Rattle.rx_io.specs.declared.bytes.Item.{Item}
-use Rattle.rx_io.specs.Links.{Phases, Open}
+use Rattle.links.specs.Links.{Phases, Open}
 use Rattle.run_history.specs.Call.{connections_after}
 use Rattle.run_history.proofs.Connections.{within_after}
 use Rattle.replay.specs.Playing.{AreOpen, StayOpen, AreOpenThen}

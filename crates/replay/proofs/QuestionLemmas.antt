@@ -2,8 +2,8 @@
 use Rattle.std.proofs.Common.{◌≡◌, ℕ, ◌<◌, Bool, true, false, cond, List, length, drop, Option, None, refl, sym, ◌∙◌, ap, subst, arith}
 use Rattle.std.specs.Prelude.{Result, Ok, Err, IfOk, IsSome, is_some, ◌==◌}
 use Rattle.std.proofs.lemmas.Bool.{eqb-true, eqb-false, true≢false}
-use Rattle.rx_io.specs.declared.journal.Entry.{Entry}
-use Rattle.rx_io.specs.Links.{Told, Phases, Coming, pieces_in}
+use Rattle.links.specs.declared.journal.Entry.{Entry}
+use Rattle.links.specs.Links.{Told, Phases, Coming, pieces_in}
 use Rattle.rx_io.specs.Sends.{Send}
 use Rattle.elf_image.specs.declared.image.Image.{Image}
 use Rattle.run_history.specs.declared.answer.Answer.{Answer}

@@ -3,7 +3,7 @@ use Rattle.std.proofs.Common.{◌≡◌, ℕ, ◌+◌, ◌^◌, false, List, [],
 use Rattle.std.specs.Prelude.{Err}
 use Rattle.std.proofs.lemmas.Bool.{both_ways}
 use Rattle.std.proofs.lemmas.List.{length-replicate}
-use Rattle.rx_io.specs.Links.{Told, Phases, Coming, Counts, IsFresh}
+use Rattle.links.specs.Links.{Told, Phases, Coming, Counts, IsFresh}
 use Rattle.rx_io.specs.Sends.{Send}
 use Rattle.elf_image.specs.declared.image.Image.{Image}
 use Rattle.item_log.specs.Heard.{items_of, items_from}

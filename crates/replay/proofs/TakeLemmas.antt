@@ -3,7 +3,7 @@ use Rattle.std.proofs.Common.{◌≡◌, ℕ, ◌+◌, ◌<◌, ◌^◌, Bool, L
 use Rattle.std.specs.Prelude.{slice_get}
 use Rattle.std.proofs.lemmas.Option.{slice_get_within}
 use Rattle.rx_io.specs.declared.bytes.Item.{Item}
-use Rattle.rx_io.specs.Links.{Told, Phases, events_in}
+use Rattle.links.specs.Links.{Told, Phases, events_in}
 use Rattle.block_book.specs.Heap.{is_bare}
 use Rattle.elf_image.specs.declared.image.Image.{Image}
 use Rattle.item_log.specs.Log.{IsItemOf}
@@ -12,7 +12,7 @@ use Rattle.run_history.proofs.Runs.{received_keeps}
 use Rattle.guest_cpu.specs.Standing.{Standing}
 use Rattle.guest_cpu.specs.Receiving.{taken_standing}
 use Rattle.session_history.specs.Heeding.{items_in}
-use Rattle.event_gate.proofs.ItemLemmas.{item_is, item_fits}
+use Rattle.link_gate.proofs.ItemLemmas.{item_is, item_fits}
 use Rattle.schedule_file.specs.declared.recorded.Recorded.{Recorded}
 use Rattle.replay.specs.Replaying.{IsReplay, bounds_of}
 use Rattle.replay.specs.Playing.{Stage, StayOpen, IsBetween, IsWaiting, replay_of}

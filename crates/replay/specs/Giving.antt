@@ -2,8 +2,8 @@
 use Rattle.std.specs.Prelude.{◌≡◌, ℕ, List, [], ◌∷◌, ◌++◌, Bool, true, false, Option, ◌&&◌, ◌||◌, ◌==◌}
 use Rattle.rx_io.specs.Prefix.{Prefix}
 use Rattle.rx_io.specs.Sends.{Send}
-use Rattle.rx_io.specs.Links.{Piece, Told, Tells, Handed, TellsHanded, pieces_in}
-use Rattle.rx_io.specs.declared.journal.Entry.{Entry}
+use Rattle.links.specs.Links.{Piece, Told, Tells, Handed, TellsHanded, pieces_in}
+use Rattle.links.specs.declared.journal.Entry.{Entry}
 
 -- whether one of some pieces found its connection gone
 abbrev pub found_gone : ℕ → List Piece → Bool

@@ -1,9 +1,9 @@
 -- An event of a link comes into the log of a replay.
 use Rattle.std.specs.Prelude.{◌≡◌, ◌+◌, ◌<◌, ◌≤◌, ◌^◌, None, Some, Result, Ok, Err}
-use Rattle.rx_io.specs.declared.journal.LinkEvent.{LinkEvent}
-use Rattle.rx_io.specs.declared.journal.LinkEvent.TheVariants as event
-use Rattle.rx_io.specs.declared.journal.LinkFault.{LinkFault}
-use Rattle.rx_io.specs.declared.journal.LinkFault.TheVariants as fault
+use Rattle.links.specs.declared.journal.LinkEvent.{LinkEvent}
+use Rattle.links.specs.declared.journal.LinkEvent.TheVariants as event
+use Rattle.links.specs.declared.journal.LinkFault.{LinkFault}
+use Rattle.links.specs.declared.journal.LinkFault.TheVariants as fault
 use Rattle.item_log.specs.Log.{logged, Fits, Passes, IsPieceOf}
 use Rattle.item_log.specs.declared.item_refusal.ItemRefusal.{ItemRefusal}
 use Rattle.item_log.specs.declared.item_refusal.ItemRefusal.TheVariants as refusal

@@ -1,9 +1,9 @@
 -- What holds while a record is replayed.
 use Rattle.std.specs.Prelude.{◌≡◌, ℕ, ◌<◌, ◌≤◌, Bool, true, false, List, [], ◌∷◌, ◌++◌, length, drop, Option, None, Result, Ok, Err, slice_get, unwrap_or, IsErrOf, IsSome}
 use Rattle.rx_io.specs.declared.bytes.Item.{Item}
-use Rattle.rx_io.specs.declared.journal.Entry.{Entry}
+use Rattle.links.specs.declared.journal.Entry.{Entry}
 use Rattle.rx_io.specs.Faults.{Rose}
-use Rattle.rx_io.specs.Links.{Told, Tells, Coming, Counts, Phases, Open, events_in, pieces_in, HasEnded}
+use Rattle.links.specs.Links.{Told, Tells, Coming, Counts, Phases, Open, events_in, pieces_in, HasEnded}
 use Rattle.rx_io.specs.Sends.{Send}
 use Rattle.block_book.specs.Heap.{is_bare}
 use Rattle.elf_image.specs.declared.image.Image.{Image}

@@ -1,11 +1,11 @@
 -- What a replay of a record is: the run that the record tells of, over the events of a link, and its sends given again.
 use Rattle.std.specs.Prelude.{◌≡◌, ◌≢◌, ℕ, ◌+◌, ◌<◌, ◌≤◌, ◌^◌, List, ◌∷◌, ◌++◌, length, take, slice_get, false, None, Some, Option, IsSome, IfSome, ◌⊎◌, Bool, true}
-use Rattle.rx_io.specs.declared.journal.Entry.{Entry}
-use Rattle.rx_io.specs.declared.journal.Entry.TheVariants as entry
-use Rattle.rx_io.specs.declared.journal.LinkEvent.{LinkEvent}
-use Rattle.rx_io.specs.declared.journal.LinkEvent.TheVariants as event
+use Rattle.links.specs.declared.journal.Entry.{Entry}
+use Rattle.links.specs.declared.journal.Entry.TheVariants as entry
+use Rattle.links.specs.declared.journal.LinkEvent.{LinkEvent}
+use Rattle.links.specs.declared.journal.LinkEvent.TheVariants as event
 use Rattle.rx_io.specs.Faults.{Rose}
-use Rattle.rx_io.specs.Links.{Told, Tells, Coming, Comes, Refuses, Counts, events_in, pieces_in, HasEnded}
+use Rattle.links.specs.Links.{Told, Tells, Coming, Comes, Refuses, Counts, events_in, pieces_in, HasEnded}
 use Rattle.rx_io.specs.Sends.{Send}
 use Rattle.block_book.specs.declared.choice.Choice.{Choice}
 use Rattle.block_book.specs.Answer.{is_allowed}

@@ -1,8 +1,8 @@
 // Who gives the sends of a replay to its link.
 ghost use Rattle.std.specs.Prelude.{◌≡◌, ◌^◌, ◌<◌, ℕ, true, List, length, is_ok};
-ghost use Rattle.rx_io.specs.Links.{Gives, TellsHanded, HasGiveCause};
+ghost use Rattle.links.specs.Links.{Gives, TellsHanded, HasGiveCause};
 
-use rx_io::{Given, Link, LinkFault};
+use links::{Given, Link, LinkFault};
 
 /// Gives a send to a link. Its one call is a `give` of the link, of which more may be known than each link says.
 pub trait Giver<K: Link> {

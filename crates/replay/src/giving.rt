@@ -1,6 +1,6 @@
 // A send of the guest is given to its connection.
 ghost use Rattle.std.specs.Prelude.{◌≡◌, true, IfOk};
-ghost use Rattle.rx_io.specs.Links.{Told};
+ghost use Rattle.links.specs.Links.{Told};
 ghost use Rattle.elf_image.specs.declared.image.Image.{Image};
 ghost use Rattle.schedule_file.specs.declared.recorded.Recorded.{Recorded};
 ghost use Rattle.replay.specs.Giving.{IsLastSend};
@@ -9,8 +9,9 @@ ghost use Rattle.replay.specs.Playing.{stage_of, IsSending, TurnsBy, Stands, Has
 use crate::giver::Giver;
 use crate::hearing::answer_to;
 use crate::player::Player;
+use links::{Given, Link};
 use run_history::Answer;
-use rx_io::{Bytes, Given, Link};
+use rx_io::Bytes;
 
 impl Player {
     // Gives what the guest has just sent, as one piece. Nothing is given to a connection that was found gone.

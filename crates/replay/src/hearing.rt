@@ -1,6 +1,6 @@
 // The next event of a link comes into the log.
 ghost use Rattle.std.specs.Prelude.{◌≡◌, ◌≢◌, ◌+◌, ◌<◌, ◌≤◌, ◌^◌, true, IsTrue, IfOk};
-ghost use Rattle.rx_io.specs.Links.{Told};
+ghost use Rattle.links.specs.Links.{Told};
 ghost use Rattle.elf_image.specs.declared.image.Image.{Image};
 ghost use Rattle.schedule_file.specs.declared.recorded.Recorded.{Recorded};
 ghost use Rattle.item_log.specs.Connections.{in_order};
@@ -10,8 +10,8 @@ ghost use Rattle.replay.specs.Playing.{stage_of, IsWaiting, WaitsBy, Stands, Has
 
 use crate::player::Player;
 use item_log::ItemRefusal;
+use links::{Link, LinkEvent, LinkFault};
 use run_history::Answer;
-use rx_io::{Link, LinkEvent, LinkFault};
 
 // The most events that a session may have.
 const MAX_EVENTS: u64 = 1 << 32;

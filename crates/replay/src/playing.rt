@@ -1,6 +1,6 @@
 // A turn of a replay.
 ghost use Rattle.std.specs.Prelude.{◌≡◌, ◌+◌, ◌-◌, ◌<◌, ◌^◌, true, None, Option, slice_get, IfOk};
-ghost use Rattle.rx_io.specs.Links.{Told, Phases, Coming};
+ghost use Rattle.links.specs.Links.{Told, Phases, Coming};
 ghost use Rattle.block_book.specs.Heap.{is_bare};
 ghost use Rattle.run_history.specs.Machine.{Chooses, register};
 ghost use Rattle.run_history.specs.Run.{does};
@@ -13,8 +13,9 @@ use crate::giver::Giver;
 use crate::player::Player;
 use block_book::Choice;
 use guest_cpu::Question;
+use links::Link;
 use run_history::Answer;
-use rx_io::{Link, Steps};
+use rx_io::Steps;
 use schedule_file::Recorded;
 use std::sync::ledger::Ledger;
 

@@ -1,14 +1,15 @@
 // A record is replayed.
 ghost use Rattle.std.specs.Prelude.{◌≡◌, ◌*◌, ◌<◌, ◌^◌, true};
-ghost use Rattle.rx_io.specs.Links.{IsFresh};
+ghost use Rattle.links.specs.Links.{IsFresh};
 ghost use Rattle.replay.specs.Giving.{BreaksOff, WasHanded};
 ghost use Rattle.replay.specs.Replaying.{HasReplayedBy, HasAnswerCause, LeavesLink};
 
 use crate::giver::{AnyGiver, Giver};
 use crate::player::Player;
 use elf_image::Image;
+use links::Link;
 use run_history::Answer;
-use rx_io::{Link, Steps};
+use rx_io::Steps;
 use schedule_file::Recorded;
 use std::alloc::{AllocError, Global};
 use std::sync::ledger::Ledger;

@@ -1,22 +1,23 @@
 // Replays over a link in memory.
 ghost use Rattle.std.specs.Prelude.{◌≡◌, ◌*◌, ◌<◌, ◌^◌, true};
-ghost use Rattle.rx_io.specs.Links.{IsFresh};
-ghost use Rattle.rx_io.specs.MemoryLinks.{link_phases, link_takes, link_gives};
+ghost use Rattle.links.specs.Links.{IsFresh};
+ghost use Rattle.links.specs.MemoryLinks.{link_phases, link_takes, link_gives};
 
 use block_book::{Choice, Choices};
 use elf_image::Image;
-use link_lines::{line_of, link_of};
+use links::MemoryLink;
 use msg_frame::Framing;
 use replay::replay;
 use run_history::Answer;
 use rv_asm::assemble;
-use rx_io::{MemoryLink, Steps};
+use rx_io::Steps;
 use schedule_file::Recorded;
 use std::alloc::Global;
 use std::marker::Brand;
 use std::process::Abort;
 use std::sync::ledger::{Blank, Ledger};
 use std::test::Fail;
+use test_rows::{line_of, link_of};
 
 // The bytes of each program's window.
 const WINDOW: u32 = 1 << 20;

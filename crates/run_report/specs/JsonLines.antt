@@ -3,9 +3,9 @@ use Rattle.std.specs.Prelude.{ℕ, List, [], ◌∷◌, ◌++◌, map, codes}
 use Rattle.serde_json.specs.Data.{Data, number, unsigned, string, array, object, Items, Members, member, no_members}
 use Rattle.serde_json.specs.View.{items_of}
 use Rattle.serde_json.specs.Written.{compact_text}
-use Rattle.episodes.specs.declared.episode.Try.{Try}
-use Rattle.episodes.specs.declared.episode.Episode.{Episode}
-use Rattle.episodes.specs.Words.{cause_text, env_word, tried_text, eight_digits}
+use Rattle.session_notes.specs.declared.episode.Try.{Try}
+use Rattle.session_notes.specs.declared.episode.Episode.{Episode}
+use Rattle.session_notes.specs.Words.{cause_text, env_word, tried_text, eight_digits}
 
 unfoldable pub json_line : Data → List ℕ
 json_line value = compact_text value ++ 10 ∷ []

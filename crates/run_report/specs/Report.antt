@@ -1,6 +1,6 @@
 -- A report: its first line, what it says of each episode in their order, and its last line.
 use Rattle.std.specs.Prelude.{ℕ, List}
-use Rattle.episodes.specs.declared.episode.Episode.{Episode}
+use Rattle.session_notes.specs.declared.episode.Episode.{Episode}
 use Rattle.run_report.specs.declared.form.Form.{Form}
 use Rattle.run_report.specs.declared.form.Form.TheVariants.{Text, Json}
 use Rattle.run_report.specs.TextLines.{head_line, episode_lines, end_line}

@@ -4,8 +4,8 @@ ghost use Rattle.run_report.specs.Report.{head_text, episode_text, end_text};
 
 use crate::form::Form;
 use crate::{json_lines, text_lines};
-use episodes::Episode;
 use rx_io::Bytes;
+use session_notes::Episode;
 use std::alloc::{AllocError, Global};
 
 /// The first line of a report, with its line feed.

@@ -2,8 +2,8 @@
 ghost use Rattle.std.specs.Prelude.{◌≡◌, IfOk};
 ghost use Rattle.run_report.specs.TextLines.{head_line, episode_lines, end_line};
 
-use episodes::{Episode, failure_line, try_line};
 use rx_io::Bytes;
+use session_notes::{Episode, failure_line, try_line};
 use std::alloc::{AllocError, Global};
 
 // The first line.

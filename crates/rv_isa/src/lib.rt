@@ -1,5 +1,10 @@
 //! The instruction words of RV32IM: what each word says, by the instruction table of the RISC-V unprivileged manual,
 //! the word of each instruction, and what each operation gives.
+//!
+//! The table and the listing are two definitions, and a law says that they agree on every word.
+//! So who trusts one of them trusts both, and no word is two instructions.
+//! The meanings of operations stand on numbers; the code computes on 32-bit words.
+//! Registers, memory and the program counter are no part of this crate: `rv_exec` has them.
 #![tactic(auto)]
 
 mod at_once;

@@ -1,6 +1,6 @@
 // What a session passes to its link.
 ghost use Rattle.std.specs.Prelude.{◌≡◌, None, IfOk};
-ghost use Rattle.rx_io.specs.Links.{Told};
+ghost use Rattle.links.specs.Links.{Told};
 ghost use Rattle.elf_image.specs.declared.image.Image.{Image};
 ghost use Rattle.item_log.specs.Log.{received};
 ghost use Rattle.session_history.specs.Heeding as heeding;
@@ -13,9 +13,9 @@ ghost use Rattle.session_state.specs.Serving.{IsAnswerTo, CanGive, OnlyGives, Br
 
 use crate::Session;
 use guest_space::AccessRule;
-use reply_gate::{PassFault, pass_rest, pass_until};
+use link_gate::{PassFault, pass_rest, pass_until};
+use links::Link;
 use run_history::Answer;
-use rx_io::Link;
 use session_state::Stop;
 
 /// A fault of passing, as a session's answer.

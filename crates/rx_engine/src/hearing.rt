@@ -8,10 +8,10 @@ ghost use Rattle.session_state.specs.Leaving.{IsHandled};
 ghost use Rattle.session_state.specs.Serving.{IsStopAt, CanGive, HasStopCause, UnlessBroken, TakesBy, StaysKnown, BreaksOnce, HasSameGuest, StandsWaiting, WaitsBy, IsUnnoted};
 
 use crate::Session;
-use event_gate::{HearFault, Heard, hear};
 use guest_space::AccessRule;
+use link_gate::{HearFault, Heard, hear};
+use links::Link;
 use run_history::Answer;
-use rx_io::Link;
 use session_state::Stop;
 
 // What an event that wasn't heard means for a session.

@@ -1,8 +1,8 @@
 // What a session does where its program failed.
 ghost use Rattle.std.specs.Prelude.{◌≡◌, ℕ, ◌+◌, ◌≤◌, true, None, Option, IfOk};
-ghost use Rattle.rx_io.specs.Links.{Told, Phases, Coming};
+ghost use Rattle.links.specs.Links.{Told, Phases, Coming};
 ghost use Rattle.elf_image.specs.declared.image.Image.{Image};
-ghost use Rattle.notes.specs.Noting.{noted};
+ghost use Rattle.session_notes.specs.Noting.{noted};
 ghost use Rattle.session_state.specs.Options.{rules_of};
 ghost use Rattle.session_state.specs.Standing.{Since, IsFailing};
 ghost use Rattle.session_state.specs.Leaving.{keeping_of, KeepsOldest};
@@ -10,14 +10,14 @@ ghost use Rattle.session_state.specs.Serving.{CanGive, HasStopCause, HasNoteStop
 
 use crate::Session;
 use guest_space::AccessRule;
-use notes::Notes;
-use recovery_gate::{Adopted, Recovered, recover};
+use links::Link;
+use recovery::{Adopted, Recovered, Watch, recover};
 use run_history::{Answer, Cause};
-use rx_io::{IoFault, Link, Steps};
+use rx_io::{IoFault, Steps};
+use session_notes::Notes;
 use session_state::Stop;
 use std::alloc::AllocError;
 use std::sync::ledger::Ledger;
-use trial_plan::Watch;
 
 /// A fault of notes, as a session's answer.
 pub fn note_answer(fault: IoFault) -> Answer

@@ -1,14 +1,14 @@
 // The checkpoints of a session.
 ghost use Rattle.std.specs.Prelude.{◌≡◌, ◌<◌, ◌+◌, ◌^◌, ℕ, [], ◌∷◌, length, true, Option, IfOk, IfSome, slice_get};
-ghost use Rattle.rx_io.specs.Links.{Told, Phases, Coming};
+ghost use Rattle.links.specs.Links.{Told, Phases, Coming};
 ghost use Rattle.reply_ledger.specs.Ledger.{is_open};
 ghost use Rattle.reply_ledger.specs.Trimming.{trimmed};
-ghost use Rattle.notes.specs.Noting.{noted};
+ghost use Rattle.session_notes.specs.Noting.{noted};
 ghost use Rattle.elf_image.specs.declared.image.Image.{Image};
 ghost use Rattle.run_history.specs.Served.{origin};
 ghost use Rattle.session_history.specs.Lawful.{Rules};
-ghost use Rattle.recovery_gate.specs.Rings.{KeepsRing, SavesIf, is_due};
-ghost use Rattle.recovery_gate.specs.Handling.{alone, stands_of};
+ghost use Rattle.recovery.specs.Rings.{KeepsRing, SavesIf, is_due};
+ghost use Rattle.recovery.specs.Handling.{alone, stands_of};
 ghost use Rattle.session_state.specs.Options.{rules_of};
 ghost use Rattle.session_state.specs.Sessions.{IsBegun};
 ghost use Rattle.session_state.specs.Standing.{Since, IsWaitingFor};
@@ -18,9 +18,9 @@ ghost use Rattle.session_state.specs.Serving.{IsReadyToServe, StandsWaiting, Wai
 use crate::Session;
 use crate::recovering::note_answer;
 use guest_space::AccessRule;
-use notes::Notes;
-use recovery_gate::{begin_ring, checkpoint, forget};
+use recovery::{begin_ring, checkpoint, forget};
 use run_history::Answer;
+use session_notes::Notes;
 use session_state::{Stop, note_up_to};
 
 impl<R: AccessRule> Session<R> {

@@ -1,12 +1,12 @@
 // A session from its begin to its end.
 ghost use Rattle.std.specs.Prelude.{◌≡◌, ℕ, ◌+◌, ◌<◌, ◌≤◌, true, false, Option, IfOk};
-ghost use Rattle.rx_io.specs.Links.{Told, Phases, Coming, IsFresh};
+ghost use Rattle.links.specs.Links.{Told, Phases, Coming, IsFresh};
 ghost use Rattle.elf_image.specs.declared.image.Image.{Image};
 ghost use Rattle.item_log.specs.Log.{received};
 ghost use Rattle.run_history.specs.declared.answer.Answer.TheVariants as answer;
 ghost use Rattle.guest_cpu.specs.declared.event.Event.TheVariants as event;
 ghost use Rattle.session_history.specs.Ends.{IsEnd};
-ghost use Rattle.notes.specs.Noting.{noted};
+ghost use Rattle.session_notes.specs.Noting.{noted};
 ghost use Rattle.session_state.specs.Options.{rules_of, keeping_for};
 ghost use Rattle.session_state.specs.Sessions.{IsBegun};
 ghost use Rattle.session_state.specs.Standing.{Since, IsGoing, IsBetween, IsAsking, IsWaitingFor, IsEnding};
@@ -19,13 +19,14 @@ use crate::giving::answer_to;
 use block_book::Choice;
 use guest_cpu::Event;
 use guest_space::AccessRule;
-use notes::Notes;
-use reply_gate::pass_until;
+use link_gate::pass_until;
+use links::Link;
+use recovery::{NoWatch, Watch};
 use run_history::Answer;
-use rx_io::{Bytes, Link, Steps};
+use rx_io::{Bytes, Steps};
+use session_notes::Notes;
 use session_state::Stop;
 use std::sync::ledger::Ledger;
-use trial_plan::{NoWatch, Watch};
 
 impl<R: AccessRule> Session<R> {
     /// Serves a link to which no connection was opened yet, from the start of the program to an end, a fault or want of memory, and

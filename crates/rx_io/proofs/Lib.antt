@@ -1,5 +1,3 @@
 pub mod Composing
 mod Plans
 mod Places
-mod Tables
-pub mod Journaled

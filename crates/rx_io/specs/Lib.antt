@@ -13,9 +13,3 @@ pub mod Reading
 pub mod Laws
 pub mod Prefix
 pub mod Sends
-pub mod Links
-pub mod ConnectionTables
-pub mod LinkForms
-pub mod TableLaws
-pub mod MemoryLinks
-pub mod MemoryLaws

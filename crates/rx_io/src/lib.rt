@@ -1,20 +1,22 @@
 //! The outside of the recovery system: where bytes come from and go, as traits that tell what they hold and count
 //! their own faults; forms of them in memory, and adapters over the real streams and files.
+//!
+//! Each of these objects says by `cause` that `Failed` is answered only where its own count of faults rose.
+//! Each says by `fixed` what no call changes. Of one that is lent this is which object it is.
+//! The tame forms never fail. The other forms in memory fail exactly where it is planned.
+//! The adapters over real streams and files meet the same traits, but tell no bytes.
+//! So what a real file or pipe holds is trusted, and not said by a clause.
 #![tactic(auto)]
 
 mod attempts;
 mod bytes;
-mod connection_table;
 mod fails;
 mod fault;
 mod files;
-mod journal;
 mod lent;
-mod link;
 mod listener;
 mod listener_calls;
 mod memory_files;
-mod memory_link;
 mod memory_sink;
 mod memory_source;
 mod shelf;
@@ -30,15 +32,12 @@ mod tame_sink;
 mod tame_source;
 
 pub use bytes::{Bytes, Item};
-pub use connection_table::{CONNECTIONS, ConnectionTable};
+pub use fails::Fails;
 pub use fault::{IoFault, LoadFault};
 pub use files::Files;
-pub use journal::{Entry, Given, LinkEvent, LinkFault};
-pub use link::Link;
 pub use listener::Listener;
 pub use listener_calls::{ListenCall, ListenEntry};
 pub use memory_files::MemoryFiles;
-pub use memory_link::MemoryLink;
 pub use memory_sink::MemorySink;
 pub use memory_source::MemorySource;
 pub use sink::Sink;

@@ -19,11 +19,11 @@ use Rattle.session_state.specs.Options.{keeping_for}
 use Rattle.schedule_file.specs.Laws.{OneReading}
 use Rattle.schedule_file.specs.Records.{IsChoice, IsRecord, text_of}
 use Rattle.schedule_file.specs.declared.recorded.Recorded.{Recorded}
-use Rattle.notes.specs.Noting.{noted}
+use Rattle.session_notes.specs.Noting.{noted}
 use Rattle.replay.specs.Laws.{HasSession}
 use Rattle.replay.specs.Replaying.{bounds_of}
-use Rattle.trunk_replay.specs.Laws.{IsWithin, IsAsRecorded, SameBytesAreReplayed}
-use Rattle.trunk_replay.specs.Replaying.{ReplaysTrunk, WritesSends}
+use Rattle.over_trunk.specs.Laws.{IsWithin, IsAsRecorded, SameBytesAreReplayed}
+use Rattle.over_trunk.specs.Replaying.{ReplaysTrunk, WritesSends}
 use Rattle.rx_serve.specs.declared.ending.End.{End}
 use Rattle.rx_serve.specs.Commands.{HasServed}
 use Rattle.rx_serve.specs.Laws.{HasSameOutside, IsReplayedBy, RecordsAreReplayed}

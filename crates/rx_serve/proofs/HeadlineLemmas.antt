@@ -2,8 +2,8 @@
 use Rattle.std.proofs.Common.{◌≡◌, ◌≤◌, ℕ, zero, suc, List, [], ◌++◌, length, drop, Bool, true, Option, None, Some, IfSome, refl, sym, ◌∙◌, ap, subst, arith, append-nil}
 use Rattle.std.proofs.lemmas.List.{length-take-le, take-append-drop}
 use Rattle.std.proofs.lemmas.Option.{option_and_then_some}
-use Rattle.episodes.specs.declared.episode.Episode.{Episode}
-use Rattle.notes.specs.Noting.{noted}
+use Rattle.session_notes.specs.declared.episode.Episode.{Episode}
+use Rattle.session_notes.specs.Noting.{noted}
 use Rattle.session_state.specs.Recovered.{HasNoted}
 use Rattle.block_book.specs.declared.choice.Choice.{Choice}
 use Rattle.rx_io.specs.declared.bytes.Item.{Item}
@@ -16,16 +16,16 @@ use Rattle.run_history.specs.Machine.{State, start, Effect, Goes, Emits, Ends, W
 use Rattle.run_history.specs.Run.{Run, run, next, after, effect, output}
 use Rattle.run_history.proofs.Runs.{next_parts}
 use Rattle.session_history.specs.Owing.{OwesNothing}
-use Rattle.recovery_gate.specs.Handling.{Keeping}
+use Rattle.recovery.specs.Handling.{Keeping}
 use Rattle.session_history.specs.Lawful.{Rules, entries_of}
-use Rattle.rx_io.specs.declared.journal.Entry.{Entry}
+use Rattle.links.specs.declared.journal.Entry.{Entry}
 use Rattle.session_history.specs.Heeding.{received}
 use Rattle.session_history.specs.Account.{Session, journal_of, IsAccount, HasPassedAll}
 use Rattle.session_history.specs.Ends.{IsEnd, before_end, OwesNothingAtEnd, EndsBy}
 use Rattle.session_history.specs.Giving.{AreGiven}
 use Rattle.session_history.proofs.Endings.{passed_all, received_at_end}
-use Rattle.trunk_session.specs.Trunk.{StopsTrunk, Carries}
-use Rattle.trunk_session.specs.Serving.{ServesTrunk}
+use Rattle.over_trunk.specs.Trunk.{StopsTrunk, Carries}
+use Rattle.over_trunk.specs.Serving.{ServesTrunk}
 use Rattle.rx_serve.specs.declared.ending.End.{End}
 use Rattle.rx_serve.specs.Headline.{received_items, Passed, LastExits, Headline}
 

@@ -5,16 +5,16 @@ use Rattle.block_book.specs.Heap.{Heap}
 use Rattle.block_book.specs.declared.choice.Choice.{Choice}
 use Rattle.command_line.specs.Commands.{RunValue}
 use Rattle.elf_image.specs.declared.image.Image.{Image}
-use Rattle.episodes.specs.declared.episode.Episode.{Episode}
+use Rattle.session_notes.specs.declared.episode.Episode.{Episode}
 use Rattle.file_notes.specs.Left.{Left, Nothing, InRecord, InReport, is_whole}
 use Rattle.file_notes.specs.Names.{Names}
 use Rattle.file_notes.specs.Standing.{Stands}
 use Rattle.file_notes.proofs.LawLemmas.{whole_texts}
-use Rattle.notes.specs.Noting.{noted}
+use Rattle.session_notes.specs.Noting.{noted}
 use Rattle.run_report.specs.declared.form.Form.{Form}
-use Rattle.recovery_gate.specs.Handling.{Keeping}
+use Rattle.recovery.specs.Handling.{Keeping}
 use Rattle.session_history.specs.Lawful.{Rules}
-use Rattle.trunk_session.specs.Serving.{ServesTrunk}
+use Rattle.over_trunk.specs.Serving.{ServesTrunk}
 use Rattle.session_state.specs.Options.{AreInRange, rules_of, keeping_for}
 use Rattle.session_state.specs.Serving.{IsNoteAnswer, UnlessNoteFault}
 use Rattle.session_state.specs.declared.options.Options.{Options}

@@ -9,7 +9,7 @@ use Rattle.run_history.specs.declared.answer.Answer.{Answer}
 use Rattle.run_history.specs.declared.answer.Answer.TheVariants as answer
 use Rattle.schedule_file.specs.declared.recorded.Recorded.{Recorded}
 use Rattle.replay.specs.Replaying.{EndsBy}
-use Rattle.trunk_replay.specs.Replaying.{ReplaysTrunk}
+use Rattle.over_trunk.specs.Replaying.{ReplaysTrunk}
 use Rattle.rx_serve.specs.Limits.{program_limit}
 use Rattle.rx_serve.specs.Loading.{HasFile}
 use Rattle.rx_serve.specs.Replaying.{HasRecord, HasReplayCause, ReplaysFile, window_in}

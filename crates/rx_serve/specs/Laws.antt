@@ -7,7 +7,7 @@ use Rattle.rx_io.specs.Outside.{Stream}
 use Rattle.run_history.specs.declared.answer.Answer.{Answer}
 use Rattle.run_history.specs.declared.answer.Answer.TheVariants as answer
 use Rattle.session_history.specs.Ends.{IsEnd}
-use Rattle.trunk_replay.specs.Replaying.{WritesSends}
+use Rattle.over_trunk.specs.Replaying.{WritesSends}
 use Rattle.rx_serve.specs.declared.ending.End.{End}
 use Rattle.rx_serve.specs.Commands.{HasServed, ReplayEnds}
 use Rattle.rx_serve.specs.Limits.{record_limit}

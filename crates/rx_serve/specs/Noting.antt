@@ -4,14 +4,14 @@ use Rattle.block_book.specs.declared.choice.Choice.{Choice}
 use Rattle.command_line.specs.Commands.{RunValue}
 use Rattle.command_line.specs.declared.run_words.Form.{Form as Wanted}
 use Rattle.command_line.specs.declared.run_words.Form.TheVariants as wanted
-use Rattle.episodes.specs.declared.episode.Episode.{Episode}
+use Rattle.session_notes.specs.declared.episode.Episode.{Episode}
 use Rattle.elf_image.specs.declared.image.Image.{Image}
 use Rattle.file_notes.specs.Names.{Names}
 use Rattle.file_notes.specs.Left.{Left, Nothing}
 use Rattle.file_notes.specs.Standing.{Stands}
 use Rattle.file_notes.specs.Texts.{report_text}
 use Rattle.file_notes.specs.Writing.{StartsBoth, AddsBoth}
-use Rattle.notes.specs.Noting.{noted}
+use Rattle.session_notes.specs.Noting.{noted}
 use Rattle.run_history.specs.declared.answer.Answer.{Answer}
 use Rattle.run_report.specs.declared.form.Form.{Form}
 use Rattle.run_report.specs.declared.form.Form.TheVariants as form
@@ -22,9 +22,9 @@ use Rattle.rx_io.specs.Outside.{Stream}
 use Rattle.rx_io.specs.declared.fault.IoFault.{IoFault}
 use Rattle.schedule_file.specs.Lines as recording
 use Rattle.session_history.specs.Ends.{IsEnd}
-use Rattle.recovery_gate.specs.Handling.{Keeping}
+use Rattle.recovery.specs.Handling.{Keeping}
 use Rattle.session_history.specs.Lawful.{Rules}
-use Rattle.trunk_session.specs.Serving.{ServesTrunk}
+use Rattle.over_trunk.specs.Serving.{ServesTrunk}
 use Rattle.rx_serve.specs.Status.{status_of}
 
 -- the names of the two files

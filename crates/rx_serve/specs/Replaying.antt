@@ -10,7 +10,7 @@ use Rattle.run_history.specs.declared.answer.Answer.TheVariants.{RecordRefused, 
 use Rattle.schedule_file.specs.Records.{IsReading}
 use Rattle.schedule_file.specs.Refusals.{refused_line}
 use Rattle.schedule_file.specs.declared.recorded.Recorded.{Recorded}
-use Rattle.trunk_replay.specs.Replaying.{ReplaysTrunk}
+use Rattle.over_trunk.specs.Replaying.{ReplaysTrunk}
 use Rattle.rx_serve.specs.Ended.{IsUntouched}
 use Rattle.rx_serve.specs.Limits.{program_limit, record_limit}
 use Rattle.rx_serve.specs.Loading.{HasFile, IsTooLarge}

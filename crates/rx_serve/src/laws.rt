@@ -1,8 +1,8 @@
 //! A law of the commands `run` and `replay`.
 ghost use Rattle.rx_serve.specs.Laws.{RecordsAreReplayed};
 
+use over_trunk::laws::same_bytes_are_replayed;
 use schedule_file::laws::one_reading;
-use trunk_replay::laws::same_bytes_are_replayed;
 
 /// The record that `run` left at an end is replayed by `replay` over the same program and the same input, to the frames of the sends of its run.
 pub fn records_are_replayed()

@@ -1,4 +1,9 @@
 //! The recovery system's commands over any outside: the words in, the answer and its status out.
+//!
+//! It knows the outside by traits alone: whatever its clauses say holds of real streams and files as far as these tell.
+//! Memory may come in place of any answer but BadWords, and what was done before it is said.
+//! That the same words, files and input come to the same answer no clause says.
+//! Which sentences are written on standard error is no part of it: `rx` writes them.
 #![tactic(auto)]
 
 mod assembly;

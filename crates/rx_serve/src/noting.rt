@@ -18,13 +18,13 @@ use crate::ending::status_of_answer;
 use command_line::RunCommand;
 use file_notes::{FileNames, FileNotes, FirstLine, LastLines, end_files, start_files};
 use guest_space::AccessRule;
+use over_trunk::serve_trunk;
 use run_history::Answer;
 use run_report::Form;
 use rx_engine::Session;
 use rx_io::{Files, IoFault, Sink, Source, Steps};
 use std::alloc::Global;
 use std::sync::ledger::Ledger;
-use trunk_session::serve_trunk;
 
 // The form of a report, as a command names it.
 fn report_form(form: command_line::Form) -> Form

@@ -6,12 +6,12 @@ ghost use Rattle.rx_serve.specs.Replaying.{LoadsRecord, ReplaysFile};
 
 use crate::loading::{MAX_PROGRAM, image_in, load_file};
 use command_line::ReplayCommand;
+use over_trunk::replay_trunk;
 use run_history::Answer;
 use rx_io::{Files, Sink, Source, Steps};
 use schedule_file::{RecordRefusal, Recorded, read_record};
 use std::alloc::Global;
 use std::sync::ledger::Ledger;
-use trunk_replay::replay_trunk;
 
 /// The greatest number of bytes of a record: 64 MiB.
 pub const MAX_RECORD: u64 = 64 << 20;

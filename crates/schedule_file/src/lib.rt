@@ -1,4 +1,9 @@
 //! The text of a session's record: its window and framing, every answer of the allocator, and how far the run went.
+//!
+//! Each value has one spelling. So a text has one record at most, and a record one text.
+//! A session writes its lines one after another, by `file_notes`, and the crate `replay` takes what was read.
+//! That a record is the one of a session isn't said here: `file_notes` says what it wrote.
+//! How much memory a reading takes no clause says.
 #![tactic(auto)]
 
 pub mod laws;

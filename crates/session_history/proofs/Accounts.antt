@@ -1,9 +1,9 @@
 -- What each event of a session makes of its account.
 use Rattle.std.proofs.Common.{◌≡◌, ℕ, ◌+◌, ◌≤◌, Bool, List, [], ◌∷◌, ◌++◌, length, refl, sym, ◌∙◌, ap, subst, arith, append_assoc, length-append}
 use Rattle.rx_io.specs.declared.bytes.Item.{Item}
-use Rattle.rx_io.specs.declared.journal.Entry.{Entry}
-use Rattle.rx_io.specs.declared.journal.Entry.TheVariants as entry
-use Rattle.rx_io.specs.declared.journal.LinkEvent.{LinkEvent}
+use Rattle.links.specs.declared.journal.Entry.{Entry}
+use Rattle.links.specs.declared.journal.Entry.TheVariants as entry
+use Rattle.links.specs.declared.journal.LinkEvent.{LinkEvent}
 use Rattle.rx_io.specs.Prefix.{Prefix}
 use Rattle.rx_io.specs.Sends.{Send}
 use Rattle.elf_image.specs.declared.image.Image.{Image}

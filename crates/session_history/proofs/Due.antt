@@ -1,7 +1,7 @@
 -- Entries that were due stay so while the survivor goes on and more items come, and one more entry comes behind them.
 use Rattle.std.proofs.Common.{List, [], ◌∷◌, ◌++◌, false, sym, subst, append-nil, append_assoc}
 use Rattle.rx_io.specs.declared.bytes.Item.{Item}
-use Rattle.rx_io.specs.declared.journal.Entry.{Entry}
+use Rattle.links.specs.declared.journal.Entry.{Entry}
 use Rattle.run_history.specs.Served.{Path, Served}
 use Rattle.session_history.specs.Owing.{Place}
 use Rattle.session_history.specs.Lawful.{Rules, Survivor, IsDue, AreDue, AreLawful, Chapter, then_place}

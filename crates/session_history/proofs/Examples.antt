@@ -1,10 +1,10 @@
 -- What the definitions compute at values: a link that opens connection 0, sends two messages and closes it; the session passes
 -- a reply behind the first of them.
 use Rattle.std.proofs.Common.{◌≡◌, true, false, List, [], ◌∷◌, Some, refl}
-use Rattle.rx_io.specs.declared.journal.Entry.{Entry}
-use Rattle.rx_io.specs.declared.journal.Entry.TheVariants as entry
-use Rattle.rx_io.specs.declared.journal.LinkEvent.{LinkEvent}
-use Rattle.rx_io.specs.declared.journal.LinkEvent.TheVariants as event
+use Rattle.links.specs.declared.journal.Entry.{Entry}
+use Rattle.links.specs.declared.journal.Entry.TheVariants as entry
+use Rattle.links.specs.declared.journal.LinkEvent.{LinkEvent}
+use Rattle.links.specs.declared.journal.LinkEvent.TheVariants as event
 use Rattle.msg_frame.specs.declared.framing.Framing.TheVariants.{Whole}
 use Rattle.msg_frame.specs.Messages.{cut, cut_whole}
 use Rattle.item_log.specs.Connections.{none_open}

@@ -1,11 +1,11 @@
 -- What one more entry makes of the events that are heeded, of the items received and of what was passed.
 use Rattle.std.proofs.Common.{◌≡◌, ℕ, Bool, true, false, List, [], ◌∷◌, ◌++◌, length, None, refl, sym, ◌∙◌, ap, arith, cond, drop, append-nil, append_assoc}
 use Rattle.std.specs.Prelude.{is_none}
-use Rattle.rx_io.specs.declared.journal.Entry.{Entry}
-use Rattle.rx_io.specs.declared.journal.Entry.TheVariants as entry
-use Rattle.rx_io.specs.declared.journal.LinkEvent.{LinkEvent}
-use Rattle.rx_io.specs.declared.journal.LinkEvent.TheVariants as event
-use Rattle.rx_io.specs.Links.{events_in}
+use Rattle.links.specs.declared.journal.Entry.{Entry}
+use Rattle.links.specs.declared.journal.Entry.TheVariants as entry
+use Rattle.links.specs.declared.journal.LinkEvent.{LinkEvent}
+use Rattle.links.specs.declared.journal.LinkEvent.TheVariants as event
+use Rattle.links.specs.Links.{events_in}
 use Rattle.item_log.specs.Heard.{items_of}
 use Rattle.session_history.specs.Heeding.{Bounds, refusal, heeded, heeded_behind, items_in, received}
 use Rattle.session_history.specs.Passing.{passed_in, passed_behind}

@@ -8,3 +8,15 @@ pub mod Passing
 pub mod Accounts
 pub mod Sessions
 pub mod Endings
+pub mod Refused
+pub mod Causes
+pub mod Connected
+pub mod Asked
+pub mod Heeded
+pub mod Opening
+pub mod Fronts
+pub mod Closing
+pub mod Pieces
+pub mod Sent
+pub mod Turns
+pub mod Answered

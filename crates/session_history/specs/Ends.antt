@@ -1,12 +1,12 @@
 -- How a session ends: each answer by its cause, over one account of what came and went.
 use Rattle.std.specs.Prelude.{◌≡◌, ◌≢◌, ℕ, List, [], ◌∷◌, ◌++◌, Bool, true, false, Option, Some, IfSome}
 use Rattle.block_book.specs.declared.choice.Choice.{Choice}
-use Rattle.rx_io.specs.declared.journal.Entry.{Entry}
-use Rattle.rx_io.specs.declared.journal.Entry.TheVariants as entry
-use Rattle.rx_io.specs.declared.journal.LinkEvent.{LinkEvent}
-use Rattle.rx_io.specs.declared.journal.LinkEvent.TheVariants as event
-use Rattle.rx_io.specs.declared.journal.LinkEvent.TheVariants.{Ends}
-use Rattle.rx_io.specs.Links.{Told, Tells, Coming, Comes, Refuses, events_in, HasEnded}
+use Rattle.links.specs.declared.journal.Entry.{Entry}
+use Rattle.links.specs.declared.journal.Entry.TheVariants as entry
+use Rattle.links.specs.declared.journal.LinkEvent.{LinkEvent}
+use Rattle.links.specs.declared.journal.LinkEvent.TheVariants as event
+use Rattle.links.specs.declared.journal.LinkEvent.TheVariants.{Ends}
+use Rattle.links.specs.Links.{Told, Tells, Coming, Comes, Refuses, events_in, HasEnded}
 use Rattle.elf_image.specs.declared.image.Image.{Image}
 use Rattle.item_log.specs.Log.{IsPieceOf}
 use Rattle.run_history.specs.declared.answer.Answer.{Answer}

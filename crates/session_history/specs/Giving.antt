@@ -1,11 +1,11 @@
 -- Pieces that a session gives one after another, each when it is due.
 use Rattle.std.specs.Prelude.{◌≡◌, ℕ, ◌≤◌, List, [], ◌∷◌, ◌++◌, true, false, None, Some, Result, Ok, Err}
-use Rattle.rx_io.specs.declared.journal.Entry.{Entry}
-use Rattle.rx_io.specs.declared.journal.Entry.TheVariants as entry
-use Rattle.rx_io.specs.declared.journal.LinkEvent.TheVariants as event
+use Rattle.links.specs.declared.journal.Entry.{Entry}
+use Rattle.links.specs.declared.journal.Entry.TheVariants as entry
+use Rattle.links.specs.declared.journal.LinkEvent.TheVariants as event
 use Rattle.rx_io.specs.Prefix.{Prefix}
 use Rattle.rx_io.specs.Sends.{Send, sent_to}
-use Rattle.rx_io.specs.Links.{Told, Tells, events_in}
+use Rattle.links.specs.Links.{Told, Tells, events_in}
 use Rattle.reply_ledger.specs.Ledger.{Ledger}
 use Rattle.reply_ledger.specs.Parts.{next_part, rest_part}
 use Rattle.session_history.specs.Heeding.{heeded}

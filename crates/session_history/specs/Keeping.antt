@@ -1,9 +1,9 @@
 -- What the parts of a session's code know of its journal: the ledger of its replies, the log of its items, and the phases of its link.
 use Rattle.std.specs.Prelude.{◌≡◌, ℕ, ◌<◌, ◌≤◌, List, [], ◌∷◌, length, take, Bool, true, not, ◌&&◌, ◌==◌, if◌then◌else◌, Option, None, Some, is_some}
-use Rattle.rx_io.specs.declared.journal.Entry.{Entry}
-use Rattle.rx_io.specs.declared.journal.LinkEvent.{LinkEvent}
+use Rattle.links.specs.declared.journal.Entry.{Entry}
+use Rattle.links.specs.declared.journal.LinkEvent.{LinkEvent}
 use Rattle.rx_io.specs.Sends.{Send, sent_to}
-use Rattle.rx_io.specs.Links.{Phase, Unopened, Open, Closed, Phases, events_in}
+use Rattle.links.specs.Links.{Phase, Unopened, Open, Closed, Phases, events_in}
 use Rattle.item_log.specs.Log.{Log}
 use Rattle.item_log.specs.Log as logs
 use Rattle.reply_ledger.specs.Ledger.{Ledger, connection_of}

@@ -1,9 +1,9 @@
 -- What each event of a session makes of its account.
 use Rattle.std.specs.Prelude.{◌≡◌, ℕ, ◌≤◌, List, [], ◌∷◌, ◌++◌, Bool, true, false, None, is_none}
 use Rattle.rx_io.specs.declared.bytes.Item.{Item}
-use Rattle.rx_io.specs.declared.journal.Entry.{Entry}
-use Rattle.rx_io.specs.declared.journal.Entry.TheVariants as entry
-use Rattle.rx_io.specs.declared.journal.LinkEvent.{LinkEvent}
+use Rattle.links.specs.declared.journal.Entry.{Entry}
+use Rattle.links.specs.declared.journal.Entry.TheVariants as entry
+use Rattle.links.specs.declared.journal.LinkEvent.{LinkEvent}
 use Rattle.elf_image.specs.declared.image.Image.{Image}
 use Rattle.run_history.specs.Served.{Override, Path, Served, origin}
 use Rattle.session_history.specs.Passing.{passed_in, Covers, IsFeasible}

@@ -10,3 +10,4 @@ pub mod Keeping
 pub mod Giving
 pub mod Hearing
 pub mod Ends
+pub mod AccountLaws

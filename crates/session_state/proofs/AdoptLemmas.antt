@@ -6,8 +6,8 @@ use Rattle.std.proofs.lemmas.List.Sums.{sum_by-append}
 use Rattle.std.proofs.lemmas.Option.{none-some}
 use Rattle.block_book.specs.declared.choice.Choice.{Choice}
 use Rattle.alloc_env.specs.declared.env.Env.{Env}
-use Rattle.rx_io.specs.declared.journal.Entry.{Entry}
-use Rattle.rx_io.specs.Links.{Phases, Told, Tells, Grew, Coming, events_in}
+use Rattle.links.specs.declared.journal.Entry.{Entry}
+use Rattle.links.specs.Links.{Phases, Told, Tells, Grew, Coming, events_in}
 use Rattle.elf_image.specs.declared.image.Image.{Image}
 use Rattle.reply_ledger.specs.Ledger.{Ledger}
 use Rattle.reply_ledger.specs.Trials.{discarded}
@@ -26,35 +26,35 @@ use Rattle.session_history.specs.Keeping.{KeepsReplies, KeepsItems, KeepsPhases}
 use Rattle.session_history.specs.Serving.{first_survivor}
 use Rattle.session_history.proofs.Paths.{served_same}
 use Rattle.session_history.proofs.Sessions.{serving_adopts}
-use Rattle.trial_history.specs.Tables.{Trial, survivor_in}
-use Rattle.trial_history.specs.Episodes.{Recovery, episode_of, IsRecovery, AreRecovered, adopted_by}
-use Rattle.trial_history.specs.EpisodeLaws.{GoesOnAs}
-use Rattle.trial_history.proofs.Asking.{asks_under_all}
-use Rattle.trial_history.proofs.Going.{steps_later}
-use Rattle.trial_history.proofs.Recovered.{recovery_adopts}
-use Rattle.trial_history.proofs.Survivors.{recovered_then}
-use Rattle.trial_plan.specs.Sessions.{Failure}
-use Rattle.trial_plan.specs.Trying.{steps_of}
-use Rattle.trial_plan.specs.Walking.{HasSameBytes}
-use Rattle.recovery_gate.specs.declared.recovering.Adopted.{Adopted}
-use Rattle.recovery_gate.specs.Rings.{KeepsRing, AreBehind, IsInForce}
-use Rattle.recovery_gate.specs.Recovering.{recovery_of, HasToRecover, HasAdoptedRun, LeavesRun, HasRecovery, KeepsSlots}
-use Rattle.trial_history.specs.Chains.{AreChained}
+use Rattle.trials.specs.Tables.{Trial, survivor_in}
+use Rattle.trials.specs.Episodes.{Recovery, episode_of, IsRecovery, AreRecovered, adopted_by}
+use Rattle.trials.specs.EpisodeLaws.{GoesOnAs}
+use Rattle.trials.proofs.Asking.{asks_under_all}
+use Rattle.trials.proofs.Going.{steps_later}
+use Rattle.trials.proofs.Recovered.{recovery_adopts}
+use Rattle.trials.proofs.Survivors.{recovered_then}
+use Rattle.recovery.specs.Sessions.{Failure}
+use Rattle.recovery.specs.Trying.{steps_of}
+use Rattle.recovery.specs.Walking.{HasSameBytes}
+use Rattle.recovery.specs.declared.recovering.Adopted.{Adopted}
+use Rattle.recovery.specs.Rings.{KeepsRing, AreBehind, IsInForce}
+use Rattle.recovery.specs.Recovering.{recovery_of, HasToRecover, HasAdoptedRun, LeavesRun, HasRecovery, KeepsSlots}
+use Rattle.trials.specs.Chains.{AreChained}
 use Rattle.std.proofs.lemmas.Option.{slice_get_within}
 use Rattle.std.proofs.lemmas.List.{length-take-le}
 use Rattle.ckpt_ring.specs.Rings.{without_newer}
-use Rattle.recovery_gate.specs.Handling.{Keeping, HaveRings, HasHandled, stands_of, keeping_by}
-use Rattle.recovery_gate.proofs.Handled.{handled_adopts, has_ring, stands_up_to}
+use Rattle.recovery.specs.Handling.{Keeping, HaveRings, HasHandled, stands_of, keeping_by}
+use Rattle.recovery.proofs.Handled.{handled_adopts, has_ring, stands_up_to}
 use Rattle.session_state.specs.Leaving.{keeping_of}
 use Rattle.session_state.proofs.HeldLemmas.{held_by, held_of, rings_of, rings_kept, note_at_none}
-use Rattle.recovery_gate.specs.declared.recovering.Recovered.{Recovered}
-use Rattle.recovery_gate.proofs.RingLemmas.{ring_fails}
+use Rattle.recovery.specs.declared.recovering.Recovered.{Recovered}
+use Rattle.recovery.proofs.RingLemmas.{ring_fails}
 use Rattle.session_state.specs.Recovered.{spent, told_of, HasGivenUp, IsNoteFault}
 use Rattle.session_state.specs.Serving.{AdoptsTo, Adopting, end_of}
-use Rattle.notes.specs.Noting.{Noted}
-use Rattle.episodes.specs.declared.episode.Episode.{Episode}
-use Rattle.episodes.specs.declared.episode.Try.{Try}
-use Rattle.trial_plan.specs.Watching.{TellsMore, TellsTable}
+use Rattle.session_notes.specs.Noting.{Noted}
+use Rattle.session_notes.specs.declared.episode.Episode.{Episode}
+use Rattle.session_notes.specs.declared.episode.Try.{Try}
+use Rattle.recovery.specs.Watching.{TellsMore, TellsTable}
 use Rattle.session_state.specs.Recovered.{AreTables}
 use Rattle.session_state.specs.Standing.{unwatched}
 use Rattle.session_state.proofs.TableLemmas.{TellsOne, told_unwatched, tables_here, tables_memory, tables_given_up, tables_then}

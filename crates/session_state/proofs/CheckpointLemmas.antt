@@ -1,7 +1,7 @@
 -- The checkpoints of a session beside its story, as its survivor goes on.
 use Rattle.std.proofs.Common.{◌≡◌, ◌⊎◌, inl, inr, ℕ, ◌+◌, ◌<◌, ◌≤◌, List, [], sym, ◌∙◌, ap, subst, arith}
 use Rattle.rx_io.specs.declared.bytes.Item.{Item}
-use Rattle.trial_history.proofs.Planned.{past_request}
+use Rattle.trials.proofs.Planned.{past_request}
 use Rattle.alloc_env.specs.declared.env.Env.{Env}
 use Rattle.elf_image.specs.declared.image.Image.{Image}
 use Rattle.item_log.specs.Log.{Log}
@@ -12,13 +12,13 @@ use Rattle.guest_cpu.specs.Standing.{Standing}
 use Rattle.guest_runs.specs.Writing.{Writes}
 use Rattle.ckpt_ring.specs.Slots.{Saved}
 use Rattle.session_history.specs.Serving.{gone_on}
-use Rattle.recovery_gate.specs.Handling.{Keeping, stands_of}
+use Rattle.recovery.specs.Handling.{Keeping, stands_of}
 use Rattle.session_state.specs.Leaving.{HandlesRequests, keeping_of}
 use Rattle.session_history.specs.Heeding.{items_in}
 use Rattle.session_history.specs.Lawful.{Rules}
-use Rattle.recovery_gate.specs.Rings.{KeepsRing, AreBehind, IsInForce}
-use Rattle.recovery_gate.proofs.RingLemmas.{ring_on, ring_beside}
-use Rattle.recovery_gate.proofs.Forces.{in_force_later}
+use Rattle.recovery.specs.Rings.{KeepsRing, AreBehind, IsInForce}
+use Rattle.recovery.proofs.RingLemmas.{ring_on, ring_beside}
+use Rattle.recovery.proofs.Forces.{in_force_later}
 use Rattle.session_state.specs.Sessions.{SessionState}
 use Rattle.session_state.specs.Standing.{Story, entries, KeepsCheckpoints}
 use Rattle.session_state.proofs.StoryLemmas.{on_story}

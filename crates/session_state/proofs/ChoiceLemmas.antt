@@ -2,25 +2,25 @@
 use Rattle.std.proofs.Common.{◌≡◌, ℕ, zero, suc, ◌+◌, ◌-◌, ◌≤◌, Bool, true, false, cond, List, [], ◌∷◌, ◌++◌, length, map, take, drop, Option, None, Some, Err, refl, sym, ◌∙◌, ap, subst, arith, length-drop, length-append}
 use Rattle.std.specs.Prelude.{slice_get, is_some, option_map}
 use Rattle.block_book.specs.declared.choice.Choice.{Choice}
-use Rattle.rx_io.specs.Links.{Phases, Told, Coming, Grew}
+use Rattle.links.specs.Links.{Phases, Told, Coming, Grew}
 use Rattle.elf_image.specs.declared.image.Image.{Image}
 use Rattle.item_log.specs.Log.{Log}
 use Rattle.reply_ledger.specs.Ledger.{Ledger}
 use Rattle.run_history.specs.declared.answer.Answer.{Answer}
 use Rattle.run_history.specs.Served.{Limits, Override, Path, Grant, Served, origin, env_at, guest_of, grant, serves, longer, listed, planned_next, served_next}
-use Rattle.episodes.specs.declared.episode.Episode.{Episode}
-use Rattle.notes.specs.Noting.{Noted, noted}
+use Rattle.session_notes.specs.declared.episode.Episode.{Episode}
+use Rattle.session_notes.specs.Noting.{Noted, noted}
 use Rattle.session_history.specs.Lawful.{Rules}
-use Rattle.recovery_gate.specs.Rings.{AreBehind}
-use Rattle.recovery_gate.specs.Forgetting.{CanForget, Forgets}
-use Rattle.recovery_gate.proofs.ForgetLemmas.{can_forget}
+use Rattle.recovery.specs.Rings.{AreBehind}
+use Rattle.recovery.specs.Forgetting.{CanForget, Forgets}
+use Rattle.recovery.proofs.ForgetLemmas.{can_forget}
 use Rattle.session_state.specs.declared.stop.Stop.TheVariants as stop
 use Rattle.session_state.specs.Sessions.{SessionState}
 use Rattle.session_state.specs.Standing.{Since, entries, IsWaitingFor, IsEnding}
 use Rattle.session_state.specs.Serving.{WaitsBy}
 use Rattle.session_state.specs.Recovered.{IsNoteFault}
 use Rattle.session_state.proofs.GuestLemmas.{broken_off, received_is}
-use Rattle.trial_history.specs.Episodes.{episode_of}
+use Rattle.trials.specs.Episodes.{episode_of}
 use Rattle.rx_io.specs.declared.bytes.Item.{Item}
 use Rattle.run_history.specs.Machine.{State}
 use Rattle.run_history.specs.Run.{after}

@@ -1,7 +1,7 @@
 -- Where what is due was passed, or the session was broken off.
 use Rattle.std.proofs.Common.{◌≡◌, ℕ, Bool, true, Option, Result, Ok, Err, sym, subst}
 use Rattle.std.specs.Prelude.{IfOk}
-use Rattle.rx_io.specs.Links.{Phases, Told, Coming}
+use Rattle.links.specs.Links.{Phases, Told, Coming}
 use Rattle.elf_image.specs.declared.image.Image.{Image}
 use Rattle.session_history.specs.Lawful.{Rules}
 use Rattle.session_state.specs.declared.stop.Stop.{Stop}

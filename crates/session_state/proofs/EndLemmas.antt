@@ -1,9 +1,9 @@
 -- The end of a session: what is left is passed, and there is an account of it all.
 use Rattle.std.proofs.Common.{◌≡◌, inl, ◌+◌, ◌-◌, ◌≤◌, ℕ, Bool, true, false, List, [], ◌∷◌, ◌++◌, map, Option, refl, sym, ◌∙◌, ap, subst, arith, append-nil, append_assoc}
 use Rattle.rx_io.specs.declared.bytes.Item.{Item}
-use Rattle.rx_io.specs.declared.journal.Entry.{Entry}
-use Rattle.rx_io.specs.declared.journal.Entry.TheVariants as entry
-use Rattle.rx_io.specs.Links.{Told, Tells, Coming}
+use Rattle.links.specs.declared.journal.Entry.{Entry}
+use Rattle.links.specs.declared.journal.Entry.TheVariants as entry
+use Rattle.links.specs.Links.{Told, Tells, Coming}
 use Rattle.elf_image.specs.declared.image.Image.{Image}
 use Rattle.run_history.specs.declared.answer.Answer.{Answer}
 use Rattle.run_history.specs.declared.answer.Answer.TheVariants as answer
@@ -22,10 +22,10 @@ use Rattle.session_state.specs.Sessions.{SessionState}
 use Rattle.session_state.specs.Standing.{Since, Story, entries, moment, sends, IsTold, AnswersFor, IsAsking, IsEnding, IsBrokenOff}
 use Rattle.session_history.proofs.Sessions.{serving_account}
 use Rattle.std.specs.Prelude.{◌≢◌}
-use Rattle.trial_history.specs.Tables.{Trial}
-use Rattle.trial_history.proofs.Going.{steps_later}
-use Rattle.trial_plan.specs.Trying.{steps_of}
-use Rattle.recovery_gate.specs.Handling.{Keeping}
+use Rattle.trials.specs.Tables.{Trial}
+use Rattle.trials.proofs.Going.{steps_later}
+use Rattle.recovery.specs.Trying.{steps_of}
+use Rattle.recovery.specs.Handling.{Keeping}
 use Rattle.session_state.specs.Recovered.{HasWatched, HasNoted, GivesUpBy, spent}
 use Rattle.session_state.proofs.TableLemmas.{tables_here, tables_fault}
 use Rattle.session_state.proofs.GuestLemmas.{notes_here}
@@ -33,8 +33,8 @@ use Rattle.session_state.specs.Leaving.{HoldsCheckpoints, IsAtRequest, keeping_o
 use Rattle.session_state.proofs.HeldLemmas.{held_given, rings_held}
 use Rattle.session_state.proofs.NoteLemmas.{notes_fault}
 use Rattle.block_book.specs.declared.choice.Choice.{Choice}
-use Rattle.notes.specs.Noting.{Noted}
-use Rattle.trial_history.specs.Episodes.{Recovery, episode_of}
+use Rattle.session_notes.specs.Noting.{Noted}
+use Rattle.trials.specs.Episodes.{Recovery, episode_of}
 use Rattle.session_state.proofs.TellLemmas.{tells_on}
 use Rattle.session_state.proofs.PieceLemmas.{are_given, pieces}
 use Rattle.session_state.proofs.PieceLemmas as piece

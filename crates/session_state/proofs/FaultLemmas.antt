@@ -1,6 +1,6 @@
 -- Faults of notes.
 use Rattle.std.proofs.Common.{Option, sym, subst}
-use Rattle.rx_io.specs.Links.{Coming}
+use Rattle.links.specs.Links.{Coming}
 use Rattle.run_history.specs.declared.answer.Answer.{Answer}
 use Rattle.run_history.specs.declared.answer.Answer.TheVariants as answer
 use Rattle.session_history.specs.Lawful.{Rules}

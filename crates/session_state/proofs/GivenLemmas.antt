@@ -1,8 +1,8 @@
 -- What stays of a story behind pieces that were given.
 use Rattle.std.proofs.Common.{◌≡◌, ℕ, Bool, false, List, [], ◌∷◌, ◌++◌, refl, sym, ◌∙◌, ap, subst, append-nil, append_assoc}
-use Rattle.rx_io.specs.declared.journal.Entry.{Entry}
-use Rattle.rx_io.specs.declared.journal.Entry.TheVariants as entry
-use Rattle.rx_io.specs.Links.{events_in}
+use Rattle.links.specs.declared.journal.Entry.{Entry}
+use Rattle.links.specs.declared.journal.Entry.TheVariants as entry
+use Rattle.links.specs.Links.{events_in}
 use Rattle.rx_io.specs.Sends.{Send}
 use Rattle.item_log.specs.Log.{Log}
 use Rattle.session_history.specs.Heeding.{Bounds, heeded}
@@ -11,7 +11,7 @@ use Rattle.session_history.specs.Owing.{Moment, journal, latest, IsDueBy, place_
 use Rattle.session_history.specs.Lawful.{Rules, entries_of, then_entry}
 use Rattle.session_history.specs.Giving.{AreGiven, then_entries}
 use Rattle.session_history.specs.Keeping.{KeepsItems}
-use Rattle.reply_gate.proofs.MomentLemmas.{latest-gave, journal-then, is_open-same, not_gone, closes-gave, is_closing-gave, due_by, due_not_gone, passed_then}
+use Rattle.link_gate.proofs.MomentLemmas.{latest-gave, journal-then, is_open-same, not_gone, closes-gave, is_closing-gave, due_by, due_not_gone, passed_then}
 use Rattle.session_state.specs.Standing.{Story, entries, then_story, IsLatestDone, IsCloseDone}
 use Rattle.session_history.proofs.Endings.{events_in-given}
 

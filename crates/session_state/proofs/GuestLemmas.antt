@@ -4,8 +4,8 @@ use Rattle.std.specs.Prelude.{slice_get, unwrap_or}
 use Rattle.block_book.specs.declared.choice.Choice.{Choice}
 use Rattle.item_log.specs.Log.{Log}
 use Rattle.item_log.specs.Log as logs
-use Rattle.rx_io.specs.Links.{Coming, Tells}
-use Rattle.rx_io.specs.declared.journal.LinkEvent.{LinkEvent}
+use Rattle.links.specs.Links.{Coming, Tells}
+use Rattle.links.specs.declared.journal.LinkEvent.{LinkEvent}
 use Rattle.item_log.specs.Heard.{items_of}
 use Rattle.item_log.proofs.Shown.{shown_items}
 use Rattle.run_history.specs.declared.answer.Answer.{Answer}
@@ -15,9 +15,9 @@ use Rattle.guest_cpu.specs.Standing.{Standing}
 use Rattle.session_history.specs.Serving.{gone_on}
 use Rattle.session_history.specs.Ends.{IsEnd, StandsAt, EndsBy}
 use Rattle.session_history.proofs.Sessions.{serving_account}
-use Rattle.rx_io.specs.Links.{Phases, Told, Grew, events_in}
+use Rattle.links.specs.Links.{Phases, Told, Grew, events_in}
 use Rattle.rx_io.specs.Sends.{Send}
-use Rattle.rx_io.specs.declared.journal.Entry.{Entry}
+use Rattle.links.specs.declared.journal.Entry.{Entry}
 use Rattle.elf_image.specs.declared.image.Image.{Image}
 use Rattle.reply_ledger.specs.Ledger.{Ledger}
 use Rattle.run_history.specs.Machine.{Machine}
@@ -38,15 +38,15 @@ use Rattle.session_state.specs.Sessions.{SessionState}
 use Rattle.session_state.specs.Standing.{Since, Story, entries, moment, IsTold, AnswersFor, GoesWith, IsLatestDone, IsLatestBefore, HasPassedDue, HasPassed, IsGoing, IsBetween, IsWaitingFor, IsFailing, IsEnding, IsBrokenOff, HasNotedMore, unwatched}
 use Rattle.session_state.specs.Serving.{IsCounted}
 use Rattle.session_state.proofs.StoryLemmas.{on_story, told_on, account_of, journal_of_story}
-use Rattle.trial_history.proofs.Going.{steps_later}
-use Rattle.trial_plan.specs.Trying.{steps_of}
+use Rattle.trials.proofs.Going.{steps_later}
+use Rattle.recovery.specs.Trying.{steps_of}
 use Rattle.session_state.specs.Recovered.{GivesUpBy, HasNoted, IsNoteFault, AreAllTables}
-use Rattle.trial_plan.specs.Watching.{TellsMore}
+use Rattle.recovery.specs.Watching.{TellsMore}
 use Rattle.session_state.proofs.TableLemmas.{told_unwatched, tables_here}
-use Rattle.episodes.specs.declared.episode.Episode.{Episode}
-use Rattle.notes.specs.Noting.{Noted}
-use Rattle.trial_history.specs.Episodes.{episode_of}
-use Rattle.recovery_gate.specs.Handling.{HaveRings, HasHandled, stands_of}
+use Rattle.session_notes.specs.declared.episode.Episode.{Episode}
+use Rattle.session_notes.specs.Noting.{Noted}
+use Rattle.trials.specs.Episodes.{episode_of}
+use Rattle.recovery.specs.Handling.{HaveRings, HasHandled, stands_of}
 use Rattle.session_state.specs.Leaving.{HoldsCheckpoints, IsAtRequest, keeping_of}
 use Rattle.session_state.proofs.CheckpointLemmas.{HasSameSide, saved_on}
 use Rattle.session_state.proofs.HeldLemmas.{held_of, requests_on, unless_gave_up}

@@ -1,15 +1,15 @@
 -- What a session makes of an event that it heard.
 use Rattle.std.proofs.Common.{◌≡◌, ◌⊎◌, ◌+◌, ◌<◌, ℕ, ◌≤◌, true, List, [], ◌∷◌, ◌++◌, length, sym, ◌∙◌, ap, subst, arith, append_assoc}
-use Rattle.rx_io.specs.declared.journal.Entry.{Entry}
-use Rattle.rx_io.specs.declared.journal.Entry.TheVariants as entry
-use Rattle.rx_io.specs.declared.journal.LinkEvent.{LinkEvent}
-use Rattle.rx_io.specs.Links.{Phases, Told, Tells, events_in}
+use Rattle.links.specs.declared.journal.Entry.{Entry}
+use Rattle.links.specs.declared.journal.Entry.TheVariants as entry
+use Rattle.links.specs.declared.journal.LinkEvent.{LinkEvent}
+use Rattle.links.specs.Links.{Phases, Told, Tells, events_in}
 use Rattle.elf_image.specs.declared.image.Image.{Image}
 use Rattle.rx_io.specs.declared.bytes.Item.{Item}
 use Rattle.ckpt_ring.specs.Rings.{Checkpoints}
 use Rattle.guest_cpu.specs.Cpus.{CpuState}
-use Rattle.recovery_gate.specs.Rings.{KeepsRing, AreBehind, Brings}
-use Rattle.recovery_gate.proofs.RingLemmas.{ring_more}
+use Rattle.recovery.specs.Rings.{KeepsRing, AreBehind, Brings}
+use Rattle.recovery.proofs.RingLemmas.{ring_more}
 use Rattle.run_history.specs.Served.{Override, Path, AsksFor}
 use Rattle.session_history.specs.Heeding.{Bounds, heeded, items_in, received}
 use Rattle.session_history.specs.Opened.{opens}
@@ -20,7 +20,7 @@ use Rattle.session_history.proofs.Heeding.{events_in-append}
 use Rattle.session_state.specs.Sessions.{SessionState}
 use Rattle.session_state.specs.Standing.{Since, Story, entries, sends, then_story, IsTold, AnswersFor, GoesWith, KeepsCheckpoints, IsWaitingFor}
 use Rattle.session_state.specs.Leaving.{keeping_of}
-use Rattle.recovery_gate.specs.Handling.{stands_of}
+use Rattle.recovery.specs.Handling.{stands_of}
 use Rattle.session_state.proofs.HeldLemmas.{requests_by, requests_more}
 use Rattle.session_state.proofs.CheckpointLemmas.{in_force_by}
 use Rattle.session_state.proofs.GuestLemmas.{answers_as}

@@ -5,11 +5,11 @@ use Rattle.std.proofs.lemmas.Bool.{eqb-true, eq-eqb, cases_lt}
 use Rattle.std.proofs.lemmas.List.{get_or-set_other, get_or-replicate, get_or_past, length-replicate, length-append}
 use Rattle.block_book.specs.Heap.{Heap}
 use Rattle.rx_io.proofs.Composing.{rose_later}
-use Rattle.rx_io.specs.declared.journal.Entry.{Entry}
-use Rattle.rx_io.specs.declared.journal.Entry.TheVariants as entry
-use Rattle.rx_io.specs.declared.journal.LinkEvent.{LinkEvent}
-use Rattle.rx_io.specs.declared.journal.LinkEvent.TheVariants as event
-use Rattle.rx_io.specs.Links.{Phases, Told, Tells, Coming, Counts, events_in}
+use Rattle.links.specs.declared.journal.Entry.{Entry}
+use Rattle.links.specs.declared.journal.Entry.TheVariants as entry
+use Rattle.links.specs.declared.journal.LinkEvent.{LinkEvent}
+use Rattle.links.specs.declared.journal.LinkEvent.TheVariants as event
+use Rattle.links.specs.Links.{Phases, Told, Tells, Coming, Counts, events_in}
 use Rattle.rx_io.specs.Sends.{Send}
 use Rattle.elf_image.specs.declared.image.Image.{Image}
 use Rattle.msg_frame.specs.declared.framing.Framing.{Framing}
@@ -32,14 +32,14 @@ use Rattle.session_history.specs.Hearing.{closing_of, IsHeard, IsUnheeded}
 use Rattle.session_history.specs.Ends.{IsEnd, StandsAt, IsWaiting, IsLastRefused}
 use Rattle.run_history.specs.declared.answer.Answer.{Answer}
 use Rattle.run_history.specs.declared.answer.Answer.TheVariants as answer
-use Rattle.event_gate.specs.declared.heard.Heard as heard_type
-use Rattle.event_gate.specs.declared.heard.Heard.TheVariants as heard
-use Rattle.event_gate.specs.declared.heard.HearFault.{HearFault}
-use Rattle.event_gate.specs.declared.heard.HearFault.TheVariants as fault
-use Rattle.event_gate.specs.Calls.{ComesLast, IsShown, Takes, TakesBehind, HearsBy, Stays}
-use Rattle.event_gate.proofs.Ordering.{heard_some, rests_by, step_heard}
-use Rattle.event_gate.proofs.Phasing.{opens_by, opens-first, opens-last, closes-last}
-use Rattle.event_gate.proofs.Refusing.{IsEvent, events_behind, heard_behind}
+use Rattle.link_gate.specs.declared.heard.Heard as heard_type
+use Rattle.link_gate.specs.declared.heard.Heard.TheVariants as heard
+use Rattle.link_gate.specs.declared.heard.HearFault.{HearFault}
+use Rattle.link_gate.specs.declared.heard.HearFault.TheVariants as fault
+use Rattle.link_gate.specs.Calls.{ComesLast, IsShown, Takes, TakesBehind, HearsBy, Stays}
+use Rattle.link_gate.proofs.Ordering.{heard_some, rests_by, step_heard}
+use Rattle.link_gate.proofs.Phasing.{opens_by, opens-first, opens-last, closes-last}
+use Rattle.link_gate.proofs.Refusing.{IsEvent, events_behind, heard_behind}
 use Rattle.session_state.specs.declared.stop.Stop.{Stop}
 use Rattle.session_state.specs.declared.stop.Stop.TheVariants as stop
 use Rattle.session_state.specs.Options.{rules_of}

@@ -2,8 +2,8 @@
 use Rattle.std.proofs.Common.{◌≡◌, inl, inr, false, [], ◌++◌, append-nil, ◌+◌, arith, ℕ, ◌-◌, ◌≤◌, List, length, Option, None, Some, refl, sym, ◌∙◌, ap, subst}
 use Rattle.std.specs.Prelude.{IfSome, option_map, slice_get}
 use Rattle.rx_io.specs.declared.bytes.Item.{Item}
-use Rattle.rx_io.specs.declared.journal.Entry.{Entry}
-use Rattle.rx_io.specs.declared.journal.LinkEvent.{LinkEvent}
+use Rattle.links.specs.declared.journal.Entry.{Entry}
+use Rattle.links.specs.declared.journal.LinkEvent.{LinkEvent}
 use Rattle.elf_image.specs.declared.image.Image.{Image}
 use Rattle.item_log.specs.Heard.{items_of}
 use Rattle.ckpt_ring.specs.Slots.{Saved}
@@ -14,26 +14,26 @@ use Rattle.guest_cpu.specs.Standing.{Standing}
 use Rattle.session_history.specs.Heeding.{heeded, items_in}
 use Rattle.session_history.specs.Lawful.{Rules, Survivor, Chapter}
 use Rattle.session_history.specs.Giving.{AreGiven}
-use Rattle.trial_history.specs.Chains.{AreChained}
+use Rattle.trials.specs.Chains.{AreChained}
 use Rattle.session_state.specs.Sessions.{SessionState}
-use Rattle.rx_io.specs.Links.{Phases, Told}
-use Rattle.trial_history.proofs.Asking.{asks_under_all}
+use Rattle.links.specs.Links.{Phases, Told}
+use Rattle.trials.proofs.Asking.{asks_under_all}
 use Rattle.session_state.specs.Standing.{Since, Story, entries, then_story, KeepsCheckpoints, IsWaitingFor}
-use Rattle.trial_history.specs.Episodes.{Recovery}
+use Rattle.trials.specs.Episodes.{Recovery}
 use Rattle.run_history.specs.Served.{Path, Served, AsksFor}
 use Rattle.session_history.specs.Serving.{gone_on}
-use Rattle.trial_history.proofs.Planned.{past_request}
-use Rattle.recovery_gate.specs.Handling.{Keeping, Stand, is_far, handle, HaveRings, HasHandled, stands_of}
-use Rattle.recovery_gate.proofs.Handled.{near_handles, handled_near, handled_on, handled_save}
-use Rattle.recovery_gate.specs.Rings.{KeepsRing}
+use Rattle.trials.proofs.Planned.{past_request}
+use Rattle.recovery.specs.Handling.{Keeping, Stand, is_far, handle, HaveRings, HasHandled, stands_of}
+use Rattle.recovery.proofs.Handled.{near_handles, handled_near, handled_on, handled_save}
+use Rattle.recovery.specs.Rings.{KeepsRing}
 use Rattle.page_line.specs.Line.{count_true}
 use Rattle.item_log.specs.Log.{Log}
 use Rattle.reply_ledger.specs.Ledger.{Ledger}
 use Rattle.session_history.proofs.Paths.{served_same}
 use Rattle.circular_buffer.proofs.Places.{slice_get-take}
 use Rattle.guest_cpu.specs.Cpus.{CpuState}
-use Rattle.recovery_gate.specs.declared.recovering.Adopted.{Adopted}
-use Rattle.recovery_gate.specs.Recovering.{KeepsSlots}
+use Rattle.recovery.specs.declared.recovering.Adopted.{Adopted}
+use Rattle.recovery.specs.Recovering.{KeepsSlots}
 use Rattle.session_state.specs.Serving.{HasSameGuest}
 use Rattle.session_state.specs.Recovered.{IsNoteFault}
 use Rattle.session_state.specs.Leaving.{UnlessGaveUp, IsAtRequest, HandlesRequests, IsHandled, keeping_of, HoldsCheckpoints, IsTrimmed, KeepsOldest}

@@ -1,17 +1,17 @@
 -- What a link's grammar has next is told still, and a session's counts are those of its guest.
 use Rattle.std.proofs.Common.{◌≡◌, ℕ, Bool, true, ◌≤◌, Option, None, Some, Result, Ok, Err, refl, sym, ◌∙◌, ap, subst, arith, inl, inr}
 use Rattle.std.specs.Prelude.{IsSome, IsErrOf}
-use Rattle.rx_io.specs.Links.{Told, Coming}
+use Rattle.links.specs.Links.{Told, Coming}
 use Rattle.run_history.specs.declared.answer.Answer.{Answer}
 use Rattle.run_history.specs.declared.answer.Answer.TheVariants as answer
 use Rattle.session_history.specs.Ends.{IsEnd}
-use Rattle.event_gate.specs.declared.heard.Heard.{Heard}
-use Rattle.event_gate.specs.declared.heard.HearFault.{HearFault}
-use Rattle.event_gate.specs.declared.heard.HearFault.TheVariants as hear
-use Rattle.event_gate.specs.Calls.{ComesOn, TakesBehind}
+use Rattle.link_gate.specs.declared.heard.Heard.{Heard}
+use Rattle.link_gate.specs.declared.heard.HearFault.{HearFault}
+use Rattle.link_gate.specs.declared.heard.HearFault.TheVariants as hear
+use Rattle.link_gate.specs.Calls.{ComesOn, TakesBehind}
 use Rattle.guest_cpu.specs.Cpus.{CpuState}
-use Rattle.reply_gate.specs.declared.pass_fault.PassFault.{PassFault}
-use Rattle.reply_gate.specs.declared.pass_fault.PassFault.TheVariants as fault
+use Rattle.link_gate.specs.declared.pass_fault.PassFault.{PassFault}
+use Rattle.link_gate.specs.declared.pass_fault.PassFault.TheVariants as fault
 use Rattle.session_state.specs.declared.stop.Stop.{Stop}
 use Rattle.session_state.specs.declared.stop.Stop.TheVariants as stop
 use Rattle.session_state.specs.Sessions.{SessionState}

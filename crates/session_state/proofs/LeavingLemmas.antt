@@ -3,7 +3,7 @@ use Rattle.std.proofs.Common.{◌≡◌, ◌⊎◌, inl, inr, ℕ, zero, suc, �
 use Rattle.std.specs.Prelude.{◌&&◌, IfSome, slice_get}
 use Rattle.std.specs.List.{position_or_len}
 use Rattle.rx_io.specs.Sends.{Send}
-use Rattle.rx_io.specs.declared.journal.Entry.{Entry}
+use Rattle.links.specs.declared.journal.Entry.{Entry}
 use Rattle.elf_image.specs.declared.image.Image.{Image}
 use Rattle.item_log.specs.Log.{Log}
 use Rattle.item_log.specs.Log as logs
@@ -27,22 +27,22 @@ use Rattle.session_history.specs.Lawful.{Rules, Survivor, Chapter}
 use Rattle.session_history.specs.Account.{Session}
 use Rattle.session_history.specs.Ends.{IsEnd, before_end}
 use Rattle.session_history.specs.Passing.{AreBetween}
-use Rattle.trial_plan.proofs.Starting.{kept_at}
-use Rattle.recovery_gate.specs.Rings.{KeepsRing, AreBehind}
-use Rattle.recovery_gate.proofs.Walked.{behind_at}
-use Rattle.recovery_gate.proofs.ForgetLemmas.{HasOldest, has_oldest, after_oldest, oldest_of, oldest_used}
+use Rattle.recovery.proofs.Starting.{kept_at}
+use Rattle.recovery.specs.Rings.{KeepsRing, AreBehind}
+use Rattle.recovery.proofs.Walked.{behind_at}
+use Rattle.recovery.proofs.ForgetLemmas.{HasOldest, has_oldest, after_oldest, oldest_of, oldest_used}
 use Rattle.session_state.specs.Sessions.{SessionState}
-use Rattle.rx_io.specs.Links.{Coming}
+use Rattle.links.specs.Links.{Coming}
 use Rattle.std.proofs.lemmas.Option.{none-some}
 use Rattle.session_history.specs.Ends.{StandsAt, EndsBy}
-use Rattle.trial_history.specs.Episodes.{Recovery}
-use Rattle.recovery_gate.specs.Handling.{Keeping, Stand, HasHandled, stands_of}
+use Rattle.trials.specs.Episodes.{Recovery}
+use Rattle.recovery.specs.Handling.{Keeping, Stand, HasHandled, stands_of}
 use Rattle.session_state.proofs.AdoptLemmas.{asks_or_fails}
 use Rattle.session_state.specs.Leaving.{UnlessGaveUp, IsAtRequest, HandledAt, HandlesRequests, keeping_of, HoldsCheckpoints, IsRecorded, IsTrimmed, CanForgetSends, HasLeft}
 use Rattle.session_state.specs.Recovered.{IsNoteFault}
 use Rattle.session_state.proofs.HeldLemmas.{held_by}
-use Rattle.reply_gate.specs.declared.pass_fault.PassFault.{PassFault}
-use Rattle.reply_gate.specs.declared.pass_fault.PassFault.TheVariants as pass_fault
+use Rattle.link_gate.specs.declared.pass_fault.PassFault.{PassFault}
+use Rattle.link_gate.specs.declared.pass_fault.PassFault.TheVariants as pass_fault
 use Rattle.session_state.specs.Serving.{UnlessNoteFault, IsAnswerTo}
 
 -- where each send fails a test of its part, none is the first that passes it

@@ -1,7 +1,7 @@
 -- What the parts of a session ask for, where the session stands.
 use Rattle.std.proofs.Common.{◌≡◌, ℕ, zero, suc, ◌+◌, ◌-◌, ◌*◌, ◌^◌, ◌<◌, ◌≤◌, List, [], ◌∷◌, length, drop, None, refl, sym, ◌∙◌, ap, subst, arith}
 use Rattle.std.proofs.lemmas.Nat.{mul-le}
-use Rattle.rx_io.specs.Links.{Phases, Told}
+use Rattle.links.specs.Links.{Phases, Told}
 use Rattle.rx_io.specs.Sends.{Send}
 use Rattle.elf_image.specs.declared.image.Image.{Image}
 use Rattle.reply_ledger.specs.Ledger.{Ledger, IsOpened, NotBefore, times_of, with_send}

@@ -1,13 +1,13 @@
 -- What a session has noted.
 use Rattle.std.proofs.Common.{◌≡◌, ℕ, zero, suc, ◌+◌, ◌≤◌, List, [], ◌∷◌, ◌++◌, length, map, take, drop, Option, None, Some, refl, sym, ◌∙◌, ap, subst, arith, append-nil, append_assoc}
 use Rattle.block_book.specs.declared.choice.Choice.{Choice}
-use Rattle.rx_io.specs.Links.{Told, Coming, Grew}
+use Rattle.links.specs.Links.{Told, Coming, Grew}
 use Rattle.elf_image.specs.declared.image.Image.{Image}
 use Rattle.run_history.specs.declared.answer.Answer.{Answer}
-use Rattle.notes.specs.Noting.{Noted}
+use Rattle.session_notes.specs.Noting.{Noted}
 use Rattle.session_history.specs.Lawful.{Rules}
 use Rattle.session_history.specs.Ends.{IsEnd}
-use Rattle.trial_history.specs.Episodes.{episode_of}
+use Rattle.trials.specs.Episodes.{episode_of}
 use Rattle.session_state.specs.Sessions.{SessionState}
 use Rattle.session_state.specs.Recovered.{HasNoted}
 use Rattle.session_state.specs.Standing.{Since, IsEnding}

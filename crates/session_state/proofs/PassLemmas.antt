@@ -1,16 +1,16 @@
 -- What a ledger asks of a session before it passes something, and what passing makes of a story.
 use Rattle.std.proofs.Common.{◌≡◌, ℕ, zero, suc, ◌≤◌, Bool, true, false, cond, eqb, List, [], ◌∷◌, ◌++◌, drop, Option, None, Some, Ok, sym, ◌∙◌, ap, subst, arith, append_assoc}
-use Rattle.rx_io.specs.declared.journal.Entry.{Entry}
-use Rattle.rx_io.specs.Links.{Told, Tells, Coming}
+use Rattle.links.specs.declared.journal.Entry.{Entry}
+use Rattle.links.specs.Links.{Told, Tells, Coming}
 use Rattle.rx_io.specs.Sends.{Send}
 use Rattle.elf_image.specs.declared.image.Image.{Image}
 use Rattle.reply_ledger.specs.Ledger.{Ledger, Passed, stamped, stamps_of, NotBefore}
 use Rattle.reply_ledger.specs.Shows.{Shows, stamped_of}
 use Rattle.reply_ledger.specs.Parts.{next_part, rest_part}
 use Rattle.reply_ledger.proofs.RunLemmas.{stamps_of-append}
-use Rattle.reply_gate.specs.declared.pass_fault.PassFault.{PassFault}
-use Rattle.reply_gate.specs.declared.pass_fault.PassFault.TheVariants as fault
-use Rattle.reply_gate.specs.Faults.{AreStampedBy}
+use Rattle.link_gate.specs.declared.pass_fault.PassFault.{PassFault}
+use Rattle.link_gate.specs.declared.pass_fault.PassFault.TheVariants as fault
+use Rattle.link_gate.specs.Faults.{AreStampedBy}
 use Rattle.run_history.specs.declared.answer.Answer.{Answer}
 use Rattle.session_history.specs.Passing.{AreBetween, AreInOrder}
 use Rattle.session_history.specs.Lawful.{Rules, entries_of}

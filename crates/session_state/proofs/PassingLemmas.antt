@@ -4,11 +4,11 @@ use Rattle.std.specs.Prelude.{◌&&◌, ◌||◌, ◌==◌, slice_set, replicate
 use Rattle.std.specs.Option.{unwrap_or}
 use Rattle.std.proofs.lemmas.List.{get_or-set_other}
 use Rattle.std.proofs.lemmas.Bool.{true≢false, eqb-true, eq-eqb}
-use Rattle.rx_io.specs.declared.journal.Entry.{Entry}
-use Rattle.rx_io.specs.declared.journal.Entry.TheVariants as entry
-use Rattle.rx_io.specs.declared.journal.LinkEvent.{LinkEvent}
-use Rattle.rx_io.specs.declared.journal.LinkEvent.TheVariants as event
-use Rattle.rx_io.specs.Links.{Told, Tells, Grew, Coming, Phases, events_in}
+use Rattle.links.specs.declared.journal.Entry.{Entry}
+use Rattle.links.specs.declared.journal.Entry.TheVariants as entry
+use Rattle.links.specs.declared.journal.LinkEvent.{LinkEvent}
+use Rattle.links.specs.declared.journal.LinkEvent.TheVariants as event
+use Rattle.links.specs.Links.{Told, Tells, Grew, Coming, Phases, events_in}
 use Rattle.rx_io.specs.Sends.{Send}
 use Rattle.elf_image.specs.declared.image.Image.{Image}
 use Rattle.item_log.specs.Log as logs
@@ -19,22 +19,22 @@ use Rattle.item_log.specs.Connections.{none_open, rest_of, in_order}
 use Rattle.item_log.specs.Connections as logged
 use Rattle.item_log.specs.Log.{Log}
 use Rattle.item_log.specs.Heard.{Heard, hear_parts, brought, heard_from, items_of}
-use Rattle.event_gate.proofs.Phasing.{opens_by, closes_by, opens-first, closes-first, closes-last}
-use Rattle.event_gate.proofs.Ordering.{rests_by, StepHeard, step_heard}
-use Rattle.event_gate.proofs.ItemLemmas.{received_is}
+use Rattle.link_gate.proofs.Phasing.{opens_by, closes_by, opens-first, closes-first, closes-last}
+use Rattle.link_gate.proofs.Ordering.{rests_by, StepHeard, step_heard}
+use Rattle.link_gate.proofs.ItemLemmas.{received_is}
 use Rattle.session_history.proofs.Heeding.{events_in-append}
 use Rattle.reply_ledger.specs.Ledger.{Ledger, IsOpened, with_change, closed_connection}
 use Rattle.reply_ledger.specs.Ledger as ledgers
 use Rattle.reply_ledger.specs.Parts.{next_part, rest_part}
 use Rattle.reply_ledger.proofs.ConnectionLemmas.{is_open-marked, closed-falls}
-use Rattle.reply_gate.specs.declared.pass_fault.PassFault.{PassFault}
-use Rattle.reply_gate.specs.declared.pass_fault.PassFault.TheVariants as pass_fault
+use Rattle.link_gate.specs.declared.pass_fault.PassFault.{PassFault}
+use Rattle.link_gate.specs.declared.pass_fault.PassFault.TheVariants as pass_fault
 use Rattle.run_history.specs.declared.answer.Answer.{Answer}
-use Rattle.trial_history.specs.Episodes.{Recovery}
+use Rattle.trials.specs.Episodes.{Recovery}
 use Rattle.session_history.specs.Account.{Session}
 use Rattle.session_history.specs.Ends.{IsEnd, EndsBy}
 use Rattle.session_state.specs.Recovered.{HasWatched, IsNoteFault}
-use Rattle.notes.specs.Noting.{Noted}
+use Rattle.session_notes.specs.Noting.{Noted}
 use Rattle.session_state.proofs.NoteLemmas.{notes_end}
 use Rattle.session_state.proofs.FaultLemmas.{note_no_end, note_ends}
 use Rattle.session_history.specs.Heeding.{Bounds, heeded, received}
@@ -44,8 +44,8 @@ use Rattle.session_history.specs.Lawful.{Rules, is_closed_by, is_closing, Chapte
 use Rattle.session_history.specs.Giving.{AreGiven, AreDuePieces, then_entries, IsReady, IsClosing, Passes, PassesRest}
 use Rattle.session_history.specs.Serving.{moment_of, ending_at}
 use Rattle.session_history.specs.Keeping.{KeepsReplies, KeepsItems}
-use Rattle.reply_gate.proofs.MomentLemmas.{open_not_closed, due_by, due_not_gone, owed_open}
-use Rattle.reply_gate.proofs.ReplyLemmas.{nothing_waits, closed_keeps, fronts_stay}
+use Rattle.link_gate.proofs.MomentLemmas.{open_not_closed, due_by, due_not_gone, owed_open}
+use Rattle.link_gate.proofs.ReplyLemmas.{nothing_waits, closed_keeps, fronts_stay}
 use Rattle.session_state.specs.declared.stop.Stop.{Stop}
 use Rattle.session_state.specs.Sessions.{SessionState}
 use Rattle.session_state.specs.Standing.{unwatched, Since, Story, entries, moment, sends, then_story, IsTold, HasPassed, HasPassedDue, IsCloseDone, IsAsking, IsWaitingFor, IsEnding}

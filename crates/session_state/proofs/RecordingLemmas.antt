@@ -1,12 +1,12 @@
 -- What a session records while its guest waits for an item.
 use Rattle.std.proofs.Common.{◌≡◌, ℕ, ◌+◌, ◌-◌, ◌≤◌, Bool, List, length, Option, Result, Ok, sym, subst, arith}
 use Rattle.block_book.specs.declared.choice.Choice.{Choice}
-use Rattle.rx_io.specs.Links.{Phases, Told, Coming}
+use Rattle.links.specs.Links.{Phases, Told, Coming}
 use Rattle.elf_image.specs.declared.image.Image.{Image}
-use Rattle.episodes.specs.declared.episode.Episode.{Episode}
-use Rattle.notes.specs.Noting.{noted}
+use Rattle.session_notes.specs.declared.episode.Episode.{Episode}
+use Rattle.session_notes.specs.Noting.{noted}
 use Rattle.session_history.specs.Lawful.{Rules}
-use Rattle.recovery_gate.specs.Rings.{AreBehind}
+use Rattle.recovery.specs.Rings.{AreBehind}
 use Rattle.session_state.specs.Sessions.{SessionState}
 use Rattle.session_state.specs.Standing.{Since, IsWaitingFor}
 use Rattle.session_state.specs.declared.stop.Stop.{Stop}

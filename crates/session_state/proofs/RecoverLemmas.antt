@@ -1,7 +1,7 @@
 -- A failure, and what is due behind an adoption.
 use Rattle.std.proofs.Common.{◌≡◌, ℕ, ◌+◌, Bool, true, List, [], ◌∷◌, ◌++◌, Option, None, Some, Result, Ok, Err, refl, sym, ◌∙◌, subst, arith}
 use Rattle.std.specs.Prelude.{option_map}
-use Rattle.rx_io.specs.Links.{Phases, Told, Grew, Coming}
+use Rattle.links.specs.Links.{Phases, Told, Grew, Coming}
 use Rattle.elf_image.specs.declared.image.Image.{Image}
 use Rattle.reply_ledger.specs.Ledger.{Ledger}
 use Rattle.run_history.specs.declared.answer.Answer.{Answer}
@@ -11,13 +11,13 @@ use Rattle.session_state.specs.declared.stop.Stop.{Stop}
 use Rattle.session_state.specs.declared.stop.Stop.TheVariants as stop
 use Rattle.session_state.specs.Sessions.{SessionState}
 use Rattle.block_book.specs.declared.choice.Choice.{Choice}
-use Rattle.episodes.specs.declared.episode.Episode.{Episode}
-use Rattle.episodes.specs.declared.episode.Try.{Try}
-use Rattle.notes.specs.Noting.{Noted, noted}
+use Rattle.session_notes.specs.declared.episode.Episode.{Episode}
+use Rattle.session_notes.specs.declared.episode.Try.{Try}
+use Rattle.session_notes.specs.Noting.{Noted, noted}
 use Rattle.session_state.proofs.GuestLemmas.{none_noted}
 use Rattle.session_state.specs.Standing.{Since, IsGoing, IsFailing, IsEnding, IsBrokenOff, HasNotedMore}
 use Rattle.run_history.specs.declared.answer.Cause.{Cause}
-use Rattle.recovery_gate.specs.declared.recovering.Adopted.{Adopted}
+use Rattle.recovery.specs.declared.recovering.Adopted.{Adopted}
 use Rattle.std.proofs.lemmas.Option.{same_Some, none-some}
 use Rattle.session_state.specs.Serving.{CanGive, UnlessMemory, ComesBetween, AdoptsTo, HasSameOpen, TakesAtEnd, end_of}
 use Rattle.session_state.proofs.StoryLemmas.{still_takes}

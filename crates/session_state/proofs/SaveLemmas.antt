@@ -1,26 +1,26 @@
 -- A checkpoint is saved while the guest waits for an item.
 use Rattle.std.proofs.Common.{◌≡◌, ◌≤◌, ℕ, zero, suc, Bool, true, false, List, [], ◌∷◌, length, take, refl, sym, ◌∙◌, ap, subst, arith}
-use Rattle.rx_io.specs.Links.{Phases, Told}
+use Rattle.links.specs.Links.{Phases, Told}
 use Rattle.elf_image.specs.declared.image.Image.{Image}
 use Rattle.ckpt_ring.specs.Rings.{Checkpoints}
 use Rattle.run_history.specs.Served.{Override, Path, AsksFor}
 use Rattle.guest_cpu.specs.Standing.{Standing}
 use Rattle.guest_cpu.specs.Cpus.{CpuState}
 use Rattle.session_history.specs.Lawful.{Rules}
-use Rattle.trial_plan.specs.Sessions.{CanGoOn}
-use Rattle.recovery_gate.specs.Rings.{IsRingOf, KeepsRing, AreBehind, ring_if}
-use Rattle.trial_history.proofs.Going.{taken_later}
+use Rattle.recovery.specs.Sessions.{CanGoOn}
+use Rattle.recovery.specs.Rings.{IsRingOf, KeepsRing, AreBehind, ring_if}
+use Rattle.trials.proofs.Going.{taken_later}
 use Rattle.session_history.specs.Heeding.{items_in}
-use Rattle.rx_io.specs.declared.journal.Entry.{Entry}
+use Rattle.links.specs.declared.journal.Entry.{Entry}
 use Rattle.item_log.specs.Log.{Log}
 use Rattle.reply_ledger.specs.Ledger.{Ledger}
-use Rattle.recovery_gate.proofs.RingLemmas.{is_ring_of}
-use Rattle.recovery_gate.proofs.Chains.{survivor_goes}
+use Rattle.recovery.proofs.RingLemmas.{is_ring_of}
+use Rattle.recovery.proofs.Chains.{survivor_goes}
 use Rattle.ckpt_ring.specs.Rings.{from_newest}
-use Rattle.trial_history.proofs.Asking.{asks_under_all}
-use Rattle.trial_plan.specs.Sessions.{taken_in}
-use Rattle.recovery_gate.specs.Rings.{SavesIf}
-use Rattle.recovery_gate.specs.Handling.{Keeping, handle, is_far, stands_of, keeping_by}
+use Rattle.trials.proofs.Asking.{asks_under_all}
+use Rattle.recovery.specs.Sessions.{taken_in}
+use Rattle.recovery.specs.Rings.{SavesIf}
+use Rattle.recovery.specs.Handling.{Keeping, handle, is_far, stands_of, keeping_by}
 use Rattle.session_state.specs.Leaving.{HandlesRequests, keeping_of}
 use Rattle.page_line.specs.Line.{count_true}
 use Rattle.session_state.proofs.HeldLemmas.{requests_saved}

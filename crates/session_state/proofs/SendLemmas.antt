@@ -2,9 +2,9 @@
 use Rattle.std.proofs.Common.{◌≡◌, ℕ, ◌<◌, ◌≤◌, true, List, [], ◌∷◌, ◌++◌, length, Option, None, Some, Ok, refl, sym, ◌∙◌, ap, subst, arith, length-append}
 use Rattle.std.specs.Prelude.{slice_get, is_some, IsSome}
 use Rattle.rx_io.specs.declared.bytes.Item.{Item}
-use Rattle.rx_io.specs.declared.journal.LinkEvent.TheVariants as event
-use Rattle.rx_io.specs.declared.journal.LinkEvent.{LinkEvent}
-use Rattle.rx_io.specs.Links.{Phases, Told, events_in}
+use Rattle.links.specs.declared.journal.LinkEvent.TheVariants as event
+use Rattle.links.specs.declared.journal.LinkEvent.{LinkEvent}
+use Rattle.links.specs.Links.{Phases, Told, events_in}
 use Rattle.rx_io.specs.Sends.{Send}
 use Rattle.elf_image.specs.declared.image.Image.{Image}
 use Rattle.reply_ledger.specs.Ledger.{Ledger, with_send, connection_of, IsOpened}
@@ -24,10 +24,10 @@ use Rattle.session_history.specs.Opened.{opens}
 use Rattle.session_history.specs.Owing.{Moment, Latest, latest, received_before, IsMadeDue, IsDueBy, IsPassed, journal, place_at}
 use Rattle.session_history.specs.Lawful.{Rules}
 use Rattle.session_history.specs.Keeping.{IsSendable, KeepsReplies, KeepsItems}
-use Rattle.reply_gate.proofs.ReplyLemmas.{sent_keeps}
+use Rattle.link_gate.proofs.ReplyLemmas.{sent_keeps}
 use Rattle.session_state.specs.Sessions.{SessionState}
 use Rattle.session_state.specs.Standing.{Since, Story, entries, moment, sends, GoesWith, IsLatestDone, IsLatestBefore, HasPassed, IsGoing, IsBetween, IsWaitingFor}
-use Rattle.recovery_gate.specs.Handling.{stands_of}
+use Rattle.recovery.specs.Handling.{stands_of}
 use Rattle.session_state.specs.Leaving.{keeping_of, IsHandled}
 use Rattle.session_state.proofs.HeldLemmas.{requests_on, requests_taken, waits_handled}
 use Rattle.session_state.specs.Serving.{IsCounted}

@@ -1,7 +1,7 @@
 -- Where the guest of a session has run to an event.
 use Rattle.std.proofs.Common.{◌≡◌, ℕ, Bool, List, [], ◌∷◌, ◌++◌, Option, Ok, sym, ◌∙◌, ap, subst}
 use Rattle.block_book.specs.declared.choice.Choice.{Choice}
-use Rattle.rx_io.specs.Links.{Phases, Told, Coming}
+use Rattle.links.specs.Links.{Phases, Told, Coming}
 use Rattle.elf_image.specs.declared.image.Image.{Image}
 use Rattle.reply_ledger.specs.Ledger.{Ledger, with_send}
 use Rattle.run_history.specs.declared.answer.Answer.TheVariants as answer

@@ -1,9 +1,9 @@
 -- A settle, and the close of a connection: what is made owed, and that it was passed.
 use Rattle.std.proofs.Common.{◌≡◌, ℕ, ◌≤◌, true, false, List, [], ◌∷◌, ◌++◌, Option, None, Some, refl, sym, ◌∙◌, ap, subst, inr, arith}
 use Rattle.std.specs.Prelude.{◌&&◌}
-use Rattle.rx_io.specs.declared.journal.Entry.TheVariants as entry
-use Rattle.rx_io.specs.declared.journal.LinkEvent.TheVariants as event
-use Rattle.rx_io.specs.Links.{Told, events_in}
+use Rattle.links.specs.declared.journal.Entry.TheVariants as entry
+use Rattle.links.specs.declared.journal.LinkEvent.TheVariants as event
+use Rattle.links.specs.Links.{Told, events_in}
 use Rattle.rx_io.specs.Sends.{Send}
 use Rattle.elf_image.specs.declared.image.Image.{Image}
 use Rattle.reply_ledger.specs.Ledger.{Ledger}
@@ -15,7 +15,7 @@ use Rattle.session_history.specs.Passing.{passed_in, AreBetween}
 use Rattle.session_history.specs.Lawful.{Rules, is_closed_by, is_closing}
 use Rattle.session_history.specs.Giving.{AreFronts, IsReady, IsClosing}
 use Rattle.session_history.specs.Keeping.{KeepsReplies}
-use Rattle.reply_gate.proofs.ReplyLemmas.{nothing_waits, no_rest}
+use Rattle.link_gate.proofs.ReplyLemmas.{nothing_waits, no_rest}
 use Rattle.session_state.specs.Standing.{Since, Story, entries, moment, sends, then_story, IsTold, IsLatestDone}
 use Rattle.session_state.proofs.ArmLemmas.{latest_story}
 

@@ -1,7 +1,7 @@
 -- Where a session stands at its begin, and after each turn.
 use Rattle.std.proofs.Common.{inl, ◌-◌, ◌≡◌, ℕ, zero, suc, ◌+◌, ◌*◌, ◌/◌, ◌≤◌, Bool, true, false, List, [], ◌∷◌, ◌++◌, length, take, drop, Option, None, refl, sym, ◌∙◌, ap, subst, arith}
 use Rattle.block_book.specs.Heap.{Heap}
-use Rattle.rx_io.specs.Links.{Phases, Told, Grew, Coming, IsFresh, Counts}
+use Rattle.links.specs.Links.{Phases, Told, Grew, Coming, IsFresh, Counts}
 use Rattle.elf_image.specs.declared.image.Image.{Image}
 use Rattle.item_log.specs.Log as logs
 use Rattle.reply_ledger.specs.Ledger.{Ledger, no_replies}
@@ -11,9 +11,9 @@ use Rattle.reply_ledger.specs.Ledger as ledgers
 use Rattle.alloc_env.specs.declared.env.Env.TheVariants.{Plain}
 use Rattle.ckpt_ring.specs.Rings.{Checkpoints}
 use Rattle.guest_cpu.specs.Cpus.{CpuState}
-use Rattle.trial_history.proofs.Survivors.{recovered_first}
-use Rattle.recovery_gate.specs.Rings.{KeepsRing}
-use Rattle.recovery_gate.proofs.Forces.{in_force_none}
+use Rattle.trials.proofs.Survivors.{recovered_first}
+use Rattle.recovery.specs.Rings.{KeepsRing}
+use Rattle.recovery.proofs.Forces.{in_force_none}
 use Rattle.run_history.specs.Served.{origin}
 use Rattle.guest_cpu.specs.Standing.{Standing}
 use Rattle.guest_cpu.specs.Serving.{standing_of}
@@ -33,16 +33,16 @@ use Rattle.session_history.proofs.Paths.{served_same}
 use Rattle.session_history.proofs.Sessions.{serving_first}
 use Rattle.session_state.specs.Options.{rules_of, keeping_for}
 use Rattle.session_state.specs.Sessions.{SessionState, IsBegun}
-use Rattle.notes.specs.Noting.{Noted}
-use Rattle.episodes.specs.declared.episode.Try.{Try}
+use Rattle.session_notes.specs.Noting.{Noted}
+use Rattle.session_notes.specs.declared.episode.Try.{Try}
 use Rattle.session_state.specs.Recovered.{AreTables}
 use Rattle.session_state.proofs.TableLemmas.{tells_none}
 use Rattle.session_state.proofs.GuestLemmas.{none_noted}
 use Rattle.session_state.specs.Standing.{Since, Story, IsBetween, told_since}
 use Rattle.session_state.proofs.CheckpointLemmas.{in_force_by}
 use Rattle.session_state.proofs.TellLemmas.{tells_same}
-use Rattle.recovery_gate.specs.Handling.{alone, stands_of, keeping_by}
-use Rattle.recovery_gate.proofs.Handled.{handled_first}
+use Rattle.recovery.specs.Handling.{alone, stands_of, keeping_by}
+use Rattle.recovery.proofs.Handled.{handled_first}
 use Rattle.session_state.specs.Leaving.{IsTrimmed, keeping_of}
 use Rattle.session_state.proofs.LeavingLemmas.{start_trimmed}
 use Rattle.session_state.specs.Serving.{CanGive, StaysKnown, IsCounted, HasSameFrame}

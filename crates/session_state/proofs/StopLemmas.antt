@@ -3,11 +3,11 @@ use Rattle.std.proofs.Common.{◌≡◌, ℕ, ◌+◌, ◌≤◌, Bool, true, fa
 use Rattle.std.specs.Prelude.{◌&&◌, ◌==◌, not, unwrap_or, IfSome}
 use Rattle.std.proofs.lemmas.Bool.{eqb-true, true≢false}
 use Rattle.rx_io.specs.declared.bytes.Item.{Item}
-use Rattle.rx_io.specs.declared.journal.Entry.{Entry}
-use Rattle.rx_io.specs.declared.journal.Entry.TheVariants as entry
-use Rattle.rx_io.specs.declared.journal.LinkEvent.{LinkEvent}
-use Rattle.rx_io.specs.declared.journal.LinkEvent.TheVariants as event
-use Rattle.rx_io.specs.Links.{Phases, Told, Tells, Coming, Comes, Refuses, events_in, last_taken, HasEnded}
+use Rattle.links.specs.declared.journal.Entry.{Entry}
+use Rattle.links.specs.declared.journal.Entry.TheVariants as entry
+use Rattle.links.specs.declared.journal.LinkEvent.{LinkEvent}
+use Rattle.links.specs.declared.journal.LinkEvent.TheVariants as event
+use Rattle.links.specs.Links.{Phases, Told, Tells, Coming, Comes, Refuses, events_in, last_taken, HasEnded}
 use Rattle.rx_io.specs.Sends.{Send, sent_to}
 use Rattle.elf_image.specs.declared.image.Image.{Image}
 use Rattle.item_log.specs.Log.{Log}
@@ -22,9 +22,9 @@ use Rattle.session_history.specs.Opened.{opens, closes, is_gone, is_open}
 use Rattle.session_history.specs.Passing.{passed_in}
 use Rattle.rx_io.specs.Prefix.{Prefix}
 use Rattle.session_history.proofs.Heeding.{passed_in-took}
-use Rattle.reply_gate.proofs.MomentLemmas.{due_by, due_not_gone}
-use Rattle.event_gate.proofs.Refusing.{IsEvent, events_ended, heeded_without}
-use Rattle.event_gate.proofs.Knowing.{gone-took}
+use Rattle.link_gate.proofs.MomentLemmas.{due_by, due_not_gone}
+use Rattle.link_gate.proofs.Refusing.{IsEvent, events_ended, heeded_without}
+use Rattle.link_gate.proofs.Knowing.{gone-took}
 use Rattle.session_history.specs.Owing.{Moment, journal, latest, IsDueBy, place_at}
 use Rattle.session_history.specs.Lawful.{Rules, is_closed_by, is_closing}
 use Rattle.session_history.specs.Keeping.{KeepsReplies}
@@ -40,8 +40,8 @@ use Rattle.session_state.specs.Recovered.{GivesUpBy}
 use Rattle.guest_cpu.specs.Cpus.{CpuState}
 use Rattle.guest_cpu.specs.Serving.{standing_of}
 use Rattle.session_history.proofs.Paths.{served_same}
-use Rattle.recovery_gate.specs.Handling.{HaveRings, HasHandled, stands_of}
-use Rattle.recovery_gate.proofs.Handled.{handled_on}
+use Rattle.recovery.specs.Handling.{HaveRings, HasHandled, stands_of}
+use Rattle.recovery.proofs.Handled.{handled_on}
 use Rattle.session_state.specs.Leaving.{HoldsCheckpoints, IsHandled, keeping_of}
 use Rattle.session_state.proofs.HeldLemmas.{held_by, held_as, held_of, rings_kept, handled_by, waits_handled, unless_gave_up}
 use Rattle.session_state.proofs.EventLemmas.{IsNoEnd, owes_nothing, told_event, latest-took, latest-ended}

@@ -1,7 +1,7 @@
 -- A story goes on: its survivor, or its entries.
 use Rattle.std.proofs.Common.{◌≡◌, ◌≤◌, Bool, true, false, [], ◌++◌, sym, ◌∙◌, ap, append-nil}
 use Rattle.std.proofs.lemmas.Bool.{true≢false}
-use Rattle.rx_io.specs.Links.{Told}
+use Rattle.links.specs.Links.{Told}
 use Rattle.elf_image.specs.declared.image.Image.{Image}
 use Rattle.run_history.specs.Served.{Path, Served}
 use Rattle.session_history.specs.Heeding.{items_in, received}
@@ -10,7 +10,7 @@ use Rattle.session_history.specs.Account.{Session, journal_of}
 use Rattle.session_history.specs.Serving.{gone_on, first_survivor}
 use Rattle.session_history.proofs.Paths.{served_on}
 use Rattle.session_history.proofs.Sessions.{serving_on}
-use Rattle.trial_history.proofs.Survivors.{recovered_on}
+use Rattle.trials.proofs.Survivors.{recovered_on}
 use Rattle.session_state.specs.Standing.{Since, Story, entries, IsTold}
 
 -- the story with its survivor at another path

@@ -1,22 +1,22 @@
 -- The tables that a watch tells of a session.
 use Rattle.std.proofs.Common.{◌≡◌, ◌+◌, ℕ, Bool, List, [], ◌∷◌, ◌++◌, length, Option, None, Some, refl, sym, ◌∙◌, ap, subst, arith, append-nil, append_assoc}
 use Rattle.std.specs.Prelude.{◌≢◌}
-use Rattle.rx_io.specs.declared.journal.Entry.{Entry}
-use Rattle.rx_io.specs.Links.{Told, Coming}
+use Rattle.links.specs.declared.journal.Entry.{Entry}
+use Rattle.links.specs.Links.{Told, Coming}
 use Rattle.block_book.specs.declared.choice.Choice.{Choice}
-use Rattle.notes.specs.Noting.{Noted}
+use Rattle.session_notes.specs.Noting.{Noted}
 use Rattle.session_history.specs.Account.{Session}
 use Rattle.elf_image.specs.declared.image.Image.{Image}
 use Rattle.run_history.specs.declared.answer.Answer.{Answer}
 use Rattle.run_history.specs.declared.answer.Answer.TheVariants as answer
 use Rattle.run_history.specs.declared.answer.Cause.{Cause}
 use Rattle.session_history.specs.Lawful.{Rules, Survivor, Chapter, entries_of}
-use Rattle.episodes.specs.declared.episode.Episode.{Episode}
-use Rattle.episodes.specs.declared.episode.Try.{Try}
-use Rattle.trial_history.specs.Tables.{Trial}
-use Rattle.trial_history.specs.Episodes.{Recovery}
-use Rattle.trial_plan.specs.Watching.{TellsMore}
-use Rattle.recovery_gate.specs.Handling.{Keeping}
+use Rattle.session_notes.specs.declared.episode.Episode.{Episode}
+use Rattle.session_notes.specs.declared.episode.Try.{Try}
+use Rattle.trials.specs.Tables.{Trial}
+use Rattle.trials.specs.Episodes.{Recovery}
+use Rattle.recovery.specs.Watching.{TellsMore}
+use Rattle.recovery.specs.Handling.{Keeping}
 use Rattle.session_state.specs.Recovered.{HasRecovered, HasWatched, HasGivenUp, told_of, IsTable, AreTables, AreLastTables, AreAllTables}
 use Rattle.session_state.specs.Standing.{Since, Story, entries, unwatched, IsTold}
 

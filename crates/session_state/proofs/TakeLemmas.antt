@@ -3,8 +3,8 @@ use Rattle.std.proofs.Common.{◌≡◌, ℕ, ◌^◌, ◌<◌, ◌≤◌, Bool,
 use Rattle.std.specs.Prelude.{is_none, nat_le, nat_lt, slice_get}
 use Rattle.std.proofs.lemmas.Bool.{true≢false, ltb-false}
 use Rattle.rx_io.specs.declared.bytes.Item.{Item}
-use Rattle.rx_io.specs.declared.journal.LinkEvent.{LinkEvent}
-use Rattle.rx_io.specs.Links.{Phases, Told, events_in}
+use Rattle.links.specs.declared.journal.LinkEvent.{LinkEvent}
+use Rattle.links.specs.Links.{Phases, Told, events_in}
 use Rattle.elf_image.specs.declared.image.Image.{Image}
 use Rattle.msg_frame.specs.declared.framing.Framing.{Framing}
 use Rattle.item_log.specs.Heard.{heard, items_from, items_of}
@@ -18,7 +18,7 @@ use Rattle.guest_cpu.specs.Standing.{Standing}
 use Rattle.guest_runs.proofs.TakeLemmas.{asks_wants}
 use Rattle.session_history.specs.Heeding.{Bounds, Unheeded, LimitEvents, TooLong, LimitItems, refusal, heeded, heeded_behind, items_in, received}
 use Rattle.session_history.specs.Lawful.{Rules}
-use Rattle.event_gate.proofs.ItemLemmas.{item_is, item_fits, opened_items}
+use Rattle.link_gate.proofs.ItemLemmas.{item_is, item_fits, opened_items}
 use Rattle.session_state.specs.Leaving.{IsHandled}
 use Rattle.session_state.specs.Sessions.{SessionState}
 use Rattle.session_state.specs.Standing.{Since, entries, IsGoing, IsWaitingFor}

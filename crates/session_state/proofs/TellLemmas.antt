@@ -1,8 +1,8 @@
 -- What a link tells over several calls.
 use Rattle.std.proofs.Common.{◌≡◌, List, [], ◌∷◌, ◌++◌, Option, None, Some, refl, sym, ◌∙◌, ap, subst, append-nil, append_assoc}
-use Rattle.rx_io.specs.declared.journal.Entry.{Entry}
-use Rattle.rx_io.specs.declared.journal.Entry.TheVariants as entry
-use Rattle.rx_io.specs.Links.{Told, Tells, Grew, events_in, pieces_in}
+use Rattle.links.specs.declared.journal.Entry.{Entry}
+use Rattle.links.specs.declared.journal.Entry.TheVariants as entry
+use Rattle.links.specs.Links.{Told, Tells, Grew, events_in, pieces_in}
 use Rattle.session_history.proofs.Heeding.{events_in-append}
 
 -- a list that is told grew twice

@@ -4,7 +4,7 @@ use Rattle.std.specs.Prelude.{IfOk}
 use Rattle.std.specs.declared.alloc.AllocError.{AllocError}
 use Rattle.block_book.specs.declared.choice.Choice.{Choice}
 use Rattle.block_book.specs.Heap.{Heap}
-use Rattle.rx_io.specs.Links.{Phases, Told, Coming}
+use Rattle.links.specs.Links.{Phases, Told, Coming}
 use Rattle.elf_image.specs.declared.image.Image.{Image}
 use Rattle.alloc_env.specs.declared.env.Env.{Env}
 use Rattle.alloc_env.specs.declared.env.Env.TheVariants.{Plain}

@@ -1,6 +1,6 @@
 -- What a session leaves: the checkpoints of the run that it answers for, and what a trial from them would need.
 use Rattle.std.specs.Prelude.{◌≡◌, ◌⊎◌, false, [], ℕ, ◌+◌, ◌-◌, ◌<◌, ◌≤◌, List, length, None, Some, IfSome, option_map, slice_get}
-use Rattle.rx_io.specs.declared.journal.Entry.{Entry}
+use Rattle.links.specs.declared.journal.Entry.{Entry}
 use Rattle.elf_image.specs.declared.image.Image.{Image}
 use Rattle.ckpt_ring.specs.Rings.{from_newest}
 use Rattle.run_history.specs.declared.answer.Answer.{Answer}
@@ -11,9 +11,9 @@ use Rattle.session_history.specs.Heeding.{items_in}
 use Rattle.session_history.specs.Lawful.{Rules, Survivor, Chapter}
 use Rattle.session_history.specs.Account.{Session}
 use Rattle.session_history.specs.Ends.{IsEnd, before_end}
-use Rattle.trial_history.specs.Chains.{AreCheckpoints, AreChained}
-use Rattle.trial_history.specs.Episodes.{Recovery}
-use Rattle.recovery_gate.specs.Handling.{Keeping, Stand, is_far, HasHandled, stands_of, keeping_by}
+use Rattle.trials.specs.Chains.{AreCheckpoints, AreChained}
+use Rattle.trials.specs.Episodes.{Recovery}
+use Rattle.recovery.specs.Handling.{Keeping, Stand, is_far, HasHandled, stands_of, keeping_by}
 use Rattle.session_state.specs.Sessions.{SessionState}
 
 -- an end but that at which no trial survived

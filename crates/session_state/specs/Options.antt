@@ -3,7 +3,7 @@ use Rattle.std.specs.Prelude.{ℕ, ◌*◌, ◌/◌, ◌≤◌, ◌^◌, Bool}
 use Rattle.block_book.specs.Heap.{Heap}
 use Rattle.rv_exec.specs.Stepping.{limits_of}
 use Rattle.session_history.specs.Lawful.{Rules}
-use Rattle.recovery_gate.specs.Handling.{Keeping}
+use Rattle.recovery.specs.Handling.{Keeping}
 use Rattle.session_state.specs.declared.options.Options.{Options}
 
 -- each number is in its range

@@ -1,7 +1,7 @@
 -- What a session records of its run's answers of malloc.
 use Rattle.std.specs.Prelude.{◌≡◌, ℕ, ◌+◌, ◌-◌, List, take, drop, Option, Result, Ok, Err}
 use Rattle.block_book.specs.declared.choice.Choice.{Choice}
-use Rattle.rx_io.specs.Links.{Grew}
+use Rattle.links.specs.Links.{Grew}
 use Rattle.rx_io.specs.declared.fault.IoFault.{IoFault}
 
 -- Of the answers behind the first recorded ones those up to the first safe ones were noted, and left the list. Where noting failed nothing changed.

@@ -3,9 +3,9 @@ use Rattle.std.specs.Prelude.{◌≡◌, ◌≢◌, ◌⊎◌, ℕ, ◌+◌, ◌
 use Rattle.session_history.specs.Heeding.{items_in}
 use Rattle.session_history.specs.Passing.{passed_in}
 use Rattle.block_book.specs.declared.choice.Choice.{Choice}
-use Rattle.rx_io.specs.Links.{Told, Coming, Grew}
+use Rattle.links.specs.Links.{Told, Coming, Grew}
 use Rattle.elf_image.specs.declared.image.Image.{Image}
-use Rattle.rx_io.specs.declared.journal.Entry.{Entry}
+use Rattle.links.specs.declared.journal.Entry.{Entry}
 use Rattle.run_history.specs.declared.answer.Answer.{Answer}
 use Rattle.run_history.specs.declared.answer.Answer.TheVariants as answer
 use Rattle.run_history.specs.declared.answer.Cause.{Cause}
@@ -13,14 +13,14 @@ use Rattle.run_history.specs.Served.{Path}
 use Rattle.session_history.specs.Lawful.{Rules, Survivor, Chapter, entries_of, LeavesNothing}
 use Rattle.session_history.specs.Serving.{first_survivor}
 use Rattle.session_history.specs.Ends.{IsEnd, HasServed}
-use Rattle.trial_history.specs.Tables.{Trial, survivor_in}
-use Rattle.episodes.specs.declared.episode.Episode.{Episode}
-use Rattle.episodes.specs.declared.episode.Try.{Try}
-use Rattle.notes.specs.Noting.{Noted}
-use Rattle.trial_history.specs.Episodes.{Recovery, point_of, episode_of, IsRecovery, AreRecovered}
-use Rattle.trial_plan.specs.Trying.{steps_of}
-use Rattle.recovery_gate.specs.Handling.{Keeping, Stand, HasRing, HaveRings, HasHandled}
-use Rattle.trial_plan.specs.Watching.{IsWholeTable, TellsMore}
+use Rattle.trials.specs.Tables.{Trial, survivor_in}
+use Rattle.session_notes.specs.declared.episode.Episode.{Episode}
+use Rattle.session_notes.specs.declared.episode.Try.{Try}
+use Rattle.session_notes.specs.Noting.{Noted}
+use Rattle.trials.specs.Episodes.{Recovery, point_of, episode_of, IsRecovery, AreRecovered}
+use Rattle.recovery.specs.Trying.{steps_of}
+use Rattle.recovery.specs.Handling.{Keeping, Stand, HasRing, HaveRings, HasHandled}
+use Rattle.recovery.specs.Watching.{IsWholeTable, TellsMore}
 
 -- How many instructions were done before a survivor began: those of each survivor before it, from where it began to where it failed, and
 -- those of all trials, each from its checkpoint.

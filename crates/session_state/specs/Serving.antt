@@ -1,11 +1,11 @@
 -- What the parts of a session's code make of it.
 use Rattle.std.specs.declared.alloc.AllocError.{AllocError}
 use Rattle.std.specs.Prelude.{◌≡◌, ◌≢◌, ◌⊎◌, ℕ, ◌+◌, ◌<◌, ◌≤◌, List, length, Bool, true, false, Option, None, Some, IsSome, option_map, [], ◌∷◌, Result, Ok, Err, IsErrOf}
-use Rattle.rx_io.specs.declared.journal.Entry.{Entry}
+use Rattle.links.specs.declared.journal.Entry.{Entry}
 use Rattle.rx_io.specs.Faults.{Rose}
 use Rattle.rx_io.specs.declared.fault.IoFault.{IoFault}
 use Rattle.rx_io.specs.declared.fault.IoFault.TheVariants as note
-use Rattle.rx_io.specs.Links.{Phases, Told, Grew, Coming, Counts}
+use Rattle.links.specs.Links.{Phases, Told, Grew, Coming, Counts}
 use Rattle.rx_io.specs.Sends.{Send}
 use Rattle.elf_image.specs.declared.image.Image.{Image}
 use Rattle.item_log.specs.Log as logs
@@ -25,14 +25,14 @@ use Rattle.session_history.specs.Lawful.{Rules}
 use Rattle.session_history.specs.Keeping.{KeepsReplies}
 use Rattle.session_history.specs.Ends.{IsEnd, WasAsked}
 use Rattle.session_history.specs.Giving.{AreGiven, IsClosing}
-use Rattle.reply_gate.specs.declared.pass_fault.PassFault.{PassFault}
-use Rattle.reply_gate.specs.declared.pass_fault.PassFault.TheVariants as fault
-use Rattle.event_gate.specs.declared.heard.HearFault.{HearFault}
-use Rattle.event_gate.specs.declared.heard.HearFault.TheVariants as hear
-use Rattle.recovery_gate.specs.declared.recovering.Adopted.{Adopted}
-use Rattle.recovery_gate.specs.declared.recovering.Recovered.{Recovered}
-use Rattle.notes.specs.Noting.{Noted}
-use Rattle.episodes.specs.declared.episode.Try.{Try}
+use Rattle.link_gate.specs.declared.pass_fault.PassFault.{PassFault}
+use Rattle.link_gate.specs.declared.pass_fault.PassFault.TheVariants as fault
+use Rattle.link_gate.specs.declared.heard.HearFault.{HearFault}
+use Rattle.link_gate.specs.declared.heard.HearFault.TheVariants as hear
+use Rattle.recovery.specs.declared.recovering.Adopted.{Adopted}
+use Rattle.recovery.specs.declared.recovering.Recovered.{Recovered}
+use Rattle.session_notes.specs.Noting.{Noted}
+use Rattle.session_notes.specs.declared.episode.Try.{Try}
 use Rattle.session_state.specs.declared.stop.Stop.{Stop}
 use Rattle.session_state.specs.declared.stop.Stop.TheVariants as stop
 use Rattle.session_state.specs.Sessions.{SessionState, IsBegun}

@@ -1,7 +1,7 @@
 -- Where a session stands between two events of its guest.
 use Rattle.std.specs.Prelude.{◌≡◌, ◌≢◌, ◌⊎◌, ℕ, ◌+◌, ◌<◌, ◌≤◌, List, [], ◌++◌, length, map, take, drop, true, false, Option, None, Some}
-use Rattle.rx_io.specs.declared.journal.Entry.{Entry}
-use Rattle.rx_io.specs.Links.{Phases, Told, Tells, Coming, Grew, events_in}
+use Rattle.links.specs.declared.journal.Entry.{Entry}
+use Rattle.links.specs.Links.{Phases, Told, Tells, Coming, Grew, events_in}
 use Rattle.rx_io.specs.Sends.{Send}
 use Rattle.elf_image.specs.declared.image.Image.{Image}
 use Rattle.reply_ledger.specs.Ledger.{Ledger}
@@ -22,18 +22,18 @@ use Rattle.session_history.specs.Serving.{moment_of, Serving, first_survivor}
 use Rattle.session_history.specs.Keeping.{KeepsReplies, KeepsItems, KeepsPhases}
 use Rattle.session_history.specs.Giving.{AreGiven}
 use Rattle.session_history.specs.Ends.{IsEnd, IsWaiting, StandsAt, EndsBy, before_end}
-use Rattle.trial_history.specs.Tables.{Trial}
-use Rattle.trial_plan.specs.Trying.{steps_of}
+use Rattle.trials.specs.Tables.{Trial}
+use Rattle.recovery.specs.Trying.{steps_of}
 use Rattle.session_state.specs.Recovered.{spent, GivesUpBy, AreLastTrials, HasNoted, IsNoteFault, AreTables, AreAllTables}
-use Rattle.recovery_gate.specs.Handling.{HaveRings, HasHandled, stands_of}
+use Rattle.recovery.specs.Handling.{HaveRings, HasHandled, stands_of}
 use Rattle.session_state.specs.Leaving.{HoldsCheckpoints, UnlessGaveUp, IsAtRequest, HandlesRequests, keeping_of}
-use Rattle.trial_plan.specs.Watching.{TellsMore}
-use Rattle.trial_history.specs.Episodes.{Recovery, episode_of, AreRecovered}
-use Rattle.recovery_gate.specs.Rings.{KeepsRing, AreBehind, IsInForce}
+use Rattle.recovery.specs.Watching.{TellsMore}
+use Rattle.trials.specs.Episodes.{Recovery, episode_of, AreRecovered}
+use Rattle.recovery.specs.Rings.{KeepsRing, AreBehind, IsInForce}
 use Rattle.block_book.specs.declared.choice.Choice.{Choice}
-use Rattle.episodes.specs.declared.episode.Episode.{Episode}
-use Rattle.episodes.specs.declared.episode.Try.{Try}
-use Rattle.notes.specs.Noting.{Noted}
+use Rattle.session_notes.specs.declared.episode.Episode.{Episode}
+use Rattle.session_notes.specs.declared.episode.Try.{Try}
+use Rattle.session_notes.specs.Noting.{Noted}
 use Rattle.session_state.specs.Sessions.{SessionState}
 
 -- a session so far, as data: the chapters of earlier survivors, with the recovery behind each, the survivor, and the entries of its time

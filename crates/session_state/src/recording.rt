@@ -4,8 +4,8 @@ ghost use Rattle.rx_io.specs.Faults.{HasCause};
 ghost use Rattle.session_state.specs.Recording.{NotesUpTo};
 
 use block_book::Choice;
-use notes::Notes;
 use rx_io::IoFault;
+use session_notes::Notes;
 
 /// Notes the answers of malloc up to the first `safe` ones of a run, of which the first `recorded` ones are noted, and `choices` are those behind
 /// them. What is noted now leaves the list.

@@ -7,13 +7,13 @@ use Rattle.rx_io.proofs.Composing.{took_same, gave_same}
 use Rattle.rx_io.specs.Outside.{Stream, Took}
 use Rattle.std.specs.Io.KnownBytes.{Appends, Keeps}
 use Rattle.rx_io.specs.Prefix.{Prefix}
-use Rattle.rx_io.specs.Links.{Phases}
+use Rattle.links.specs.Links.{Phases}
 use Rattle.rx_io.specs.declared.fault.IoFault.{IoFault}
 use Rattle.rx_io.specs.declared.fault.IoFault.TheVariants as io
-use Rattle.rx_io.specs.declared.journal.LinkEvent.{LinkEvent}
-use Rattle.rx_io.specs.declared.journal.LinkEvent.TheVariants as event
-use Rattle.rx_io.specs.declared.journal.LinkFault.{LinkFault}
-use Rattle.rx_io.specs.declared.journal.LinkFault.TheVariants.{Refused, ReadFault, WriteFault, Memory}
+use Rattle.links.specs.declared.journal.LinkEvent.{LinkEvent}
+use Rattle.links.specs.declared.journal.LinkEvent.TheVariants as event
+use Rattle.links.specs.declared.journal.LinkFault.{LinkFault}
+use Rattle.links.specs.declared.journal.LinkFault.TheVariants.{Refused, ReadFault, WriteFault, Memory}
 use Rattle.trunk_wire.specs.CallLaws.{reads_more}
 use Rattle.trunk_wire.specs.Calls.{Reads, Writes, count_after, Brings, IsRefused, TakesBy, WritesBy, Behind, read_fault, write_fault}
 use Rattle.trunk_wire.specs.Frames.{header_bytes, IsFrameOf, piece_frame}

@@ -1,16 +1,16 @@
 -- What a trunk tells after a piece was given.
 use Rattle.std.proofs.Common.{◌≡◌, ℕ, ◌+◌, ◌-◌, ◌^◌, ◌<◌, ◌≤◌, nat_le, Bool, true, false, List, [], ◌∷◌, ◌++◌, length, drop, Option, None, Some, option_map, IfSome, Result, Ok, Err, is_ok, if◌then◌else◌, arith, append-nil, length-append, refl, sym, ap, ◌∙◌, subst}
 use Rattle.std.proofs.Math.Seq.{drop-length}
-use Rattle.rx_io.specs.Links.{Phases, IsFresh, Grew, Tells, Gives, Cuts, events_in, pieces_in, cut_entries, Piece}
+use Rattle.links.specs.Links.{Phases, IsFresh, Grew, Tells, Gives, Cuts, events_in, pieces_in, cut_entries, Piece}
 use Rattle.rx_io.specs.Outside.{Stream}
 use Rattle.rx_io.specs.Prefix.{Prefix}
-use Rattle.rx_io.specs.declared.journal.Entry.{Entry}
-use Rattle.rx_io.specs.declared.journal.Entry.TheVariants as entry
-use Rattle.rx_io.specs.declared.journal.Given.{Given}
-use Rattle.rx_io.specs.declared.journal.Given.TheVariants.{All, Gone}
-use Rattle.rx_io.specs.declared.journal.LinkEvent.{LinkEvent}
-use Rattle.rx_io.specs.declared.journal.LinkFault.{LinkFault}
-use Rattle.rx_io.specs.declared.journal.LinkFault.TheVariants.{Refused, ReadFault, WriteFault, Memory}
+use Rattle.links.specs.declared.journal.Entry.{Entry}
+use Rattle.links.specs.declared.journal.Entry.TheVariants as entry
+use Rattle.links.specs.declared.journal.Given.{Given}
+use Rattle.links.specs.declared.journal.Given.TheVariants.{All, Gone}
+use Rattle.links.specs.declared.journal.LinkEvent.{LinkEvent}
+use Rattle.links.specs.declared.journal.LinkFault.{LinkFault}
+use Rattle.links.specs.declared.journal.LinkFault.TheVariants.{Refused, ReadFault, WriteFault, Memory}
 use Rattle.trunk_wire.specs.Calls.{Writes, WritesBy, count_after}
 use Rattle.trunk_wire.specs.Frames.{piece_frame}
 use Rattle.trunk_wire.specs.Parts.{put_bytes, last_bytes}

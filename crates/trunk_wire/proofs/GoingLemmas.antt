@@ -1,15 +1,15 @@
 -- One call on a trunk, as a part of how it goes on.
 use Rattle.std.proofs.Common.{◌≡◌, ℕ, ◌^◌, ◌<◌, Bool, true, false, List, [], ◌∷◌, ◌++◌, length, Option, None, Some, IsSome, Result, Ok, Err, is_ok, append-nil, refl, sym, ◌∙◌, subst}
 use Rattle.std.proofs.lemmas.List.Elements.{All-cons, All-nil}
-use Rattle.rx_io.specs.Links.{Phases, Enters, IsInOrder, phases_after, Piece, StillComes}
+use Rattle.links.specs.Links.{Phases, Enters, IsInOrder, phases_after, Piece, StillComes}
 use Rattle.rx_io.specs.Outside.{Stream, IsDrained}
 use Rattle.rx_io.specs.Prefix.{Prefix}
-use Rattle.rx_io.specs.declared.journal.Given.{Given}
-use Rattle.rx_io.specs.declared.journal.Given.TheVariants.{All as Whole, Gone}
-use Rattle.rx_io.specs.declared.journal.LinkEvent.{LinkEvent}
-use Rattle.rx_io.specs.declared.journal.LinkEvent.TheVariants as event
-use Rattle.rx_io.specs.declared.journal.LinkFault.{LinkFault}
-use Rattle.rx_io.specs.declared.journal.LinkFault.TheVariants.{Refused, ReadFault, WriteFault, Memory}
+use Rattle.links.specs.declared.journal.Given.{Given}
+use Rattle.links.specs.declared.journal.Given.TheVariants.{All as Whole, Gone}
+use Rattle.links.specs.declared.journal.LinkEvent.{LinkEvent}
+use Rattle.links.specs.declared.journal.LinkEvent.TheVariants as event
+use Rattle.links.specs.declared.journal.LinkFault.{LinkFault}
+use Rattle.links.specs.declared.journal.LinkFault.TheVariants.{Refused, ReadFault, WriteFault, Memory}
 use Rattle.trunk_wire.specs.CallLaws.{count_nothing}
 use Rattle.trunk_wire.specs.Calls.{Reads, Writes, count_after, IsRefused, TakesBy, WritesBy, HasOffset}
 use Rattle.trunk_wire.specs.Frames.{IsFrameOf, piece_frame}

@@ -4,10 +4,10 @@ use Rattle.std.proofs.lemmas.Bool.{ltb-true, lt-ltb, eqb-true}
 use Rattle.std.proofs.lemmas.Bool.Decides.{nat_tests}
 use Rattle.std.proofs.lemmas.List.{nil_from_length}
 use Rattle.std.proofs.Math.Seq.{take-append_seam}
-use Rattle.rx_io.specs.ConnectionTables.{is_unopened, is_open, is_in_order}
-use Rattle.rx_io.specs.Links.{Phases, Unopened, Open, IsInOrder, phases_after}
-use Rattle.rx_io.specs.declared.journal.LinkEvent.{LinkEvent}
-use Rattle.rx_io.specs.declared.journal.LinkEvent.TheVariants as event
+use Rattle.links.specs.ConnectionTables.{is_unopened, is_open, is_in_order}
+use Rattle.links.specs.Links.{Phases, Unopened, Open, IsInOrder, phases_after}
+use Rattle.links.specs.declared.journal.LinkEvent.{LinkEvent}
+use Rattle.links.specs.declared.journal.LinkEvent.TheVariants as event
 use Rattle.trunk_wire.specs.Frames.{header_of, header_bytes, frame, IsFrame, IsFrameOf}
 use Rattle.trunk_wire.specs.Grammar.{Whole, Part, Bad, front, front_by, front_accepted, front_behind, header_refusal, event_of, is_known, is_extra, is_reopened, is_not_open}
 use Rattle.trunk_wire.specs.Parts.{put_bytes}

@@ -1,13 +1,13 @@
 -- The clauses of a link, by what was taken and written.
 use Rattle.std.proofs.Common.{◌≡◌, ℕ, ◌+◌, ◌-◌, ◌^◌, ◌<◌, ◌≤◌, Bool, true, false, List, [], ◌∷◌, ◌++◌, length, Option, None, Some, IfSome, Result, Ok, Err, is_ok, if◌then◌else◌, arith, append-nil, length-append, refl, sym, ap, ◌∙◌, subst, inl, inr}
-use Rattle.rx_io.specs.Links.{Phases, Enters, IsInOrder, phases_after, Grew, Tells, Nexts, events_in, pieces_in, Piece, Comes, Refuses, GoesBy}
+use Rattle.links.specs.Links.{Phases, Enters, IsInOrder, phases_after, Grew, Tells, Nexts, events_in, pieces_in, Piece, Comes, Refuses, GoesBy}
 use Rattle.rx_io.specs.Outside.{Stream, Took, IsDrained}
-use Rattle.rx_io.specs.declared.journal.Entry.{Entry}
-use Rattle.rx_io.specs.declared.journal.Entry.TheVariants as entry
-use Rattle.rx_io.specs.declared.journal.LinkEvent.{LinkEvent}
-use Rattle.rx_io.specs.declared.journal.LinkEvent.TheVariants as event
-use Rattle.rx_io.specs.declared.journal.LinkFault.{LinkFault}
-use Rattle.rx_io.specs.declared.journal.LinkFault.TheVariants.{Refused, ReadFault, WriteFault, Memory}
+use Rattle.links.specs.declared.journal.Entry.{Entry}
+use Rattle.links.specs.declared.journal.Entry.TheVariants as entry
+use Rattle.links.specs.declared.journal.LinkEvent.{LinkEvent}
+use Rattle.links.specs.declared.journal.LinkEvent.TheVariants as event
+use Rattle.links.specs.declared.journal.LinkFault.{LinkFault}
+use Rattle.links.specs.declared.journal.LinkFault.TheVariants.{Refused, ReadFault, WriteFault, Memory}
 use Rattle.trunk_wire.specs.Calls.{Reads, count_after, IsRefused, TakesBy, HasOffset}
 use Rattle.trunk_wire.specs.Frames.{IsFrameOf}
 use Rattle.trunk_wire.specs.Grammar.{Whole, Part, Bad, front, coming_of, event_at}

@@ -2,7 +2,7 @@
 use Rattle.std.proofs.Common.{◌≡◌, ℕ, ◌+◌, ◌*◌, ◌/◌, ◌%◌, ◌<◌, nat_lt, Bool, false, List, [], ◌∷◌, ◌++◌, length, drop, None, Some, if◌then◌else◌, arith, append-nil, length-append, refl, sym, ap, ◌∙◌, subst}
 use Rattle.std.proofs.lemmas.Bool.{lt-ltb}
 use Rattle.std.proofs.lemmas.Bool.Decides.{nat_tests}
-use Rattle.rx_io.specs.Links.{Piece, pieces_in, cut_entries}
+use Rattle.links.specs.Links.{Piece, pieces_in, cut_entries}
 use Rattle.rx_io.specs.Prefix.{Prefix}
 use Rattle.trunk_wire.specs.Frames.{piece_frame, from_two_bytes}
 use Rattle.trunk_wire.specs.Parts.{put_bytes}

@@ -3,10 +3,10 @@ use Rattle.std.proofs.Common.{◌≡◌, ℕ, ◌+◌, ◌*◌, ◌/◌, ◌%◌
 use Rattle.std.specs.List.{All, AllByRecursion}
 use Rattle.std.proofs.lemmas.List.Elements.{All-head, All-tail}
 use Rattle.std.proofs.Math.Seq.{take-append_seam, drop-append_seam}
-use Rattle.rx_io.specs.Links.{Phases, IsInOrder, phases_after, Piece, pieces_in, cut_entries}
+use Rattle.links.specs.Links.{Phases, IsInOrder, phases_after, Piece, pieces_in, cut_entries}
 use Rattle.rx_io.specs.Prefix.{Prefix}
-use Rattle.rx_io.specs.declared.journal.LinkEvent.{LinkEvent}
-use Rattle.rx_io.specs.declared.journal.LinkEvent.TheVariants as event
+use Rattle.links.specs.declared.journal.LinkEvent.{LinkEvent}
+use Rattle.links.specs.declared.journal.LinkEvent.TheVariants as event
 use Rattle.trunk_wire.specs.Frames.{header_of, IsFrame, IsFrameOf, AreFramesOf, piece_frame, frames}
 use Rattle.trunk_wire.specs.Going.{AreInOrder, IsFramed}
 use Rattle.trunk_wire.specs.Grammar.{front, event_of}

@@ -3,9 +3,9 @@ use Rattle.std.proofs.Common.{◌≡◌, ℕ, zero, suc, ◌+◌, ◌-◌, ◌<�
 use Rattle.std.proofs.lemmas.Bool.{ltb-true, cases_lt}
 use Rattle.std.proofs.lemmas.Bool.Decides.{nat_tests}
 use Rattle.std.proofs.lemmas.List.{drop-append-le}
-use Rattle.rx_io.specs.Links.{Phases, Phase, Unopened, Open, Closed, IsInOrder, phases_after, with_phase}
-use Rattle.rx_io.specs.declared.journal.LinkEvent.{LinkEvent}
-use Rattle.rx_io.specs.declared.journal.LinkEvent.TheVariants as event
+use Rattle.links.specs.Links.{Phases, Phase, Unopened, Open, Closed, IsInOrder, phases_after, with_phase}
+use Rattle.links.specs.declared.journal.LinkEvent.{LinkEvent}
+use Rattle.links.specs.declared.journal.LinkEvent.TheVariants as event
 use Rattle.trunk_wire.specs.Frames.{IsFrameOf}
 use Rattle.trunk_wire.specs.Grammar.{front, front_by, front_accepted, header_refusal}
 use Rattle.trunk_wire.specs.Parts.{Progress, put_bytes, last_bytes}

@@ -1,9 +1,9 @@
 -- How a trunk goes on: what it takes from its source and writes to its sink over any number of calls.
 use Rattle.std.specs.Prelude.{◌≡◌, ℕ, ◌^◌, ◌<◌, Bool, true, false, All, List, [], ◌∷◌, ◌++◌, length, Option, None, Some}
-use Rattle.rx_io.specs.Links.{Phases, IsInOrder, phases_after, Piece}
+use Rattle.links.specs.Links.{Phases, IsInOrder, phases_after, Piece}
 use Rattle.rx_io.specs.Outside.{Stream, IsDrained}
 use Rattle.rx_io.specs.Prefix.{Prefix}
-use Rattle.rx_io.specs.declared.journal.LinkEvent.{LinkEvent}
+use Rattle.links.specs.declared.journal.LinkEvent.{LinkEvent}
 use Rattle.trunk_wire.specs.Calls.{Reads, Writes, count_after, IsRefused}
 use Rattle.trunk_wire.specs.Frames.{AreFramesOf, piece_frame, frames}
 use Rattle.trunk_wire.specs.Grammar.{Part, front}

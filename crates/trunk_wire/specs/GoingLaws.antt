@@ -3,9 +3,9 @@ use Rattle.std.proofs.Common.{◌≡◌, ℕ, Bool, true, false, List, [], ◌�
 use Rattle.std.proofs.Math.Path.{fun_ext}
 use Rattle.std.proofs.lemmas.List.Elements.{All-append, All-nil}
 use Rattle.std.proofs.lemmas.Grind.{flat_map-append}
-use Rattle.rx_io.specs.Links.{Phases, phases_after, Piece}
+use Rattle.links.specs.Links.{Phases, phases_after, Piece}
 use Rattle.rx_io.specs.Outside.{Stream, IsDrained}
-use Rattle.rx_io.specs.declared.journal.LinkEvent.{LinkEvent}
+use Rattle.links.specs.declared.journal.LinkEvent.{LinkEvent}
 use Rattle.trunk_wire.specs.CallLaws.{reads_nothing, reads_more, writes_nothing, writes_more}
 use Rattle.trunk_wire.specs.Calls.{Reads, Writes, count_after}
 use Rattle.trunk_wire.specs.Frames.{AreFramesOf, piece_frame, frames}

@@ -1,9 +1,9 @@
 -- The grammar of the trunk: what comes at the first byte of a frame.
 use Rattle.std.specs.Prelude.{ℕ, nat_lt, ◌==◌, Bool, not, ◌&&◌, ◌||◌, List, [], ◌∷◌, length, take, Option, None, Some, if◌then◌else◌}
-use Rattle.rx_io.specs.ConnectionTables.{is_unopened, is_open}
-use Rattle.rx_io.specs.Links.{Phases, Coming, Comes, Refuses}
-use Rattle.rx_io.specs.declared.journal.LinkEvent.{LinkEvent}
-use Rattle.rx_io.specs.declared.journal.LinkEvent.TheVariants as event
+use Rattle.links.specs.ConnectionTables.{is_unopened, is_open}
+use Rattle.links.specs.Links.{Phases, Coming, Comes, Refuses}
+use Rattle.links.specs.declared.journal.LinkEvent.{LinkEvent}
+use Rattle.links.specs.declared.journal.LinkEvent.TheVariants as event
 use Rattle.trunk_wire.specs.Frames.{header_of}
 use Rattle.trunk_wire.specs.declared.header.Header.{Header}
 use Rattle.trunk_wire.specs.declared.header.TheConstants.{OPEN, BYTES, CLOSE, SETTLE}

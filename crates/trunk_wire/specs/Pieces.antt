@@ -1,7 +1,7 @@
 -- The events that a stream of frames brings in, and the pieces that one takes out.
 use Rattle.std.specs.Prelude.{ℕ, nat_lt, ◌==◌, false, List, [], ◌∷◌, ◌++◌, length, flat_map, Option, None, Some, if◌then◌else◌}
-use Rattle.rx_io.specs.Links.{Phases, phases_after, Piece, Unopened}
-use Rattle.rx_io.specs.declared.journal.LinkEvent.{LinkEvent}
+use Rattle.links.specs.Links.{Phases, phases_after, Piece, Unopened}
+use Rattle.links.specs.declared.journal.LinkEvent.{LinkEvent}
 use Rattle.trunk_wire.specs.Frames.{from_two_bytes}
 use Rattle.trunk_wire.specs.Grammar.{Front, Whole, Part, Bad, front}
 use Rattle.trunk_wire.specs.Parts.{Progress, Reader, put_bytes}

@@ -1,10 +1,10 @@
 -- What a trunk tells of the bytes that it took and wrote.
 use Rattle.std.specs.Prelude.{ℕ, zero, suc, nat_le, Bool, true, false, ◌&&◌, List, [], ◌∷◌, length, Option, None, Some, Result, Ok, Err, option_map, if◌then◌else◌}
-use Rattle.rx_io.specs.Links.{Phase, Unopened, Open, Closed, Phases, Told, Coming, Refuses, Piece}
+use Rattle.links.specs.Links.{Phase, Unopened, Open, Closed, Phases, Told, Coming, Refuses, Piece}
 use Rattle.rx_io.specs.Outside.{Stream}
-use Rattle.rx_io.specs.declared.journal.LinkEvent.{LinkEvent}
-use Rattle.rx_io.specs.declared.journal.LinkFault.{LinkFault}
-use Rattle.rx_io.specs.declared.journal.LinkFault.TheVariants.{Refused}
+use Rattle.links.specs.declared.journal.LinkEvent.{LinkEvent}
+use Rattle.links.specs.declared.journal.LinkFault.{LinkFault}
+use Rattle.links.specs.declared.journal.LinkFault.TheVariants.{Refused}
 use Rattle.trunk_wire.specs.Grammar.{event_at}
 use Rattle.trunk_wire.specs.Parts.{last_bytes}
 use Rattle.trunk_wire.specs.declared.refusal.Refusal.{Refusal}

@@ -1,8 +1,8 @@
 -- What a trunk link has.
 use Rattle.std.specs.Prelude.{◌≡◌, ℕ, Bool, List, Option}
-use Rattle.rx_io.specs.ConnectionTables.{phases_in}
-use Rattle.rx_io.specs.Links.{Phases, Handed, Told, Coming, Counts}
-use Rattle.rx_io.specs.LinkForms.{handed_by}
+use Rattle.links.specs.ConnectionTables.{phases_in}
+use Rattle.links.specs.Links.{Phases, Handed, Told, Coming, Counts}
+use Rattle.links.specs.LinkForms.{handed_by}
 use Rattle.rx_io.specs.Outside.{Stream}
 use Rattle.trunk_wire.specs.Tellings.{told_events, told_pieces, told_coming, trunk_told}
 use Rattle.trunk_wire.specs.Going.{Intake, Output, TakesOn, GivesOn}

@@ -1,10 +1,11 @@
 // The five bytes before a frame's payload, and what is refused by them.
 ghost use Rattle.std.specs.Prelude.{◌≡◌, ◌<◌, ◌≤◌, true, false, None, length};
-ghost use Rattle.rx_io.specs.ConnectionTables.{phases_in, is_in_order};
+ghost use Rattle.links.specs.ConnectionTables.{phases_in, is_in_order};
 ghost use Rattle.trunk_wire.specs.Frames.{header_bytes};
 ghost use Rattle.trunk_wire.specs.Grammar.{is_known, is_extra, is_reopened, is_not_open, header_refusal, event_of};
 
-use rx_io::{Bytes, CONNECTIONS, ConnectionTable, LinkEvent};
+use links::{CONNECTIONS, ConnectionTable, LinkEvent};
+use rx_io::Bytes;
 
 /// The kind of a frame by which a connection opens.
 pub const OPEN: u8 = 1;

@@ -2,7 +2,7 @@
 ghost use Rattle.std.specs.Prelude.{◌≡◌};
 ghost use Rattle.trunk_wire.specs.Tellings.{refusal_in};
 
-use rx_io::{LinkEvent, LinkFault};
+use links::{LinkEvent, LinkFault};
 
 /// The kind of a refusal and its offset.
 #[derive(Clone, Copy, Drop)]

@@ -2,7 +2,8 @@
 use crate::reading::take_event;
 use crate::refusal::{Refusal, refusal_in};
 use crate::writing::write_frame;
-use rx_io::{ConnectionTable, Given, Link, LinkEvent, LinkFault, Sink, Source};
+use links::{ConnectionTable, Given, Link, LinkEvent, LinkFault};
+use rx_io::{Sink, Source};
 use std::alloc::Global;
 
 /// A link over a source and a sink. It gives to every connection below 4096 at all times, and never answers `Gone`. It takes
@@ -23,7 +24,7 @@ pub struct TrunkLink<S, K> {
 
 impl<S: Source, K: Sink> TrunkLink<S, K> {
     ghost use Rattle.std.specs.Prelude.{◌≡◌, None, true};
-    ghost use Rattle.rx_io.specs.Links.{IsFresh};
+    ghost use Rattle.links.specs.Links.{IsFresh};
     ghost use Rattle.trunk_wire.specs.TrunkLinks.{source_of, sink_of, took_of, wrote_of, trunk_phases, trunk_handed, trunk_takes, trunk_gives, trunk_refused, told_of};
     ghost use Rattle.trunk_wire.specs.Tellings.{told_nothing};
 
@@ -67,9 +68,9 @@ impl<S: Source, K: Sink> TrunkLink<S, K> {
 
 impl<S: Source, K: Sink> Link for TrunkLink<S, K> {
     ghost use Rattle.std.specs.Prelude.{◌≡◌, ◌<◌, ◌^◌, ℕ, Some, true, length, is_ok};
-    ghost use Rattle.rx_io.specs.Links.{Nexts, Enters, GoesBy, StillComes, StaysTold, HasTakeCause, GivesAtClose, Gives, TellsHanded, HasGiveCause};
-    ghost use Rattle.rx_io.specs.LinkForms.{gives_below_4096, handed_by};
-    ghost use Rattle.rx_io.specs.TableLaws.{open_gives, open_below};
+    ghost use Rattle.links.specs.Links.{Nexts, Enters, GoesBy, StillComes, StaysTold, HasTakeCause, GivesAtClose, Gives, TellsHanded, HasGiveCause};
+    ghost use Rattle.links.specs.LinkForms.{gives_below_4096, handed_by};
+    ghost use Rattle.links.specs.TableLaws.{open_gives, open_below};
     ghost use Rattle.trunk_wire.specs.Calls.{TakesFrame, WritesFrame, HasOffset};
     ghost use Rattle.trunk_wire.specs.TrunkLinks.{source_of, sink_of, took_of, wrote_of, trunk_phases, trunk_handed, trunk_takes, trunk_gives, trunk_refused, told_of, coming_of, counts_of, TrunkWent};
     ghost use Rattle.trunk_wire.specs.Tellings.{refusal_in};

@@ -4,7 +4,8 @@ ghost use Rattle.rx_io.specs.Faults.{HasCause, Rose};
 ghost use Rattle.trunk_wire.specs.Calls.{Writes, WritesAll, WritesBy, write_fault};
 
 use crate::header::{BYTES, Header, bytes_from};
-use rx_io::{Given, IoFault, LinkFault, Sink};
+use links::{Given, LinkFault};
+use rx_io::{IoFault, Sink};
 
 // The fault of a sink, as that of a link.
 fn write_fault(fault: IoFault) -> LinkFault

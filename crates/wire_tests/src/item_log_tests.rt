@@ -1,6 +1,7 @@
 use item_log::{CLOSED, CONNECTIONS, ItemLog, ItemRefusal, MESSAGE, OPENED};
+use links::LinkEvent;
 use msg_frame::Framing;
-use rx_io::{Bytes, LinkEvent};
+use rx_io::Bytes;
 use std::alloc::Global;
 use std::test::Fail;
 

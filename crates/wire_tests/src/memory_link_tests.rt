@@ -1,5 +1,6 @@
 use crate::trunk_wire_tests::answers_of;
-use rx_io::{Bytes, Link, LinkEvent, MemoryLink};
+use links::{Link, LinkEvent, MemoryLink};
+use rx_io::Bytes;
 use std::alloc::Global;
 use std::test::Fail;
 
@@ -74,7 +75,7 @@ fn pieces_are_given_as_planned(rt: HostRuntime) -> Result<(), Fail> {
         let gones = [(3, count)].to_vec(alloc)?;
         let mut link = MemoryLink::make(alloc, events_of(alloc, b"o")?, fails, gones);
         assert!(rt; link.next().is_ok());
-        assert_eq!(rt; link.give(0, b"x").ok(), Some(rx_io::Given::All));
+        assert_eq!(rt; link.give(0, b"x").ok(), Some(links::Given::All));
         let given_now = link.give(0, b"hi\n");
         assert_eq!(rt; format!(in alloc; "{given_now:?}")?.as_str(), answer);
         let journal = format!(in alloc; "{:?}", link.journal())?;

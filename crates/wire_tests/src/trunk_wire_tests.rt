@@ -1,6 +1,7 @@
 ghost use Rattle.std.specs.Prelude.{◌≡◌, true};
 
-use rx_io::{Link, LinkEvent, MemorySink, MemorySource};
+use links::{Link, LinkEvent};
+use rx_io::{MemorySink, MemorySource};
 use std::alloc::Global;
 use std::test::Fail;
 use trunk_wire::TrunkLink;

@@ -1,6 +1,6 @@
 use Rattle.std.proofs.Common.{◌≡◌, length, subst, arith, sym, ◌∙◌}
 use Rattle.std.proofs.lemmas.List.{take_all}
-use Rattle.rx_io.specs.ConnectionTables.{phases_in}
+use Rattle.links.specs.ConnectionTables.{phases_in}
 use Rattle.rx_io.specs.Outside.{IsDrained}
 use Rattle.trunk_wire.specs.Calls.{Reads, Behind}
 use Rattle.trunk_wire.specs.Frames.{header_bytes}

@@ -1,5 +1,5 @@
 use Rattle.std.proofs.Common.{arith, sym}
-use Rattle.rx_io.specs.ConnectionTables.{phases_in}
+use Rattle.links.specs.ConnectionTables.{phases_in}
 use Rattle.rx_io.specs.Outside.{IsDrained}
 use Rattle.trunk_wire.specs.CallLaws.{reads_nothing}
 use Rattle.trunk_wire.specs.Calls.{Reads, Behind}

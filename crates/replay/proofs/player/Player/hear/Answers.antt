@@ -1,7 +1,7 @@
 use Rattle.std.proofs.Common.{Bool, sym, subst, ◌∙◌}
-use Rattle.rx_io.specs.Links.{events_in}
+use Rattle.links.specs.Links.{events_in}
 use Rattle.run_history.specs.declared.answer.Answer.{Answer}
-use Rattle.event_gate.proofs.Ordering.{in_order_shown}
+use Rattle.link_gate.proofs.Ordering.{in_order_shown}
 use Rattle.replay.specs.Replaying.{LeavesLink}
 use Rattle.replay.specs.Playing.{IsWholeEnd, WaitsBy, stage_of}
 use Rattle.replay.proofs.HearLemmas.{heeds_event, takes_none}

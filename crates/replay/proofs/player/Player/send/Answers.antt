@@ -1,8 +1,8 @@
 use Rattle.std.proofs.Common.{ℕ, Bool, true, false, List, sym, ◌∙◌, ap, subst}
 use Rattle.std.specs.Prelude.{Ok, Err, slice_set}
-use Rattle.rx_io.specs.declared.journal.Given.{Given}
-use Rattle.rx_io.specs.declared.journal.Given.TheVariants.{All, Gone}
-use Rattle.rx_io.specs.Links.{Gives}
+use Rattle.links.specs.declared.journal.Given.{Given}
+use Rattle.links.specs.declared.journal.Given.TheVariants.{All, Gone}
+use Rattle.links.specs.Links.{Gives}
 use Rattle.rx_io.specs.Sends.{Send}
 use Rattle.run_history.specs.declared.answer.Answer.{Answer}
 use Rattle.replay.specs.Giving.{IsLastSend}

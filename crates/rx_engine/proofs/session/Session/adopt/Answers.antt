@@ -3,7 +3,7 @@ use Rattle.session_state.specs.Leaving.{keeping_of}
 use Rattle.session_state.proofs.HeldLemmas.{slots_oldest}
 use Rattle.std.proofs.Common.{◌∙◌, ◌≡◌, ◌+◌, ◌^◌, ◌<◌, ◌≤◌, refl, sym, ap, subst, arith}
 use Rattle.rv_exec.specs.Stepping.{limits_of}
-use Rattle.recovery_gate.specs.Recovering.{HasToRecover}
+use Rattle.recovery.specs.Recovering.{HasToRecover}
 use Rattle.session_state.specs.Options.{rules_of}
 use Rattle.session_state.specs.Sessions.{SessionState}
 use Rattle.session_state.specs.Standing.{Since}

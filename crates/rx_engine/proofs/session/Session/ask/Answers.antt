@@ -1,6 +1,6 @@
 use Rattle.std.proofs.Common.{None, sym, ◌∙◌, subst}
 use Rattle.session_history.specs.Lawful.{Rules}
-use Rattle.notes.specs.Noting.{noted}
+use Rattle.session_notes.specs.Noting.{noted}
 use Rattle.session_state.specs.Options.{rules_of}
 use Rattle.session_state.specs.Standing.{Since}
 use Rattle.session_state.specs.Serving.{StopsBy}

@@ -16,7 +16,7 @@ use Rattle.rx_engine.proofs.session.Session.close.Goals as goal
 pub pass_rest-requires-clause-stamped : goal.pass_rest-requires-clause-stamped
 pass_rest-requires-clause-stamped g c =
     let can = subst (λ (s : SessionState _). CanPass s) (sym c.self.view_is) (closing_can _ _ _ c.requires.stands) in
-    subst (λ n. Rattle.reply_gate.specs.Faults.AreStampedBy n c.self.inside.replies) (sym can.received_are ∙ sym c.received-stamp.ensures.count)
+    subst (λ n. Rattle.link_gate.specs.Faults.AreStampedBy n c.self.inside.replies) (sym can.received_are ∙ sym c.received-stamp.ensures.count)
     (stamped_by _ can.sends _ c.self.inside.replies can.replies.shows can.ordered)
 
 pub pass_rest-requires-clause-sendable : goal.pass_rest-requires-clause-sendable

@@ -5,8 +5,8 @@ use Rattle.session_state.specs.Options.{rules_of}
 use Rattle.session_state.specs.Recovered.{HasWatched}
 use Rattle.session_state.specs.Sessions.{SessionState}
 use Rattle.session_state.specs.Standing.{Since, entries, sends, IsAsking, IsEnding}
-use Rattle.notes.specs.Noting.{noted}
-use Rattle.recovery_gate.specs.Handling.{HasHandled, stands_of}
+use Rattle.session_notes.specs.Noting.{noted}
+use Rattle.recovery.specs.Handling.{HasHandled, stands_of}
 use Rattle.session_state.specs.Leaving.{HandledAt, keeping_of, IsTrimmed, CanForgetSends, HasLeft}
 use Rattle.session_state.specs.Serving.{CanPass, UnlessNoteFault}
 use Rattle.session_state.proofs.HeldLemmas.{held_by, trimmed_still}
@@ -21,7 +21,7 @@ use Rattle.rx_engine.proofs.session.Session.finish.Goals as goal
 pub pass_until-requires-clause-stamped : goal.pass_until-requires-clause-stamped
 pass_until-requires-clause-stamped g c =
     let can = subst (λ (s : SessionState _). CanPass s) (sym c.self.view_is) (ending_can _ _ _ _ _ _ _ c.requires.ends.is) in
-    subst (λ n. Rattle.reply_gate.specs.Faults.AreStampedBy n c.self.inside.replies) (sym can.received_are ∙ sym c.received-stamp.ensures.count)
+    subst (λ n. Rattle.link_gate.specs.Faults.AreStampedBy n c.self.inside.replies) (sym can.received_are ∙ sym c.received-stamp.ensures.count)
     (stamped_by _ can.sends _ c.self.inside.replies can.replies.shows can.ordered)
 
 pub pass_until-requires-clause-sendable : goal.pass_until-requires-clause-sendable

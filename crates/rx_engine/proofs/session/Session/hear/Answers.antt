@@ -1,8 +1,8 @@
 use Rattle.std.proofs.Common.{◌≤◌, [], ◌∷◌, Ok, Err, refl, sym, ◌∙◌, ap, subst, arith}
 use Rattle.item_log.specs.Log.{received}
-use Rattle.rx_io.specs.declared.journal.Entry.TheVariants as entry
-use Rattle.rx_io.specs.declared.journal.LinkEvent.TheVariants as event
-use Rattle.event_gate.specs.Calls.{ComesLast}
+use Rattle.links.specs.declared.journal.Entry.TheVariants as entry
+use Rattle.links.specs.declared.journal.LinkEvent.TheVariants as event
+use Rattle.link_gate.specs.Calls.{ComesLast}
 use Rattle.session_history.specs.Lawful.{Rules}
 use Rattle.run_history.specs.declared.answer.Answer.TheVariants as answer
 use Rattle.session_state.specs.declared.stop.Stop.TheVariants as stop

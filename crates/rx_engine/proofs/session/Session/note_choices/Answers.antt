@@ -1,7 +1,7 @@
 use Rattle.std.proofs.Common.{◌≡◌, true, Err, sym, subst}
 use Rattle.std.specs.Prelude.{IfSome, slice_get}
-use Rattle.notes.specs.Noting.{noted}
-use Rattle.recovery_gate.proofs.ForgetLemmas.{behind_marks}
+use Rattle.session_notes.specs.Noting.{noted}
+use Rattle.recovery.proofs.ForgetLemmas.{behind_marks}
 use Rattle.session_state.specs.Options.{rules_of}
 use Rattle.session_state.specs.Sessions.{SessionState}
 use Rattle.session_state.specs.Standing.{Since, entries}

@@ -14,7 +14,7 @@ use Rattle.rx_engine.proofs.session.Session.pass.Goals as goal
 pub pass_until-requires-clause-stamped : goal.pass_until-requires-clause-stamped
 pass_until-requires-clause-stamped g c =
     let can = subst (λ (s : SessionState _). CanPass s) (sym c.self.view_is) c.requires.can in
-    subst (λ n. Rattle.reply_gate.specs.Faults.AreStampedBy n c.self.inside.replies) (sym can.received_are ∙ sym c.received-stamp.ensures.count)
+    subst (λ n. Rattle.link_gate.specs.Faults.AreStampedBy n c.self.inside.replies) (sym can.received_are ∙ sym c.received-stamp.ensures.count)
     (stamped_by _ can.sends _ c.self.inside.replies can.replies.shows can.ordered)
 
 pub pass_until-requires-clause-sendable : goal.pass_until-requires-clause-sendable

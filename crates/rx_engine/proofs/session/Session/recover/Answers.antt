@@ -1,6 +1,6 @@
 use Rattle.std.proofs.Common.{◌≡◌, ℕ, ◌+◌, None, Some, Err, refl, sym, ◌∙◌, ap}
 use Rattle.session_state.specs.declared.options.Options.{Options}
-use Rattle.notes.specs.Noting.{noted}
+use Rattle.session_notes.specs.Noting.{noted}
 use Rattle.session_state.specs.declared.stop.Stop.TheVariants as stop
 use Rattle.session_state.specs.Options.{rules_of}
 use Rattle.session_state.specs.Sessions.{SessionState}

@@ -3,7 +3,7 @@ use Rattle.session_state.specs.Options.{rules_of}
 use Rattle.session_state.specs.Standing.{entries}
 use Rattle.session_state.proofs.HearingLemmas.{moved}
 use Rattle.session_state.proofs.SaveLemmas.{waits_goes, waits_asks, waits_whole, waits_counted, waits_saved, waits_live, saves_keeping, behind_saved}
-use Rattle.recovery_gate.specs.Handling.{keeping_by}
+use Rattle.recovery.specs.Handling.{keeping_by}
 use Rattle.session_state.specs.Leaving.{keeping_of}
 use Rattle.session_state.specs.Sessions.{SessionState}
 use Rattle.rx_engine.proofs.session.Session.save.Goals as goal

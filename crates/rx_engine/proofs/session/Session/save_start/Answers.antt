@@ -4,8 +4,8 @@ use Rattle.reply_ledger.specs.Ledger.{Ledger}
 use Rattle.session_state.specs.Sessions.{SessionState}
 use Rattle.ckpt_ring.specs.Slots.{Slots}
 use Rattle.guest_cpu.specs.Standing.{Standing}
-use Rattle.trial_plan.specs.Sessions.{taken_in}
-use Rattle.recovery_gate.specs.Handling.{alone, keeping_by}
+use Rattle.recovery.specs.Sessions.{taken_in}
+use Rattle.recovery.specs.Handling.{alone, keeping_by}
 use Rattle.session_state.specs.Leaving.{keeping_of}
 use Rattle.session_state.proofs.StartLemmas.{starts_at, starts_none}
 use Rattle.rx_engine.proofs.session.Session.save_start.Goals as goal

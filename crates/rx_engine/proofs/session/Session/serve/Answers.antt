@@ -1,4 +1,4 @@
-use Rattle.notes.specs.Noting.{noted}
+use Rattle.session_notes.specs.Noting.{noted}
 use Rattle.session_state.specs.Options.{rules_of, keeping_for}
 use Rattle.session_state.specs.Leaving.{HasLeft}
 use Rattle.session_state.specs.Serving.{UnlessNoteFault}

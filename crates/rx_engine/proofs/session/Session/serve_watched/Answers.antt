@@ -5,7 +5,7 @@ use Rattle.session_state.specs.Options.{rules_of}
 use Rattle.session_state.specs.declared.stop.Stop.TheVariants.{Breaks, Ends}
 use Rattle.session_state.specs.Sessions.{SessionState}
 use Rattle.session_state.specs.Standing.{Since, told_since, IsBrokenOff}
-use Rattle.notes.specs.Noting.{noted}
+use Rattle.session_notes.specs.Noting.{noted}
 use Rattle.reply_ledger.specs.Ledger.{Ledger}
 use Rattle.session_state.specs.declared.stop.Stop.{Stop}
 use Rattle.session_state.specs.Serving.{CanGive, StopsBy, IsCounted, UnlessNoteFault, UnlessNoteStop}

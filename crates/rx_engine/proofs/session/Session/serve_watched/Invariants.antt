@@ -1,5 +1,5 @@
 use Rattle.std.proofs.Common.{◌≡◌, ◌+◌, ◌-◌, ◌*◌}
-use Rattle.notes.specs.Noting.{noted}
+use Rattle.session_notes.specs.Noting.{noted}
 use Rattle.session_state.proofs.StartLemmas.{HasTurned}
 use Rattle.rx_engine.proofs.session.Session.serve_watched.Given as goal
 

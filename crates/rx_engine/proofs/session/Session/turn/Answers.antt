@@ -7,7 +7,7 @@ use Rattle.guest_cpu.specs.Cpus.{CpuState}
 use Rattle.session_state.specs.Options.{rules_of}
 use Rattle.session_state.specs.Sessions.{SessionState}
 use Rattle.session_state.specs.Standing.{Since}
-use Rattle.notes.specs.Noting.{noted}
+use Rattle.session_notes.specs.Noting.{noted}
 use Rattle.session_state.specs.Serving.{ComesBetween}
 use Rattle.session_state.proofs.StoryLemmas.{still_takes}
 use Rattle.session_state.proofs.HearingLemmas.{if_ok, waits_under}

@@ -1,2 +1,0 @@
-pub mod Digits
-mod Examples

@@ -1,3 +1,0 @@
-pub mod Survival
-pub mod Words
-pub mod Lines

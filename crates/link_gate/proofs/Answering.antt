@@ -1,0 +1,178 @@
+-- What is heard of an event that was taken.
+use Rattle.std.proofs.Common.{◌≡◌, ℕ, ◌+◌, ◌<◌, ◌≤◌, false, List, [], ◌∷◌, ◌++◌, Option, Some, None, length, refl, sym, ◌∙◌, ap, subst, arith, append-nil, length-append, inr}
+use Rattle.std.specs.Prelude.{Result, Ok, Err}
+use Rattle.std.proofs.lemmas.Option.{none-some, same_Some}
+use Rattle.links.specs.declared.journal.Entry.{Entry}
+use Rattle.links.specs.declared.journal.Entry.TheVariants as entry
+use Rattle.links.specs.declared.journal.LinkEvent.{LinkEvent}
+use Rattle.links.specs.declared.journal.LinkEvent.TheVariants as event
+use Rattle.rx_io.specs.Sends.{Send}
+use Rattle.links.specs.Links.{Phases, IsInOrder, phases_after, Told, Coming, events_in}
+use Rattle.item_log.specs.Heard.{items_of}
+use Rattle.item_log.specs.Log.{Log, logged, Fits}
+use Rattle.reply_ledger.specs.Ledger.{Ledger}
+use Rattle.session_history.specs.Heeding.{Bounds, Unheeded, heeded, items_in, refusal}
+use Rattle.session_history.specs.Heeding as unheeded
+use Rattle.session_history.specs.Opened.{opens, closes}
+use Rattle.session_history.specs.Keeping.{KeepsReplies, KeepsItems, KeepsPhases, phase_after}
+use Rattle.session_history.specs.Hearing.{closing_of, IsHeard, IsUnheeded}
+use Rattle.link_gate.specs.declared.heard.Heard.{Heard}
+use Rattle.link_gate.specs.declared.heard.Heard.TheVariants as heard
+use Rattle.link_gate.specs.declared.heard.HearFault.{HearFault}
+use Rattle.link_gate.specs.declared.heard.HearFault.TheVariants as fault
+use Rattle.link_gate.specs.Calls.{Takes, HearsBy}
+use Rattle.link_gate.specs.Taking.{IsNew, entered, TakesIn, TakesOrEnds}
+use Rattle.link_gate.proofs.Phasing.{phases_behind, unopened_by, open_by}
+use Rattle.link_gate.proofs.Refusing.{IsEvent, events_behind, events_ended, items_ended, is_heeded, keeps_items, heeded_with, heeded_without, limit_events, too_long, limit_items}
+use Rattle.link_gate.proofs.Knowing.{is_unknown, keeps_unheeded, keeps_quiet, keeps_closing, keeps_opening}
+
+-- what log, ledger and phases know of a journal before an event
+pub record Stood (bounds : Bounds) (entries : List Entry) (sends : List Send) (log : Log) (ledger : Ledger) (phases : Phases) (before most : ℕ) : Type 0 where
+  pub limit : most ≡ bounds.max_events
+  pub counted : before ≡ length (events_in entries)
+  pub items : KeepsItems bounds entries log
+  pub replies : KeepsReplies bounds entries None sends ledger
+  pub is_at : KeepsPhases entries phases
+
+-- which connections were opened and closed, by the phases
+was_unopened : (bounds : Bounds) (entries : List Entry) (phases : Phases) (conn : ℕ) → heeded bounds (events_in entries) ≡ events_in entries → KeepsPhases entries phases → IsInOrder phases (event.Opens conn)
+    → (closes conn (heeded bounds (events_in entries)) ≡ false) × (opens conn (heeded bounds (events_in entries)) ≡ false)
+was_unopened bounds entries phases conn all knows order =
+    let both = unopened_by (closes conn (events_in entries)) (opens conn (events_in entries)) (sym (knows conn) ∙ order.1) in
+    (ap (closes conn) all ∙ both.0, ap (opens conn) all ∙ both.1)
+
+was_open : (bounds : Bounds) (entries : List Entry) (phases : Phases) (conn : ℕ) → heeded bounds (events_in entries) ≡ events_in entries → KeepsPhases entries phases → IsInOrder phases (event.Closes conn)
+    → closes conn (heeded bounds (events_in entries)) ≡ false
+was_open bounds entries phases conn all knows order =
+    let both = open_by (closes conn (events_in entries)) (opens conn (events_in entries)) (sym (knows conn) ∙ order.1) in ap (closes conn) all ∙ both.0
+
+-- the ledger behind an event that is heeded
+replies_behind : (bounds : Bounds) (entries : List Entry) (sends : List Send) (event : LinkEvent) (ledger : Ledger) (phases : Phases) → heeded bounds (events_in entries) ≡ events_in entries
+    → heeded bounds (events_in (entries ++ entry.Took event ∷ [])) ≡ events_in entries ++ event ∷ [] → KeepsPhases entries phases → IsInOrder phases event
+    → KeepsReplies bounds entries None sends ledger → KeepsReplies bounds (entries ++ entry.Took event ∷ []) (closing_of event) sends (entered event ledger)
+replies_behind bounds entries sends (event.Opens conn) ledger phases all heeds knows order keeps =
+    let both = was_unopened bounds entries phases conn all knows order in keeps_opening bounds entries sends conn ledger all heeds both.1 both.0 keeps
+replies_behind bounds entries sends (event.Piece conn bytes) ledger phases all heeds knows order keeps = keeps_quiet bounds entries sends (event.Piece conn bytes) ledger all heeds (λ _. refl) (λ _. refl) keeps
+replies_behind bounds entries sends (event.Closes conn) ledger phases all heeds knows order keeps =
+    keeps_closing bounds entries sends conn ledger all heeds (was_open bounds entries phases conn all knows order) keeps
+replies_behind bounds entries sends event.Settles ledger phases all heeds knows order keeps = keeps_quiet bounds entries sends event.Settles ledger all heeds (λ _. refl) (λ _. refl) keeps
+replies_behind bounds entries sends event.Ends ledger phases all heeds knows order keeps = keeps_quiet bounds entries sends event.Ends ledger all heeds (λ _. refl) (λ _. refl) keeps
+
+-- what the event's log and ledger require
+pub event_is_new : (bounds : Bounds) (entries : List Entry) (sends : List Send) (event : LinkEvent) (ledger : Ledger) (phases : Phases) → heeded bounds (events_in entries) ≡ events_in entries → KeepsPhases entries phases → IsInOrder phases event
+    → KeepsReplies bounds entries None sends ledger → IsNew event ledger
+event_is_new bounds entries sends (event.Opens conn) ledger phases all knows order keeps = is_unknown bounds entries sends None ledger conn keeps (was_unopened bounds entries phases conn all knows order).1
+event_is_new bounds entries sends (event.Piece conn bytes) ledger phases all knows order keeps = tt
+event_is_new bounds entries sends (event.Closes conn) ledger phases all knows order keeps = tt
+event_is_new bounds entries sends event.Settles ledger phases all knows order keeps = tt
+event_is_new bounds entries sends event.Ends ledger phases all knows order keeps = tt
+
+-- the phases behind an event
+phases_with : (entries : List Entry) (event : LinkEvent) (phases now : Phases) → IsEvent event → KeepsPhases entries phases → IsInOrder phases event → ((conn : ℕ) → now conn ≡ phases_after event phases conn) → KeepsPhases (entries ++ entry.Took event ∷ []) now
+phases_with entries event phases now one knows order enters conn =
+    enters conn ∙ phases_behind phases (events_in entries) event knows order conn ∙ ap (phase_after conn) (sym (events_behind entries event one))
+
+count_with : (entries : List Entry) (event : LinkEvent) → IsEvent event → length (events_in (entries ++ entry.Took event ∷ [])) ≡ length (events_in entries) + 1
+count_with entries event one = ap length (events_behind entries event one) ∙ length-append (events_in entries) (event ∷ [])
+
+-- a close is the first of its connection
+first_close : (bounds : Bounds) (entries : List Entry) (phases : Phases) (event : LinkEvent) → heeded bounds (events_in entries) ≡ events_in entries → KeepsPhases entries phases → IsInOrder phases event
+    → (conn : ℕ) → closing_of event ≡ Some conn → closes conn (heeded bounds (events_in entries)) ≡ false
+first_close bounds entries phases (event.Closes closed) all knows order conn is =
+    subst (λ c. closes c (heeded bounds (events_in entries)) ≡ false) (same_Some closed conn is) (was_open bounds entries phases closed all knows order)
+first_close bounds entries phases (event.Opens opened) all knows order conn is = absurd (none-some conn is)
+first_close bounds entries phases (event.Piece to bytes) all knows order conn is = absurd (none-some conn is)
+first_close bounds entries phases event.Settles all knows order conn is = absurd (none-some conn is)
+first_close bounds entries phases event.Ends all knows order conn is = absurd (none-some conn is)
+
+-- an event of the journal isn't Ends
+not_end : (found : LinkEvent) → IsEvent found → found ≡ event.Ends → ⊥
+not_end found one is = let never : [] ≡ event.Ends ∷ [] = subst IsEvent is one in absurd (cc)
+
+-- an event that is refused
+unheeded_with : (bounds : Bounds) (entries : List Entry) (sends : List Send) (event : LinkEvent) (cause : Unheeded) (ledger later : Ledger) (phases : Phases) → IsEvent event → heeded bounds (events_in entries) ≡ events_in entries → refusal bounds (events_in entries) event ≡ Some cause
+    → KeepsPhases entries phases → IsInOrder phases event → later ≡ ledger → KeepsReplies bounds entries None sends ledger → IsUnheeded bounds entries sends event cause later
+unheeded_with bounds entries sends event cause ledger later phases one all refused knows order same keeps =
+    let still = heeded_without bounds entries event cause one all refused in
+    record {
+      refused = refused;
+      no_end = not_end event one;
+      first_close = first_close bounds entries phases event all knows order;
+      brings_none = ap (items_of bounds.framing) still;
+      replies = subst (KeepsReplies bounds (entries ++ entry.Took event ∷ []) None sends) (sym same) (keeps_unheeded bounds entries sends event ledger still keeps);
+    }
+
+-- an event that is heeded
+heard_with : (bounds : Bounds) (entries : List Entry) (sends : List Send) (event : LinkEvent) (log new : Log) (ledger later : Ledger) (phases : Phases) (before most : ℕ) → IsEvent event → Stood bounds entries sends log ledger phases before most
+    → IsInOrder phases event → before < most → logged log event ≡ Some new → Fits log.max_items (logged log event) → later ≡ entered event ledger → IsHeard bounds entries sends event new later
+heard_with bounds entries sends event log new ledger later phases before most one stood order few is fits same =
+    let heeds = is_heeded bounds entries event log one stood.items (omega (arith, few, stood.limit, stood.counted)) fits in
+    record {
+      more = heeds.more;
+      brings = heeds.brings;
+      items = keeps_items bounds entries event log new one stood.items heeds.allowed is;
+      replies = subst (KeepsReplies bounds (entries ++ entry.Took event ∷ []) (closing_of event) sends) (sym same)
+          (replies_behind bounds entries sends event ledger phases stood.items.all_heeded (heeded_with bounds entries event one stood.items.all_heeded heeds.allowed) stood.is_at order stood.replies);
+    }
+
+-- by the answer
+hears_event : (bounds : Bounds) (entries : List Entry) (sends : List Send) (event : LinkEvent) (log new : Log) (ledger later : Ledger) (phases after : Phases) (before now most : ℕ) (coming : Option Coming) (old told : Told) (result : Result Heard HearFault) → IsEvent event
+    → Stood bounds entries sends log ledger phases before most → IsInOrder phases event → ((conn : ℕ) → after conn ≡ phases_after event phases conn) → Takes old told event → TakesIn event log new ledger later before now most result
+    → HearsBy bounds entries sends new later after now coming old told result
+hears_event bounds entries sends event log new ledger later phases after before now most coming old told (Ok answer) one stood order enters takes did = (
+  event,
+  did.0,
+  takes,
+  heard_with bounds entries sends event log new ledger later phases before most one stood order did.1 did.2 did.3 did.5,
+  phases_with entries event phases after one stood.is_at order enters,
+  omega (arith, did.4, stood.counted, count_with entries event one),
+)
+hears_event bounds entries sends event log new ledger later phases after before now most coming old told (Err (fault.Refused kind offset)) one stood order enters takes did = absurd did.0
+hears_event bounds entries sends event log new ledger later phases after before now most coming old told (Err fault.ReadFault) one stood order enters takes did = absurd did.0
+hears_event bounds entries sends event log new ledger later phases after before now most coming old told (Err fault.LimitEvents) one stood order enters takes did =
+    let many : bounds.max_events ≤ length (events_in entries) = omega (arith, did.0.0, stood.limit, stood.counted) in
+    (event, takes, unheeded_with bounds entries sends event unheeded.LimitEvents ledger later phases one stood.items.all_heeded (limit_events bounds (events_in entries) event many) stood.is_at order did.1 stood.replies)
+hears_event bounds entries sends event log new ledger later phases after before now most coming old told (Err (fault.TooLong conn)) one stood order enters takes did =
+    let few : length (events_in entries) < bounds.max_events = omega (arith, did.0.0, stood.limit, stood.counted) in
+    let refused = too_long bounds (events_in entries) event log stood.items.shows few did.0.1 in
+    (event, takes, unheeded_with bounds entries sends event unheeded.TooLong ledger later phases one stood.items.all_heeded refused stood.is_at order did.1 stood.replies, did.0.2)
+hears_event bounds entries sends event log new ledger later phases after before now most coming old told (Err fault.LimitItems) one stood order enters takes did =
+    let few : length (events_in entries) < bounds.max_events = omega (arith, did.0.0, stood.limit, stood.counted) in
+    let refused = limit_items bounds (events_in entries) event log stood.items.shows stood.items.most few did.0.1 in
+    (event, takes, unheeded_with bounds entries sends event unheeded.LimitItems ledger later phases one stood.items.all_heeded refused stood.is_at order did.1 stood.replies)
+hears_event bounds entries sends event log new ledger later phases after before now most coming old told (Err fault.Memory) one stood order enters takes did =
+    inr (event, takes, is_heeded bounds entries event log one stood.items (omega (arith, did.0, stood.limit, stood.counted)) did.1)
+
+-- the end of the link
+hears_end : (bounds : Bounds) (entries : List Entry) (sends : List Send) (log new : Log) (ledger later : Ledger) (phases after : Phases) (before now most : ℕ) (coming : Option Coming) (old told : Told)
+    → Stood bounds entries sends log ledger phases before most → ((conn : ℕ) → after conn ≡ phases conn) → Takes old told event.Ends → new ≡ log → later ≡ ledger → now ≡ before
+    → HearsBy bounds entries sends new later after now coming old told (Ok heard.Ends)
+hears_end bounds entries sends log new ledger later phases after before now most coming old told stood enters takes same_log same_ledger same_count =
+    let still : heeded bounds (events_in (entries ++ entry.Took event.Ends ∷ [])) ≡ heeded bounds (events_in entries) = ap (heeded bounds) (events_ended entries) in
+    let none : items_in bounds (entries ++ entry.Took event.Ends ∷ []) ≡ items_in bounds entries ++ [] = ap (items_of bounds.framing) still ∙ sym (append-nil (items_in bounds entries)) in (
+      event.Ends,
+      refl,
+      takes,
+      record {
+        more = [];
+        brings = none;
+        items = subst (KeepsItems bounds (entries ++ entry.Took event.Ends ∷ [])) (sym same_log) (items_ended bounds entries log stood.items);
+        replies = subst (KeepsReplies bounds (entries ++ entry.Took event.Ends ∷ []) None sends) (sym same_ledger) (keeps_unheeded bounds entries sends event.Ends ledger still stood.replies);
+      },
+      (λ conn. enters conn ∙ stood.is_at conn ∙ ap (phase_after conn) (sym (events_ended entries))),
+      same_count ∙ stood.counted ∙ ap length (sym (events_ended entries)),
+    )
+
+pub hears_taken : (bounds : Bounds) (entries : List Entry) (sends : List Send) (event : LinkEvent) (log new : Log) (ledger later : Ledger) (phases after : Phases) (before now most : ℕ) (coming : Option Coming) (old told : Told) (result : Result Heard HearFault)
+    → Stood bounds entries sends log ledger phases before most → IsInOrder phases event → ((conn : ℕ) → after conn ≡ phases_after event phases conn) → Takes old told event → TakesOrEnds event log new ledger later before now most result
+    → HearsBy bounds entries sends new later after now coming old told result
+hears_taken bounds entries sends (event.Opens conn) log new ledger later phases after before now most coming old told result stood order enters takes did =
+    hears_event bounds entries sends (event.Opens conn) log new ledger later phases after before now most coming old told result refl stood order enters takes did
+hears_taken bounds entries sends (event.Piece conn bytes) log new ledger later phases after before now most coming old told result stood order enters takes did =
+    hears_event bounds entries sends (event.Piece conn bytes) log new ledger later phases after before now most coming old told result refl stood order enters takes did
+hears_taken bounds entries sends (event.Closes conn) log new ledger later phases after before now most coming old told result stood order enters takes did =
+    hears_event bounds entries sends (event.Closes conn) log new ledger later phases after before now most coming old told result refl stood order enters takes did
+hears_taken bounds entries sends event.Settles log new ledger later phases after before now most coming old told result stood order enters takes did =
+    hears_event bounds entries sends event.Settles log new ledger later phases after before now most coming old told result refl stood order enters takes did
+hears_taken bounds entries sends event.Ends log new ledger later phases after before now most coming old told result stood order enters takes did =
+    subst (HearsBy bounds entries sends new later after now coming old told) (sym did.0) (hears_end bounds entries sends log new ledger later phases after before now most coming old told stood enters takes did.1 did.2 did.3)

@@ -1,0 +1,16 @@
+pub mod Phasing
+pub mod Ordering
+pub mod Refusing
+pub mod Knowing
+pub mod Answering
+pub mod Connecting
+pub mod ItemLemmas
+pub mod ComingLemmas
+pub mod MomentLemmas
+pub mod KeepLemmas
+pub mod DueLemmas
+pub mod GoingLemmas
+pub mod ReadyLemmas
+pub mod ReplyLemmas
+pub mod NotingLemmas
+pub mod FoundLemmas

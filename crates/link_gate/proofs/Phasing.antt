@@ -1,0 +1,111 @@
+-- The phases of a link behind some events, and the connections that a log knows as open.
+use Rattle.std.proofs.Common.{◌≡◌, ℕ, Bool, true, false, ◌||◌, if◌then◌else◌, List, [], ◌∷◌, ◌++◌, refl, sym, ◌∙◌, ap}
+use Rattle.std.specs.Prelude.{◌==◌}
+use Rattle.std.proofs.lemmas.Bool.{eqb-true, eq-eqb}
+use Rattle.std.proofs.lemmas.List.Recursion.{or_push}
+use Rattle.links.specs.declared.journal.LinkEvent.{LinkEvent}
+use Rattle.links.specs.declared.journal.LinkEvent.TheVariants as event
+use Rattle.links.specs.Links.{Phase, Unopened, Open, Closed, Phases, IsInOrder, phases_after}
+use Rattle.session_history.specs.Opened.{opens, closes}
+use Rattle.session_history.specs.Keeping.{phase_after}
+
+-- whether one event opens a connection, and whether it closes it
+abbrev pub opens_by : ℕ → LinkEvent → Bool
+opens_by conn (event.Opens opened) = opened == conn
+opens_by conn (event.Piece to bytes) = false
+opens_by conn (event.Closes closed) = false
+opens_by conn event.Settles = false
+opens_by conn event.Ends = false
+
+abbrev pub closes_by : ℕ → LinkEvent → Bool
+closes_by conn (event.Opens opened) = false
+closes_by conn (event.Piece to bytes) = false
+closes_by conn (event.Closes closed) = closed == conn
+closes_by conn event.Settles = false
+closes_by conn event.Ends = false
+
+pub opens-first : (conn : ℕ) (event : LinkEvent) (events : List LinkEvent) → opens conn (event ∷ events) ≡ (opens_by conn event || opens conn events)
+opens-first conn (event.Opens opened) events = refl
+opens-first conn (event.Piece to bytes) events = refl
+opens-first conn (event.Closes closed) events = refl
+opens-first conn event.Settles events = refl
+opens-first conn event.Ends events = refl
+
+pub closes-first : (conn : ℕ) (event : LinkEvent) (events : List LinkEvent) → closes conn (event ∷ events) ≡ (closes_by conn event || closes conn events)
+closes-first conn (event.Opens opened) events = refl
+closes-first conn (event.Piece to bytes) events = refl
+closes-first conn (event.Closes closed) events = refl
+closes-first conn event.Settles events = refl
+closes-first conn event.Ends events = refl
+
+-- one event behind others
+pub opens-last : (conn : ℕ) (events : List LinkEvent) (event : LinkEvent) → opens conn (events ++ event ∷ []) ≡ (opens conn events || opens_by conn event)
+opens-last conn events event = or_push (opens conn) (opens_by conn) refl (opens-first conn) events event
+
+pub closes-last : (conn : ℕ) (events : List LinkEvent) (event : LinkEvent) → closes conn (events ++ event ∷ []) ≡ (closes conn events || closes_by conn event)
+closes-last conn events event = or_push (closes conn) (closes_by conn) refl (closes-first conn) events event
+
+-- a phase by two answers
+abbrev pub phase_by : Bool → Bool → Phase
+phase_by closed opened = if closed then Closed else if opened then Open else Unopened
+
+pub unopened_by : (closed opened : Bool) → phase_by closed opened ≡ Unopened → (closed ≡ false) × (opened ≡ false)
+unopened_by true opened h = absurd (let no : ⊥ = cc in no)
+unopened_by false true h = absurd (let no : ⊥ = cc in no)
+unopened_by false false h = (refl, refl)
+
+pub open_by : (closed opened : Bool) → phase_by closed opened ≡ Open → (closed ≡ false) × (opened ≡ true)
+open_by true opened h = absurd (let no : ⊥ = cc in no)
+open_by false true h = (refl, refl)
+open_by false false h = absurd (let no : ⊥ = cc in no)
+
+pub eqb_turns : (a b : ℕ) → (a == b) ≡ (b == a)
+eqb_turns a b = by (a == b) (b == a) refl refl
+  where
+    by : (x y : Bool) → a == b ≡ x → b == a ≡ y → x ≡ y
+    by true y p q = sym (sym q ∙ eq-eqb b a (sym (eqb-true a b p)))
+    by false true p q = sym p ∙ eq-eqb a b (sym (eqb-true b a q))
+    by false false p q = refl
+
+-- behind an event in order the phases are those of the events with it
+opens_phase : (conn place : ℕ) (b closed opened : Bool) → conn == place ≡ b → (conn ≡ place → (closed ≡ false) × (opened ≡ false)) →
+    (if b then Open else phase_by closed opened) ≡ phase_by (closed || false) (opened || b)
+opens_phase conn place true closed opened p fresh = let both = fresh (eqb-true conn place p) in by closed opened both.0 both.1
+  where
+    by : (closed opened : Bool) → closed ≡ false → opened ≡ false → Open ≡ phase_by (closed || false) (opened || true)
+    by true opened p q = absurd (let no : ⊥ = cc in no)
+    by false true p q = absurd (let no : ⊥ = cc in no)
+    by false false p q = refl
+opens_phase conn place false true opened p fresh = refl
+opens_phase conn place false false true p fresh = refl
+opens_phase conn place false false false p fresh = refl
+
+closes_phase : (b closed opened : Bool) → (if b then Closed else phase_by closed opened) ≡ phase_by (closed || b) (opened || false)
+closes_phase true true opened = refl
+closes_phase true false opened = refl
+closes_phase false true opened = refl
+closes_phase false false true = refl
+closes_phase false false false = refl
+
+same_phase : (closed opened : Bool) → phase_by closed opened ≡ phase_by (closed || false) (opened || false)
+same_phase true opened = refl
+same_phase false true = refl
+same_phase false false = refl
+
+phase-last : (conn : ℕ) (events : List LinkEvent) (event : LinkEvent) → phase_by (closes conn events || closes_by conn event) (opens conn events || opens_by conn event) ≡ phase_after conn (events ++ event ∷ [])
+phase-last conn events event = λ i. phase_by (sym (closes-last conn events event) i) (sym (opens-last conn events event) i)
+
+pub phases_behind : (phases : Phases) (events : List LinkEvent) (event : LinkEvent) → ((conn : ℕ) → phases conn ≡ phase_after conn events) → IsInOrder phases event → (conn : ℕ) → phases_after event phases conn ≡ phase_after conn (events ++ event ∷ [])
+phases_behind phases events (event.Opens opened) knows order conn =
+    ap (λ (phase : Phase). if conn == opened then Open else phase) (knows conn)
+    ∙ opens_phase conn opened (conn == opened) (closes conn events) (opens conn events) refl (λ same. unopened_by (closes conn events) (opens conn events) (sym (knows conn) ∙ ap phases same ∙ order.1))
+    ∙ ap (λ (b : Bool). phase_by (closes conn events || false) (opens conn events || b)) (eqb_turns conn opened)
+    ∙ phase-last conn events (event.Opens opened)
+phases_behind phases events (event.Piece to bytes) knows order conn = knows conn ∙ same_phase (closes conn events) (opens conn events) ∙ phase-last conn events (event.Piece to bytes)
+phases_behind phases events (event.Closes closed) knows order conn =
+    ap (λ (phase : Phase). if conn == closed then Closed else phase) (knows conn)
+    ∙ closes_phase (conn == closed) (closes conn events) (opens conn events)
+    ∙ ap (λ (b : Bool). phase_by (closes conn events || b) (opens conn events || false)) (eqb_turns conn closed)
+    ∙ phase-last conn events (event.Closes closed)
+phases_behind phases events event.Settles knows order conn = knows conn ∙ same_phase (closes conn events) (opens conn events) ∙ phase-last conn events event.Settles
+phases_behind phases events event.Ends knows order conn = knows conn ∙ same_phase (closes conn events) (opens conn events) ∙ phase-last conn events event.Ends

@@ -1,0 +1,4 @@
+pub mod Calls
+pub mod Taking
+pub mod Faults
+pub mod Noting

@@ -1,0 +1,6 @@
+pub mod Links
+pub mod ConnectionTables
+pub mod LinkForms
+pub mod TableLaws
+pub mod MemoryLinks
+pub mod MemoryLaws

@@ -1,0 +1,14 @@
+-- The link in memory goes on.
+use Rattle.std.specs.Prelude.{◌++◌, []}
+use Rattle.std.proofs.Common.{append-nil, append_assoc, refl, sym, ap, ◌∙◌}
+use Rattle.links.specs.MemoryLinks.{MemoryWent}
+use Rattle.links.specs.declared.memory_link.MemoryLink.{MemoryLink}
+
+pub memory_same : (link : MemoryLink) → MemoryWent link link
+memory_same link = record { played = refl; grew = ([], append-nil _) }
+
+pub memory_on : (first second third : MemoryLink) → MemoryWent first second → MemoryWent second third → MemoryWent first third
+memory_on first second third one two = record {
+  played = two.played ∙ one.played;
+  grew = (one.grew.0 ++ two.grew.0, sym (append_assoc _ one.grew.0 two.grew.0) ∙ ap (λ l. l ++ two.grew.0) one.grew.1 ∙ two.grew.1);
+}

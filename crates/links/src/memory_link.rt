@@ -1,0 +1,347 @@
+// A link in memory that plays a list of events, and of which certain calls fail.
+ghost use Rattle.std.specs.Prelude.{◌≡◌, ◌^◌, ◌<◌, ◌≤◌, ◌+◌, ℕ, nat_lt, Option, Some, None, [], length, drop, true, Ok, IfOk};
+ghost use Rattle.links.specs.Links.{Enters};
+ghost use Rattle.links.specs.ConnectionTables.{phases_in, is_in_order};
+ghost use Rattle.links.specs.MemoryLinks.{event_or_ends, gone_at, given_of, IsWithin, AnswersAs, taken_after, counts_in, counts_after_next, counts_after_give, after_taking, after_giving};
+
+use crate::{ConnectionTable, Entry, Given, Link, LinkEvent, LinkFault};
+use rx_io::{Bytes, Fails};
+use std::alloc::{AllocError, Global};
+
+// How often a link has failed to take and to give, and how often a connection was gone.
+#[derive(Drop)]
+struct LinkCounts {
+    takes: u64,
+    gives: u64,
+    gones: u64,
+}
+
+/// A link that plays a list of events and keeps its journal. It gives to every connection below 4096 at all times.
+#[derive(Drop)]
+pub struct MemoryLink {
+    alloc: Global,
+    events: Vec<LinkEvent>,
+    taken: usize,
+    fails: Fails,
+    gones: Vec<(u64, usize)>,
+    table: ConnectionTable,
+    journal: Vec<Entry>,
+    handed: Option<(u16, usize)>,
+    takes: bool,
+    gives: bool,
+    counts: LinkCounts,
+}
+
+impl LinkCounts {
+    // Counts the answer of a `next`.
+    fn count_next(&mut self, answer: &Result<LinkEvent, LinkFault>)
+        ensures { counts_in self.new ≡ counts_after_next (counts_in self.old) answer.now }
+    {
+        if let Err(LinkFault::ReadFault) = answer {
+            self.takes = self.takes.saturating_add(1);
+        }
+    }
+
+    // Counts the answer of a `give`.
+    fn count_give(&mut self, answer: &Result<Given, LinkFault>)
+        ensures { counts_in self.new ≡ counts_after_give (counts_in self.old) answer.now }
+    {
+        match answer {
+            Err(LinkFault::WriteFault) => self.gives = self.gives.saturating_add(1),
+            Ok(Given::Gone(_)) => self.gones = self.gones.saturating_add(1),
+            _ => {}
+        }
+    }
+}
+
+// A copy of an event.
+fn copy_event(alloc: Global, event: &LinkEvent) -> Result<LinkEvent, AllocError>
+    ensures { IfOk result (λ copy. copy ≡ event.now) }
+{
+    match event {
+        LinkEvent::Opens(conn) => Ok(LinkEvent::Opens(*conn)),
+        LinkEvent::Piece(conn, bytes) => {
+            let copy = bytes.as_slice().to_vec(alloc)?;
+            Ok(LinkEvent::Piece(*conn, Bytes::from_vec(copy)))
+        }
+        LinkEvent::Closes(conn) => Ok(LinkEvent::Closes(*conn)),
+        LinkEvent::Settles => Ok(LinkEvent::Settles),
+        LinkEvent::Ends => Ok(LinkEvent::Ends),
+    }
+}
+
+// A copy of the event at a place, or `Ends` where there is none.
+fn copy_at(alloc: Global, events: &[LinkEvent], place: usize) -> Result<LinkEvent, AllocError>
+    ensures { IfOk result (λ copy. copy ≡ event_or_ends (drop place events.now)) }
+{
+    match events.get(place) {
+        Some(event) => copy_event(alloc, event),
+        None => Ok(LinkEvent::Ends),
+    }
+}
+
+// Whether the event at a place is in order, as `Ends` is.
+fn is_in_order_at(table: &ConnectionTable, events: &[LinkEvent], place: usize) -> bool
+    ensures { result ≡ is_in_order (phases_in table.now) (event_or_ends (drop place events.now)) }
+{
+    match events.get(place) {
+        Some(event) => table.is_in_order(event),
+        None => true,
+    }
+}
+
+// Takes the next event: it is noted in the journal and answered, and its connection's phase changes.
+fn take_next(
+    alloc: Global,
+    events: &[LinkEvent],
+    taken: &mut usize,
+    table: &mut ConnectionTable,
+    journal: &mut Vec<Entry>,
+) -> Result<LinkEvent, LinkFault>
+    requires { is_in_order (phases_in table.old) (event_or_ends (drop taken.old events.now)) ≡ true }
+    ensures answer { AnswersAs (Ok (event_or_ends (drop taken.old events.now))) result }
+    ensures taken { taken.new ≡ taken_after (length events.now) taken.old result }
+    ensures order { Enters (phases_in table.old) (phases_in table.new) result }
+    ensures journal { journal.new.items ≡ after_taking journal.old.items result }
+{
+    let Ok(event) = copy_at(alloc, events, *taken) else {
+        return Err(LinkFault::Memory);
+    };
+    let Ok(noted) = copy_at(alloc, events, *taken) else {
+        return Err(LinkFault::Memory);
+    };
+    let Ok(()) = journal.push(Entry::Took(noted)) else {
+        return Err(LinkFault::Memory);
+    };
+    table.enter(&event);
+    match &event {
+        LinkEvent::Ends => {}
+        _ => {
+            if *taken < events.len() {
+                *taken += 1;
+            }
+        }
+    }
+    Ok(event)
+}
+
+// What a give of so many bytes finds at this call: the connection gone, or not.
+fn given_at(call: u64, gones: &[(u64, usize)], len: usize) -> Given
+    ensures given { result ≡ given_of len (gone_at call gones.now) }
+    ensures within { IsWithin len result }
+{
+    'gones: for gone in gones {
+        if gone.0 == call {
+            return Given::Gone(gone.1.min(len));
+        }
+    }
+    Given::All
+}
+
+// Notes a piece in the journal, or as much of it as went out.
+fn note_given(
+    alloc: Global,
+    journal: &mut Vec<Entry>,
+    conn: u16,
+    bytes: &[u8],
+    given: Given,
+) -> Result<Given, LinkFault>
+    requires { IsWithin (length bytes.now) given }
+    ensures answer { AnswersAs (Ok given) result }
+    ensures journal { journal.new.items ≡ after_giving conn bytes.now journal.old.items result }
+{
+    let (went, gone) = match given {
+        Given::All => (bytes, false),
+        Given::Gone(count) => (bytes.split_at(count).0, true),
+    };
+    let Ok(copy) = went.to_vec(alloc) else {
+        return Err(LinkFault::Memory);
+    };
+    let bytes = Bytes::from_vec(copy);
+    match journal.push(Entry::Gave { conn, bytes, gone }) {
+        Ok(()) => Ok(given),
+        Err(_) => Err(LinkFault::Memory),
+    }
+}
+
+impl MemoryLink {
+    ghost use Rattle.std.specs.Prelude.{◌≡◌, ◌<◌, ◌^◌, [], ℕ, None, true, length};
+    ghost use Rattle.links.specs.Links.{IsFresh, Enters};
+    ghost use Rattle.links.specs.MemoryLinks.{first_script, link_script, link_journal, link_phases, link_counts, link_handed, link_takes, link_gives, no_faults, planned_next, planned_give, AnswersAs, after_next, after_script_call, after_taking, after_giving};
+
+    /// Plays these events and then answers `Ends`. Calls of `next` and `give` are counted together from 1. The calls whose
+    /// numbers are in `fails` answer `ReadFault` or `WriteFault`, and no byte goes out. The gives whose numbers are in
+    /// `gones` answer `Gone` with the number that stands beside it, or the piece's length where that is less.
+    pub fn make(
+        alloc: Global,
+        events: Vec<LinkEvent>,
+        fails: Vec<u64>,
+        gones: Vec<(u64, usize)>,
+    ) -> MemoryLink
+        ensures script { link_script result ≡ first_script events.items fails.items gones.items }
+        ensures journal { link_journal result ≡ [] }
+        ensures phases { IsFresh (link_phases result) }
+        ensures handed { link_handed result ≡ None }
+        ensures counts { link_counts result ≡ no_faults }
+        ensures takes { link_takes result ≡ true }
+        ensures gives { link_gives result ≡ true }
+    {
+        MemoryLink {
+            alloc,
+            events,
+            taken: 0,
+            fails: Fails::make(fails),
+            gones,
+            table: ConnectionTable::new(),
+            journal: Vec::new(alloc),
+            handed: None,
+            takes: true,
+            gives: true,
+            counts: LinkCounts {
+                takes: 0,
+                gives: 0,
+                gones: 0,
+            },
+        }
+    }
+
+    /// The events taken, `Ends` among them, and the pieces given, in order.
+    pub fn journal(&self) -> &[Entry]
+        ensures { result.now ≡ link_journal self.now }
+    {
+        &self.journal
+    }
+
+    // The answer of a `next`, before its fault is counted.
+    fn play_next(&mut self) -> Result<LinkEvent, LinkFault>
+        ensures answer { AnswersAs (planned_next (link_phases self.old) (link_script self.old)) result }
+        ensures script { link_script self.new ≡ after_next (link_script self.old) result }
+        ensures order { Enters (link_phases self.old) (link_phases self.new) result }
+        ensures journal { link_journal self.new ≡ after_taking (link_journal self.old) result }
+        ensures counts { self.new.counts ≡ self.old.counts }
+        ensures handed { self.new.handed ≡ self.old.handed }
+        ensures gives { self.new.gives ≡ self.old.gives }
+    {
+        if self.fails.call_fails() {
+            return Err(LinkFault::ReadFault);
+        }
+        if !is_in_order_at(&self.table, &self.events, self.taken) {
+            return Err(LinkFault::Refused {
+                kind: 4,
+                offset: self.taken as u64,
+            });
+        }
+        take_next(
+            self.alloc,
+            &self.events,
+            &mut self.taken,
+            &mut self.table,
+            &mut self.journal,
+        )
+    }
+
+    // The answer of a `give`, before its fault is counted.
+    fn play_give(&mut self, conn: u16, bytes: &[u8]) -> Result<Given, LinkFault>
+        ensures answer { AnswersAs (planned_give (length bytes.now) (link_script self.old)) result }
+        ensures script { link_script self.new ≡ after_script_call (link_script self.old) }
+        ensures journal { link_journal self.new ≡ after_giving conn bytes.now (link_journal self.old) result }
+        ensures table { self.new.table ≡ self.old.table }
+        ensures counts { self.new.counts ≡ self.old.counts }
+        ensures handed { self.new.handed ≡ self.old.handed }
+        ensures takes { self.new.takes ≡ self.old.takes }
+    {
+        if self.fails.call_fails() {
+            return Err(LinkFault::WriteFault);
+        }
+        let given = given_at(self.fails.calls(), &self.gones, bytes.len());
+        note_given(self.alloc, &mut self.journal, conn, bytes, given)
+    }
+}
+
+impl Link for MemoryLink {
+    ghost use Rattle.std.specs.Prelude.{◌≡◌, ◌<◌, ◌^◌, ℕ, Some, true, length, is_ok};
+    ghost use Rattle.links.specs.LinkForms.{told_by, gives_below_4096};
+    ghost use Rattle.links.specs.Links.{Nexts, Enters, GoesBy, StillComes, StaysTold, HasTakeCause, GivesAtClose, Gives, TellsHanded, HasGiveCause};
+    ghost use Rattle.links.specs.MemoryLinks.{link_script, link_journal, link_phases, link_coming, link_counts, link_handed, link_takes, link_gives, planned_next, planned_give, AnswersAs, after_next, after_script_call, after_taking, after_giving, counts_after_next, counts_after_give, MemoryWent};
+    ghost use Rattle.links.specs.MemoryLaws.{memory_same, memory_on};
+    ghost use Rattle.links.specs.TableLaws.{open_gives, open_below};
+
+    ghost told = { λ link. told_by (link_journal link) };
+
+    ghost phases = { link_phases };
+
+    ghost coming = { λ link. Some (link_coming link) };
+
+    ghost handed = { link_handed };
+
+    ghost gives_to = { λ link. gives_below_4096 };
+
+    ghost takes = { link_takes };
+
+    ghost gives = { link_gives };
+
+    ghost counts = { link_counts };
+
+    ghost gives_open = { λ link. open_gives link.table };
+
+    ghost below = { λ link. open_below link.table };
+
+    ghost Went = { MemoryWent };
+
+    ghost went_same = { memory_same };
+
+    ghost went_on = { memory_on };
+
+    /// Takes the next event of the list, or `Ends` behind its last. An event that isn't in order for its connection, or whose
+    /// connection is 4096 or above, is refused by kind 4 with its place in the list, counted from 0. `Ends` isn't gone past.
+    fn next(&mut self) -> Result<LinkEvent, LinkFault>
+        requires { link_takes self.old ≡ true }
+        ensures told { Nexts (told_by (link_journal self.old)) (told_by (link_journal self.new)) result }
+        ensures order { Enters (link_phases self.old) (link_phases self.new) result }
+        ensures grammar { GoesBy (Some (link_coming self.old)) result }
+        ensures last { StillComes (Some (link_coming self.new)) result }
+        ensures coming { StaysTold (Some (link_coming self.old)) (Some (link_coming self.new)) result }
+        ensures cause { HasTakeCause (link_counts self.old) (link_counts self.new) result }
+        ensures closing { GivesAtClose gives_below_4096 result }
+        ensures handed { link_handed self.new ≡ link_handed self.old }
+        ensures takes { link_takes self.new ≡ is_ok result }
+        ensures gives { link_gives self.new ≡ link_gives self.old }
+        ensures went { MemoryWent self.old self.new }
+        ensures answer { AnswersAs (planned_next (link_phases self.old) (link_script self.old)) result }
+        ensures script { link_script self.new ≡ after_next (link_script self.old) result }
+        ensures journal { link_journal self.new ≡ after_taking (link_journal self.old) result }
+        ensures counts { link_counts self.new ≡ counts_after_next (link_counts self.old) result }
+    {
+        let answer = self.play_next();
+        self.counts.count_next(&answer);
+        self.takes = answer.is_ok();
+        answer
+    }
+
+    /// Gives a piece, as the call's number has it.
+    fn give(&mut self, conn: u16, bytes: &[u8]) -> Result<Given, LinkFault>
+        requires may { link_gives self.old ≡ true }
+        requires connected { gives_below_4096 conn ≡ true }
+        requires some { 0 < length bytes.now }
+        requires few { length bytes.now < 2 ^ 16 }
+        ensures told { Gives (told_by (link_journal self.old)) (told_by (link_journal self.new)) conn bytes.now result }
+        ensures handed { TellsHanded (told_by (link_journal self.new)) (link_handed self.new) conn bytes.now }
+        ensures cause { HasGiveCause (link_counts self.old) (link_counts self.new) result }
+        ensures phases { (other : ℕ) → link_phases self.new other ≡ link_phases self.old other }
+        ensures gives_to { (other : ℕ) → gives_below_4096 other ≡ gives_below_4096 other }
+        ensures coming { Some (link_coming self.new) ≡ Some (link_coming self.old) }
+        ensures takes { link_takes self.new ≡ link_takes self.old }
+        ensures gives { link_gives self.new ≡ is_ok result }
+        ensures went { MemoryWent self.old self.new }
+        ensures answer { AnswersAs (planned_give (length bytes.now) (link_script self.old)) result }
+        ensures script { link_script self.new ≡ after_script_call (link_script self.old) }
+        ensures journal { link_journal self.new ≡ after_giving conn bytes.now (link_journal self.old) result }
+        ensures counts { link_counts self.new ≡ counts_after_give (link_counts self.old) result }
+    {
+        self.handed = Some((conn, bytes.len()));
+        let answer = self.play_give(conn, bytes);
+        self.counts.count_give(&answer);
+        self.gives = answer.is_ok();
+        answer
+    }
+}

@@ -1,0 +1,12 @@
+pub mod ReadLemmas
+pub mod WriteLemmas
+pub mod PayloadLemmas
+pub mod StopLemmas
+pub mod ServeLemmas
+mod FrameFronts
+mod HeededFronts
+mod SameBytes
+mod SameRun
+mod FrontLemmas
+mod SendLemmas
+mod TrunkLemmas

@@ -1,0 +1,142 @@
+-- What a trunk's session had taken where it came to its end.
+use Rattle.std.proofs.Common.{◌≡◌, ℕ, Bool, true, false, List, [], ◌∷◌, ◌++◌, length, take, Option, None, Some, IfSome, if◌then◌else◌, nat_lt, ◌==◌, arith, append-nil, length-append, refl, sym, ap, ◌∙◌, subst, inl, inr}
+use Rattle.std.specs.Prelude.{IsSome}
+use Rattle.links.specs.Links.{Phases, Comes, Refuses}
+use Rattle.rx_io.specs.Outside.{Stream, Took, IsDrained}
+use Rattle.links.specs.declared.journal.LinkEvent.{LinkEvent}
+use Rattle.links.specs.declared.journal.LinkEvent.TheVariants as event
+use Rattle.run_history.specs.declared.answer.Answer.{Answer}
+use Rattle.run_history.specs.declared.answer.Answer.TheVariants as answer
+use Rattle.session_history.specs.Account.{Session}
+use Rattle.session_history.specs.Ends.{IsEnd, EndsBy}
+use Rattle.session_history.specs.Lawful.{Rules}
+use Rattle.session_state.specs.Serving.{TakesAtEnd}
+use Rattle.trunk_wire.specs.Calls.{count_after, IsRefused}
+use Rattle.trunk_wire.specs.Frames.{header_of, AreFramesOf}
+use Rattle.trunk_wire.specs.Going.{AreInOrder, phases_behind, Intake, IsTail}
+use Rattle.trunk_wire.specs.Grammar.{Whole, Part, front, front_by, front_accepted, header_refusal, event_of, coming_of, event_at}
+use Rattle.trunk_wire.specs.Pieces.{fresh}
+use Rattle.trunk_wire.specs.Tellings.{told_coming}
+use Rattle.trunk_wire.specs.declared.header.Header.{Header}
+use Rattle.trunk_wire.specs.declared.header.TheConstants.{OPEN, BYTES, CLOSE}
+use Rattle.trunk_wire.specs.declared.refusal.Refusal.{Refusal}
+use Rattle.over_trunk.specs.Trunk.{TookWhole, TookRefused, TookNoPart, StopsAt}
+use Rattle.over_trunk.proofs.ReadLemmas.{Countable, few_taken}
+
+-- a frame is no end
+no_end : (first second third : Bool) (conn : ℕ) (bytes : List ℕ) → (if first then event.Opens conn else if second then event.Piece conn bytes else if third then event.Closes conn else event.Settles) ≡ event.Ends → ⊥
+no_end true second third conn bytes is = cc
+no_end false true third conn bytes is = cc
+no_end false false true conn bytes is = cc
+no_end false false false conn bytes is = cc
+
+accepted_no_end : (at : ℕ) (header : Header) (bytes : List ℕ) → coming_of at (front_accepted header bytes) ≡ Comes event.Ends → ⊥
+accepted_no_end at header bytes = by_test (nat_lt (length bytes) header.length)
+  where
+    by_test : (short : Bool) → coming_of at (if short then Part else Whole (event_of header (take header.length bytes))) ≡ Comes event.Ends → ⊥
+    by_test true is = cc
+    by_test false is =
+        let same : event_of header (take header.length bytes) ≡ event.Ends = cc in
+        no_end (header.kind == OPEN) (header.kind == BYTES) (header.kind == CLOSE) header.conn (take header.length bytes) same
+
+behind_no_end : (at : ℕ) (refusal : Option ℕ) (header : Header) (bytes : List ℕ) → coming_of at (front_by refusal (front_accepted header bytes)) ≡ Comes event.Ends → ⊥
+behind_no_end at None header bytes is = accepted_no_end at header bytes is
+behind_no_end at (Some kind) header bytes is = cc
+
+front_no_end : (phases : Phases) (at : ℕ) (bytes : List ℕ) → coming_of at (front phases bytes) ≡ Comes event.Ends → ⊥
+front_no_end phases at [] is = cc
+front_no_end phases at (a ∷ []) is = cc
+front_no_end phases at (a ∷ b ∷ []) is = cc
+front_no_end phases at (a ∷ b ∷ c ∷ []) is = cc
+front_no_end phases at (a ∷ b ∷ c ∷ d ∷ []) is = cc
+front_no_end phases at (a ∷ b ∷ c ∷ d ∷ e ∷ bytes) is = behind_no_end at (header_refusal phases (header_of a b c d e)) (header_of a b c d e) bytes is
+
+-- where the end comes no byte is left
+none_left : (phases : Phases) (at : ℕ) (bytes : List ℕ) → event_at phases at bytes ≡ Comes event.Ends → bytes ≡ []
+none_left phases at [] is = refl
+none_left phases at (byte ∷ bytes) is = absurd (front_no_end phases at (byte ∷ bytes) is)
+
+pub drained : (told : Option Stream) (took : ℕ) (phases : Phases) (takes : Bool) (refused : Option Refusal) → takes ≡ true → IfSome (told_coming told took phases takes refused) (λ next. next ≡ Comes event.Ends) → IsDrained told
+drained None took phases takes refused is ends = tt
+drained (Some stream) took phases true refused is ends = none_left phases took stream.left ends
+drained (Some stream) took phases false refused is ends = let no : ⊥ = cc in absurd no
+
+-- what is refused, by the refusal that the link has
+refused_is : (behind : Phases) (end : Type 0) (at : ℕ) (tail : List ℕ) (told : Option Stream) (took : ℕ) (phases : Phases) (takes : Bool) (refused : Option Refusal) (kind offset : ℕ) → takes ≡ false
+    → IsSome (told_coming told took phases takes refused) → IfSome (told_coming told took phases takes refused) (λ next. next ≡ Refuses kind offset) → IsTail behind end at takes refused tail
+    → IsRefused behind end kind tail × (offset ≡ at)
+refused_is behind end at tail None took phases takes refused kind offset is known next stands = let no : ⊥ = cc in absurd no
+refused_is behind end at tail (Some stream) took phases true refused kind offset is known next stands = let no : ⊥ = cc in absurd no
+refused_is behind end at tail (Some stream) took phases false None kind offset is known next stands = let no : ⊥ = cc in absurd no
+refused_is behind end at tail (Some stream) took phases false (Some refusal) kind offset is known next stands =
+    let kinds : refusal.kind ≡ kind = cc in
+    let offsets : refusal.offset ≡ offset = cc in
+    (subst (λ k. IsRefused behind end k tail) kinds stands.1, sym offsets ∙ stands.0)
+
+-- What a link took since it was made: the frames of these events, and a tail behind them.
+pub record HasTaken (new : Intake) (before : Stream) (list : List LinkEvent) : Type 0 where
+  pub whole : List ℕ
+  pub tail : List ℕ
+  pub order : AreInOrder fresh list
+  pub are : AreFramesOf list whole
+  pub took : Took (Some before) new.told (whole ++ tail)
+  pub count : new.took ≡ count_after 0 (length (whole ++ tail))
+  pub phases : (conn : ℕ) → new.phases conn ≡ phases_behind list fresh conn
+  pub is_tail : IsTail (phases_behind list fresh) (IsDrained new.told) (count_after 0 (length whole)) new.takes new.refused tail
+
+-- while it takes events, no byte behind their frames
+pub took_whole : (new : Intake) (before : Stream) (list : List LinkEvent) → HasTaken new before list → new.takes ≡ true → TookWhole (Some before) new.told list
+took_whole new before list taken takes =
+    let none : taken.tail ≡ [] = subst (λ b. IsTail (phases_behind list fresh) (IsDrained new.told) (count_after 0 (length taken.whole)) b new.refused taken.tail) takes taken.is_tail in
+    record {
+      whole = taken.whole;
+      are = taken.are;
+      took = subst (Took (Some before) new.told) (ap (λ l. taken.whole ++ l) none ∙ append-nil taken.whole) taken.took;
+    }
+
+-- frames that were taken are short enough to be counted
+count_whole : (before : Stream) (told : Option Stream) (whole tail : List ℕ) → Countable told → Took (Some before) told (whole ++ tail) → count_after 0 (length whole) ≡ length whole
+count_whole before None whole tail few took = absurd took
+count_whole before (Some new) whole tail few took =
+    let small = few_taken before new (whole ++ tail) took few in
+    omega (arith, small, length-append whole tail)
+
+pub took_refused : (new : Intake) (before : Stream) (list : List LinkEvent) (kind offset : ℕ) → Countable new.told → HasTaken new before list → new.takes ≡ false
+    → IsSome (told_coming new.told new.took new.phases new.takes new.refused) → IfSome (told_coming new.told new.took new.phases new.takes new.refused) (λ next. next ≡ Refuses kind offset)
+    → TookRefused (Some before) new.told list kind offset
+took_refused new before list kind offset few taken takes known next =
+    let refused : IsRefused (phases_behind list fresh) (IsDrained new.told) kind taken.tail × (offset ≡ count_after 0 (length taken.whole)) =
+    refused_is (phases_behind list fresh) (IsDrained new.told) (count_after 0 (length taken.whole)) taken.tail new.told new.took new.phases new.takes new.refused kind offset takes known next taken.is_tail in
+    record {
+      whole = taken.whole;
+      tail = taken.tail;
+      are = taken.are;
+      took = taken.took;
+      refused = refused.0;
+      offset_is = refused.1 ∙ count_whole before new.told taken.whole taken.tail few taken.took;
+    }
+
+-- so it stopped, by its answer
+pub stops_at : (rules : Rules) (session : Session) (new : Intake) (before : Stream) (list : List LinkEvent) (end : Answer) → Countable new.told → HasTaken new before list → TakesAtEnd new.takes end
+    → (IsEnd end → IsSome (told_coming new.told new.took new.phases new.takes new.refused)) → EndsBy rules (told_coming new.told new.took new.phases new.takes new.refused) session end → StopsAt (Some before) new.told list end
+stops_at rules session new before list answer.Finished few taken takes known ends =
+    (took_whole new before list taken (takes tt), drained new.told new.took new.phases new.takes new.refused (takes tt) ends.0.2)
+stops_at rules session new before list (answer.InputRefused kind offset) few taken takes known ends = took_refused new before list kind offset few taken takes (known tt) ends.0.2
+stops_at rules session new before list _ few taken takes known ends = λ is. took_whole new before list taken (takes is)
+
+refusal_of : (told : Option Stream) (took : ℕ) (phases : Phases) (takes : Bool) (refused : Option Refusal) → takes ≡ false → IsSome (told_coming told took phases takes refused)
+    → (refusal : Refusal) × IfSome (told_coming told took phases takes refused) (λ next. next ≡ Refuses refusal.kind refusal.offset)
+refusal_of None took phases takes refused is known = let never : ⊥ = cc in absurd never
+refusal_of (Some stream) took phases true refused is known = let never : ⊥ = cc in absurd never
+refusal_of (Some stream) took phases false None is known = let never : ⊥ = cc in absurd never
+refusal_of (Some stream) took phases false (Some refusal) is known = (refusal, refl)
+
+-- where it is told what comes, no part of a frame was taken
+pub took_no_part : (new : Intake) (before : Stream) (list : List LinkEvent) → Countable new.told → HasTaken new before list → IsSome (told_coming new.told new.took new.phases new.takes new.refused) → TookNoPart (Some before) new.told list
+took_no_part new before list few taken known = by_takes new.takes refl
+  where
+    by_takes : (takes : Bool) → new.takes ≡ takes → TookNoPart (Some before) new.told list
+    by_takes true is = inl (took_whole new before list taken is)
+    by_takes false is =
+        let refusal = refusal_of new.told new.took new.phases new.takes new.refused is known in
+        inr (refusal.0.kind, refusal.0.offset, took_refused new before list refusal.0.kind refusal.0.offset few taken is known refusal.1)

@@ -1,0 +1,74 @@
+-- What a trunk's session wrote, by what its link told.
+use Rattle.std.proofs.Common.{◌≡◌, ℕ, ◌^◌, ◌-◌, ◌<◌, Bool, true, false, List, [], ◌∷◌, ◌++◌, All, length, Option, None, Some, IfSome, if◌then◌else◌, arith, append-nil, length-append, refl, sym, ap, ◌∙◌, subst}
+use Rattle.std.specs.Io.KnownBytes.{Appends}
+use Rattle.links.specs.Links.{Piece, Grew}
+use Rattle.rx_io.specs.Prefix.{Prefix}
+use Rattle.trunk_wire.specs.Calls.{count_after}
+use Rattle.trunk_wire.specs.Frames.{piece_frame, frames}
+use Rattle.trunk_wire.specs.Going.{IsFramed, IsCut}
+use Rattle.trunk_wire.specs.Parts.{last_bytes}
+use Rattle.trunk_wire.specs.Pieces.{pieces}
+use Rattle.trunk_wire.specs.Tellings.{is_whole, told_pieces}
+use Rattle.trunk_wire.proofs.StreamLaws.{framed_sent, pieces-frames, pieces-cut}
+use Rattle.over_trunk.specs.Trunk.{WroteTrunk, WroteWhole}
+use Rattle.over_trunk.proofs.ReadLemmas.{last_all}
+
+abbrev pub Short : Option (List ℕ) → Type 0
+Short sink = IfSome sink (λ bytes. length bytes < 2 ^ 64 - 1)
+
+-- a first part of one more frame, perhaps none of it
+record CutFrame (tail : List ℕ) : Type 0 where
+  piece : Piece
+  framed : IsFramed piece
+  first : Prefix tail (piece_frame piece.conn piece.bytes)
+
+abbrev one_byte : Piece
+one_byte = record { conn = 0; bytes = 0 ∷ []; gone = false }
+
+one_framed : IsFramed one_byte
+one_framed = record { below = omega arith; some = omega arith; few = omega arith; whole = refl }
+
+cut_frame : (gives : Bool) (tail : List ℕ) → IsCut gives tail → CutFrame tail
+cut_frame true tail is = subst CutFrame (sym is) (record { piece = one_byte; framed = one_framed; first = (piece_frame 0 (0 ∷ []), refl) })
+cut_frame false tail (piece, framed, first) = record { piece = piece; framed = framed; first = first }
+
+-- the pieces that are told are those of the bytes that were written
+pub pieces_told : (old : List ℕ) (new : Option (List ℕ)) (wrote : ℕ) (gives : Bool) (list : List Piece) (bytes : List ℕ) → Short new → Appends (Some old) new bytes → wrote ≡ count_after 0 (length bytes)
+    → Grew (Some []) (told_pieces new wrote gives) list → pieces bytes ≡ list
+pieces_told old None wrote gives list bytes few gained count grew = absurd gained
+pieces_told old (Some new) wrote gives list bytes few gained count grew = by_test (is_whole wrote gives new) grew
+  where
+    small : length bytes < 2 ^ 64 - 1
+    small = omega (arith, few, ap length gained, length-append old bytes)
+
+    by_test : (b : Bool) → Grew (Some []) (if b then Some (pieces (last_bytes wrote new)) else None) list → pieces bytes ≡ list
+    by_test false grew = absurd grew
+    by_test true grew = ap pieces (sym (ap (last_bytes wrote) gained ∙ last_all wrote old bytes small count)) ∙ grew
+
+pub wrote_trunk : (old : List ℕ) (new : Option (List ℕ)) (wrote : ℕ) (gives : Bool) (list went : List Piece) (tail : List ℕ) → Short new → Appends (Some old) new (frames went ++ tail)
+    → wrote ≡ count_after 0 (length (frames went ++ tail)) → All IsFramed went → IsCut gives tail → Grew (Some []) (told_pieces new wrote gives) list → WroteTrunk (Some old) new list
+wrote_trunk old new wrote gives list went tail few gained count framed cut grew =
+    let end = cut_frame gives tail cut in
+    let below = end.framed.below in
+    let some = end.framed.some in
+    let small = end.framed.few in record {
+      whole = went;
+      framed = framed;
+      cut = end.piece;
+      cut_framed = end.framed;
+      tail = tail;
+      first = end.first;
+      wrote = gained;
+      pieces_are = sym (pieces_told old new wrote gives list (frames went ++ tail) few gained count grew)
+          ∙ pieces-cut went end.piece.conn end.piece.bytes tail (framed_sent went framed) (omega (arith, below)) (omega (arith, small)) some end.first;
+    }
+
+-- while the link gives, they are whole frames
+pub wrote_frames : (old : List ℕ) (new : Option (List ℕ)) (wrote : ℕ) (gives : Bool) (list went : List Piece) (tail : List ℕ) → Short new → Appends (Some old) new (frames went ++ tail)
+    → wrote ≡ count_after 0 (length (frames went ++ tail)) → All IsFramed went → IsCut gives tail → gives ≡ true → Grew (Some []) (told_pieces new wrote gives) list → WroteWhole (Some old) new list
+wrote_frames old new wrote gives list went tail few gained count framed cut still grew =
+    let none : tail ≡ [] = subst (λ b. IsCut b tail) still cut in
+    let bytes : frames went ++ tail ≡ frames went = ap (λ l. frames went ++ l) none ∙ append-nil (frames went) in
+    let same : went ≡ list =
+    sym (pieces-frames went (framed_sent went framed)) ∙ ap pieces (sym bytes) ∙ pieces_told old new wrote gives list (frames went ++ tail) few gained count grew in
+    subst (WroteWhole (Some old) new) same (record { framed = framed; wrote = subst (Appends (Some old) new) bytes gained })

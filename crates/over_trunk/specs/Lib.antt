@@ -1,0 +1,4 @@
+pub mod Trunk
+pub mod Serving
+pub mod Laws
+pub mod Replaying

@@ -1,0 +1,41 @@
+// A record is replayed over a trunk of many connections.
+ghost use Rattle.std.specs.Prelude.{◌≡◌, ℕ, ◌+◌, ◌*◌, ◌<◌, ◌≤◌, ◌^◌};
+ghost use Rattle.rx_io.specs.Faults.{Rose};
+ghost use Rattle.run_history.specs.declared.answer.Answer.TheVariants as answer;
+ghost use Rattle.over_trunk.specs.Replaying.{ReplaysTrunk};
+
+use crate::frame_giver::FrameGiver;
+use elf_image::Image;
+use replay::replay_by;
+use run_history::Answer;
+use rx_io::{Sink, Source, Steps};
+use schedule_file::Recorded;
+use std::alloc::Global;
+use std::sync::ledger::Ledger;
+use trunk_wire::TrunkLink;
+
+/// Replays a record over a source and a sink, and answers how that ended. The frames of events are taken from `input`, none before the
+/// run asks for an item, and no byte behind one; each send of the run goes to `output` as a frame. Behind a fault of writing or want of
+/// memory a first part of the frames of the sends so far was written. `alloc` is for the payloads and for the program's memory.
+pub fn replay_trunk<S: Source, K: Sink, L: Ledger>(
+    alloc: Global,
+    image: &Image,
+    recorded: &Recorded,
+    input: &mut S,
+    output: &mut K,
+    steps: &mut Steps<L>,
+) -> Answer
+    requires window { image.now.window ≡ recorded.now.window * 1048576 }
+    requires short { recorded.now.steps < 2 ^ 63 }
+    ensures replayed { (counted : ℕ) → steps.new ≡ steps.old + counted → ReplaysTrunk image.now recorded.now (S.told input.old) (S.told input.new) (K.told output.old) (K.told output.new) result counted }
+    ensures counted_more { steps.old ≤ steps.new }
+    ensures input { S.fixed input.new ≡ S.fixed input.old }
+    ensures output { K.fixed output.new ≡ K.fixed output.old }
+    ensures input_later { S.faults input.old ≤ S.faults input.new }
+    ensures output_later { K.faults output.old ≤ K.faults output.new }
+    ensures read_fault { result ≡ answer.ReadFault → Rose (S.faults input.old) (S.faults input.new) }
+    ensures write_fault { result ≡ answer.WriteFault → Rose (K.faults output.old) (K.faults output.new) }
+{
+    let mut link = TrunkLink::make(alloc, &mut *input, &mut *output);
+    replay_by(alloc, image, recorded, &FrameGiver, &mut link, steps)
+}

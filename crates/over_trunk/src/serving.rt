@@ -1,0 +1,50 @@
+// A session over a trunk of many connections.
+ghost use Rattle.std.specs.Prelude.{◌≡◌, ℕ, ◌+◌, ◌≤◌};
+ghost use Rattle.rx_io.specs.Faults.{Rose};
+ghost use Rattle.elf_image.specs.declared.image.Image.{Image};
+ghost use Rattle.run_history.specs.declared.answer.Answer.TheVariants as answer;
+ghost use Rattle.session_notes.specs.Noting.{noted};
+ghost use Rattle.session_state.specs.Options.{rules_of, keeping_for};
+ghost use Rattle.session_state.specs.Serving.{IsReadyToServe, HasNoteCause, UnlessNoteFault};
+ghost use Rattle.session_state.specs.Sessions.{IsBegun};
+ghost use Rattle.over_trunk.specs.Serving.{IsOfSession, ServesTrunk};
+
+use guest_space::AccessRule;
+use run_history::Answer;
+use rx_engine::Session;
+use rx_io::{Sink, Source, Steps};
+use session_notes::Notes;
+use std::alloc::Global;
+use std::sync::ledger::Ledger;
+use trunk_wire::TrunkLink;
+
+/// Serves a trunk of many connections over a source and a sink with a session that was begun, and answers how it ended. The frames
+/// of events are taken from `input`, none before the program waits for an item, and no byte behind one; pieces go to `output` as
+/// frames. `notes` are told the answers of malloc and the recoveries. At each answer each recovery, and a walk at which it gave up, had the
+/// checkpoints that the requests before it left. `alloc` is for the payloads.
+pub fn serve_trunk<R: AccessRule, S: Source, K: Sink, N: Notes, L: Ledger>(
+    alloc: Global,
+    session: &mut Session<R>,
+    input: &mut S,
+    output: &mut K,
+    notes: &mut N,
+    steps: &mut Steps<L>,
+) -> Answer
+    requires begun { IsReadyToServe session.old }
+    ensures served { (image : Image) → IsBegun image session.old.options session.old.cpu.rule session.old
+        → (counted : ℕ) → steps.new ≡ steps.old + counted → ServesTrunk (rules_of session.old.options (R.rule session.old.cpu.rule)) (keeping_for session.old.options) image (S.told input.old) (S.told input.new) (K.told output.old) (K.told output.new) result (noted (N.told_choices notes.old) (N.told_episodes notes.old)) (noted (N.told_choices notes.new) (N.told_episodes notes.new)) session.new.recorded session.new.choices session.new.taken session.new.steps counted }
+    ensures only { IsOfSession result }
+    ensures input { S.fixed input.new ≡ S.fixed input.old }
+    ensures output { K.fixed output.new ≡ K.fixed output.old }
+    ensures input_later { S.faults input.old ≤ S.faults input.new }
+    ensures output_later { K.faults output.old ≤ K.faults output.new }
+    ensures read_fault { result ≡ answer.ReadFault → Rose (S.faults input.old) (S.faults input.new) }
+    ensures write_fault { result ≡ answer.WriteFault → Rose (K.faults output.old) (K.faults output.new) }
+    ensures noted { HasNoteCause (N.faults notes.old) (N.faults notes.new) result }
+    ensures works { UnlessNoteFault result (N.works notes.new ≡ N.works notes.old) }
+    ensures notes { N.fixed notes.new ≡ N.fixed notes.old }
+    ensures counted_at_least { steps.old + session.new.steps ≤ steps.new }
+{
+    let mut link = TrunkLink::make(alloc, &mut *input, &mut *output);
+    session.serve(&mut link, notes, steps)
+}

@@ -1,0 +1,166 @@
+-- A trial that was made, and one that is adopted.
+use Rattle.std.proofs.Common.{◌≡◌, ℕ, ◌+◌, ◌-◌, ◌≤◌, Bool, true, false, ◌&&◌, List, [], ◌∷◌, ◌++◌, length, take, drop, Option, Some, None, refl, sym, ◌∙◌, ap, subst, arith}
+use Rattle.std.specs.Prelude.{slice_get, option_map, IsSomeAnd, IsSome, MatchBool, is_some}
+use Rattle.std.proofs.lemmas.List.{length-map, take-append-le}
+use Rattle.std.proofs.lemmas.Option.{same_Some, slice_get-map, slice_get_within}
+use Rattle.std.proofs.lemmas.Bool.{true≢false}
+use Rattle.rx_io.specs.Sends.{Send, sent_to}
+use Rattle.alloc_env.specs.declared.env.Env.{Env}
+use Rattle.block_book.specs.declared.choice.Choice.{Choice}
+use Rattle.item_log.specs.Log.{Log}
+use Rattle.ckpt_ring.specs.Slots.{Saved}
+use Rattle.ckpt_ring.specs.Rings.{from_newest, checkpoint_of, checkpoints_of}
+use Rattle.ckpt_ring.specs.declared.checkpoint.Checkpoint.{Checkpoint}
+use Rattle.reply_ledger.specs.Ledger.{Ledger, connection_of}
+use Rattle.reply_ledger.specs.Trials.{agree, trial_sends, adopted}
+use Rattle.reply_ledger.specs.Trials as ledgers
+use Rattle.reply_ledger.specs.Shows.{Shows}
+use Rattle.reply_ledger.proofs.ShowsLemmas.{shown_passed, shows-adopted}
+use Rattle.run_history.specs.Served.{Limits, Override, Path}
+use Rattle.run_history.proofs.Outputs.{sent_to-append}
+use Rattle.rx_io.specs.declared.bytes.Item.{Item}
+use Rattle.guest_cpu.specs.Cpus.{CpuState}
+use Rattle.guest_cpu.specs.Standing.{Standing}
+use Rattle.guest_cpu.specs.Serving.{standing_of}
+use Rattle.session_history.specs.Heeding.{received}
+use Rattle.session_history.specs.Passing.{Covers}
+use Rattle.session_history.specs.Keeping.{KeepsReplies}
+use Rattle.session_notes.specs.declared.episode.Try.{Try}
+use Rattle.session_notes.specs.declared.episode.Tried.{Tried}
+use Rattle.session_notes.specs.declared.episode.Tried.TheVariants as tried
+use Rattle.session_notes.specs.Survival.{survives}
+use Rattle.trials.specs.Trials.{plan_of_trial, IsUnharmed, ComesTo}
+use Rattle.trials.specs.Tables.{Trial}
+use Rattle.trials.proofs.Going.{served_grows, steps_later}
+use Rattle.recovery.specs.Sessions.{Failure, items_of, pieces_of, FailedAt, taken_in}
+use Rattle.recovery.specs.Trying.{KeepsLedger, KeepsSaved, HasTried}
+use Rattle.recovery.specs.Walking.{IsMade}
+use Rattle.recovery.proofs.Joining.{Beside, agree-append, now_is, now_covers}
+use Rattle.recovery.proofs.Starting.{from_at, failed_still, same_front}
+
+-- what survives is unharmed, and emits all that was passed
+survives_covers : (limits : Limits) (items : List Item) (plan : List Override) (checkpoint : Path) (pieces : List Send) (point : ℕ) (path : Path) (result : Tried) → survives result ≡ true → ComesTo limits items plan checkpoint pieces point path result
+    → IsUnharmed pieces point path.state × Covers pieces path.state
+survives_covers limits items plan checkpoint pieces point path tried.Asks is comes = (comes.0, comes.2)
+survives_covers limits items plan checkpoint pieces point path (tried.Exits code) is comes = (comes.0, comes.2)
+survives_covers limits items plan checkpoint pieces point path (tried.Failed cause) is comes = absurd (let no : ⊥ = cc in no)
+survives_covers limits items plan checkpoint pieces point path tried.Contradicts is comes = absurd (let no : ⊥ = cc in no)
+survives_covers limits items plan checkpoint pieces point path tried.Behind is comes = absurd (let no : ⊥ = cc in no)
+
+of_true : (b : Bool) (P Q : Type 0) → b ≡ true → MatchBool b P Q → P
+of_true b P Q is h = subst (λ (c : Bool). MatchBool c P Q) is h
+
+-- what agrees as a whole agrees behind a front
+and_second : (a b : Bool) → a && b ≡ true → b ≡ true
+and_second true b h = h
+and_second false b h = absurd (true≢false (sym h))
+
+rest_agrees : (early rest passed : List ℕ) → agree (early ++ rest) passed ≡ true → agree rest (drop (length early) passed) ≡ true
+rest_agrees early rest passed h = and_second (agree early passed) (agree rest (drop (length early) passed)) (sym (agree-append early rest passed) ∙ h)
+
+-- the ledger beside a trial agrees where the trial does
+pub now_agrees : (high : ℕ) (ledger : Ledger) (sends now pieces : List Send) → Beside high ledger sends now pieces → ((conn : ℕ) → agree (sent_to conn now) (sent_to conn pieces) ≡ true) → ledgers.Agrees ledger
+now_agrees high ledger sends now pieces b agrees conn =
+    ap (agree (sent_to conn (trial_sends ledger))) (shown_passed ledger sends pieces b.shows conn)
+    ∙ rest_agrees (sent_to conn (take ledger.first sends)) (sent_to conn (trial_sends ledger)) (sent_to conn pieces)
+    (ap (λ (l : List ℕ). agree l (sent_to conn pieces)) (sym (sent_to-append conn (take ledger.first sends) (trial_sends ledger)) ∙ ap (sent_to conn) (now_is high ledger sends now pieces b)) ∙ agrees conn)
+
+-- nothing is sent behind a front of what is nothing
+none_behind : (xs ys : List ℕ) → xs ++ ys ≡ [] → ys ≡ []
+none_behind [] ys h = h
+none_behind (x ∷ xs) ys h = absurd (let no : ⊥ = cc in no)
+
+-- the restored state, by its instructions
+counted_by : (o : Option (Saved Standing)) (checkpoint : Path) (live : Standing) (path : Path) (before after : ℕ) → option_map (λ one. one.state) o ≡ Some (standing_of checkpoint) → IsSomeAnd o (λ one. after + one.state.steps ≡ before + live.steps)
+    → live ≡ standing_of path → checkpoint.steps ≤ path.steps → after ≡ before + (path.steps - checkpoint.steps)
+counted_by None checkpoint live path before after is counted stands later = absurd counted
+counted_by (Some one) checkpoint live path before after is counted stands later =
+    let from : one.state.steps ≡ checkpoint.steps = ap (λ (s : Standing). s.steps) (same_Some one.state (standing_of checkpoint) is) in
+    let to : live.steps ≡ path.steps = ap (λ (s : Standing). s.steps) stands in
+    omega (arith, from, to, counted, later)
+
+-- the number of items that the ring has for a checkpoint
+taken_by : (o : Option (Saved Standing)) (checkpoint : Path) (result : ℕ) → option_map (λ one. one.state) o ≡ Some (standing_of checkpoint) → IsSomeAnd (option_map (checkpoint_of taken_in) o) (λ one. result ≡ one.taken) → result ≡ checkpoint.state.machine.taken
+taken_by None checkpoint result is found = absurd found
+taken_by (Some one) checkpoint result is found = found ∙ ap (λ (s : Standing). s.guest.machine.taken) (same_Some one.state (standing_of checkpoint) is)
+
+pub taken_in_ring : (saved : List (Saved Standing)) (standing : List Checkpoint) (index : ℕ) (checkpoint : Path) (result : ℕ) → standing ≡ checkpoints_of taken_in saved → option_map (λ one. one.state) (from_newest saved index) ≡ Some (standing_of checkpoint)
+    → IsSomeAnd (from_newest standing index) (λ one. result ≡ one.taken) → result ≡ checkpoint.state.machine.taken
+taken_in_ring saved standing index checkpoint result same is found =
+    let there : from_newest standing index ≡ option_map (checkpoint_of taken_in) (from_newest saved index) =
+    ap (λ (all : List Checkpoint). from_newest all index) same
+    ∙ (ap (λ n. slice_get (checkpoints_of taken_in saved) (n - index - 1)) (length-map {A = Saved Standing} {B = Checkpoint} saved (checkpoint_of taken_in)) ∙ slice_get-map (checkpoint_of taken_in) saved (length saved - index - 1)) in
+    taken_by (from_newest saved index) checkpoint result is (subst (λ (o : Option Checkpoint). IsSomeAnd o (λ one. result ≡ one.taken)) there found)
+
+module _ {R : Type 0} where
+  -- a trial as data
+  abbrev pub trial_of : (failure : Failure) (point : ℕ) (checkpoint : Path) (env : Env) (cpu : CpuState R) (choices : List Choice) (ledger : Ledger) (result : Tried) → HasTried failure point checkpoint env cpu choices ledger result → Trial
+  trial_of failure point checkpoint env cpu choices ledger result h = record { chance = record { checkpoint = checkpoint; env = env }; path = h.path; result = result }
+
+  -- it was made and noted
+  pub is_made : (failure : Failure) (point : ℕ) (checkpoint : Path) (env : Env) (old cpu : CpuState R) (choices : List Choice) (log : Log) (before_ledger ledger : Ledger) (result : Tried) (index taken : ℕ) (standing : List Checkpoint) (before after : ℕ) (noted tries : List Try)
+      → FailedAt point failure old log before_ledger → slice_get failure.ring index ≡ Some checkpoint → standing ≡ checkpoints_of taken_in old.slots.saved → IsSomeAnd (from_newest standing index) (λ one. taken ≡ one.taken)
+      → IsSomeAnd (from_newest old.slots.saved index) (λ one. after + one.state.steps ≡ before + cpu.slots.live.steps) → tries ≡ noted ++ record { checkpoint = taken; env = env; tried = result } ∷ []
+      → (h : HasTried failure point checkpoint env cpu choices ledger result)
+      → IsMade failure point (record { checkpoint = checkpoint; env = env }) (trial_of failure point checkpoint env cpu choices ledger result h) noted tries before after
+  is_made failure point checkpoint env old cpu choices log before_ledger ledger result index taken standing before after noted tries failed found same at counted pushed h =
+      let here : option_map (λ one. one.state) (from_newest old.slots.saved index) ≡ Some (standing_of checkpoint) = failed.has.saved index (slice_get_within failure.ring index checkpoint found) ∙ ap (λ (o : Option Path). option_map standing_of o) found in
+      let number : taken ≡ checkpoint.state.machine.taken = taken_in_ring old.slots.saved standing index checkpoint taken same here at in
+      record {
+        chance_is = refl;
+        right = h.trial;
+        tries_are = pushed ∙ ap (λ n. noted ++ record { checkpoint = n; env = env; tried = result } ∷ []) number;
+        counted = counted_by (from_newest old.slots.saved index) checkpoint cpu.slots.live h.path before after here counted h.stands (steps_later failure.rules.limits (items_of failure) (plan_of_trial failure.plan checkpoint.state.machine.taken env point) checkpoint h.path h.trial.from);
+      }
+
+  -- the ledger beside a trial that survived
+  pub beside_tried : (failure : Failure) (point : ℕ) (checkpoint : Path) (env : Env) (old cpu : CpuState R) (choices : List Choice) (log : Log) (before_ledger ledger : Ledger) (result : Tried) (index : ℕ) → FailedAt point failure old log before_ledger
+      → slice_get failure.ring index ≡ Some checkpoint → KeepsSaved old cpu → KeepsLedger before_ledger ledger → survives result ≡ true → (h : HasTried failure point checkpoint env cpu choices ledger result)
+      → Beside (received failure.rules.bounds failure.entries) ledger failure.failed.state.sends h.path.state.sends (pieces_of failure)
+  beside_tried failure point checkpoint env old cpu choices log before_ledger ledger result index failed found saved same is h =
+      let now = failed_still point failure old cpu log before_ledger ledger saved same failed in
+      let f = from_at point failure cpu log ledger index checkpoint now found in
+      let grows = served_grows failure.rules.limits (items_of failure) (plan_of_trial failure.plan checkpoint.state.machine.taken env point) checkpoint h.path h.trial.from in
+      record {
+        shows = now.has.replies.shows;
+        whole = now.has.covers;
+        ordered = now.has.ordered;
+        front = ap (take ledger.first) grows.sends
+            ∙ (take-append-le ledger.first checkpoint.state.sends grows.more f.kept.sends ∙ same_front ledger.first checkpoint.state.sends failure.failed.state.sends f.grows.more f.kept.sends f.grows.sends);
+        sent = of_true (survives result) (ledger.trial ≡ Some (drop ledger.first h.path.state.sends)) (ledger.trial ≡ None) is h.sent;
+      }
+
+  -- what the ledger asks before it adopts the trial
+  pub adopt_asks : (failure : Failure) (point : ℕ) (checkpoint : Path) (env : Env) (old cpu : CpuState R) (choices : List Choice) (log : Log) (before_ledger ledger : Ledger) (result : Tried) (index : ℕ) → FailedAt point failure old log before_ledger
+      → slice_get failure.ring index ≡ Some checkpoint → KeepsSaved old cpu → KeepsLedger before_ledger ledger → survives result ≡ true → HasTried failure point checkpoint env cpu choices ledger result
+      → IsSome ledger.trial × ledgers.Agrees ledger × ledgers.Covers ledger
+  adopt_asks failure point checkpoint env old cpu choices log before_ledger ledger result index failed found saved same is h =
+      let b = beside_tried failure point checkpoint env old cpu choices log before_ledger ledger result index failed found saved same is h in
+      let high = received failure.rules.bounds failure.entries in
+      let good = survives_covers failure.rules.limits (items_of failure) (plan_of_trial failure.plan checkpoint.state.machine.taken env point) checkpoint (pieces_of failure) point h.path result is h.trial.comes in (
+        ap is_some b.sent,
+        now_agrees high ledger failure.failed.state.sends h.path.state.sends (pieces_of failure) b good.0.agrees,
+        now_covers high ledger failure.failed.state.sends h.path.state.sends (pieces_of failure) b good.1,
+      )
+
+  -- the ledger of an adopted trial has its sends
+  pub adopt_replies : (failure : Failure) (point : ℕ) (checkpoint : Path) (env : Env) (old cpu : CpuState R) (choices : List Choice) (log : Log) (before_ledger ledger : Ledger) (result : Tried) (index : ℕ) → FailedAt point failure old log before_ledger
+      → slice_get failure.ring index ≡ Some checkpoint → KeepsSaved old cpu → KeepsLedger before_ledger ledger → survives result ≡ true → (h : HasTried failure point checkpoint env cpu choices ledger result)
+      → KeepsReplies failure.rules.bounds failure.entries None h.path.state.sends (adopted ledger)
+  adopt_replies failure point checkpoint env old cpu choices log before_ledger ledger result index failed found saved same is h =
+      let now = failed_still point failure old cpu log before_ledger ledger saved same failed in
+      let b = beside_tried failure point checkpoint env old cpu choices log before_ledger ledger result index failed found saved same is h in
+      let high = received failure.rules.bounds failure.entries in
+      let k = now.has.replies in
+      let whole = now_is high ledger failure.failed.state.sends h.path.state.sends (pieces_of failure) b in
+      let shut : (conn : ℕ) → connection_of ledger.connections conn ≡ None → sent_to conn (trial_sends ledger) ≡ [] = λ conn none.
+      none_behind (sent_to conn (take ledger.first failure.failed.state.sends)) (sent_to conn (trial_sends ledger))
+      (sym (sent_to-append conn (take ledger.first failure.failed.state.sends) (trial_sends ledger)) ∙ (ap (sent_to conn) whole ∙ h.goes.opened conn (sym (k.opened conn) ∙ ap is_some none))) in
+      record {
+        shows = subst (λ (all : List Send). Shows (adopted ledger) all (pieces_of failure)) whole (shows-adopted ledger failure.failed.state.sends (pieces_of failure) shut k.shows);
+        opened = k.opened;
+        may = k.may;
+        gone = k.gone;
+        given_up = λ conn may. subst (λ (all : List Send). length (sent_to conn all) ≤ length (sent_to conn (pieces_of failure))) (sym b.front) (k.given_up conn may);
+        sendable = h.goes.sendable;
+      }

@@ -1,0 +1,82 @@
+-- The environment that is in force.
+use Rattle.std.proofs.Common.{◌≡◌, ◌⊎◌, inl, inr, ℕ, ◌+◌, ◌<◌, ◌≤◌, Bool, true, false, cond, eqb, ltb, List, [], Some, refl, sym, ◌∙◌, ap, subst, arith}
+use Rattle.std.proofs.lemmas.Bool.{cond_both, eqb-false, le-ltb}
+use Rattle.std.specs.Prelude.{slice_get}
+use Rattle.rx_io.specs.declared.bytes.Item.{Item}
+use Rattle.links.specs.declared.journal.Entry.{Entry}
+use Rattle.elf_image.specs.declared.image.Image.{Image}
+use Rattle.item_log.specs.Log.{Log}
+use Rattle.reply_ledger.specs.Ledger.{Ledger}
+use Rattle.ckpt_ring.specs.Rings.{Checkpoints}
+use Rattle.run_history.specs.declared.answer.Cause.{Cause}
+use Rattle.run_history.specs.Machine as M
+use Rattle.run_history.specs.Machine.{Wants, Fails}
+use Rattle.guest_cpu.specs.Cpus.{CpuState}
+use Rattle.session_history.specs.Heeding.{items_in}
+use Rattle.session_history.specs.Lawful.{Rules}
+use Rattle.trials.specs.Chains.{IsCheckpoint}
+use Rattle.trials.proofs.Asking.{asks_under_all}
+use Rattle.trials.proofs.Planned.{past_request}
+use Rattle.trials.proofs.Chained.{chained_at}
+use Rattle.recovery.proofs.Starting.{checkpoint_at}
+use Rattle.alloc_env.specs.declared.env.Env.{Env}
+use Rattle.alloc_env.specs.declared.env.Env.TheVariants.{Plain}
+use Rattle.run_history.specs.Served.{Limits, Override, env_at, Path, origin, Served, FailsBy, AsksFor}
+use Rattle.trials.specs.Trials.{plan_of_trial}
+use Rattle.recovery.specs.Rings.{KeepsRing, IsInForce}
+
+plain_both : (b : Bool) → Plain ≡ cond b Plain Plain
+plain_both true = refl
+plain_both false = refl
+
+-- Without a plan it is Plain.
+pub in_force_none : (taken : ℕ) → IsInForce [] taken Plain 0
+in_force_none taken = record { in_force = λ count later. plain_both (ltb count 0) }
+
+-- It stays in force as more items are taken.
+pub in_force_later : (plan : List Override) (taken later : ℕ) (env : Env) (until : ℕ) → taken ≤ later → IsInForce plan taken env until → IsInForce plan later env until
+in_force_later plan taken later env until more is = record { in_force = λ count from. is.in_force count (omega (arith, more, from)) }
+
+behind : (checkpoint point count : ℕ) → (checkpoint ≡ 0) ⊎ (checkpoint < point) → point ≤ count → cond (eqb checkpoint 0) 0 (checkpoint + 1) ≤ count
+behind checkpoint point count from later = cond_both (eqb checkpoint 0) 0 (checkpoint + 1) (λ n. n ≤ count) (λ _. omega arith) (λ some. of_past from (eqb-false checkpoint 0 some))
+  where
+    of_past : (checkpoint ≡ 0) ⊎ (checkpoint < point) → (checkpoint ≡ 0 → ⊥) → checkpoint + 1 ≤ count
+    of_past (inl none) some = absurd (some none)
+    of_past (inr past) some = omega (arith, past, later)
+
+-- From the point of an adopted trial on it is that of the trial.
+pub in_force_adopted : (plan : List Override) (checkpoint : ℕ) (env : Env) (point : ℕ) → (checkpoint ≡ 0) ⊎ (checkpoint < point) → IsInForce (plan_of_trial plan checkpoint env point) point env (point + 4)
+in_force_adopted plan checkpoint env point from = record {
+  in_force = λ count later.
+      ap (λ (b : Bool). cond b (env_at plan count) (cond (ltb count (point + 4)) env Plain)) (le-ltb count (cond (eqb checkpoint 0) 0 (checkpoint + 1)) (behind checkpoint point count from later));
+}
+
+-- at the start no item was taken
+pub start_taken : (image : Image) (checkpoint : Path) → checkpoint ≡ origin image → checkpoint.state.machine.taken ≡ 0
+unfolding M.start M.start_machine
+start_taken image checkpoint is = ap (λ (p : Path). p.state.machine.taken) is
+
+-- a run that fails doesn't stand at its request
+asks_or_fails : (limits : Limits) (plan : List Override) (path : Path) (cause : Cause) (item : ℕ) → AsksFor limits plan path item → FailsBy limits plan path cause → ⊥
+asks_or_fails limits plan path cause item asks fails = let never : Wants ≡ Fails cause = sym asks.asks ∙ fails.fails in absurd (cc)
+
+-- A checkpoint from which a run fails is the start, or has taken fewer items.
+pub before_point : (limits : Limits) (items : List Item) (image : Image) (plan : List Override) (checkpoint failed : Path) (cause : Cause) → IsCheckpoint limits image checkpoint → Served limits items plan checkpoint failed → FailsBy limits plan failed cause
+    → (checkpoint.state.machine.taken ≡ 0) ⊎ (checkpoint.state.machine.taken < failed.state.machine.taken)
+before_point limits items image plan checkpoint failed cause (inl is) served fails = inl (start_taken image checkpoint is)
+before_point limits items image plan checkpoint failed cause (inr asks) served fails =
+    elim (past_request limits items plan checkpoint failed asks.1 served) [
+      | inl same ↦
+          absurd (asks_or_fails limits plan failed cause checkpoint.state.machine.taken
+          (asks_under_all limits [] plan failed checkpoint.state.machine.taken (subst (λ (p : Path). AsksFor limits [] p checkpoint.state.machine.taken) same asks.1)) fails)
+      | inr past ↦ inr past
+    ]
+
+-- So is each checkpoint of the ring of a survivor that fails, and the environment of a trial from there is in force once it is adopted.
+pub in_force_from : {R : Type 0} (rules : Rules) (image : Image) (entries : List Entry) (plan : List Override) (failed : Path) (ring : List Path) (cpu : CpuState R) (checkpoints : Checkpoints) (log : Log) (ledger : Ledger) (env : Env) (cause : Cause) (index : ℕ) (checkpoint : Path)
+    → KeepsRing rules image entries plan failed ring cpu checkpoints log ledger → FailsBy rules.limits plan failed cause → slice_get ring index ≡ Some checkpoint
+    → IsInForce (plan_of_trial plan checkpoint.state.machine.taken env failed.state.machine.taken) failed.state.machine.taken env (failed.state.machine.taken + 4)
+in_force_from rules image entries plan failed ring cpu checkpoints log ledger env cause index checkpoint k fails found =
+    in_force_adopted plan checkpoint.state.machine.taken env failed.state.machine.taken
+    (before_point rules.limits (items_in rules.bounds entries) image plan checkpoint failed cause (checkpoint_at rules.limits image ring index checkpoint k.are found)
+    (chained_at rules.limits (items_in rules.bounds entries) plan image failed ring index checkpoint k.chained found).0 fails)

@@ -1,0 +1,212 @@
+-- The oldest checkpoint of a ring, and what a session gives up that lies before it.
+use Rattle.std.proofs.Common.{◌≡◌, ℕ, suc, ◌+◌, ◌-◌, ◌<◌, ◌≤◌, min, max, List, [], ◌∷◌, length, Option, Some, None, IfSome, refl, sym, ◌∙◌, ap, subst, arith, length-append, length-drop}
+use Rattle.std.specs.Prelude.{slice_get}
+use Rattle.std.specs.Option.{option_map}
+use Rattle.std.proofs.lemmas.Option.{none-some, same_Some}
+use Rattle.rx_io.specs.declared.bytes.Item.{Item}
+use Rattle.links.specs.declared.journal.Entry.{Entry}
+use Rattle.elf_image.specs.declared.image.Image.{Image}
+use Rattle.alloc_env.specs.declared.env.Env.{Env}
+use Rattle.item_log.specs.Log.{Log, received, ShowsStill}
+use Rattle.item_log.specs.Log as logs
+use Rattle.reply_ledger.specs.Ledger.{Ledger}
+use Rattle.reply_ledger.specs.Parts.{settled}
+use Rattle.reply_ledger.specs.Trimming as ledgers
+use Rattle.ckpt_ring.specs.Slots.{Saved}
+use Rattle.ckpt_ring.specs.Rings.{Checkpoints, from_newest}
+use Rattle.run_history.specs.Machine.{start, start_machine}
+use Rattle.run_history.specs.Served.{Limits, Override, Path, origin, Served, listed, served_next, planned_next, env_at}
+use Rattle.run_history.proofs.Repeats.{repeated_keeps}
+use Rattle.run_history.proofs.Serves.{IsUsed, served_follows, serves_to, map_some}
+use Rattle.guest_cpu.specs.declared.marks.Marks.{Marks}
+use Rattle.guest_cpu.specs.Standing.{Standing, marks_of}
+use Rattle.guest_cpu.specs.Cpus.{CpuState}
+use Rattle.guest_cpu.specs.Serving.{standing_of}
+use Rattle.session_history.specs.Heeding.{items_in}
+use Rattle.session_history.specs.Lawful.{Rules}
+use Rattle.session_history.specs.Keeping.{KeepsItems, KeepsReplies}
+use Rattle.trials.specs.Chains.{AreChained}
+use Rattle.trials.proofs.Chained.{chained_at}
+use Rattle.trials.proofs.Going.{next_grows}
+use Rattle.recovery.specs.Sessions.{AreKept}
+use Rattle.recovery.specs.Rings.{KeepsRing, AreBehind}
+use Rattle.recovery.specs.Forgetting.{CanForget, Forgets}
+use Rattle.recovery.proofs.TrimLemmas.{keeps_without}
+
+-- a run has come no further than another
+pub record IsBefore (first second : Path) : Type 0 where
+  pub taken : first.state.machine.taken ≤ second.state.machine.taken
+  pub choices : length first.choices ≤ length second.choices
+  pub sends : length first.state.sends ≤ length second.state.sends
+
+before_same : (path : Path) → IsBefore path path
+before_same path = record { taken = omega arith; choices = omega arith; sends = omega arith }
+
+before_on : (first second third : Path) → IsBefore first second → IsBefore second third → IsBefore first third
+before_on first second third one other = record {
+  taken = omega (arith, one.taken, other.taken);
+  choices = omega (arith, one.choices, other.choices);
+  sends = omega (arith, one.sends, other.sends);
+}
+
+before_next : (limits : Limits) (items : List Item) (env : Env) (first second : Path) → served_next limits items env first ≡ Some second → IsBefore first second
+before_next limits items env first second goes =
+    let grows = next_grows limits items env first second goes in
+    let parts = serves_to limits items env first second goes in
+    let chosen : length second.choices ≡ length first.choices + length (listed parts.given.chosen) = ap length parts.choices ∙ length-append first.choices (listed parts.given.chosen) in
+    let sent : length second.state.sends ≡ length first.state.sends + length grows.more = ap length grows.sends ∙ length-append first.state.sends grows.more in
+    record { taken = grows.taken; choices = omega (arith, chosen); sends = omega (arith, sent) }
+
+-- a run has come no further than one that goes on from it
+before_served : (limits : Limits) (items : List Item) (plan : List Override) (first second : Path) → Served limits items plan first second → IsBefore first second
+before_served limits items plan first second served =
+    repeated_keeps (planned_next limits items plan) IsBefore before_same before_on (λ a b goes. before_next limits items (env_at plan a.state.machine.taken) a b goes) served.more first second served.ran
+
+-- nor than each of some others
+abbrev pub AreAfter : Path → List Path → Type 0
+AreAfter oldest [] = Unit {0}
+AreAfter oldest (newest ∷ older) = IsBefore oldest newest × AreAfter oldest older
+
+-- The oldest checkpoint of a ring has come no further than the newer ones, and than the run that goes on from the newest.
+pub after_oldest : (limits : Limits) (items : List Item) (plan : List Override) (image : Image) (later : Path) (ring : List Path) (oldest : Path) → AreChained limits items plan image later ring → slice_get ring (length ring - 1) ≡ Some oldest
+    → IsBefore oldest later × AreAfter oldest ring
+after_oldest limits items plan image later [] oldest chain last = absurd (none-some oldest last)
+after_oldest limits items plan image later (only ∷ []) oldest chain last =
+    let same : only ≡ oldest = same_Some only oldest (ap (slice_get (only ∷ [])) (let none : 0 ≡ length (only ∷ []) - 1 = omega arith in none) ∙ last) in
+    subst (λ (p : Path). IsBefore oldest later × AreAfter oldest (p ∷ [])) (sym same) (subst (λ (p : Path). IsBefore p later) same (before_served limits items plan only later chain.0), (before_same oldest, tt))
+after_oldest limits items plan image later (newest ∷ (next ∷ older)) oldest chain last =
+    let place : suc (length (next ∷ older) - 1) ≡ length (newest ∷ (next ∷ older)) - 1 = omega arith in
+    let rest = after_oldest limits items plan image newest (next ∷ older) oldest chain.1 (ap (slice_get (newest ∷ (next ∷ older))) place ∙ last) in
+    (before_on oldest newest later rest.0 (before_served limits items plan newest later chain.0), (rest.0, rest.1))
+
+behind_after : (oldest : Path) (ring : List Path) → AreAfter oldest ring → AreBehind (length oldest.choices) ring
+behind_after oldest [] are = tt
+behind_after oldest (newest ∷ older) are = (are.0.choices, behind_after oldest older are.1)
+
+-- At each checkpoint as many answers of malloc were used as at the oldest one, or more.
+pub behind_oldest : (limits : Limits) (items : List Item) (plan : List Override) (image : Image) (later : Path) (ring : List Path) (oldest : Path) → AreChained limits items plan image later ring → slice_get ring (length ring - 1) ≡ Some oldest
+    → AreBehind (length oldest.choices) ring
+behind_oldest limits items plan image later ring oldest chain last = behind_after oldest ring (after_oldest limits items plan image later ring oldest chain last).1
+
+start_used : (image : Image) → IsUsed (origin image)
+unfolding start start_machine
+start_used image = refl
+
+-- The oldest checkpoint used all of its answers of malloc.
+pub oldest_used : (limits : Limits) (items : List Item) (plan : List Override) (image : Image) (later : Path) (ring : List Path) (oldest : Path) → AreChained limits items plan image later ring → slice_get ring (length ring - 1) ≡ Some oldest
+    → oldest.state.machine.allocations ≡ length oldest.choices
+oldest_used limits items plan image later ring oldest chain last =
+    let from_start = (chained_at limits items plan image later ring (length ring - 1) oldest chain last).1 in
+    (served_follows limits items plan (origin image) oldest from_start.more (start_used image) from_start.ran).used
+
+-- the oldest run of a ring
+last_of : (ring : List Path) → 0 < length ring → (oldest : Path) × (slice_get ring (length ring - 1) ≡ Some oldest)
+last_of [] some = absurd (omega (arith, some))
+last_of (only ∷ []) some = (only, ap (slice_get (only ∷ [])) (let none : length (only ∷ []) - 1 ≡ 0 = omega arith in none))
+last_of (newest ∷ (next ∷ older)) some =
+    let rest = last_of (next ∷ older) (omega arith) in
+    let place : length (newest ∷ (next ∷ older)) - 1 ≡ suc (length (next ∷ older) - 1) = omega arith in
+    (rest.0, ap (slice_get (newest ∷ (next ∷ older))) place ∙ rest.1)
+
+-- The oldest saved slot is where the oldest run of the ring stands.
+pub record HasOldest (ring : List Path) (saved : List (Saved Standing)) : Type 0 where
+  pub oldest : Path
+  pub last : slice_get ring (length ring - 1) ≡ Some oldest
+  pub slot : Saved Standing
+  pub first : slice_get saved 0 ≡ Some slot
+  pub stands : slot.state ≡ standing_of oldest
+
+pub has_oldest : (ring : List Path) (saved : List (Saved Standing)) → 0 < length ring → length saved ≡ length ring
+    → ((index : ℕ) → index < length ring → option_map (λ one. one.state) (from_newest saved index) ≡ option_map standing_of (slice_get ring index)) → HasOldest ring saved
+has_oldest ring saved some many each =
+    let last = last_of ring some in
+    let f : Saved Standing → Standing = λ (one : Saved Standing). one.state in
+    let place : 0 ≡ length saved - (length ring - 1) - 1 = omega (arith, some, many) in
+    let is : option_map f (slice_get saved 0) ≡ Some (standing_of last.0) =
+    ap (λ n. option_map f (slice_get saved n)) place ∙ (each (length ring - 1) (omega (arith, some)) ∙ ap (option_map standing_of) last.1) in
+    let slot = map_some f (slice_get saved 0) (standing_of last.0) is in
+    record { oldest = last.0; last = last.1; slot = slot.0; first = slot.1; stands = slot.2 }
+
+-- Each checkpoint of the ring is kept still, where log and ledger gave up what lies before the oldest one at most.
+kept_still : (rules : Rules) (entries : List Entry) (oldest : Path) (log log' : Log) (ledger ledger' : Ledger) (ring : List Path) → log'.first ≤ max log.first oldest.state.machine.taken → ledger'.first ≤ max ledger.first (length oldest.state.sends)
+    → AreAfter oldest ring → AreKept rules entries log ledger ring → AreKept rules entries log' ledger' ring
+kept_still rules entries oldest log log' ledger ledger' [] few less after are = tt
+kept_still rules entries oldest log log' ledger ledger' (newest ∷ older) few less after are = (
+  record {
+    lives = are.0.lives;
+    goes = are.0.goes;
+    items = omega (arith, few, are.0.items, after.0.taken);
+    sends = omega (arith, less, are.0.sends, after.0.sends);
+  },
+  kept_still rules entries oldest log log' ledger ledger' older few less after.1 are.1,
+)
+
+module _ {R : Type 0} where
+  pub oldest_of : (rules : Rules) (image : Image) (entries : List Entry) (plan : List Override) (now : Path) (ring : List Path) (cpu : CpuState R) (checkpoints : Checkpoints) (log : Log) (ledger : Ledger)
+      → KeepsRing rules image entries plan now ring cpu checkpoints log ledger → HasOldest ring cpu.slots.saved
+  oldest_of rules image entries plan now ring cpu checkpoints log ledger k = has_oldest ring cpu.slots.saved k.some k.as_many k.saved
+
+  -- What lies before the oldest checkpoint was received and sent, so that a session between two events can give it up.
+  pub can_forget : (rules : Rules) (image : Image) (entries : List Entry) (plan : List Override) (now : Path) (ring : List Path) (cpu : CpuState R) (checkpoints : Checkpoints) (log : Log) (ledger : Ledger)
+      → KeepsRing rules image entries plan now ring cpu checkpoints log ledger → KeepsItems rules.bounds entries log → KeepsReplies rules.bounds entries None now.state.sends ledger
+      → ledger.trial ≡ None → now.state.machine.taken ≤ received log → CanForget cpu log ledger
+  can_forget rules image entries plan now ring cpu checkpoints log ledger k items replies none taken =
+      let h = oldest_of rules image entries plan now ring cpu checkpoints log ledger k in
+      let before = (after_oldest rules.limits (items_in rules.bounds entries) plan image now ring h.oldest k.chained h.last).0 in
+      let items_there : h.slot.state.guest.machine.taken ≤ received log = omega (arith, ap (λ (s : Standing). s.guest.machine.taken) h.stands, before.taken, taken) in
+      let all : length ledger.kept ≡ length now.state.sends - ledger.first = ap length replies.shows.kept ∙ length-drop ledger.first now.state.sends in
+      let sends_there : h.slot.state.sends ≤ ledger.first + length ledger.kept = omega (arith, ap (λ (s : Standing). s.sends) h.stands, before.sends, all, replies.shows.counted) in
+      record {
+        some = omega (arith, k.as_many, k.some);
+        trial = none;
+        items = subst (λ (o : Option (Saved Standing)). IfSome o (λ oldest. oldest.state.guest.machine.taken ≤ received log)) (sym h.first) items_there;
+        sends = subst (λ (o : Option (Saved Standing)). IfSome o (λ oldest. oldest.state.sends ≤ ledger.first + length ledger.kept)) (sym h.first) sends_there;
+      }
+
+  -- The answers of malloc before the oldest checkpoint: as many were used at each checkpoint, and the run has them.
+  pub behind_marks : (rules : Rules) (image : Image) (entries : List Entry) (plan : List Override) (now : Path) (ring : List Path) (cpu : CpuState R) (checkpoints : Checkpoints) (log : Log) (ledger : Ledger) (marks : Marks)
+      → IfSome (slice_get cpu.slots.saved 0) (λ one. marks ≡ marks_of one.state) → KeepsRing rules image entries plan now ring cpu checkpoints log ledger → AreBehind marks.choices ring × (marks.choices ≤ length now.choices)
+  behind_marks rules image entries plan now ring cpu checkpoints log ledger marks is k =
+      let h = oldest_of rules image entries plan now ring cpu checkpoints log ledger k in
+      let after = after_oldest rules.limits (items_in rules.bounds entries) plan image now ring h.oldest k.chained h.last in
+      let here : marks ≡ marks_of h.slot.state = subst (λ (o : Option (Saved Standing)). IfSome o (λ one. marks ≡ marks_of one.state)) h.first is in
+      let used : marks.choices ≡ length h.oldest.choices =
+      ap (λ (m : Marks). m.choices) here ∙ (ap (λ (s : Standing). s.guest.machine.allocations) h.stands ∙ oldest_used rules.limits (items_in rules.bounds entries) plan image now ring h.oldest k.chained h.last) in
+      (subst (λ n. AreBehind n ring) (sym used) (behind_after h.oldest ring after.1), omega (arith, used, after.0.choices))
+
+  -- What is left is enough for each trial, and right beside the journal.
+  pub forgets : (rules : Rules) (image : Image) (entries : List Entry) (plan : List Override) (now : Path) (ring : List Path) (cpu : CpuState R) (checkpoints : Checkpoints) (log log' : Log) (ledger ledger' : Ledger) (marks : Marks)
+      → IfSome (slice_get cpu.slots.saved 0) (λ one. marks ≡ marks_of one.state) → log' ≡ logs.trimmed log marks.taken → ShowsStill log log' → ledger' ≡ ledgers.trimmed ledger marks.sends
+      → KeepsRing rules image entries plan now ring cpu checkpoints log ledger → KeepsItems rules.bounds entries log → KeepsReplies rules.bounds entries None now.state.sends ledger
+      → Forgets rules image entries plan now ring cpu checkpoints log' ledger'
+  forgets rules image entries plan now ring cpu checkpoints log log' ledger ledger' marks is cut still less k items replies =
+      let h = oldest_of rules image entries plan now ring cpu checkpoints log ledger k in
+      let after = after_oldest rules.limits (items_in rules.bounds entries) plan image now ring h.oldest k.chained h.last in
+      let here : marks ≡ marks_of h.slot.state = subst (λ (o : Option (Saved Standing)). IfSome o (λ one. marks ≡ marks_of one.state)) h.first is in
+      let taken : marks.taken ≡ h.oldest.state.machine.taken = ap (λ (m : Marks). m.taken) here ∙ ap (λ (s : Standing). s.guest.machine.taken) h.stands in
+      let sent : marks.sends ≡ length h.oldest.state.sends = ap (λ (m : Marks). m.sends) here ∙ ap (λ (s : Standing). s.sends) h.stands in
+      let first : log'.first ≡ max log.first marks.taken = ap (λ (l : Log). l.first) cut in
+      let first_send : ledger'.first ≡ ledger.first + min (marks.sends - ledger.first) (settled ledger) = ap (λ (l : Ledger). l.first) less in
+      record {
+        ring = record {
+          some = k.some;
+          chained = k.chained;
+          are = k.are;
+          kept = kept_still rules entries h.oldest log log' ledger ledger' ring (omega (arith, first, taken)) (omega (arith, first_send, sent)) after.1 k.kept;
+          as_many = k.as_many;
+          saved = k.saved;
+          standing = k.standing;
+          capacity = k.capacity;
+          base = k.base;
+          window = k.window;
+          wrote = k.wrote;
+        };
+        items = record {
+          all_heeded = items.all_heeded;
+          shows = still _ _ items.shows;
+          most = ap (λ (l : Log). l.max_items) cut ∙ items.most;
+        };
+        replies =
+            subst (KeepsReplies rules.bounds entries None now.state.sends) (sym less)
+            (keeps_without rules.bounds entries now.state.sends ledger (min (marks.sends - ledger.first) (settled ledger)) (omega arith) replies);
+      }

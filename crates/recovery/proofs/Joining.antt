@@ -1,0 +1,138 @@
+-- What the ledger of a trial says of what was passed is said of its run.
+use Rattle.std.proofs.Common.{◌≡◌, ℕ, ◌+◌, ◌≤◌, Bool, true, false, ◌&&◌, cond, eqb, List, [], ◌∷◌, ◌++◌, length, take, drop, Option, Some, refl, sym, ◌∙◌, ap, subst, arith, append-nil, length-append}
+use Rattle.std.specs.Prelude.{◌==◌, unwrap_or, IsTrue}
+use Rattle.std.specs.List.{AllByRecursion}
+use Rattle.std.proofs.lemmas.List.{take-append-drop, drop_all, drop-drop}
+use Rattle.std.proofs.lemmas.Bool.{eqb-true, eq-eqb, true≢false}
+use Rattle.rx_io.specs.Sends.{Send, sent_to}
+use Rattle.rx_io.specs.Prefix.{Prefix}
+use Rattle.reply_ledger.specs.Ledger.{Passed, Ledger, IsInOrder, stamped, stamps_of}
+use Rattle.reply_ledger.specs.Trials.{agree, trial_sends}
+use Rattle.reply_ledger.specs.Trials as ledgers
+use Rattle.reply_ledger.specs.Shows.{Shows, stamped_of, pieces_until}
+use Rattle.reply_ledger.proofs.ShowsLemmas.{shown_passed, shows-covers, covers-shows, shows-covers_before, covers_before-shows}
+use Rattle.run_history.proofs.Outputs.{sent_to-append, sent_to-more}
+use Rattle.session_history.specs.Passing.{until, AreBetween, AreInOrder}
+use Rattle.recovery.specs.Going.{agrees_next}
+
+-- stamps stand in order
+all_after : (low : ℕ) (stamp : ℕ) (bytes : List ℕ) (rest : List Passed) → low ≤ stamp → AllByRecursion (λ y. low ≤ y) (stamps_of rest) → AllByRecursion (λ y. low ≤ y) (stamps_of (stamped stamp bytes ++ rest))
+unfolding stamped stamps_of
+all_after low stamp [] rest le all = all
+all_after low stamp (byte ∷ bytes) rest le all = (le, all_after low stamp bytes rest le all)
+
+order_after : (stamp : ℕ) (bytes : List ℕ) (rest : List Passed) → AllByRecursion (λ y. stamp ≤ y) (stamps_of rest) → IsInOrder (stamps_of rest) → IsInOrder (stamps_of (stamped stamp bytes ++ rest))
+unfolding stamped stamps_of
+order_after stamp [] rest all order = order
+order_after stamp (byte ∷ bytes) rest all order = (all_after stamp stamp bytes rest (omega arith) all, order_after stamp bytes rest all order)
+
+all_stamped : (low high conn : ℕ) (pieces : List Send) → AreBetween low high pieces → AllByRecursion (λ y. low ≤ y) (stamps_of (stamped_of conn pieces))
+unfolding stamped_of stamps_of
+all_stamped low high conn [] between = tt
+all_stamped low high conn (piece ∷ pieces) between = of (piece.conn == conn) (all_stamped low high conn pieces between.2)
+  where
+    of : (b : Bool) → AllByRecursion (λ y. low ≤ y) (stamps_of (stamped_of conn pieces)) → AllByRecursion (λ y. low ≤ y) (stamps_of (cond b (stamped piece.taken piece.bytes) [] ++ stamped_of conn pieces))
+    of true ih = all_after low piece.taken piece.bytes (stamped_of conn pieces) between.0 ih
+    of false ih = ih
+
+pub stamped_in_order : (high conn : ℕ) (pieces : List Send) → AreInOrder high pieces → IsInOrder (stamps_of (stamped_of conn pieces))
+unfolding stamped_of stamps_of
+stamped_in_order high conn [] order = tt
+stamped_in_order high conn (piece ∷ pieces) order = of (piece.conn == conn) (stamped_in_order high conn pieces order.2)
+  where
+    of : (b : Bool) → IsInOrder (stamps_of (stamped_of conn pieces)) → IsInOrder (stamps_of (cond b (stamped piece.taken piece.bytes) [] ++ stamped_of conn pieces))
+    of true ih = order_after piece.taken piece.bytes (stamped_of conn pieces) (all_stamped piece.taken high conn pieces order.0) ih
+    of false ih = ih
+
+-- a ledger beside the sends of the run that failed, those of a trial, and the pieces that were passed
+pub record Beside (high : ℕ) (ledger : Ledger) (sends now pieces : List Send) : Type 0 where
+  pub shows : Shows ledger sends pieces
+  pub whole : (conn : ℕ) → Prefix (sent_to conn pieces) (sent_to conn sends)
+  pub ordered : AreInOrder high pieces
+  pub front : take ledger.first now ≡ take ledger.first sends
+  pub sent : ledger.trial ≡ Some (drop ledger.first now)
+
+pub trial_is : (high : ℕ) (ledger : Ledger) (sends now pieces : List Send) → Beside high ledger sends now pieces → trial_sends ledger ≡ drop ledger.first now
+trial_is high ledger sends now pieces b = ap (λ (o : Option (List Send)). unwrap_or o []) b.sent
+
+pub now_is : (high : ℕ) (ledger : Ledger) (sends now pieces : List Send) → Beside high ledger sends now pieces → take ledger.first sends ++ trial_sends ledger ≡ now
+now_is high ledger sends now pieces b =
+    ap (λ (all : List Send). take ledger.first sends ++ all) (trial_is high ledger sends now pieces b) ∙ ap (λ (all : List Send). all ++ drop ledger.first now) (sym b.front) ∙ take-append-drop ledger.first now
+
+pub covers_now : (high : ℕ) (ledger : Ledger) (sends now pieces : List Send) → Beside high ledger sends now pieces → ledgers.Covers ledger → (conn : ℕ) → Prefix (sent_to conn pieces) (sent_to conn now)
+covers_now high ledger sends now pieces b covers conn =
+    subst (λ (all : List Send). Prefix (sent_to conn pieces) (sent_to conn all)) (now_is high ledger sends now pieces b) (shows-covers ledger sends pieces b.shows b.whole covers conn)
+
+pub now_covers : (high : ℕ) (ledger : Ledger) (sends now pieces : List Send) → Beside high ledger sends now pieces → ((conn : ℕ) → Prefix (sent_to conn pieces) (sent_to conn now)) → ledgers.Covers ledger
+now_covers high ledger sends now pieces b covers =
+    covers-shows ledger sends pieces b.shows (λ conn. subst (λ (all : List Send). Prefix (sent_to conn pieces) (sent_to conn all)) (sym (now_is high ledger sends now pieces b)) (covers conn))
+
+until_is : (item : ℕ) (pieces : List Send) → pieces_until item pieces ≡ until item pieces
+unfolding pieces_until
+until_is item pieces = refl
+
+pub covers_before_now : (high item : ℕ) (ledger : Ledger) (sends now pieces : List Send) → Beside high ledger sends now pieces → ledgers.CoversBefore ledger item → (conn : ℕ) → Prefix (sent_to conn (until item pieces)) (sent_to conn now)
+covers_before_now high item ledger sends now pieces b covers conn =
+    subst (λ (all : List Send). Prefix (sent_to conn (until item pieces)) (sent_to conn all)) (now_is high ledger sends now pieces b)
+    (subst (λ (all : List Send). Prefix (sent_to conn all) (sent_to conn (take ledger.first sends ++ trial_sends ledger))) (until_is item pieces)
+    (shows-covers_before ledger sends pieces item b.shows (λ q. stamped_in_order high q pieces b.ordered) b.whole covers conn))
+
+pub now_covers_before : (high item : ℕ) (ledger : Ledger) (sends now pieces : List Send) → Beside high ledger sends now pieces → ((conn : ℕ) → Prefix (sent_to conn (until item pieces)) (sent_to conn now)) → ledgers.CoversBefore ledger item
+now_covers_before high item ledger sends now pieces b covers =
+    covers_before-shows ledger sends pieces item b.shows (λ q. stamped_in_order high q pieces b.ordered)
+    (λ conn. subst (λ (all : List Send). Prefix (sent_to conn all) (sent_to conn (take ledger.first sends ++ trial_sends ledger))) (sym (until_is item pieces))
+    (subst (λ (all : List Send). Prefix (sent_to conn (until item pieces)) (sent_to conn all)) (sym (now_is high ledger sends now pieces b)) (covers conn)))
+
+-- agreeing, by parts
+and_assoc : (a b c : Bool) → ((a && b) && c) ≡ (a && (b && c))
+and_assoc true b c = refl
+and_assoc false b c = refl
+
+pub agree-append : (xs ys ps : List ℕ) → agree (xs ++ ys) ps ≡ (agree xs ps && agree ys (drop (length xs) ps))
+unfolding agree
+agree-append [] ys ps = refl
+agree-append (x ∷ xs) ys [] = sym (none ys (length (x ∷ xs)))
+  where
+    none : (ys : List ℕ) (n : ℕ) → agree ys (drop n []) ≡ true
+    none [] n = refl
+    none (y ∷ ys) n = ap (agree (y ∷ ys)) (drop_all {X = ℕ} n [] (omega arith))
+agree-append (x ∷ xs) ys (p ∷ ps) = ap (λ (b : Bool). (x == p) && b) (agree-append xs ys ps) ∙ sym (and_assoc (x == p) (agree xs ps) (agree ys (drop (length xs) ps)))
+
+-- what comes next of a trial is compared with what was passed behind its run
+pub next_agrees : (high : ℕ) (ledger : Ledger) (sends now pieces : List Send) (send : Send) → Beside high ledger sends now pieces
+    → agrees_next ledger send ≡ agree send.bytes (drop (length (sent_to send.conn now)) (sent_to send.conn pieces))
+next_agrees high ledger sends now pieces send b =
+    let early : List ℕ = sent_to send.conn (take ledger.first sends) in
+    let tried : List ℕ = sent_to send.conn (trial_sends ledger) in
+    let whole : length (sent_to send.conn now) ≡ length early + length tried =
+    ap (λ (all : List Send). length (sent_to send.conn all)) (sym (now_is high ledger sends now pieces b))
+    ∙ (ap length (sent_to-append send.conn (take ledger.first sends) (trial_sends ledger)) ∙ length-append (sent_to send.conn (take ledger.first sends)) (sent_to send.conn (trial_sends ledger))) in
+    ap (λ (l : List ℕ). agree send.bytes (drop (length tried) l)) (shown_passed ledger sends pieces b.shows send.conn)
+    ∙ (ap (agree send.bytes) (drop-drop (length tried) (length early) (sent_to send.conn pieces)) ∙ ap (λ n. agree send.bytes (drop n (sent_to send.conn pieces))) (sym whole))
+
+-- one more send agrees where its bytes do
+agrees_more : (sends pieces : List Send) (send : Send) (same : Bool) → agree send.bytes (drop (length (sent_to send.conn sends)) (sent_to send.conn pieces)) ≡ same → agree (sent_to send.conn sends) (sent_to send.conn pieces) ≡ true
+    → agree (sent_to send.conn (sends ++ send ∷ [])) (sent_to send.conn pieces) ≡ same
+agrees_more sends pieces send same next before =
+    ap (λ (l : List ℕ). agree l (sent_to send.conn pieces)) (sent_to-more send.conn sends send ∙ ap (λ (b : Bool). sent_to send.conn sends ++ cond b send.bytes []) (eq-eqb send.conn send.conn refl))
+    ∙ (agree-append (sent_to send.conn sends) send.bytes (sent_to send.conn pieces) ∙ (ap (λ (b : Bool). b && agree send.bytes (drop (length (sent_to send.conn sends)) (sent_to send.conn pieces))) before ∙ next))
+
+pub differs_more : (sends pieces : List Send) (send : Send) → agree send.bytes (drop (length (sent_to send.conn sends)) (sent_to send.conn pieces)) ≡ false → ((conn : ℕ) → agree (sent_to conn sends) (sent_to conn pieces) ≡ true)
+    → agree (sent_to send.conn (sends ++ send ∷ [])) (sent_to send.conn pieces) ≡ false
+differs_more sends pieces send next before = agrees_more sends pieces send false next (before send.conn)
+
+pub agree_more : (sends pieces : List Send) (send : Send) → agree send.bytes (drop (length (sent_to send.conn sends)) (sent_to send.conn pieces)) ≡ true → ((conn : ℕ) → agree (sent_to conn sends) (sent_to conn pieces) ≡ true)
+    → (conn : ℕ) → agree (sent_to conn (sends ++ send ∷ [])) (sent_to conn pieces) ≡ true
+agree_more sends pieces send next before conn = of (eqb send.conn conn) refl
+  where
+    of : (b : Bool) → eqb send.conn conn ≡ b → agree (sent_to conn (sends ++ send ∷ [])) (sent_to conn pieces) ≡ true
+    of true same = subst (λ q. agree (sent_to q (sends ++ send ∷ [])) (sent_to q pieces) ≡ true) (eqb-true send.conn conn same) (agrees_more sends pieces send true next (before send.conn))
+    of false other =
+        ap (λ (l : List ℕ). agree l (sent_to conn pieces)) (sent_to-more conn sends send ∙ (ap (λ (b : Bool). sent_to conn sends ++ cond b send.bytes []) other ∙ append-nil (sent_to conn sends))) ∙ before conn
+
+-- what a test says
+pub test_holds : (b : Bool) (P : Type 0) → b ≡ true → (IsTrue b → P) → P
+test_holds b P is holds = holds is
+
+pub test_fails : (b : Bool) (P : Type 0) → b ≡ false → (P → IsTrue b) → P → ⊥
+test_fails b P is holds p = true≢false (sym (holds p) ∙ is)

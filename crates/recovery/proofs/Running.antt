@@ -1,0 +1,240 @@
+-- The guest of a trial runs to its next event: what that makes of the trial.
+use Rattle.std.proofs.Common.{◌≡◌, ℕ, ◌+◌, ◌-◌, ◌*◌, ◌^◌, ◌<◌, ◌≤◌, Bool, true, false, List, [], ◌∷◌, ◌++◌, length, take, drop, replicate, Option, Some, None, refl, sym, ◌∙◌, ap, subst, arith}
+use Rattle.std.specs.Prelude.{Ok, Result, slice_get, unwrap_or}
+use Rattle.std.specs.declared.alloc.AllocError.{AllocError}
+use Rattle.std.proofs.lemmas.Nat.{mul-le}
+use Rattle.rx_io.specs.declared.bytes.Item.{Item}
+use Rattle.links.specs.declared.journal.LinkEvent.{LinkEvent}
+use Rattle.links.specs.Links.{events_in}
+use Rattle.rx_io.specs.Sends.{Send, sent_to}
+use Rattle.alloc_env.specs.declared.env.Env.{Env}
+use Rattle.block_book.specs.declared.choice.Choice.{Choice}
+use Rattle.block_book.specs.Heap.{Heap}
+use Rattle.item_log.specs.Log.{Log}
+use Rattle.item_log.specs.Heard as heard
+use Rattle.reply_ledger.specs.Ledger.{Ledger}
+use Rattle.reply_ledger.specs.Trials.{agree}
+use Rattle.run_history.specs.Machine.{Machine, State}
+use Rattle.run_history.specs.Call.{may_send}
+use Rattle.run_history.specs.Served.{Limits, Override, Path, env_at, planned_next, served_next}
+use Rattle.rv_exec.specs.Stepping.{limits_of}
+use Rattle.guest_cpu.specs.declared.event.Event.{Event}
+use Rattle.guest_cpu.specs.declared.event.Event.TheVariants as event
+use Rattle.run_history.specs.Touching.{Range}
+use Rattle.guest_cpu.specs.Standing.{Standing, Turn, turn, Live, live_after, with_range}
+use Rattle.guest_cpu.specs.Cpus.{CpuState, live_of, with_live}
+use Rattle.guest_cpu.specs.Running.{RunsBy}
+use Rattle.guest_cpu.specs.Serving.{standing_of, Adds}
+use Rattle.guest_cpu.proofs.ServingLemmas.{turns_serve}
+use Rattle.guest_runs.specs.Runs.{GoesOn, IsSilent}
+use Rattle.guest_runs.specs.Writing.{writes, Writes, RunsWriting}
+use Rattle.guest_runs.proofs.OneMore.{one_more}
+use Rattle.guest_runs.proofs.TurnEvents.{Means, turn_means}
+use Rattle.guest_runs.proofs.TurnWrites.{WritesAs, turn_writes}
+use Rattle.guest_runs.proofs.WritingLemmas.{writes_on, writes_then}
+use Rattle.guest_runs.proofs.QuietRuns.{goes_one, goes_on, ComesWriting, comes_writing}
+use Rattle.guest_runs.proofs.RunLemmas.{runs_write}
+use Rattle.run_history.proofs.Serves.{served_next_more}
+use Rattle.session_history.specs.Heeding.{Bounds, received}
+use Rattle.session_history.specs.Passing.{IsFeasible}
+use Rattle.session_history.proofs.Paths.{served_on}
+use Rattle.session_history.specs.Keeping.{KeepsItems}
+use Rattle.trials.specs.Trials.{IsUnharmed}
+use Rattle.trials.specs.Laws.{everywhere}
+use Rattle.trials.proofs.Planned.{env_within}
+use Rattle.recovery.specs.Sessions.{CanGoOn, Failure, items_of, pieces_of, IsUnder}
+use Rattle.recovery.specs.Trying.{KeepsSaved, KeepsBase}
+use Rattle.recovery.specs.Going.{IsTrying}
+use Rattle.recovery.proofs.Few.{few_items}
+use Rattle.recovery.proofs.Starting.{failed_still}
+
+-- the plan of a trial on its way has its environment
+pub force_is : (env : Env) (point taken : ℕ) → taken ≤ point → env_at (everywhere env point) taken ≡ env
+force_is env point taken early = env_within [] 0 (point + 4) env taken (omega arith) (omega (arith, early))
+
+-- what was received of a journal with a log is no more than may be
+pub received_few : (bounds : Bounds) (entries : List Rattle.links.specs.declared.journal.Entry.Entry) (log : Log) → KeepsItems bounds entries log → received bounds entries ≤ bounds.max_items
+received_few bounds entries log keeps =
+    subst (λ (events : List LinkEvent). length (heard.items_of bounds.framing events) ≤ bounds.max_items) (sym keeps.all_heeded) (few_items bounds (events_in entries) keeps.all_heeded)
+
+mul_low : (a b c d : ℕ) → a ≤ c → b ≤ d → a * b ≤ c * d
+mul_low a b c d few low = mul-le a b c d few low
+
+room : (steps at taken since budget : ℕ) → at ≡ steps → steps ≤ taken * (budget + 1) + since → since ≤ budget → taken ≤ 2 ^ 20 → budget ≤ 2 ^ 24 → at + budget < 2 ^ 64 - 1
+room steps at taken since budget same bounded last few budgeted =
+    let low : taken * (budget + 1) ≤ 2 ^ 20 * (2 ^ 24 + 1) = mul_low taken (budget + 1) (2 ^ 20) (2 ^ 24 + 1) few (omega (arith, budgeted)) in
+    omega (arith, same, bounded, last, budgeted, low)
+
+-- the second state sent as much, and took as many items
+pub unharmed_still : (pieces : List Send) (point : ℕ) (s t : State) → t.sends ≡ s.sends → t.machine.taken ≡ s.machine.taken → IsUnharmed pieces point s → IsUnharmed pieces point t
+unharmed_still pieces point s t sends taken u = record {
+  agrees = λ conn. subst (λ (all : List Send). agree (sent_to conn all) (sent_to conn pieces) ≡ true) (sym sends) (u.agrees conn);
+  feasible =
+      subst (λ (all : List Send). (item : ℕ) → item < t.machine.taken → (conn : ℕ) → Rattle.rx_io.specs.Prefix.Prefix (sent_to conn (Rattle.session_history.specs.Passing.until item pieces)) (sent_to conn (Rattle.session_history.specs.Passing.until item all))) (sym sends)
+      (λ item low conn. u.feasible item (omega (arith, low, taken)) conn);
+  early = omega (arith, u.early, taken);
+}
+
+-- who may be sent to is told by the machine's connections
+pub may_send_by : (m n : Machine) (conn : ℕ) → n.connections ≡ m.connections → may_send n conn ≡ true → may_send m conn ≡ true
+may_send_by m n conn same may = ap (λ connections. unwrap_or (slice_get connections conn) false) (sym same) ∙ may
+
+-- a run that sent nothing more, and took no item
+pub can_still : (rules : Rattle.session_history.specs.Lawful.Rules) (items : List Item) (plan : List Override) (entries : List Rattle.links.specs.declared.journal.Entry.Entry) (first now : Path) → first.state.ended ≡ None
+    → GoesOn rules.limits items plan first now → now.state.sends ≡ first.state.sends → CanGoOn rules entries first → CanGoOn rules entries now
+can_still rules items plan entries first now lives goes sends c = record {
+  bounded = λ alive. goes.bounded alive (c.bounded lives);
+  within = λ conn may. c.within conn (may_send_by first.state.machine now.state.machine conn goes.connections may);
+  opened = λ conn shut. ap (sent_to conn) sends ∙ c.opened conn shut;
+  timed = subst (λ (all : List Send). Rattle.session_history.specs.Passing.AreBetween 0 now.state.machine.taken all) (sym sends)
+      (subst (λ n. Rattle.session_history.specs.Passing.AreBetween 0 n first.state.sends) (sym goes.taken) c.timed);
+  sendable = subst (λ (all : List Send). Rattle.session_history.specs.Keeping.AreSendable all) (sym sends) c.sendable;
+}
+
+module _ {R : Type 0} where
+  -- a trial has room for a budget more
+  pub trying_room : (failure : Failure) (point : ℕ) (checkpoint : Path) (env : Env) (cpu : CpuState R) (choices : List Choice) (log : Log) (ledger : Ledger) → IsTrying failure point checkpoint env cpu choices log ledger
+      → cpu.slots.live.steps + failure.rules.limits.budget < 2 ^ 64 - 1
+  trying_room failure point checkpoint env cpu choices log ledger t =
+      let bounded = t.goes.bounded t.lives in
+      let f = t.failed.has in
+      let few = received_few failure.rules.bounds failure.entries log f.items in
+      room t.path.steps cpu.slots.live.steps t.path.state.machine.taken t.path.state.machine.since failure.rules.limits.budget (ap (λ (s : Standing). s.steps) t.stands) bounded.steps bounded.since
+      (omega (arith, t.unharmed.early, t.failed.point_is, f.taken, few, f.few_items)) t.failed.few_steps
+
+  -- how the guest of a trial runs
+  abbrev pub Ran : ℕ → (Heap → ℕ → ℕ → Bool) → Env → CpuState R → CpuState R → Result Event AllocError → Type 0
+  Ran budget permits env old new result = RunsBy event.Emits (turn (limits_of budget permits) env) old.base (live_of old) result (live_of new)
+
+  ran_under : (failure : Failure) (budget : ℕ) (permits : Heap → ℕ → ℕ → Bool) (env : Env) (old new : CpuState R) (result : Result Event AllocError) → IsUnder failure budget permits → Ran budget permits env old new result
+      → RunsBy event.Emits (turn failure.rules.limits env) old.base (live_of old) result (live_of new)
+  ran_under failure budget permits env old new result under ran = subst (λ (limits : Limits). RunsBy event.Emits (turn limits env) old.base (live_of old) result (live_of new)) (sym under) ran
+
+  -- its run goes on so, and writes the pages that the guest marks
+  pub ran_on : (failure : Failure) (point : ℕ) (checkpoint : Path) (env : Env) (old new : CpuState R) (choices : List Choice) (log : Log) (ledger : Ledger) (budget : ℕ) (permits : Heap → ℕ → ℕ → Bool) (result : Result Event AllocError) → IsUnder failure budget permits
+      → (t : IsTrying failure point checkpoint env old choices log ledger) → Ran budget permits env old new result → RunsWriting failure.rules.limits (items_of failure) (everywhere env point) old.base t.path old.written result (live_of new)
+  ran_on failure point checkpoint env old new choices log ledger budget permits result under t ran =
+      runs_write failure.rules.limits (items_of failure) (everywhere env point) env old.base t.path (live_of old) (live_of new) result t.lives (force_is env point t.path.state.machine.taken t.unharmed.early) t.stands
+      (ran_under failure budget permits env old new result under ran)
+
+  -- nothing is saved by a run
+  pub live_keeps : (old new : CpuState R) → new ≡ with_live (live_of new) old → KeepsSaved old new
+  live_keeps old new kept = record {
+    rule = ap (λ (c : CpuState R). c.rule) kept;
+    base = ap (λ (c : CpuState R). c.base) kept;
+    saved = ap (λ (c : CpuState R). c.slots.saved) kept;
+    count = ap (λ (c : CpuState R). c.slots.count) kept;
+    pages = ap (λ (c : CpuState R). c.slots.pages) kept;
+    frames = ap (λ (c : CpuState R). c.slots.frames) kept;
+  }
+
+  pub same_base : (cpu : CpuState R) → KeepsBase cpu cpu
+  same_base cpu = record { saved = record { rule = refl; base = refl; saved = refl; count = refl; pages = refl; frames = refl }; base = refl }
+
+  pub saved_on : (old mid new : CpuState R) → KeepsSaved old mid → KeepsSaved mid new → KeepsSaved old new
+  saved_on old mid new one other = record {
+    rule = other.rule ∙ one.rule;
+    base = other.base ∙ one.base;
+    saved = other.saved ∙ one.saved;
+    count = other.count ∙ one.count;
+    pages = other.pages ∙ one.pages;
+    frames = other.frames ∙ one.frames;
+  }
+
+  pub base_on : (old mid new : CpuState R) → KeepsBase old mid → KeepsBase mid new → KeepsBase old new
+  base_on old mid new one other = record { saved = saved_on old mid new one.saved other.saved; base = other.base ∙ one.base }
+
+  pub live_base : (old new : CpuState R) → new ≡ with_live (live_of new) old → KeepsBase old new
+  live_base old new kept = record { saved = live_keeps old new kept; base = ap (λ (c : CpuState R). c.slots.base) kept }
+
+  -- what a trial wrote, and wrote then
+  pub wrote_on : (failure : Failure) (checkpoint first now : Path) (old new : CpuState R) → KeepsSaved old new → Writes failure.rules.limits (items_of failure) old.base checkpoint (replicate old.slots.pages false) first old.written
+      → Writes failure.rules.limits (items_of failure) old.base first old.written now new.written → Writes failure.rules.limits (items_of failure) new.base checkpoint (replicate new.slots.pages false) now new.written
+  wrote_on failure checkpoint first now old new saved one other =
+      subst (λ (base : ℕ). Writes failure.rules.limits (items_of failure) base checkpoint (replicate new.slots.pages false) now new.written) (sym saved.base)
+      (subst (λ (pages : ℕ). Writes failure.rules.limits (items_of failure) old.base checkpoint (replicate pages false) now new.written) (sym saved.pages)
+      (writes_on failure.rules.limits (items_of failure) old.base checkpoint (replicate old.slots.pages false) first old.written now new.written one other))
+
+  -- a trial that went on, and sent nothing
+  unfoldable pub goes_silently : (failure : Failure) (point : ℕ) (checkpoint : Path) (env : Env) (old new : CpuState R) (before choices : List Choice) (log : Log) (ledger : Ledger) (t : IsTrying failure point checkpoint env old before log ledger) (now : Path)
+      → KeepsSaved old new → GoesOn failure.rules.limits (items_of failure) (everywhere env point) t.path now → now.state.ended ≡ None → now.state.sends ≡ t.path.state.sends → now.choices ≡ checkpoint.choices ++ choices → standing_of now ≡ new.slots.live
+      → Writes failure.rules.limits (items_of failure) old.base t.path old.written now new.written → IsTrying failure point checkpoint env new choices log ledger
+  goes_silently failure point checkpoint env old new before choices log ledger t now saved goes lives sends chose stands wrote =
+      record {
+        failed = failed_still point failure old new log ledger ledger saved refl t.failed;
+        from = t.from;
+        path = now;
+        served = served_on failure.rules.limits (items_of failure) (everywhere env point) checkpoint t.path now t.served goes.served;
+        unharmed = unharmed_still (pieces_of failure) point t.path.state now.state sends goes.taken t.unharmed;
+        lives = lives;
+        stands = sym stands;
+        wrote = wrote_on failure checkpoint t.path now old new saved t.wrote wrote;
+        chose = chose;
+        goes = can_still failure.rules (items_of failure) (everywhere env point) failure.entries t.path now t.lives goes sends t.goes;
+        items = subst (λ n. log.first ≤ n) (sym goes.taken) t.items;
+        many = subst (λ (all : List Send). ledger.first ≤ length all) (sym sends) t.many;
+        front = ap (take ledger.first) sends ∙ t.front;
+        sent = t.sent ∙ ap (λ (all : List Send). Some (drop ledger.first all)) (sym sends);
+        agrees = t.agrees;
+      }
+
+-- a run that sends, by its last instruction
+pub record SendsOn (limits : Limits) (items : List Item) (plan : List Override) (base : ℕ) (first : Path) (flags : List Bool) (conn : ℕ) (bytes : List ℕ) (new : Live) : Type 0 where
+  pub before : Path
+  pub quiet : GoesOn limits items plan first before
+  pub silent : IsSilent first before
+  pub now : Path
+  pub next : planned_next limits items plan before ≡ Some now
+  pub goes : GoesOn limits items plan first now
+  pub stands : standing_of now ≡ new.standing
+  pub wrote : Writes limits items base first flags now new.written
+  pub choices : now.choices ≡ first.choices
+  pub sends : now.state.sends ≡ first.state.sends ++ record { conn = conn; bytes = bytes; taken = first.state.machine.taken } ∷ []
+  pub may : may_send first.state.machine conn ≡ true
+  pub some : 0 < length bytes
+  pub few : length bytes ≤ 65535
+  pub lives : now.state.ended ≡ None
+  pub later : first.steps < now.steps
+
+sends_last : (limits : Limits) (items : List Item) (plan : List Override) (env : Env) (base : ℕ) (first : Path) (flags : List Bool) (conn : ℕ) (bytes : List ℕ) (before new : Live) (t : Turn Event) → env_at plan first.state.machine.taken ≡ env
+    → ComesWriting limits items plan base first flags before → turn limits env before.standing ≡ Some t → t.event ≡ Some (event.Emits conn bytes) → new ≡ live_after base before t → SendsOn limits items plan base first flags conn bytes new
+sends_last limits items plan env base first flags conn bytes before new t in_force came turns is left =
+    let comes = came.comes in
+    let here : turn limits env (standing_of comes.now) ≡ Some t = ap (turn limits env) comes.stands ∙ turns in
+    let follows = turns_serve limits env comes.now t comes.lives here in
+    let adds : Adds limits env comes.now (Some (event.Emits conn bytes)) follows.next = subst (λ (e : Option Event). Adds limits env comes.now e follows.next) is follows.adds in
+    let means : Means limits env (standing_of comes.now) (Some (event.Emits conn bytes)) t.standing =
+    subst (λ (e : Option Event). Means limits env (standing_of comes.now) e t.standing) is (turn_means limits env (standing_of comes.now) t here) in
+    let range : t.written ≡ writes limits items env comes.now = subst (λ (e : Option Event). WritesAs e t.written (writes limits items env comes.now)) is (turn_writes limits items env comes.now t here) in
+    let served : served_next limits items env comes.now ≡ Some follows.next = served_next_more limits [] items env comes.now follows.next adds.0 in
+    let force : env_at plan comes.now.state.machine.taken ≡ env = ap (env_at plan) comes.goes.taken ∙ in_force in
+    record {
+      before = comes.now;
+      quiet = comes.goes;
+      silent = comes.silent;
+      now = follows.next;
+      next = ap (λ (e : Env). served_next limits items e comes.now) force ∙ served;
+      goes = goes_on limits items plan first comes.now follows.next comes.goes (goes_one limits items plan env comes.now follows.next force adds.0) comes.lives;
+      stands = follows.stands ∙ sym (ap (λ (l : Live). l.standing) left);
+      wrote = writes_then limits items base env first flags comes.now before.written follows.next new.written came.wrote served
+          (ap (λ (l : Live). l.written) left ∙ ap (λ (r : Option Range). with_range base r before.written) range);
+      choices = adds.1 ∙ comes.silent.choices;
+      sends = adds.2
+          ∙ ap (λ (sends : List Send). sends ++ record { conn = conn; bytes = bytes; taken = comes.now.state.machine.taken } ∷ []) comes.silent.sends
+          ∙ ap (λ (n : ℕ). first.state.sends ++ record { conn = conn; bytes = bytes; taken = n } ∷ []) comes.goes.taken;
+      may = ap (λ (connections : List Bool). unwrap_or (slice_get connections conn) false) (sym comes.goes.connections) ∙ means.0.allowed;
+      some = means.0.some;
+      few = means.0.few;
+      lives = ap (λ (s : Standing). s.ended) follows.stands ∙ means.1 ∙ comes.lives;
+      later = omega (arith, comes.goes.later, (one_more limits env comes.now follows.next adds.0).steps);
+    }
+
+module _ {R : Type 0} where
+  pub ran_sends : (failure : Failure) (point : ℕ) (checkpoint : Path) (env : Env) (old new : CpuState R) (choices : List Choice) (log : Log) (ledger : Ledger) (budget : ℕ) (permits : Heap → ℕ → ℕ → Bool) (conn : ℕ) (bytes : List ℕ)
+      → IsUnder failure budget permits → (t : IsTrying failure point checkpoint env old choices log ledger) → Ran budget permits env old new (Ok (event.Emits conn bytes))
+      → SendsOn failure.rules.limits (items_of failure) (everywhere env point) old.base t.path old.written conn bytes (live_of new)
+  ran_sends failure point checkpoint env old new choices log ledger budget permits conn bytes under t ran =
+      let runs = ran_under failure budget permits env old new (Ok (event.Emits conn bytes)) under ran in
+      let force = force_is env point t.path.state.machine.taken t.unharmed.early in
+      let came = comes_writing failure.rules.limits (items_of failure) (everywhere env point) env old.base t.path (live_of old) runs.before runs.count t.lives force t.stands runs.quiet in
+      sends_last failure.rules.limits (items_of failure) (everywhere env point) env old.base t.path old.written conn bytes runs.before (live_of new) runs.last force came runs.turns runs.is_event runs.left

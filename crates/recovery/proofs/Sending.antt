@@ -1,0 +1,256 @@
+-- A trial sends bytes, or takes an item.
+use Rattle.std.proofs.Common.{◌≡◌, ℕ, zero, suc, ◌+◌, ◌-◌, ◌^◌, ◌<◌, ◌≤◌, Bool, true, false, cond, eqb, List, [], ◌∷◌, ◌++◌, length, take, drop, Option, Some, None, inl, inr, ◌⊎◌, refl, sym, ◌∙◌, ap, subst, arith, append-nil, length-append}
+use Rattle.std.specs.Prelude.{IsSome, is_some, unwrap_or, slice_get}
+use Rattle.std.proofs.lemmas.Bool.{eqb-true, true≢false}
+use Rattle.std.proofs.lemmas.List.{take-append-le, drop-append-le}
+use Rattle.std.proofs.lemmas.List.Elements.{filter-append}
+use Rattle.rx_io.specs.declared.bytes.Item.{Item}
+use Rattle.links.specs.Links.{events_in}
+use Rattle.rx_io.specs.Sends.{Send, sent_to}
+use Rattle.rx_io.specs.Prefix.{Prefix}
+use Rattle.alloc_env.specs.declared.env.Env.{Env}
+use Rattle.block_book.specs.declared.choice.Choice.{Choice}
+use Rattle.item_log.specs.Log.{Log, IsItemOf}
+use Rattle.item_log.specs.Log as logs
+use Rattle.reply_ledger.specs.Ledger.{Ledger, connection_of, IsOpened, NotBefore, times_of}
+use Rattle.reply_ledger.specs.Trials.{agree, trial_sends, with_trial_send, discarded}
+use Rattle.reply_ledger.specs.Trials as ledgers
+use Rattle.run_history.specs.Machine.{State, Wants}
+use Rattle.run_history.specs.Run.{does}
+use Rattle.run_history.specs.Call.{may_send}
+use Rattle.run_history.specs.Served.{Path}
+use Rattle.run_history.proofs.Connections.{OpenWithin, within_after}
+use Rattle.run_history.proofs.Outputs.{sent_to-more, prefix_sent, prefix_trans}
+use Rattle.guest_cpu.specs.Cpus.{CpuState, live_of}
+use Rattle.guest_cpu.specs.Standing.{Standing, Live, with_range}
+use Rattle.guest_cpu.specs.Receiving.{received_range, taken_standing, live_with_item}
+use Rattle.guest_runs.specs.Runs.{TakesOn}
+use Rattle.guest_runs.specs.Writing.{Writes, TakesWriting}
+use Rattle.guest_runs.proofs.TakeLemmas.{takes_write, asks_wants}
+use Rattle.session_notes.specs.declared.episode.Tried.TheVariants as tried
+use Rattle.session_history.specs.Heeding.{heeded, received}
+use Rattle.session_history.specs.Opened.{opens}
+use Rattle.session_history.specs.Passing.{until, AreBetween, CoversBefore, IsFeasible}
+use Rattle.session_history.specs.Keeping.{IsSendable, AreSendable}
+use Rattle.session_history.proofs.Growing.{Grows, between_append, between_wider}
+use Rattle.session_history.proofs.Passing.{all_until}
+use Rattle.session_history.proofs.Paths.{served_on}
+use Rattle.link_gate.proofs.ItemLemmas.{item_is, item_fits, opened_items, received_is}
+use Rattle.trials.specs.Trials.{IsContradicted}
+use Rattle.trials.specs.Laws.{everywhere}
+use Rattle.recovery.specs.Sessions.{CanGoOn, Failure, items_of, pieces_of}
+use Rattle.recovery.specs.Trying.{KeepsSaved}
+use Rattle.recovery.specs.Going.{agrees_next, IsTrying, IsAsking, HasCome}
+use Rattle.recovery.proofs.Joining.{next_agrees, agree_more, differs_more, covers_before_now}
+use Rattle.recovery.proofs.Starting.{failed_still}
+use Rattle.recovery.proofs.Running.{SendsOn, unharmed_still, may_send_by, trying_room, wrote_on}
+use Rattle.recovery.proofs.Coming.{beside, comes_at}
+
+-- no send was made with more items taken than there are
+times_low : (low high : ℕ) (all : List Send) → AreBetween low high all → NotBefore high (times_of all)
+unfolding times_of
+times_low low high [] between = tt
+times_low low high (send ∷ all) between = (between.1, times_low low high all between.2)
+
+between_behind : (n low high : ℕ) (all : List Send) → AreBetween low high all → AreBetween low high (drop n all)
+between_behind zero low high all between = between
+between_behind (suc n) low high [] between = between
+between_behind (suc n) low high (send ∷ all) between = between_behind n low high all between.2
+
+sendable_then : (sends : List Send) (send : Send) → AreSendable sends → IsSendable send → AreSendable (sends ++ send ∷ [])
+sendable_then [] send are is = (is, tt)
+sendable_then (first ∷ sends) send are is = (are.0, sendable_then sends send are.1 is)
+
+-- a connection to which nothing was sent, and a send to one that was opened
+opened_then : (conn : ℕ) (sends : List Send) (send : Send) (shut : Bool) → (send.conn ≡ conn → ⊥) → sent_to conn sends ≡ [] → sent_to conn (sends ++ send ∷ []) ≡ []
+opened_then conn sends send shut other none = of (eqb send.conn conn) refl
+  where
+    of : (b : Bool) → eqb send.conn conn ≡ b → sent_to conn (sends ++ send ∷ []) ≡ []
+    of true same = absurd (other (eqb-true send.conn conn same))
+    of false same = sent_to-more conn sends send ∙ (ap (λ (b : Bool). sent_to conn sends ++ cond b send.bytes []) same ∙ (append-nil (sent_to conn sends) ∙ none))
+
+-- the sends of a run with one more
+grows_send : (s t : State) (send : Send) → t.sends ≡ s.sends ++ send ∷ [] → t.machine.taken ≡ s.machine.taken → send.taken ≡ s.machine.taken → Grows s t
+grows_send s t send sends taken at = record { more = send ∷ []; sends = sends; taken = omega (arith, taken); between = (omega (arith, at), omega (arith, at, taken), tt) }
+
+-- the sends made in time of a run that went on begin with those of the run
+until_grown : (item : ℕ) (s t : State) → Grows s t → Prefix (until item s.sends) (until item t.sends)
+until_grown item s t grows = (until item grows.more, sym (ap (until item) grows.sends ∙ filter-append _ s.sends grows.more))
+
+-- a state that grew and took no item stays feasible
+feasible_still : (pieces : List Send) (s t : State) → Grows s t → t.machine.taken ≡ s.machine.taken → IsFeasible pieces s → IsFeasible pieces t
+feasible_still pieces s t grows taken feasible item low conn = prefix_trans _ _ _ (feasible item (omega (arith, low, taken)) conn) (prefix_sent conn (until item s.sends) (until item t.sends) (until_grown item s t grows))
+
+-- one that took an item, before which it had sent all that was passed
+feasible_taken : (pieces : List Send) (s t : State) → t.sends ≡ s.sends → t.machine.taken ≡ s.machine.taken + 1 → AreBetween 0 s.machine.taken s.sends → CoversBefore s.machine.taken pieces s → IsFeasible pieces s → IsFeasible pieces t
+feasible_taken pieces s t sends taken timed covers feasible item low conn = of (Rattle.std.proofs.lemmas.Bool.cases_lt item s.machine.taken)
+  where
+    of : (item < s.machine.taken) ⊎ (s.machine.taken ≤ item) → Prefix (sent_to conn (until item pieces)) (sent_to conn (until item t.sends))
+    of (inl before) = subst (λ (all : List Send). Prefix (sent_to conn (until item pieces)) (sent_to conn (until item all))) (sym sends) (feasible item before conn)
+    of (inr at) =
+        let same : item ≡ s.machine.taken = omega (arith, at, low, taken) in
+        subst (λ (all : List Send). Prefix (sent_to conn (until item pieces)) (sent_to conn all)) (sym (ap (until item) sends ∙ all_until item 0 s.machine.taken s.sends at timed))
+        (subst (λ n. Prefix (sent_to conn (until n pieces)) (sent_to conn s.sends)) (sym same) (covers conn))
+
+is_known : {X : Type 0} (found : Option X) → is_some found ≡ true → IsSome found
+is_known found is = is
+
+module _ {R : Type 0} where
+  -- what the ledger asks of a send
+  pub sends_opened : (failure : Failure) (point : ℕ) (checkpoint : Path) (env : Env) (cpu : CpuState R) (choices : List Choice) (log : Log) (ledger : Ledger) (conn : ℕ) (t : IsTrying failure point checkpoint env cpu choices log ledger)
+      → may_send t.path.state.machine conn ≡ true → IsOpened ledger conn
+  sends_opened failure point checkpoint env cpu choices log ledger conn t may = is_known (connection_of ledger.connections conn) (t.failed.has.replies.opened conn ∙ t.goes.within conn may)
+
+  pub sends_later : (failure : Failure) (point : ℕ) (checkpoint : Path) (env : Env) (cpu : CpuState R) (choices : List Choice) (log : Log) (ledger : Ledger) (taken : ℕ) (t : IsTrying failure point checkpoint env cpu choices log ledger)
+      → taken ≡ t.path.state.machine.taken → NotBefore taken (times_of (trial_sends ledger))
+  sends_later failure point checkpoint env cpu choices log ledger taken t is =
+      subst (λ (all : List Send). NotBefore taken (times_of all)) (sym (ap (λ (o : Option (List Send)). unwrap_or o []) t.sent))
+      (subst (λ n. NotBefore n (times_of (drop ledger.first t.path.state.sends))) (sym is)
+      (times_low 0 t.path.state.machine.taken (drop ledger.first t.path.state.sends) (between_behind ledger.first 0 t.path.state.machine.taken t.path.state.sends t.goes.timed)))
+
+  -- its run can go on behind the send
+  can_send : (failure : Failure) (point : ℕ) (checkpoint : Path) (env : Env) (cpu : CpuState R) (choices : List Choice) (log : Log) (ledger : Ledger) (conn : ℕ) (bytes : List ℕ) (live : Live) (t : IsTrying failure point checkpoint env cpu choices log ledger)
+      → (s : SendsOn failure.rules.limits (items_of failure) (everywhere env point) cpu.base t.path cpu.written conn bytes live) → CanGoOn failure.rules failure.entries s.now
+  can_send failure point checkpoint env cpu choices log ledger conn bytes live t s =
+      let send : Send = record { conn = conn; bytes = bytes; taken = t.path.state.machine.taken } in
+      let sendable : IsSendable send = record { some = s.some; few = s.few } in
+      record {
+        bounded = λ alive. s.goes.bounded alive (t.goes.bounded t.lives);
+        within = λ q may. t.goes.within q (may_send_by t.path.state.machine s.now.state.machine q s.goes.connections may);
+        opened = λ q shut. ap (sent_to q) s.sends
+            ∙ opened_then q t.path.state.sends send true
+            (λ same. true≢false (sym (t.goes.within conn s.may) ∙ (ap (λ n. opens n (heeded failure.rules.bounds (events_in failure.entries))) same ∙ shut)))
+            (t.goes.opened q shut);
+        timed = subst (AreBetween 0 s.now.state.machine.taken) (sym s.sends)
+            (between_append 0 s.now.state.machine.taken t.path.state.sends (send ∷ [])
+            (between_wider 0 t.path.state.machine.taken 0 s.now.state.machine.taken t.path.state.sends (omega arith) (omega (arith, s.goes.taken)) t.goes.timed)
+            (omega arith, omega (arith, s.goes.taken), tt));
+        sendable = subst AreSendable (sym s.sends) (sendable_then t.path.state.sends send t.goes.sendable sendable);
+      }
+
+  -- what it sent is as it was passed: it goes on
+  pub sends_same : (failure : Failure) (point : ℕ) (checkpoint : Path) (env : Env) (old new : CpuState R) (choices : List Choice) (log : Log) (ledger after : Ledger) (conn : ℕ) (bytes : List ℕ) (taken : ℕ)
+      → (t : IsTrying failure point checkpoint env old choices log ledger) (s : SendsOn failure.rules.limits (items_of failure) (everywhere env point) old.base t.path old.written conn bytes (live_of new)) → KeepsSaved old new
+      → taken ≡ t.path.state.machine.taken → after ≡ with_trial_send ledger (record { conn = conn; bytes = bytes; taken = taken }) → agrees_next ledger (record { conn = conn; bytes = bytes; taken = taken }) ≡ true → ledgers.Agrees after
+      → IsTrying failure point checkpoint env new choices log after
+  sends_same failure point checkpoint env old new choices log ledger after conn bytes taken t s saved is noted same agrees =
+      let send : Send = record { conn = conn; bytes = bytes; taken = t.path.state.machine.taken } in
+      let first : after.first ≡ ledger.first = ap (λ (l : Ledger). l.first) noted in
+      let grows = grows_send t.path.state s.now.state send s.sends s.goes.taken refl in
+      let next = sym (next_agrees (received failure.rules.bounds failure.entries) ledger failure.failed.state.sends t.path.state.sends (pieces_of failure) send (beside failure point checkpoint env old choices log ledger t)) ∙ same in
+      record {
+        failed = failed_still point failure old new log ledger after saved (ap discarded noted) t.failed;
+        from = t.from;
+        path = s.now;
+        served = served_on failure.rules.limits (items_of failure) (everywhere env point) checkpoint t.path s.now t.served s.goes.served;
+        unharmed = record {
+          agrees = λ q. subst (λ (all : List Send). agree (sent_to q all) (sent_to q (pieces_of failure)) ≡ true) (sym s.sends) (agree_more t.path.state.sends (pieces_of failure) send next t.unharmed.agrees q);
+          feasible = feasible_still (pieces_of failure) t.path.state s.now.state grows s.goes.taken t.unharmed.feasible;
+          early = omega (arith, t.unharmed.early, s.goes.taken);
+        };
+        lives = s.lives;
+        stands = sym s.stands;
+        wrote = wrote_on failure checkpoint t.path s.now old new saved t.wrote s.wrote;
+        chose = s.choices ∙ t.chose;
+        goes = can_send failure point checkpoint env old choices log ledger conn bytes (live_of new) t s;
+        items = subst (λ n. log.first ≤ n) (sym s.goes.taken) t.items;
+        many = omega (arith, first, t.many, ap length s.sends, length-append t.path.state.sends (send ∷ []));
+        front = subst (λ n. take n s.now.state.sends ≡ take n failure.failed.state.sends) (sym first) (ap (take ledger.first) s.sends ∙ (take-append-le ledger.first t.path.state.sends (send ∷ []) t.many ∙ t.front));
+        sent = ap (λ (l : Ledger). l.trial) noted
+            ∙ (ap (λ (o : Option (List Send)). Some (unwrap_or o [] ++ record { conn = conn; bytes = bytes; taken = taken } ∷ [])) t.sent
+            ∙ (ap (λ n. Some (drop ledger.first t.path.state.sends ++ record { conn = conn; bytes = bytes; taken = n } ∷ [])) is
+            ∙ (ap (λ (all : List Send). Some all) (sym (drop-append-le ledger.first t.path.state.sends (send ∷ []) t.many)) ∙ sym (λ i. Some (drop (first i) (s.sends i))))));
+        agrees = agrees;
+      }
+
+  -- it differs: the trial is contradicted
+  pub sends_other : (failure : Failure) (point : ℕ) (checkpoint : Path) (env : Env) (old new : CpuState R) (choices : List Choice) (log : Log) (ledger after : Ledger) (conn : ℕ) (bytes : List ℕ) (taken : ℕ)
+      → (t : IsTrying failure point checkpoint env old choices log ledger) (s : SendsOn failure.rules.limits (items_of failure) (everywhere env point) old.base t.path old.written conn bytes (live_of new))
+      → KeepsSaved old new → agrees_next ledger (record { conn = conn; bytes = bytes; taken = taken }) ≡ false → HasCome failure point checkpoint env new choices after tried.Contradicts
+  sends_other failure point checkpoint env old new choices log ledger after conn bytes taken t s saved other =
+      let send : Send = record { conn = conn; bytes = bytes; taken = t.path.state.machine.taken } in
+      let next = sym (next_agrees (received failure.rules.bounds failure.entries) ledger failure.failed.state.sends t.path.state.sends (pieces_of failure) send (beside failure point checkpoint env old choices log ledger t)) ∙ other in
+      let contradicted : IsContradicted failure.rules.limits (items_of failure) (everywhere env point) checkpoint (pieces_of failure) point s.now = record {
+        before = s.before;
+        from = served_on failure.rules.limits (items_of failure) (everywhere env point) checkpoint t.path s.before t.served s.quiet.served;
+        unharmed = unharmed_still (pieces_of failure) point t.path.state s.before.state s.silent.sends s.quiet.taken t.unharmed;
+        next = s.next;
+        no_item = s.goes.taken ∙ sym s.quiet.taken;
+        conn = conn;
+        differs = subst (λ (all : List Send). agree (sent_to conn all) (sent_to conn (pieces_of failure)) ≡ false) (sym s.sends) (differs_more t.path.state.sends (pieces_of failure) send next t.unharmed.agrees);
+      } in
+      comes_at failure point checkpoint env new choices after s.now tried.Contradicts t.from (served_on failure.rules.limits (items_of failure) (everywhere env point) checkpoint t.path s.now t.served s.goes.served) contradicted (sym s.stands) (wrote_on failure checkpoint t.path s.now old new saved t.wrote s.wrote)
+      (s.choices ∙ t.chose) (can_send failure point checkpoint env old choices log ledger conn bytes (live_of new) t s) (λ survived. absurd (let no : ⊥ = cc in no))
+
+  -- its instruction is a recv whose buffer may be written
+  pub takes_wants : (failure : Failure) (point : ℕ) (checkpoint : Path) (env : Env) (cpu : CpuState R) (choices : List Choice) (log : Log) (ledger : Ledger) → IsAsking failure point checkpoint env cpu choices log ledger
+      → does None None cpu.slots.live.guest.machine ≡ Wants
+  takes_wants failure point checkpoint env cpu choices log ledger a =
+      subst (λ (s : Standing). does None None s.guest.machine ≡ Wants) (sym a.trying.stands) (asks_wants failure.rules.limits (everywhere env point) a.trying.path a.trying.path.state.machine.taken a.asks)
+
+  -- there is room for one instruction more
+  pub takes_room : (failure : Failure) (point : ℕ) (checkpoint : Path) (env : Env) (cpu : CpuState R) (choices : List Choice) (log : Log) (ledger : Ledger) → IsAsking failure point checkpoint env cpu choices log ledger → cpu.slots.live.steps < 2 ^ 64 - 1
+  takes_room failure point checkpoint env cpu choices log ledger a = let few = trying_room failure point checkpoint env cpu choices log ledger a.trying in omega (arith, few)
+
+  -- the log has the item of its number
+  pub takes_kept : (failure : Failure) (point : ℕ) (checkpoint : Path) (env : Env) (cpu : CpuState R) (choices : List Choice) (log : Log) (ledger : Ledger) (taken : ℕ) (a : IsAsking failure point checkpoint env cpu choices log ledger)
+      → taken ≡ a.trying.path.state.machine.taken → (taken ≡ point → ⊥) → (log.first ≤ taken) × (taken < logs.received log)
+  takes_kept failure point checkpoint env cpu choices log ledger taken a is other =
+      let h = a.trying.failed.has in
+      let count : logs.received log ≡ received failure.rules.bounds failure.entries = received_is failure.rules.bounds failure.entries log h.items in
+      (omega (arith, is, a.trying.items), omega (arith, is, other, a.trying.unharmed.early, count, h.taken, a.trying.failed.point_is))
+
+  pub takes_short : (failure : Failure) (point : ℕ) (checkpoint : Path) (env : Env) (cpu : CpuState R) (choices : List Choice) (log : Log) (ledger : Ledger) (taken : ℕ) (item : Item) (a : IsAsking failure point checkpoint env cpu choices log ledger)
+      → IsItemOf log taken item → length item.bytes < 2 ^ 32
+  takes_short failure point checkpoint env cpu choices log ledger taken item a of_events =
+      item_fits failure.rules.bounds.framing (heeded failure.rules.bounds (events_in failure.entries)) taken item (item_is failure.rules.bounds failure.entries log taken item a.trying.failed.has.items of_events)
+
+  -- it takes the item, before which it had sent all that was passed
+  pub takes_next : (failure : Failure) (point : ℕ) (checkpoint : Path) (env : Env) (old new : CpuState R) (choices : List Choice) (log : Log) (ledger : Ledger) (taken : ℕ) (item : Item) (a : IsAsking failure point checkpoint env old choices log ledger) → KeepsSaved old new
+      → taken ≡ a.trying.path.state.machine.taken → (taken ≡ point → ⊥) → ledgers.CoversBefore ledger taken → IsItemOf log taken item → live_of new ≡ live_with_item old.base item (live_of old) → IsTrying failure point checkpoint env new choices log ledger
+  takes_next failure point checkpoint env old new choices log ledger taken item a saved is other covers of_events live =
+      let t = a.trying in
+      let first : Path = t.path in
+      let found : slice_get (items_of failure) taken ≡ Some item = item_is failure.rules.bounds failure.entries log taken item t.failed.has.items of_events in
+      let range = received_range item first.state.machine in
+      let both : TakesWriting failure.rules.limits (items_of failure) (everywhere env point) old.base first old.written item (with_range old.base range old.written) =
+      takes_write failure.rules.limits (items_of failure) (everywhere env point) old.base first old.written item a.asks (ap (slice_get (items_of failure)) (sym is) ∙ found) in
+      let takes : TakesOn failure.rules.limits (items_of failure) (everywhere env point) first item = both.took in
+      let flags : new.written ≡ with_range old.base (received_range item first.state.machine) old.written =
+      ap (λ (l : Live). l.written) live ∙ ap (λ (s : Standing). with_range old.base (received_range item s.guest.machine) old.written) t.stands in
+      let now : Path = takes.now in
+      let within : OpenWithin (λ conn. opens conn (heeded failure.rules.bounds (events_in failure.entries)) ≡ true) first.state.machine.connections = record { each = t.goes.within } in
+      let after : OpenWithin (λ conn. opens conn (heeded failure.rules.bounds (events_in failure.entries)) ≡ true) now.state.machine.connections =
+      subst (OpenWithin (λ conn. opens conn (heeded failure.rules.bounds (events_in failure.entries)) ≡ true)) (sym takes.connections)
+      (within_after (λ conn. opens conn (heeded failure.rules.bounds (events_in failure.entries)) ≡ true) item first.state.machine.connections within (opened_items failure.rules.bounds failure.entries taken item found)) in
+      let covered : CoversBefore first.state.machine.taken (pieces_of failure) first.state =
+      subst (λ n. CoversBefore n (pieces_of failure) first.state) is (covers_before_now (received failure.rules.bounds failure.entries) taken ledger failure.failed.state.sends first.state.sends (pieces_of failure) (beside failure point checkpoint env old choices log ledger t) covers) in
+      record {
+        failed = failed_still point failure old new log ledger ledger saved refl t.failed;
+        from = t.from;
+        path = now;
+        served = served_on failure.rules.limits (items_of failure) (everywhere env point) checkpoint first now t.served takes.served;
+        unharmed = record {
+          agrees = λ conn. subst (λ (all : List Send). agree (sent_to conn all) (sent_to conn (pieces_of failure)) ≡ true) (sym takes.silent.sends) (t.unharmed.agrees conn);
+          feasible = feasible_taken (pieces_of failure) first.state now.state takes.silent.sends takes.taken t.goes.timed covered t.unharmed.feasible;
+          early = omega (arith, takes.taken, is, other, t.unharmed.early);
+        };
+        lives = takes.lives;
+        stands = ap (λ (l : Live). l.standing) live ∙ (ap (taken_standing item) t.stands ∙ sym takes.stands);
+        wrote = wrote_on failure checkpoint first now old new saved t.wrote
+            (subst (λ (all : List Bool). Writes failure.rules.limits (items_of failure) old.base first old.written now all) (sym flags) both.wrote);
+        chose = takes.silent.choices ∙ t.chose;
+        goes = record {
+          bounded = λ alive. takes.bounded (t.goes.bounded t.lives);
+          within = after.each;
+          opened = λ conn shut. ap (sent_to conn) takes.silent.sends ∙ t.goes.opened conn shut;
+          timed = subst (AreBetween 0 now.state.machine.taken) (sym takes.silent.sends)
+              (between_wider 0 first.state.machine.taken 0 now.state.machine.taken first.state.sends (omega arith) (omega (arith, takes.taken)) t.goes.timed);
+          sendable = subst AreSendable (sym takes.silent.sends) t.goes.sendable;
+        };
+        items = omega (arith, t.items, takes.taken);
+        many = subst (λ (all : List Send). ledger.first ≤ length all) (sym takes.silent.sends) t.many;
+        front = ap (take ledger.first) takes.silent.sends ∙ t.front;
+        sent = t.sent ∙ ap (λ (all : List Send). Some (drop ledger.first all)) (sym takes.silent.sends);
+        agrees = t.agrees;
+      }

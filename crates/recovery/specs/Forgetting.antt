@@ -1,0 +1,26 @@
+-- What a session gives up: the items and the replies from before the oldest checkpoint.
+use Rattle.std.specs.Prelude.{◌≡◌, ◌+◌, ◌<◌, ◌≤◌, List, length, None, IfSome, slice_get}
+use Rattle.links.specs.declared.journal.Entry.{Entry}
+use Rattle.elf_image.specs.declared.image.Image.{Image}
+use Rattle.item_log.specs.Log.{Log, received}
+use Rattle.reply_ledger.specs.Ledger.{Ledger}
+use Rattle.ckpt_ring.specs.Rings.{Checkpoints}
+use Rattle.run_history.specs.Served.{Override, Path}
+use Rattle.guest_cpu.specs.Cpus.{CpuState}
+use Rattle.session_history.specs.Keeping.{KeepsItems, KeepsReplies}
+use Rattle.session_history.specs.Lawful.{Rules}
+use Rattle.recovery.specs.Rings.{KeepsRing}
+
+module _ {R : Type 0} where
+  -- There is an oldest checkpoint, no trial is under way, and what lies before the oldest checkpoint was received and sent.
+  pub record CanForget (cpu : CpuState R) (log : Log) (ledger : Ledger) : Type 0 where
+    pub some : 0 < length cpu.slots.saved
+    pub trial : ledger.trial ≡ None
+    pub items : IfSome (slice_get cpu.slots.saved 0) (λ oldest. oldest.state.guest.machine.taken ≤ received log)
+    pub sends : IfSome (slice_get cpu.slots.saved 0) (λ oldest. oldest.state.sends ≤ ledger.first + length ledger.kept)
+
+  -- A log and a ledger from which each checkpoint of the ring can still begin a trial, and which are right beside the journal.
+  pub record Forgets (rules : Rules) (image : Image) (entries : List Entry) (plan : List Override) (now : Path) (paths : List Path) (cpu : CpuState R) (checkpoints : Checkpoints) (log : Log) (ledger : Ledger) : Type 0 where
+    pub ring : KeepsRing rules image entries plan now paths cpu checkpoints log ledger
+    pub items : KeepsItems rules.bounds entries log
+    pub replies : KeepsReplies rules.bounds entries None now.state.sends ledger

@@ -1,0 +1,145 @@
+-- Which checkpoints stand: what a session makes of the requests of its survivors.
+use Rattle.std.specs.Prelude.{◌≡◌, ℕ, ◌+◌, ◌-◌, ◌<◌, ◌&&◌, Bool, true, false, List, [], ◌∷◌, ◌++◌, length, map, sum, drop, replicate, nat_le, if◌then◌else◌, Option, Some, None, IfSome, option_map, slice_get}
+use Rattle.links.specs.declared.journal.Entry.{Entry}
+use Rattle.elf_image.specs.declared.image.Image.{Image}
+use Rattle.elf_image.specs.Image.{base}
+use Rattle.ckpt_ring.specs.Slots.{Saved, Slots}
+use Rattle.ckpt_ring.specs.Rings.{from_newest, without_newer}
+use Rattle.page_line.specs.Line.{count_true}
+use Rattle.run_history.specs.Served.{Path, origin, Served, AsksFor}
+use Rattle.guest_cpu.specs.Standing.{Standing}
+use Rattle.guest_runs.specs.Writing.{Writes}
+use Rattle.session_history.specs.Heeding.{items_in}
+use Rattle.session_history.specs.Lawful.{Rules, Survivor, Chapter}
+use Rattle.trials.specs.Chains.{IsCheckpoint}
+use Rattle.trials.specs.Tables.{Trial, survivor_in}
+use Rattle.trials.specs.Episodes.{Recovery}
+use Rattle.recovery.specs.Sessions.{taken_in}
+
+-- How a session keeps its checkpoints: how many stand at most, how many items lie between two at least, how many pages the program's window
+-- has, and how many frames hold the pages of all
+pub record Keeping : Type 0 where
+  pub ring : ℕ
+  pub every : ℕ
+  pub pages : ℕ
+  pub frames : ℕ
+
+-- a checkpoint that stands: how many items were taken there, and how many pages were written since the one before it
+pub record Stand : Type 0 where
+  pub taken : ℕ
+  pub written : ℕ
+
+-- One stands alone. Before the oldest one all pages count as written.
+abbrev pub alone : ℕ → ℕ → List Stand
+alone taken pages = record { taken = taken; written = pages } ∷ []
+
+-- so does the start at first
+abbrev pub first_stands : Keeping → List Stand
+first_stands keeping = alone 0 keeping.pages
+
+abbrev pub whole_oldest : ℕ → List Stand → List Stand
+whole_oldest pages [] = []
+whole_oldest pages (oldest ∷ later) = record oldest { written = pages } ∷ later
+
+-- Whether some, the oldest first, may stand: there are no more of them than may be, and the frames hold all pages of the oldest, those that were
+-- written between it and the newest, and all pages once more.
+abbrev pub may_stand : Keeping → List Stand → Bool
+may_stand keeping stands = nat_le (length stands) keeping.ring && nat_le (keeping.pages + sum (drop 1 (map (λ (one : Stand). one.written) stands)) + keeping.pages) keeping.frames
+
+-- the oldest are dropped as long as they may not
+abbrev pub stay : Keeping → List Stand → List Stand
+stay keeping [] = []
+stay keeping (oldest ∷ later) = if may_stand keeping (oldest ∷ later) then oldest ∷ later else stay keeping later
+
+-- whether enough items were taken since the newest one
+abbrev pub is_far : ℕ → ℕ → Option Stand → Bool
+is_far every taken None = true
+is_far every taken (Some newest) = nat_le every (taken - newest.taken)
+
+-- At a request for an item, with so many taken and so many pages written since the newest checkpoint, another one stands behind the others
+-- where enough items were taken since; and of them all the oldest are dropped that may not stand.
+abbrev pub handle : Keeping → ℕ → ℕ → List Stand → List Stand
+handle keeping taken written stands =
+    if is_far keeping.every taken (from_newest stands 0) then whole_oldest keeping.pages (stay keeping (stands ++ record { taken = taken; written = written } ∷ [])) else stands
+
+-- Requests one after another, the first one with so many items taken and each later one with one more. The numbers are those of the pages
+-- that were written before each, the latest first.
+abbrev pub handled : Keeping → ℕ → List ℕ → List Stand → List Stand
+handled keeping from [] stands = stands
+handled keeping from (written ∷ earlier) stands = handle keeping (from + length earlier) written (handled keeping from earlier stands)
+
+-- the runs of a ring, from the newest to the oldest, took as many items as those that stand
+pub record HasRing (stands : List Stand) (ring : List Path) : Type 0 where
+  pub many : length stands ≡ length ring
+  pub each : (index : ℕ) → index < length ring → option_map (λ (one : Stand). one.taken) (from_newest stands index) ≡ option_map (λ (path : Path). path.state.machine.taken) (slice_get ring index)
+
+-- So many pages were written by a survivor's run, from a checkpoint of it with so many items taken to its request with so many.
+pub record HasWritten (rules : Rules) (image : Image) (entries : List Entry) (survivor : Survivor) (pages : ℕ) (from to count : ℕ) : Type 0 where
+  pub checkpoint : Path
+  pub is_checkpoint : IsCheckpoint rules.limits image checkpoint
+  pub taken_is : checkpoint.state.machine.taken ≡ from
+  pub request : Path
+  pub asks : AsksFor rules.limits [] request to
+  pub begins : Served rules.limits (items_in rules.bounds entries) survivor.plan (origin image) checkpoint
+  pub goes : Served rules.limits (items_in rules.bounds entries) survivor.plan checkpoint request
+  pub later : Served rules.limits (items_in rules.bounds entries) survivor.plan request survivor.now
+  pub flags : List Bool
+  pub wrote : Writes rules.limits (items_in rules.bounds entries) (base image) checkpoint (replicate pages false) request flags
+  pub count_is : count ≡ count_true flags
+
+-- Before each request those pages count that were written since the newest checkpoint that stood then.
+abbrev pub AreWritten : Rules → Image → List Entry → Survivor → Keeping → ℕ → List ℕ → List Stand → Type 0
+AreWritten rules image entries survivor keeping from [] stands = Unit {0}
+AreWritten rules image entries survivor keeping from (written ∷ earlier) stands =
+    IfSome (from_newest (handled keeping from earlier stands) 0) (λ newest. HasWritten rules image entries survivor keeping.pages newest.taken (from + length earlier) written)
+    × AreWritten rules image entries survivor keeping from earlier stands
+
+-- What stood at a recovery, behind all entries that the journal had at the failure: the survivor's requests from where it began to where it failed
+-- were handled, each of them once, with the pages that it had written, and its ring is of those that stand then. Of them those stand on that
+-- aren't newer than the checkpoint of the trial that was adopted.
+pub record IsRinged (rules : Rules) (image : Image) (entries : List Entry) (keeping : Keeping) (recovery : Recovery) (written : List ℕ) (from next : List Stand) : Type 0 where
+  pub many : recovery.survivor.begun.state.machine.taken + length written ≡ recovery.survivor.now.state.machine.taken
+  pub pages : AreWritten rules image entries recovery.survivor keeping recovery.survivor.begun.state.machine.taken written from
+  pub ring : HasRing (handled keeping recovery.survivor.begun.state.machine.taken written from) recovery.ring
+  pub trial : Trial
+  pub adopted : survivor_in recovery.trials ≡ Some trial
+  pub index : ℕ
+  pub checkpoint_is : slice_get recovery.ring index ≡ Some trial.chance.checkpoint
+  pub next_is : next ≡ without_newer index (handled keeping recovery.survivor.begun.state.machine.taken written from)
+
+-- So it is at each of some recoveries, behind some entries and those of the chapters up to it: from those that stand before the first one to
+-- those behind the last. There are as many chapters as recoveries.
+abbrev pub AreRinged : Rules → Image → List Entry → Keeping → List Stand → List Chapter → List Recovery → List (List ℕ) → List Stand → Type 0
+AreRinged rules image before keeping from [] [] [] last = last ≡ from
+AreRinged rules image before keeping from (chapter ∷ chapters) (recovery ∷ recoveries) (written ∷ others) last =
+    (next : List Stand) × IsRinged rules image (before ++ chapter.entries) keeping recovery written from next
+    × AreRinged rules image (before ++ chapter.entries) keeping next chapters recoveries others last
+AreRinged rules image before keeping from _ _ _ last = ⊥
+
+-- each of some recoveries had the ring that the requests before it left, from the start on
+pub record HaveRings (rules : Rules) (image : Image) (keeping : Keeping) (chapters : List Chapter) (recoveries : List Recovery) : Type 0 where
+  pub written : List (List ℕ)
+  pub last : List Stand
+  pub rings : AreRinged rules image [] keeping (first_stands keeping) chapters recoveries written last
+
+-- What stands behind some recoveries, where so many requests were made before which the last survivor's were handled: those from where it began.
+-- The entries are all that the journal has.
+pub record HasHandled (rules : Rules) (image : Image) (keeping : Keeping) (chapters : List Chapter) (entries : List Entry) (recoveries : List Recovery) (survivor : Survivor) (requests : ℕ) (stands : List Stand) : Type 0 where
+  pub earlier : List (List ℕ)
+  pub begun : List Stand
+  pub rings : AreRinged rules image [] keeping (first_stands keeping) chapters recoveries earlier begun
+  pub written : List ℕ
+  pub many : survivor.begun.state.machine.taken + length written ≡ requests
+  pub pages : AreWritten rules image entries survivor keeping survivor.begun.state.machine.taken written begun
+  pub stands_are : stands ≡ handled keeping survivor.begun.state.machine.taken written begun
+
+-- saved slots as checkpoints that stand
+abbrev pub stand_of : Saved Standing → Stand
+stand_of one = record { taken = taken_in one.state; written = one.pages }
+
+abbrev pub stands_of : List (Saved Standing) → List Stand
+stands_of saved = map stand_of saved
+
+-- how a ring of a capacity keeps checkpoints in some slots
+abbrev pub keeping_by : ℕ → ℕ → Slots Standing → Keeping
+keeping_by ring every slots = record { ring = ring; every = every; pages = slots.pages; frames = slots.frames }

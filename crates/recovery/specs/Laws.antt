@@ -1,0 +1,26 @@
+-- What the run of a survivor fixes: how many pages were written before its requests, and which checkpoints stand behind them.
+use Rattle.std.specs.Prelude.{◌≡◌, ℕ, ◌<◌, true, List, length}
+use Rattle.links.specs.declared.journal.Entry.{Entry}
+use Rattle.elf_image.specs.declared.image.Image.{Image}
+use Rattle.session_history.specs.Lawful.{Rules, Survivor}
+use Rattle.recovery.specs.Handling.{Keeping, Stand, first_stands, may_stand, handled, HasWritten, AreWritten}
+
+-- the number of pages that a survivor's run wrote from a checkpoint to a request is one
+abbrev pub OneNumber : Type 0
+OneNumber =
+    (rules : Rules) (image : Image) (entries : List Entry) (survivor : Survivor) (pages from to one other : ℕ) →
+    HasWritten rules image entries survivor pages from to one → HasWritten rules image entries survivor pages from to other → one ≡ other
+
+-- so the same checkpoints stand behind as many requests of it, whatever numbers are told
+abbrev pub OneRing : Type 0
+OneRing =
+    (rules : Rules) (image : Image) (entries : List Entry) (survivor : Survivor) (keeping : Keeping) (from : ℕ) (one other : List ℕ) (stands : List Stand) →
+    AreWritten rules image entries survivor keeping from one stands → AreWritten rules image entries survivor keeping from other stands → length one ≡ length other →
+    handled keeping from one stands ≡ handled keeping from other stands
+
+-- and where one stands at first, and one alone may, these numbers are the same too
+abbrev pub SameNumbers : Type 0
+SameNumbers =
+    (rules : Rules) (image : Image) (entries : List Entry) (survivor : Survivor) (keeping : Keeping) (from : ℕ) (one other : List ℕ) (stands : List Stand) →
+    0 < length stands → may_stand keeping (first_stands keeping) ≡ true →
+    AreWritten rules image entries survivor keeping from one stands → AreWritten rules image entries survivor keeping from other stands → length one ≡ length other → one ≡ other

@@ -1,0 +1,10 @@
+pub mod Sessions
+pub mod Going
+pub mod Trying
+pub mod Walking
+pub mod Watching
+pub mod Rings
+pub mod Recovering
+pub mod Forgetting
+pub mod Handling
+pub mod Laws

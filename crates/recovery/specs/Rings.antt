@@ -1,0 +1,78 @@
+-- The ring of a session's checkpoints beside its guest, its log and its ledger.
+use Rattle.std.specs.Prelude.{◌≡◌, ℕ, ◌-◌, ◌<◌, ◌≤◌, Bool, true, false, List, [], ◌∷◌, ◌++◌, length, take, replicate, nat_le, nat_lt, if◌then◌else◌, Option, Some, None, IfSome, option_map, slice_get}
+use Rattle.rx_io.specs.declared.bytes.Item.{Item}
+use Rattle.links.specs.declared.journal.Entry.{Entry}
+use Rattle.links.specs.Links.{events_in}
+use Rattle.elf_image.specs.declared.image.Image.{Image}
+use Rattle.elf_image.specs.Image as images
+use Rattle.alloc_env.specs.declared.env.Env.{Env}
+use Rattle.alloc_env.specs.declared.env.Env.TheVariants.{Plain}
+use Rattle.item_log.specs.Log.{Log}
+use Rattle.reply_ledger.specs.Ledger.{Ledger}
+use Rattle.ckpt_ring.specs.declared.checkpoint.Checkpoint.{Checkpoint}
+use Rattle.ckpt_ring.specs.Slots.{newest_slot}
+use Rattle.ckpt_ring.specs.Rings.{Checkpoints, checkpoints_of, from_newest, saved_in_ring}
+use Rattle.run_history.specs.Served.{Override, env_at, Path}
+use Rattle.guest_cpu.specs.Cpus.{CpuState}
+use Rattle.guest_cpu.specs.Serving.{standing_of}
+use Rattle.guest_runs.specs.Writing.{Writes}
+use Rattle.session_history.specs.Heeding.{heeded, items_in}
+use Rattle.session_history.specs.Opened.{opens}
+use Rattle.session_history.specs.Lawful.{Rules}
+use Rattle.trials.specs.Chains.{AreCheckpoints, AreChained}
+use Rattle.recovery.specs.Sessions.{AreKept, taken_in}
+
+-- what a ring and the slots of its guest have in common: both have the same checkpoints, at least one, and the guest stands on the newest
+pub record IsRingOf {R : Type 0} (cpu : CpuState R) (checkpoints : Checkpoints) : Type 0 where
+  pub some : 0 < length checkpoints.standing
+  pub standing : checkpoints.standing ≡ checkpoints_of taken_in cpu.slots.saved
+  pub capacity : checkpoints.capacity ≤ cpu.slots.count
+  pub base : cpu.slots.base ≡ newest_slot cpu.slots.saved
+
+-- The checkpoints of a session's ring as runs, from the newest to the oldest, beside its guest, its log and its ledger. The guest's window is
+-- that of the image, and its flags of pages say which of them the run wrote since the newest checkpoint.
+pub record KeepsRing {R : Type 0} (rules : Rules) (image : Image) (entries : List Entry) (plan : List Override) (now : Path) (ring : List Path) (cpu : CpuState R) (checkpoints : Checkpoints) (log : Log) (ledger : Ledger) : Type 0 where
+  pub some : 0 < length ring
+  pub chained : AreChained rules.limits (items_in rules.bounds entries) plan image now ring
+  pub are : AreCheckpoints rules.limits image ring
+  pub kept : AreKept rules entries log ledger ring
+  pub as_many : length cpu.slots.saved ≡ length ring
+  pub saved : (index : ℕ) → index < length ring → option_map (λ one. one.state) (from_newest cpu.slots.saved index) ≡ option_map standing_of (slice_get ring index)
+  pub standing : checkpoints.standing ≡ checkpoints_of taken_in cpu.slots.saved
+  pub capacity : checkpoints.capacity ≤ cpu.slots.count
+  pub base : cpu.slots.base ≡ newest_slot cpu.slots.saved
+  pub window : cpu.base ≡ images.base image
+  pub wrote : IfSome (slice_get ring 0) (λ newest. Writes rules.limits (items_in rules.bounds entries) cpu.base newest (replicate cpu.slots.pages false) now cpu.written)
+
+-- at each of some checkpoints so many answers of malloc were used, or more
+abbrev pub AreBehind : ℕ → List Path → Type 0
+AreBehind count [] = Unit {0}
+AreBehind count (newest ∷ older) = (count ≤ length newest.choices) × AreBehind count older
+
+-- with more entries a journal brings these items more, and what was opened stays opened
+pub record Brings (rules : Rules) (before after : List Entry) (more : List Item) : Type 0 where
+  pub items : items_in rules.bounds after ≡ items_in rules.bounds before ++ more
+  pub opened : (conn : ℕ) → opens conn (heeded rules.bounds (events_in before)) ≡ true → opens conn (heeded rules.bounds (events_in after)) ≡ true
+
+-- whether another checkpoint is due where so many items were taken: since the newest one so many were
+abbrev pub is_due_after : ℕ → ℕ → Option Checkpoint → Bool
+is_due_after every taken None = true
+is_due_after every taken (Some newest) = nat_le every (taken - newest.taken)
+
+abbrev pub is_due : ℕ → ℕ → List Checkpoint → Bool
+is_due every taken standing = is_due_after every taken (from_newest standing 0)
+
+module _ {R : Type 0} where
+  -- where it is due the live state was saved, as a ring of this capacity saves it; else nothing changed
+  abbrev pub SavesIf : Bool → ℕ → CpuState R → CpuState R → Type 0
+  SavesIf true capacity old new = (slot : ℕ) × (new.slots ≡ saved_in_ring capacity slot old.slots)
+  SavesIf false capacity old new = new ≡ old
+
+-- the checkpoints as runs then: of the run that was saved and those before it the newest ones, so many as slots are saved
+abbrev pub ring_if : Bool → ℕ → Path → List Path → List Path
+ring_if true count now ring = take count (now ∷ ring)
+ring_if false count now ring = ring
+
+-- From so many items taken on an environment is in force, up to a number of items; then Plain.
+pub record IsInForce (plan : List Override) (taken : ℕ) (env : Env) (until : ℕ) : Type 0 where
+  pub in_force : (count : ℕ) → taken ≤ count → env_at plan count ≡ (if nat_lt count until then env else Plain)

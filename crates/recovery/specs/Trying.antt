@@ -1,0 +1,89 @@
+-- What a trial, and a walk over the table, make of a session whose program failed.
+use Rattle.std.specs.Prelude.{◌≡◌, ℕ, ◌+◌, ◌-◌, ◌/◌, List, [], ◌∷◌, ◌++◌, length, map, sum, drop, replicate, false, None, Some, slice_get, MatchBool, Result, Ok, Err}
+use Rattle.std.specs.declared.alloc.AllocError.{AllocError}
+use Rattle.alloc_env.specs.declared.env.Env.{Env}
+use Rattle.block_book.specs.declared.choice.Choice.{Choice}
+use Rattle.reply_ledger.specs.Ledger.{Ledger}
+use Rattle.reply_ledger.specs.Trials.{discarded}
+use Rattle.ckpt_ring.specs.Slots.{slot_numbers}
+use Rattle.ckpt_ring.specs.Rings.{from_newest}
+use Rattle.run_history.specs.Served.{Path}
+use Rattle.guest_cpu.specs.Cpus.{CpuState}
+use Rattle.guest_cpu.specs.Serving.{standing_of}
+use Rattle.guest_runs.specs.Writing.{Writes}
+use Rattle.session_history.specs.Keeping.{KeepsReplies}
+use Rattle.session_notes.specs.declared.episode.Tried.{Tried}
+use Rattle.session_notes.specs.declared.episode.Try.{Try}
+use Rattle.session_notes.specs.Survival.{survives}
+use Rattle.trials.specs.Trials.{plan_of_trial, IsTrial}
+use Rattle.trials.specs.Tables.{Trial, try_of, table, WalksOver}
+use Rattle.recovery.specs.Sessions.{CanGoOn, Failure, items_of, pieces_of}
+
+-- no call of a walk changes anything of a ledger but its trial
+abbrev pub KeepsLedger : Ledger → Ledger → Type 0
+KeepsLedger old new = discarded new ≡ discarded old
+
+-- how many instructions trials did, each from its checkpoint
+abbrev pub steps_of : List Trial → ℕ
+steps_of trials = sum (map (λ trial. trial.path.steps - trial.chance.checkpoint.steps) trials)
+
+module _ {R : Type 0} where
+  -- nor what is saved of a guest, nor its rule
+  pub record KeepsSaved (old new : CpuState R) : Type 0 where
+    pub rule : new.rule ≡ old.rule
+    pub base : new.base ≡ old.base
+    pub saved : new.slots.saved ≡ old.slots.saved
+    pub count : new.slots.count ≡ old.slots.count
+    pub pages : new.slots.pages ≡ old.slots.pages
+    pub frames : new.slots.frames ≡ old.slots.frames
+
+  -- and its live state stands on the same checkpoint
+  pub record KeepsBase (old new : CpuState R) : Type 0 where
+    pub saved : KeepsSaved old new
+    pub base : new.slots.base ≡ old.slots.base
+
+  -- the guest stands on the checkpoint of an index
+  abbrev pub StandsOn : CpuState R → ℕ → Type 0
+  StandsOn cpu index = cpu.slots.base ≡ from_newest (slot_numbers cpu.slots.saved) index
+
+  -- A trial from a checkpoint came to this result: the guest stands where it has come, has marked the pages that it wrote since the checkpoint,
+  -- and these are its answers of malloc since then. Where it survives, the ledger has its sends, and else it has no trial.
+  pub record HasTried (failure : Failure) (point : ℕ) (checkpoint : Path) (env : Env) (cpu : CpuState R) (choices : List Choice) (ledger : Ledger) (result : Tried) : Type 0 where
+    pub path : Path
+    pub trial : IsTrial failure.rules.limits (items_of failure) (plan_of_trial failure.plan checkpoint.state.machine.taken env point) checkpoint (pieces_of failure) point path result
+    pub stands : cpu.slots.live ≡ standing_of path
+    pub wrote : Writes failure.rules.limits (items_of failure) cpu.base checkpoint (replicate cpu.slots.pages false) path cpu.written
+    pub chose : path.choices ≡ checkpoint.choices ++ choices
+    pub goes : CanGoOn failure.rules failure.entries path
+    pub sent : MatchBool (survives result) (ledger.trial ≡ Some (drop ledger.first path.state.sends)) (ledger.trial ≡ None)
+
+  -- by the answer: after want of memory only what stays is known
+  abbrev pub TriesBy : Failure → ℕ → Path → Env → CpuState R → List Choice → Ledger → Result Tried AllocError → Type 0
+  TriesBy failure point checkpoint env cpu choices ledger (Ok result) = HasTried failure point checkpoint env cpu choices ledger result
+  TriesBy failure point checkpoint env cpu choices ledger (Err fault) = Unit {0}
+
+  -- the run that a walk leaves as the survivor: that of the last trial, from the checkpoint of this index; the ledger has its sends
+  pub record HasAdopted (failure : Failure) (number : ℕ) (trial : Trial) (cpu : CpuState R) (choices : List Choice) (ledger : Ledger) : Type 0 where
+    pub index : ℕ
+    pub by_number : index ≡ (number - 1) / 5
+    pub checkpoint_is : slice_get failure.ring index ≡ Some trial.chance.checkpoint
+    pub stands_on : StandsOn cpu index
+    pub stands : cpu.slots.live ≡ standing_of trial.path
+    pub wrote : Writes failure.rules.limits (items_of failure) cpu.base trial.chance.checkpoint (replicate cpu.slots.pages false) trial.path cpu.written
+    pub chose : trial.path.choices ≡ trial.chance.checkpoint.choices ++ choices
+    pub goes : CanGoOn failure.rules failure.entries trial.path
+    pub replies : KeepsReplies failure.rules.bounds failure.entries None trial.path.state.sends ledger
+
+  -- what is left behind a walk: its last trial is adopted, or no trial survived and the ledger is as it was
+  abbrev pub LeavesBy : Failure → List Trial → ℕ → CpuState R → List Choice → Ledger → Ledger → Type 0
+  LeavesBy failure [] number cpu choices old new = new ≡ discarded old
+  LeavesBy failure (last ∷ []) number cpu choices old new = MatchBool (survives last.result) (HasAdopted failure number last cpu choices new) (new ≡ discarded old)
+  LeavesBy failure (first ∷ (second ∷ trials)) number cpu choices old new = LeavesBy failure (second ∷ trials) number cpu choices old new
+
+  -- A walk over the whole table of a ring, or up to the first trial that survives.
+  pub record HasWalked (failure : Failure) (point : ℕ) (cpu : CpuState R) (choices : List Choice) (old new : Ledger) (before now : ℕ) (tries : List Try) : Type 0 where
+    pub trials : List Trial
+    pub tries_are : tries ≡ map try_of trials
+    pub walks : WalksOver failure.rules.limits (items_of failure) failure.plan (pieces_of failure) point (table failure.ring) trials
+    pub leaves : LeavesBy failure trials (length trials) cpu choices old new
+    pub counted : now ≡ before + steps_of trials

@@ -1,0 +1,30 @@
+//! What a session does after a failure: the program goes on from its checkpoints in other environments, until it comes past the failure; and the
+//! checkpoints that it keeps for that.
+//!
+//! What a trial is, and in which order trials are made, `trials` defines. This is the code that makes them.
+//! A walk changes no passed byte, and where no trial survives the ledger is as it was.
+//! After want of memory nothing is said of where the guest stands.
+//! A `Watch` may look at a failure before trials are made of it. The program's own is `NoWatch`.
+//! Its calls keep the ring right beside the guest, the log and the ledger of the session, and require that it is.
+//! `recover` asks the watch first, and then walks over the trials.
+//! What the watch counts isn't among what the trials did.
+//! `forget` gives up only what no trial from the checkpoints that stand can need.
+//! After want of memory the ring is as it was, and which of the guest's saved slots stand isn't said.
+//! The laws say that the checkpoints behind a request are fixed by the run, and by how the session keeps them.
+#![tactic(auto)]
+
+mod checkpoints;
+mod forgetting;
+mod going;
+pub mod laws;
+mod recovering;
+mod trying;
+mod walking;
+mod watching;
+
+pub use checkpoints::{begin_ring, checkpoint};
+pub use forgetting::forget;
+pub use recovering::{Adopted, Recovered, recover};
+pub use trying::attempt;
+pub use walking::walk;
+pub use watching::{NoWatch, Watch};

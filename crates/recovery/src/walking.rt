@@ -1,0 +1,211 @@
+// A walk over the table of trials: from each checkpoint, the newest first, in each environment.
+ghost use Rattle.std.specs.Prelude.{◌≡◌, ◌+◌, ◌<◌, ◌≤◌, length, Some, slice_get, IfOk, OnOk, [], ◌∷◌, ◌++◌};
+ghost use Rattle.ckpt_ring.specs.Rings.{checkpoints_of};
+ghost use Rattle.run_history.specs.Served.{Path};
+ghost use Rattle.trials.specs.Tables.{environments};
+ghost use Rattle.recovery.specs.Sessions.{CanTry, Failure, FailedAt, IsUnder, taken_in};
+ghost use Rattle.recovery.specs.Trying.{KeepsSaved, HasWalked};
+ghost use Rattle.recovery.specs.Walking.{OneBy, AllBy, StandsBy, LedgerBy, StaysBy, IsEpisode, WalksBy};
+
+use crate::trying::attempt;
+use alloc_env::Env;
+use block_book::Choice;
+use ckpt_ring::Ring;
+use guest_cpu::Cpu;
+use guest_space::AccessRule;
+use item_log::ItemLog;
+use reply_ledger::Replies;
+use run_history::Cause;
+use rx_io::Steps;
+use session_notes::{Episode, Tried, Tries, Try};
+use std::alloc::{AllocError, Global};
+use std::sync::ledger::Ledger;
+
+// The environments in which a program is tried, in their order.
+const ENVIRONMENTS: [Env; 5] = [Env::Pad, Env::Zero, Env::Isolate, Env::Delay, Env::All];
+
+// The environment at a place.
+fn environment(place: usize) -> Env
+    requires { place < 5 }
+    ensures { slice_get environments place ≡ Some result }
+{
+    ENVIRONMENTS[place]
+}
+
+// Notes a trial behind those before it.
+fn note(tries: &mut Vec<Try>, checkpoint: u64, env: Env, tried: Tried) -> Result<(), AllocError>
+    ensures { OnOk result (tries.new.items ≡ tries.old.items ++ record { checkpoint = checkpoint; env = env; tried = tried } ∷ []) }
+{
+    match tries.push(Try {
+        checkpoint,
+        env,
+        tried,
+    }) {
+        Ok(()) => Ok(()),
+        Err(_) => Err(AllocError),
+    }
+}
+
+// Tries a checkpoint in one environment, and adopts the trial where it survives. Whether it does.
+fn try_one<R: AccessRule, L: Ledger>(
+    alloc: Global,
+    cpu: &mut Cpu<R>,
+    ring: &Ring,
+    index: u32,
+    env: Env,
+    point: u64,
+    budget: u32,
+    items: &ItemLog,
+    replies: &mut Replies,
+    choices: &mut Vec<Choice>,
+    steps: &mut Steps<L>,
+    tries: &mut Vec<Try>,
+) -> Result<bool, AllocError>
+    requires failed { CanTry budget (R.rule cpu.old.rule) point cpu.old items.now replies.old }
+    requires within { index < length ring.now.standing }
+    requires same { ring.now.standing ≡ checkpoints_of taken_in cpu.old.slots.saved }
+    ensures tries { (failure : Failure) (checkpoint : Path) → IsUnder failure budget (R.rule cpu.old.rule) → FailedAt point failure cpu.old items.now replies.old → slice_get failure.ring index ≡ Some checkpoint
+        → OneBy failure point (record { checkpoint = checkpoint; env = env }) cpu.new choices.new.items replies.new tries.old.items tries.new.items steps.old steps.new result }
+    ensures saved { KeepsSaved cpu.old cpu.new }
+    ensures ledger { LedgerBy replies.old replies.new result }
+    ensures least { steps.old ≤ steps.new }
+    ensures stands { StandsBy cpu.new index result }
+{
+    match attempt(
+        alloc, cpu, ring, index, env, point, budget, items, replies, choices, steps,
+    ) {
+        Ok(tried) => {
+            let checkpoint = ring.taken_at(index);
+            if let Err(e) = note(tries, checkpoint, env, tried) {
+                return Err(e);
+            }
+            if !tried.survives() {
+                return Ok(false);
+            }
+            replies.adopt();
+            Ok(true)
+        }
+        Err(e) => Err(e),
+    }
+}
+
+// Tries a checkpoint in each environment, up to the first in which the trial survives. Whether one does.
+fn try_all<R: AccessRule, L: Ledger>(
+    alloc: Global,
+    cpu: &mut Cpu<R>,
+    ring: &Ring,
+    index: u32,
+    point: u64,
+    budget: u32,
+    items: &ItemLog,
+    replies: &mut Replies,
+    choices: &mut Vec<Choice>,
+    steps: &mut Steps<L>,
+    tries: &mut Vec<Try>,
+) -> Result<bool, AllocError>
+    requires failed { CanTry budget (R.rule cpu.old.rule) point cpu.old items.now replies.old }
+    requires within { index < length ring.now.standing }
+    requires same { ring.now.standing ≡ checkpoints_of taken_in cpu.old.slots.saved }
+    ensures tries { (failure : Failure) (checkpoint : Path) → IsUnder failure budget (R.rule cpu.old.rule) → FailedAt point failure cpu.old items.now replies.old → slice_get failure.ring index ≡ Some checkpoint
+        → AllBy failure point checkpoint cpu.new choices.new.items replies.new tries.old.items tries.new.items steps.old steps.new result }
+    ensures saved { KeepsSaved cpu.old cpu.new }
+    ensures ledger { LedgerBy replies.old replies.new result }
+    ensures least { steps.old ≤ steps.new }
+    ensures stands { StandsBy cpu.new index result }
+{
+    'environments: for place in 0..ENVIRONMENTS.len() {
+        let env = environment(place);
+        match try_one(
+            alloc, cpu, ring, index, env, point, budget, items, replies, choices, steps, tries,
+        ) {
+            Ok(false) => {}
+            Ok(true) => return Ok(true),
+            Err(e) => return Err(e),
+        }
+    }
+    Ok(false)
+}
+
+// Tries all checkpoints, from the newest on, up to the first trial that survives.
+fn try_ring<R: AccessRule, L: Ledger>(
+    alloc: Global,
+    cpu: &mut Cpu<R>,
+    ring: &Ring,
+    point: u64,
+    budget: u32,
+    items: &ItemLog,
+    replies: &mut Replies,
+    choices: &mut Vec<Choice>,
+    steps: &mut Steps<L>,
+    tries: &mut Vec<Try>,
+) -> Result<(), AllocError>
+    requires failed { CanTry budget (R.rule cpu.old.rule) point cpu.old items.now replies.old }
+    requires same { ring.now.standing ≡ checkpoints_of taken_in cpu.old.slots.saved }
+    requires none { tries.old.items ≡ [] }
+    ensures walks { (failure : Failure) → IsUnder failure budget (R.rule cpu.old.rule) → FailedAt point failure cpu.old items.now replies.old
+        → IfOk result (λ _. HasWalked failure point cpu.new choices.new.items replies.old replies.new steps.old steps.new tries.new.items) }
+    ensures saved { KeepsSaved cpu.old cpu.new }
+    ensures ledger { StaysBy replies.old replies.new result }
+    ensures least { steps.old ≤ steps.new }
+{
+    let count = ring.len();
+    'checkpoints: for index in 0..count {
+        match try_all(
+            alloc, cpu, ring, index, point, budget, items, replies, choices, steps, tries,
+        ) {
+            Ok(false) => {}
+            Ok(true) => return Ok(()),
+            Err(e) => return Err(e),
+        }
+    }
+    replies.discard();
+    Ok(())
+}
+
+/// Tries to come past a failure: goes on from each checkpoint of the ring, the newest first, in each of five environments, up to the
+/// first trial that survives, and adopts that one. `point` says how many items the program had taken, `cause` and `pc` why and where it
+/// failed; they stand in the episode, with all trials in their order.
+///
+/// Where the last trial of the episode survived, the guest stands where that trial has come, on its checkpoint; malloc's answers
+/// since the checkpoint stand in `choices`, and its sends are the survivor's in `replies`. The pages that the trial's run writes since
+/// then (`writes` of `guest_runs`) are those that the guest counts as written. Where none survived, the guest may stand
+/// anywhere. The checkpoints, the items, and what was passed stay as they are. `steps` counts the instructions of all trials.
+///
+/// # Errors
+///
+/// `AllocError` where memory runs out. The guest may then stand anywhere, and a trial may be left in `replies`.
+pub fn walk<R: AccessRule, L: Ledger>(
+    alloc: Global,
+    cpu: &mut Cpu<R>,
+    ring: &Ring,
+    point: u64,
+    cause: Cause,
+    pc: u32,
+    budget: u32,
+    items: &ItemLog,
+    replies: &mut Replies,
+    choices: &mut Vec<Choice>,
+    steps: &mut Steps<L>,
+) -> Result<Episode, AllocError>
+    requires failed { CanTry budget (R.rule cpu.old.rule) point cpu.old items.now replies.old }
+    requires same { ring.now.standing ≡ checkpoints_of taken_in cpu.old.slots.saved }
+    ensures walks { (failure : Failure) → IsUnder failure budget (R.rule cpu.old.rule) → FailedAt point failure cpu.old items.now replies.old
+        → WalksBy failure point cpu.new choices.new.items replies.old replies.new steps.old steps.new result }
+    ensures episode { IfOk result (IsEpisode point cause pc) }
+    ensures saved { KeepsSaved cpu.old cpu.new }
+    ensures ledger { StaysBy replies.old replies.new result }
+    ensures least { steps.old ≤ steps.new }
+{
+    let mut tries = Vec::new(alloc);
+    match try_ring(
+        alloc, cpu, ring, point, budget, items, replies, choices, steps, &mut tries,
+    ) {
+        Ok(()) => Ok(Episode {
+            point,
+            cause,
+            pc,
+            tries: Tries::from_vec(tries),
+        }),
+        Err(e) => Err(e),
+    }
+}

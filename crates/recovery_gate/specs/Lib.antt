@@ -1,5 +1,0 @@
-pub mod Rings
-pub mod Recovering
-pub mod Forgetting
-pub mod Handling
-pub mod Laws

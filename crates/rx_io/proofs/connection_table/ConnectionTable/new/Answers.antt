@@ -1,6 +1,0 @@
-use Rattle.std.proofs.Common.{nat_lt}
-use Rattle.rx_io.proofs.Tables.{new_table}
-use Rattle.rx_io.proofs.connection_table.ConnectionTable.new.Goals as goal
-
-pub returns : goal.returns
-returns c conn = new_table (nat_lt conn 4096) 4096 conn

@@ -1,0 +1,51 @@
+-- An event that is heeded isn't refused.
+use Rattle.std.proofs.Common.{◌≡◌, inl, inr, List, [], ◌∷◌, ◌++◌, length, take, Option, Some, refl, sym, ◌∙◌, ap, subst, arith, length-append}
+use Rattle.std.specs.Prelude.{is_none}
+use Rattle.std.proofs.Math.Seq.{take-append_seam}
+use Rattle.links.specs.declared.journal.Entry.{Entry}
+use Rattle.links.specs.declared.journal.Entry.TheVariants as entry
+use Rattle.links.specs.declared.journal.LinkEvent.{LinkEvent}
+use Rattle.links.specs.declared.journal.LinkEvent.TheVariants as event
+use Rattle.links.specs.declared.journal.LinkEvent.TheVariants.{Ends}
+use Rattle.links.specs.Links.{events_in}
+use Rattle.session_history.specs.Heeding.{Bounds, Unheeded, refusal, heeded, AreHeeded}
+use Rattle.session_history.specs.Ends.{IsLastRefused}
+use Rattle.session_history.proofs.Heeding.{events_in-append, refused_unheeded}
+use Rattle.session_history.proofs.Heeded.{heeded_front, heeded_then}
+
+-- of two lists with one more element each that are one, the lists before are one, and so are the elements
+pub same_before : {X : Type 0} (xs ys : List X) (x y : X) → xs ++ x ∷ [] ≡ ys ++ y ∷ [] → xs ≡ ys
+same_before xs ys x y same =
+    let count : length xs ≡ length ys = omega (arith, ap length same, length-append xs (x ∷ []), length-append ys (y ∷ [])) in
+    sym (take-append_seam xs (x ∷ [])) ∙ ap (take (length xs)) same ∙ ap (λ n. take n (ys ++ y ∷ [])) count ∙ take-append_seam ys (y ∷ [])
+
+-- an event that is heeded isn't refused
+last_unrefused : (bounds : Bounds) (events : List LinkEvent) (last : LinkEvent) (cause : Unheeded) → heeded bounds (events ++ last ∷ []) ≡ events ++ last ∷ [] → refusal bounds events last ≡ Some cause → ⊥
+last_unrefused bounds events last cause all refused =
+    let front = heeded_front bounds [] events in
+    let short = ap length front.1 in
+    let parts = length-append (heeded bounds events) front.0 in
+    let longer = length-append events (last ∷ []) in
+    elim (heeded_then bounds [] events last) [
+      | inl same ↦ absurd (omega (arith, short, parts, longer, ap length (sym same ∙ all)))
+      | inr grown ↦
+          let before : heeded bounds events ≡ events = same_before (heeded bounds events) events last last (sym grown ∙ all) in
+          let unheeded = refused_unheeded bounds events last before (ap (λ (r : Option Unheeded). is_none r) refused) in
+          absurd (omega (arith, longer, ap length (sym unheeded ∙ all)))
+    ]
+
+-- where every event is heeded, the last isn't refused
+refused_not : (bounds : Bounds) (entries before : List Entry) (event : LinkEvent) (cause : Unheeded) → AreHeeded bounds entries → entries ≡ before ++ entry.Took event ∷ [] → events_in (entry.Took event ∷ []) ≡ event ∷ [] → refusal bounds (events_in before) event ≡ Some cause → ⊥
+refused_not bounds entries before event cause heeds last is refused =
+    let events : events_in entries ≡ events_in before ++ event ∷ [] = ap events_in last ∙ events_in-append before (entry.Took event ∷ []) ∙ ap (λ es. events_in before ++ es) is in
+    last_unrefused bounds (events_in before) event cause (subst (λ es. heeded bounds es ≡ es) events heeds) refused
+
+pub none_refused : (bounds : Bounds) (entries : List Entry) (cause : Unheeded) → AreHeeded bounds entries → IsLastRefused bounds entries cause → ⊥
+none_refused bounds entries cause heeds last = of last.event last.last last.no_end last.refused
+  where
+    of : (e : LinkEvent) → entries ≡ last.before ++ entry.Took e ∷ [] → (e ≡ Ends → ⊥) → refusal bounds (events_in last.before) e ≡ Some cause → ⊥
+    of (event.Opens conn) split counts refused = refused_not bounds entries last.before (event.Opens conn) cause heeds split refl refused
+    of (event.Piece conn bytes) split counts refused = refused_not bounds entries last.before (event.Piece conn bytes) cause heeds split refl refused
+    of (event.Closes conn) split counts refused = refused_not bounds entries last.before (event.Closes conn) cause heeds split refl refused
+    of event.Settles split counts refused = refused_not bounds entries last.before event.Settles cause heeds split refl refused
+    of event.Ends split counts refused = absurd (counts refl)

@@ -1,0 +1,80 @@
+-- What follows from the account of a session, and from the causes of its ends.
+use Rattle.std.specs.Prelude.{◌≡◌, ◌≢◌, ℕ, Bool, List, [], ◌∷◌, ◌++◌, false, map, Option, Some}
+use Rattle.links.specs.declared.journal.Entry.{Entry}
+use Rattle.links.specs.declared.journal.LinkEvent.TheVariants as event
+use Rattle.links.specs.declared.journal.LinkEvent.{LinkEvent}
+use Rattle.links.specs.Links.{Phases, IsInOrder, phases_after, Told, Grew, Coming, Refuses, Piece, pieces_in, events_in}
+use Rattle.block_book.specs.declared.choice.Choice.{Choice}
+use Rattle.rx_io.specs.Sends.{Send}
+use Rattle.elf_image.specs.declared.image.Image.{Image}
+use Rattle.run_history.specs.declared.answer.Answer.{Answer}
+use Rattle.run_history.specs.declared.answer.Answer.TheVariants as answer
+use Rattle.session_history.specs.Heeding.{received, AreHeeded}
+use Rattle.session_history.specs.Opened.{closes, is_gone}
+use Rattle.session_history.specs.Lawful.{Rules, Survivor}
+use Rattle.session_history.specs.Account.{Session, journal_of, IsAccount}
+use Rattle.session_history.specs.Giving.{AreGiven}
+use Rattle.session_history.specs.Ends.{IsEnd, StandsAt, OwesNothingAtEnd, before_end, HasServed}
+
+-- no two answers have their cause in one journal, with what its link has behind it
+abbrev pub OneEnd : Type 0
+OneEnd =
+    (rules : Rules) (entries : List Entry) (next : Coming) (survivor : Survivor) (end other : Answer) →
+    StandsAt rules entries (Some next) survivor end → StandsAt rules entries (Some next) survivor other → end ≡ other
+
+-- the piece of a send, whole
+abbrev pub piece_of : Send → Piece
+piece_of send = record { conn = send.conn; bytes = send.bytes; gone = false }
+
+-- no connection is opened that was closed before
+abbrev pub OpensOnce : List LinkEvent → Type 0
+OpensOnce events = (before after : List LinkEvent) (conn : ℕ) → events ≡ before ++ event.Opens conn ∷ after → closes conn before ≡ false
+
+-- a session of one survivor came to its end with all passed that it owes; it held nothing back, and no connection was found gone
+pub record PassesAtOnce (rules : Rules) (image : Image) (session : Session) : Type 0 where
+  pub at_end : Bool
+  pub account : IsAccount rules image session at_end
+  pub first : session.earlier ≡ []
+  pub given : AreGiven session.ending
+  pub unbroken : session.broken ≡ []
+  pub owes_nothing : OwesNothingAtEnd rules session
+  pub holds_nothing : rules.hold ≡ 0
+  pub none_gone : (conn : ℕ) → is_gone conn (journal_of session) ≡ false
+  pub opens_once : OpensOnce (events_in (journal_of session))
+
+-- its pieces are the sends of its run, in order, each whole
+abbrev pub SentIsPassed : Type 0
+SentIsPassed = (rules : Rules) (image : Image) (session : Session) → PassesAtOnce rules image session → pieces_in (journal_of session) ≡ map piece_of session.survivor.now.state.sends
+
+-- So are they at each end of a session that served, and its link tells no other pieces.
+abbrev pub ServedIsPassed : Type 0
+ServedIsPassed =
+    (rules : Rules) (image : Image) (began now : Told) (coming : Option Coming) (takes : Bool) (end : Answer) (choices : List Choice) (taken steps : ℕ) (served : HasServed rules image began now coming takes end choices taken steps) →
+    IsEnd end → served.session.earlier ≡ [] → rules.hold ≡ 0 → ((conn : ℕ) → is_gone conn (journal_of served.session) ≡ false) → OpensOnce (events_in (journal_of served.session)) →
+    (pieces_in (journal_of served.session) ≡ map piece_of served.session.survivor.now.state.sends) × Grew began.pieces now.pieces (map piece_of served.session.survivor.now.state.sends)
+
+-- events that a link gave, each in order for its connection
+abbrev pub AreInTurn : Phases → List LinkEvent → Type 0
+AreInTurn phases [] = Unit {0}
+AreInTurn phases (event ∷ events) = IsInOrder phases event × AreInTurn (phases_after event phases) events
+
+-- of such none opens a connection that was closed before
+abbrev pub LinksOpenOnce : Type 0
+LinksOpenOnce = (phases : Phases) (events : List LinkEvent) → AreInTurn phases events → OpensOnce events
+
+-- an answer behind such events: every item was taken, or the program ended itself or failed, or there was a fault or want of memory
+abbrev pub IsComplete : Rules → Session → Answer → Type 0
+IsComplete rules session answer.Finished = session.survivor.now.state.machine.taken ≡ received rules.bounds (journal_of session)
+IsComplete rules session (answer.Exited code) = Unit {0}
+IsComplete rules session (answer.GaveUp point cause) = Unit {0}
+IsComplete rules session answer.ReadFault = Unit {0}
+IsComplete rules session answer.WriteFault = Unit {0}
+IsComplete rules session answer.FileFault = Unit {0}
+IsComplete rules session answer.Memory = Unit {0}
+IsComplete rules session _ = ⊥
+
+-- where every event is heeded and the link refuses nothing behind them, a session has no other answer
+abbrev pub NoOtherAnswer : Type 0
+NoOtherAnswer =
+    (rules : Rules) (image : Image) (began now : Told) (next : Coming) (takes : Bool) (end : Answer) (choices : List Choice) (taken steps : ℕ) (served : HasServed rules image began now (Some next) takes end choices taken steps) →
+    AreHeeded rules.bounds (before_end served.session) → ((kind offset : ℕ) → next ≢ Refuses kind offset) → IsComplete rules served.session end

@@ -1,0 +1,5 @@
+pub mod Survival
+pub mod Words
+pub mod Lines
+pub mod Noting
+pub mod Lists

@@ -1,5 +1,0 @@
-use Rattle.session_rows.proofs.Ready.{ready}
-use Rattle.session_rows.proofs.playing.begin.Goals as goal
-
-pub returns : goal.returns
-returns c = ready _ _ _ _ c.in_ok-begin.ensures

@@ -1,0 +1,41 @@
+// Notes that run out of memory in mid-session.
+use block_book::Choice;
+use rx_io::IoFault;
+use session_notes::{Episode, Notes};
+
+// Notes of which so many calls are done. Each call behind them answers `Memory` and does nothing.
+#[derive(Drop)]
+pub struct ShortNotes<N: Notes> {
+    pub notes: N,
+    pub calls_left: u64,
+}
+
+impl<N: Notes> Notes for ShortNotes<N> {
+    ghost told_choices = { λ s. N.told_choices s.notes };
+
+    ghost told_episodes = { λ s. N.told_episodes s.notes };
+
+    ghost faults = { λ s. N.faults s.notes };
+
+    ghost works = { λ s. N.works s.notes };
+
+    ghost Fixed = { N.Fixed };
+
+    ghost fixed = { λ s. N.fixed s.notes };
+
+    fn choices(&mut self, list: &[Choice]) -> Result<(), IoFault> {
+        if self.calls_left == 0 {
+            return Err(IoFault::Memory);
+        }
+        self.calls_left -= 1;
+        self.notes.choices(list)
+    }
+
+    fn episode(&mut self, e: &Episode) -> Result<(), IoFault> {
+        if self.calls_left == 0 {
+            return Err(IoFault::Memory);
+        }
+        self.calls_left -= 1;
+        self.notes.episode(e)
+    }
+}

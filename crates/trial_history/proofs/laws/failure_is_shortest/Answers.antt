@@ -1,5 +1,0 @@
-use Rattle.trial_history.proofs.Shortest.{failure_is_shortest}
-use Rattle.trial_history.proofs.laws.failure_is_shortest.Goals as goal
-
-pub returns : goal.returns
-returns c = failure_is_shortest

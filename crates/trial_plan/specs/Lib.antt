@@ -1,5 +1,0 @@
-pub mod Sessions
-pub mod Going
-pub mod Trying
-pub mod Walking
-pub mod Watching

@@ -1,0 +1,69 @@
+-- What the definitions compute at values.
+use Rattle.std.proofs.Common.{◌≡◌, ℕ, List, [], ◌∷◌, map, None, Some, refl}
+use Rattle.std.specs.Prelude.{option_map}
+use Rattle.alloc_env.specs.declared.env.Env.TheVariants.{Plain, Pad, Zero, Isolate, Delay, All}
+use Rattle.run_history.specs.declared.answer.Cause.TheVariants.{Hang}
+use Rattle.run_history.specs.Served.{Override, env_at, Path}
+use Rattle.session_notes.specs.declared.episode.Tried.TheVariants.{Asks, Behind}
+use Rattle.trials.specs.Trials.{plan_of_trial}
+use Rattle.trials.specs.Tables.{Chance, table, Trial, survivor_in}
+use Rattle.trials.specs.Episodes.{Recovery, episode_of, adopted_by}
+
+-- a plan that is in force before a failure: Delay from the start on, up to 5 items
+abbrev delayed : List Override
+delayed = record { low = 0; until = 5; env = Delay } ∷ []
+
+-- a trial from the start, after a failure with 3 items taken: its environment from the first instruction on, with up to 6 items taken
+from_start : map (env_at (plan_of_trial delayed 0 Pad 3)) (0 ∷ 1 ∷ 2 ∷ 3 ∷ 4 ∷ 5 ∷ 6 ∷ 7 ∷ 8 ∷ []) ≡ Pad ∷ Pad ∷ Pad ∷ Pad ∷ Pad ∷ Pad ∷ Pad ∷ Plain ∷ Plain ∷ []
+from_start = refl
+
+-- one from a checkpoint with 2 items taken: up to there the earlier plan, and behind it not even where that one goes on
+from_second : map (env_at (plan_of_trial delayed 2 Zero 3)) (0 ∷ 1 ∷ 2 ∷ 3 ∷ 4 ∷ 5 ∷ 6 ∷ 7 ∷ 8 ∷ []) ≡ Delay ∷ Delay ∷ Delay ∷ Zero ∷ Zero ∷ Zero ∷ Zero ∷ Plain ∷ Plain ∷ []
+from_second = refl
+
+-- one from the checkpoint at which the run failed
+from_last : map (env_at (plan_of_trial delayed 3 All 3)) (2 ∷ 3 ∷ 4 ∷ 6 ∷ 7 ∷ []) ≡ Delay ∷ Delay ∷ All ∷ All ∷ Plain ∷ []
+from_last = refl
+
+-- a run that took so many items
+abbrev standing : ℕ → Path
+standing taken = record {
+  state =
+      record {
+        machine = record { pc = 0; registers = []; memory = []; heap_start = 0; heap_end = 0; blocks = []; allocations = 0; taken = taken; connections = []; since = 0 };
+        sends = [];
+        ended = None;
+      };
+  heap = record { start = 0; end = 0; blocks = [] };
+  choices = [];
+  steps = 0;
+}
+
+-- the table of two checkpoints: the newest first, and of each the five environments
+two_checkpoints : map (λ (chance : Chance). chance.checkpoint.state.machine.taken) (table (standing 5 ∷ standing 0 ∷ [])) ≡ 5 ∷ 5 ∷ 5 ∷ 5 ∷ 5 ∷ 0 ∷ 0 ∷ 0 ∷ 0 ∷ 0 ∷ []
+two_checkpoints = refl
+
+their_environments : map (λ (chance : Chance). chance.env) (table (standing 5 ∷ standing 0 ∷ [])) ≡ Pad ∷ Zero ∷ Isolate ∷ Delay ∷ All ∷ Pad ∷ Zero ∷ Isolate ∷ Delay ∷ All ∷ []
+their_environments = refl
+
+-- a run that failed with 5 items taken, of which the first trial, from the newest checkpoint, is behind, and the next one asks for the item
+abbrev recovery : Recovery
+recovery = record {
+  survivor = record { plan = []; begun = standing 0; now = standing 5 };
+  cause = Hang;
+  ring = standing 3 ∷ standing 0 ∷ [];
+  trials = record { chance = record { checkpoint = standing 3; env = Pad }; path = standing 4; result = Behind } ∷ record { chance = record { checkpoint = standing 3; env = Zero }; path = standing 5; result = Asks } ∷ [];
+}
+
+reported : episode_of recovery ≡
+    record {
+      point = 5;
+      cause = Hang;
+      pc = 0;
+      tries = record { checkpoint = 3; env = Pad; tried = Behind } ∷ record { checkpoint = 3; env = Zero; tried = Asks } ∷ [];
+    }
+reported = refl
+
+-- the second one is adopted, and its environment is in force behind 3 items, up to 8
+adopted : option_map (λ (trial : Trial). (adopted_by recovery trial).plan) (survivor_in recovery.trials) ≡ Some (record { low = 4; until = 9; env = Zero } ∷ [])
+adopted = refl

@@ -1,0 +1,148 @@
+-- A run that was made in one environment is one under the plan of its trial.
+use Rattle.std.proofs.Common.{◌≡◌, ◌⊎◌, inl, inr, ℕ, ◌+◌, ◌<◌, ◌≤◌, Bool, cond, eqb, ltb, List, [], ◌∷◌, None, sym, ◌∙◌, ap, subst, arith}
+use Rattle.std.proofs.lemmas.Bool.{cond_both, eqb-false, lt-ltb, le-ltb}
+use Rattle.rx_io.specs.declared.bytes.Item.{Item}
+use Rattle.rx_io.specs.Sends.{Send}
+use Rattle.elf_image.specs.declared.image.Image.{Image}
+use Rattle.alloc_env.specs.declared.env.Env.{Env}
+use Rattle.alloc_env.specs.declared.env.Env.TheVariants.{Plain}
+use Rattle.run_history.specs.declared.answer.Cause.{Cause}
+use Rattle.run_history.specs.Machine.{start, start_machine, Wants, Fails}
+use Rattle.run_history.specs.Served.{Limits, Override, env_at, Path, origin, guest_of, serves, served_next, planned_next, Served, FailsBy, AsksFor}
+use Rattle.session_notes.specs.declared.episode.Tried.{Tried}
+use Rattle.session_notes.specs.declared.episode.Tried.TheVariants as tried
+use Rattle.trials.specs.Trials.{plan_of_trial, IsContradicted, IsBehindAt, IsPast, ComesTo}
+use Rattle.session_history.specs.Passing.{Covers}
+use Rattle.trials.specs.Chains.{IsCheckpoint}
+use Rattle.trials.specs.Laws.{everywhere, TrialServes, TrialComes}
+use Rattle.trials.proofs.Asking.{asks_under_all, asks_next, asks_takes}
+use Rattle.trials.proofs.Going.{taken_later, later_of, served_as}
+
+-- the environment of the latest override, and of those before it
+pub env_within : (plan : List Override) (low until : ℕ) (env : Env) (count : ℕ) → low ≤ count → count < until → env_at (record { low = low; until = until; env = env } ∷ plan) count ≡ env
+env_within plan low until env count from to =
+    ap (λ (b : Bool). cond b (env_at plan count) (cond (ltb count until) env Plain)) (le-ltb count low from) ∙ ap (λ (b : Bool). cond b env Plain) (lt-ltb count until to)
+
+pub env_before : (plan : List Override) (low until : ℕ) (env : Env) (count : ℕ) → count < low → env_at (record { low = low; until = until; env = env } ∷ plan) count ≡ env_at plan count
+env_before plan low until env count before = ap (λ (b : Bool). cond b (env_at plan count) (cond (ltb count until) env Plain)) (lt-ltb count low before)
+
+-- from there on, until four items more than the point were taken, it is in force
+pub in_force : (plan : List Override) (checkpoint : ℕ) (env : Env) (point count : ℕ) → (checkpoint ≡ 0) ⊎ (checkpoint < count) → count < point + 4 → env_at (everywhere env point) count ≡ env_at (plan_of_trial plan checkpoint env point) count
+in_force plan checkpoint env point count from to =
+    env_within [] 0 (point + 4) env count (omega arith) to ∙ sym (env_within plan (cond (eqb checkpoint 0) 0 (checkpoint + 1)) (point + 4) env count (low from) to)
+  where
+    of_past : (checkpoint ≡ 0) ⊎ (checkpoint < count) → (checkpoint ≡ 0 → ⊥) → checkpoint + 1 ≤ count
+    of_past (inl none) some = absurd (some none)
+    of_past (inr past) some = omega (arith, past)
+
+    low : (checkpoint ≡ 0) ⊎ (checkpoint < count) → cond (eqb checkpoint 0) 0 (checkpoint + 1) ≤ count
+    low from = cond_both (eqb checkpoint 0) 0 (checkpoint + 1) (λ n. n ≤ count) (λ _. omega arith) (λ some. of_past from (eqb-false checkpoint 0 some))
+
+-- a run that stands at its request, or has taken that item
+pub past_request : (limits : Limits) (items : List Item) (plan : List Override) (checkpoint path : Path) → AsksFor limits [] checkpoint checkpoint.state.machine.taken → Served limits items plan checkpoint path
+    → (checkpoint ≡ path) ⊎ (checkpoint.state.machine.taken < path.state.machine.taken)
+past_request limits items plan checkpoint path asks served =
+    elim (later_of limits items plan checkpoint path served) [
+      | inl same ↦ inl same
+      | inr later ↦
+          let took = asks_takes limits items plan checkpoint later.next checkpoint.state.machine.taken (asks_under_all limits [] plan checkpoint checkpoint.state.machine.taken asks) later.goes in
+          inr (omega (arith, took.taken, taken_later limits items plan later.next path later.on))
+    ]
+
+-- the start took no item
+start_taken : (image : Image) (checkpoint : Path) → checkpoint ≡ origin image → checkpoint.state.machine.taken ≡ 0
+unfolding start start_machine
+start_taken image checkpoint is = ap (λ (p : Path). p.state.machine.taken) is
+
+-- on a trial's way its environment is in force, or the run asks for an item, at the checkpoint itself
+pub on_way : (limits : Limits) (items : List Item) (image : Image) (plan : List Override) (env : Env) (point : ℕ) (checkpoint path : Path) → IsCheckpoint limits image checkpoint → path.state.machine.taken < point + 4
+    → Served limits items (everywhere env point) checkpoint path
+    → (env_at (everywhere env point) path.state.machine.taken ≡ env_at (plan_of_trial plan checkpoint.state.machine.taken env point) path.state.machine.taken) ⊎ AsksFor limits [] path path.state.machine.taken
+on_way limits items image plan env point checkpoint path (inl is) low served =
+    inl (in_force plan checkpoint.state.machine.taken env point path.state.machine.taken (inl (start_taken image checkpoint is)) low)
+on_way limits items image plan env point checkpoint path (inr asks) low served =
+    elim (past_request limits items (everywhere env point) checkpoint path asks.1 served) [
+      | inl same ↦ inr (subst (λ (p : Path). AsksFor limits [] p p.state.machine.taken) same asks.1)
+      | inr past ↦ inl (in_force plan checkpoint.state.machine.taken env point path.state.machine.taken (inr past) low)
+    ]
+
+-- so each instruction is the same
+pub way_next : (limits : Limits) (items : List Item) (image : Image) (plan : List Override) (env : Env) (point : ℕ) (checkpoint path : Path) → IsCheckpoint limits image checkpoint → path.state.machine.taken < point + 4
+    → Served limits items (everywhere env point) checkpoint path
+    → planned_next limits items (everywhere env point) path ≡ planned_next limits items (plan_of_trial plan checkpoint.state.machine.taken env point) path
+way_next limits items image plan env point checkpoint path at_start low served =
+    elim (on_way limits items image plan env point checkpoint path at_start low served) [
+      | inl same ↦ ap (λ (e : Env). served_next limits items e path) same
+      | inr asks ↦
+          asks_next limits items (everywhere env point) (plan_of_trial plan checkpoint.state.machine.taken env point) path path.state.machine.taken
+          (asks_under_all limits [] (everywhere env point) path path.state.machine.taken asks)
+    ]
+
+pub trial_serves : TrialServes
+trial_serves limits items image plan env point checkpoint path at_start low served =
+    served_as limits items (everywhere env point) (plan_of_trial plan checkpoint.state.machine.taken env point) checkpoint path path.state.machine.taken
+    (λ now to before early goes. sym (way_next limits items image plan env point checkpoint now at_start (omega (arith, early, low)) before) ∙ goes) (omega arith) served
+
+-- so is a failure
+way_fails : (limits : Limits) (items : List Item) (image : Image) (plan : List Override) (env : Env) (point : ℕ) (checkpoint path : Path) (cause : Cause) → IsCheckpoint limits image checkpoint → path.state.machine.taken < point + 4
+    → Served limits items (everywhere env point) checkpoint path → FailsBy limits (everywhere env point) path cause → FailsBy limits (plan_of_trial plan checkpoint.state.machine.taken env point) path cause
+way_fails limits items image plan env point checkpoint path cause at_start low served fails =
+    elim (on_way limits items image plan env point checkpoint path at_start low served) [
+      | inl same ↦ record { lives = fails.lives; fails = ap (λ (e : Env). serves limits e None (guest_of path)) (sym same) ∙ fails.fails }
+      | inr asks ↦
+          let waits = asks_under_all limits [] (everywhere env point) path path.state.machine.taken asks in
+          let never : Wants ≡ Fails cause = sym waits.asks ∙ fails.fails in
+          absurd (cc)
+    ]
+
+-- what was sent under one plan was so under the other
+way_contradicts : (limits : Limits) (items : List Item) (image : Image) (plan : List Override) (env : Env) (point : ℕ) (checkpoint path : Path) (pieces : List Send) → IsCheckpoint limits image checkpoint
+    → IsContradicted limits items (everywhere env point) checkpoint pieces point path → IsContradicted limits items (plan_of_trial plan checkpoint.state.machine.taken env point) checkpoint pieces point path
+way_contradicts limits items image plan env point checkpoint path pieces at_start was =
+    let low : was.before.state.machine.taken < point + 4 = omega (arith, was.unharmed.early) in
+    record {
+      before = was.before;
+      from = trial_serves limits items image plan env point checkpoint was.before at_start low was.from;
+      unharmed = was.unharmed;
+      next = sym (way_next limits items image plan env point checkpoint was.before at_start low was.from) ∙ was.next;
+      no_item = was.no_item;
+      conn = was.conn;
+      differs = was.differs;
+    }
+
+way_past : (limits : Limits) (plan other : List Override) (point : ℕ) (path : Path) → IsPast limits plan point path → IsPast limits other point path
+way_past limits plan other point path (inl asks) = inl (asks_under_all limits plan other path point asks)
+way_past limits plan other point path (inr ended) = inr ended
+
+-- where a trial ends it took no more items than the point
+pub in_time : (limits : Limits) (items : List Item) (plan : List Override) (checkpoint : Path) (pieces : List Send) (point : ℕ) (path : Path) (result : Tried) → ComesTo limits items plan checkpoint pieces point path result → path.state.machine.taken ≤ point
+in_time limits items plan checkpoint pieces point path tried.Asks comes = comes.0.early
+in_time limits items plan checkpoint pieces point path (tried.Exits code) comes = comes.0.early
+in_time limits items plan checkpoint pieces point path (tried.Failed cause) comes = comes.0.early
+in_time limits items plan checkpoint pieces point path tried.Contradicts comes = omega (arith, comes.unharmed.early, comes.no_item)
+in_time limits items plan checkpoint pieces point path tried.Behind comes = comes.0.early
+
+comes_so : (limits : Limits) (items : List Item) (image : Image) (plan : List Override) (env : Env) (point : ℕ) (checkpoint path : Path) (pieces : List Send) (result : Tried) → IsCheckpoint limits image checkpoint → path.state.machine.taken < point + 4
+    → Served limits items (everywhere env point) checkpoint path → ComesTo limits items (everywhere env point) checkpoint pieces point path result
+    → ComesTo limits items (plan_of_trial plan checkpoint.state.machine.taken env point) checkpoint pieces point path result
+comes_so limits items image plan env point checkpoint path pieces tried.Asks at_start low served comes =
+    (comes.0, asks_under_all limits (everywhere env point) (plan_of_trial plan checkpoint.state.machine.taken env point) path point comes.1, comes.2)
+comes_so limits items image plan env point checkpoint path pieces (tried.Exits code) at_start low served comes = comes
+comes_so limits items image plan env point checkpoint path pieces (tried.Failed cause) at_start low served comes =
+    (comes.0, way_fails limits items image plan env point checkpoint path cause at_start low served comes.1)
+comes_so limits items image plan env point checkpoint path pieces tried.Contradicts at_start low served comes = way_contradicts limits items image plan env point checkpoint path pieces at_start comes
+comes_so limits items image plan env point checkpoint path pieces tried.Behind at_start low served comes = (comes.0, of_either comes.1)
+  where
+    of_either : ((item : ℕ) × IsBehindAt limits (everywhere env point) pieces point path item) ⊎ (IsPast limits (everywhere env point) point path × (¬ Covers pieces path.state))
+        → ((item : ℕ) × IsBehindAt limits (plan_of_trial plan checkpoint.state.machine.taken env point) pieces point path item) ⊎ (IsPast limits (plan_of_trial plan checkpoint.state.machine.taken env point) point path × (¬ Covers pieces path.state))
+    of_either (inl behind) =
+        inl (behind.0, record { early = behind.1.early; asks = asks_under_all limits (everywhere env point) (plan_of_trial plan checkpoint.state.machine.taken env point) path behind.0 behind.1.asks; behind = behind.1.behind })
+    of_either (inr past) = inr (way_past limits (everywhere env point) (plan_of_trial plan checkpoint.state.machine.taken env point) point path past.0, past.1)
+
+pub trial_comes : TrialComes
+trial_comes limits items image plan env point checkpoint path pieces result at_start trial =
+    let low : path.state.machine.taken < point + 4 = omega (arith, in_time limits items (everywhere env point) checkpoint pieces point path result trial.comes) in
+    record {
+      from = trial_serves limits items image plan env point checkpoint path at_start low trial.from;
+      comes = comes_so limits items image plan env point checkpoint path pieces result at_start low trial.from trial.comes;
+    }

@@ -1,0 +1,187 @@
+-- What trials over a table fix.
+use Rattle.std.proofs.Common.{◌≡◌, ℕ, zero, suc, Bool, true, false, cond, List, [], ◌∷◌, ◌++◌, map, Some, None, refl, sym, ◌∙◌, ap, subst}
+use Rattle.std.specs.Prelude.{slice_get, MatchBool}
+use Rattle.std.proofs.lemmas.Option.{none-some, same_Some}
+use Rattle.rx_io.specs.declared.bytes.Item.{Item}
+use Rattle.rx_io.specs.Sends.{Send}
+use Rattle.run_history.specs.Served.{Limits, Override, Path}
+use Rattle.session_history.specs.Passing.{AreBetween}
+use Rattle.session_notes.specs.declared.episode.Tried.{Tried}
+use Rattle.session_notes.specs.Survival.{survives}
+use Rattle.trials.specs.Trials.{plan_of_trial, IsTrial}
+use Rattle.trials.specs.Tables.{Chance, table, Trial, IsRight, WalksOver, survivor_in}
+use Rattle.trials.specs.Laws.{NoneSurvives, OneWalk, WalkAdopts, WalkGivesUp}
+use Rattle.trials.proofs.Results.{one_result}
+
+-- the sends of a checkpoint were made with no more items than it took
+abbrev IsTimed : Path → Type 0
+IsTimed checkpoint = AreBetween 0 checkpoint.state.machine.taken checkpoint.state.sends
+
+-- a chance of a table begins at a checkpoint of its ring
+pub chance_of : (ring : List Path) (index : ℕ) (chance : Chance) → slice_get (table ring) index ≡ Some chance → (place : ℕ) × (slice_get ring place ≡ Some chance.checkpoint)
+chance_of [] index chance here = absurd (none-some chance here)
+chance_of (newest ∷ older) zero chance here = (0, ap (λ (c : Chance). Some c.checkpoint) (same_Some _ chance here))
+chance_of (newest ∷ older) (suc zero) chance here = (0, ap (λ (c : Chance). Some c.checkpoint) (same_Some _ chance here))
+chance_of (newest ∷ older) (suc (suc zero)) chance here = (0, ap (λ (c : Chance). Some c.checkpoint) (same_Some _ chance here))
+chance_of (newest ∷ older) (suc (suc (suc zero))) chance here = (0, ap (λ (c : Chance). Some c.checkpoint) (same_Some _ chance here))
+chance_of (newest ∷ older) (suc (suc (suc (suc zero)))) chance here = (0, ap (λ (c : Chance). Some c.checkpoint) (same_Some _ chance here))
+chance_of (newest ∷ older) (suc (suc (suc (suc (suc index))))) chance here =
+    let rest = chance_of older index chance here in (suc rest.0, rest.1)
+
+pub all_timed : (ring : List Path) → ((checkpoint : Path) (index : ℕ) → slice_get ring index ≡ Some checkpoint → IsTimed checkpoint) → (chance : Chance) (index : ℕ) → slice_get (table ring) index ≡ Some chance → IsTimed chance.checkpoint
+all_timed ring timed chance index here =
+    let found = chance_of ring index chance here in timed chance.checkpoint found.0 found.1
+
+-- two trials of one chance are one
+pub record SameTrial (trial other : Trial) : Type 0 where
+  pub path : trial.path ≡ other.path
+  pub result : trial.result ≡ other.result
+
+pub same_trial : (limits : Limits) (items : List Item) (plan : List Override) (pieces : List Send) (point : ℕ) (trial other : Trial) → trial.chance ≡ other.chance → IsTimed trial.chance.checkpoint
+    → IsRight limits items plan pieces point trial → IsRight limits items plan pieces point other → SameTrial trial other
+same_trial limits items plan pieces point trial other same timed one two =
+    let moved = subst (λ (c : Chance). IsTrial limits items (plan_of_trial plan c.checkpoint.state.machine.taken c.env point) c.checkpoint pieces point other.path other.result) (sym same) two in
+    let both = one_result limits items (plan_of_trial plan trial.chance.checkpoint.state.machine.taken trial.chance.env point) trial.chance.checkpoint trial.path other.path pieces point trial.result other.result timed one moved in
+    record { path = both.0; result = both.1 }
+
+-- a walk goes on behind a trial that doesn't survive, and ends at one that does
+goes_on : (b : Bool) (ends on : Type 0) → b ≡ false → MatchBool b ends on → on
+goes_on true ends on is h = absurd (cc)
+goes_on false ends on is h = h
+
+none_of : (limits : Limits) (items : List Item) (plan : List Override) (pieces : List Send) (point : ℕ) (chances : List Chance) (trials : List Trial)
+    → ((chance : Chance) (index : ℕ) → slice_get chances index ≡ Some chance → IsTimed chance.checkpoint) → WalksOver limits items plan pieces point chances trials
+    → ((trial : Trial) (index : ℕ) → slice_get trials index ≡ Some trial → survives trial.result ≡ false)
+    → (other : Trial) (index : ℕ) → slice_get chances index ≡ Some other.chance → IsRight limits items plan pieces point other → survives other.result ≡ false
+none_of limits items plan pieces point [] trials timed walks fails other index here right = absurd (none-some other.chance here)
+none_of limits items plan pieces point (chance ∷ chances) [] timed walks fails other index here right = absurd walks
+none_of limits items plan pieces point (chance ∷ chances) (trial ∷ trials) timed walks fails other zero here right =
+    let is : trial.chance ≡ other.chance = walks.0 ∙ same_Some chance other.chance here in
+    let at_start = subst (λ (c : Chance). IsTimed c.checkpoint) (sym walks.0) (timed chance 0 refl) in
+    let same = same_trial limits items plan pieces point trial other is at_start walks.1 right in
+    ap survives (sym same.result) ∙ fails trial 0 refl
+none_of limits items plan pieces point (chance ∷ chances) (trial ∷ trials) timed walks fails other (suc index) here right =
+    none_of limits items plan pieces point chances trials (λ c i h. timed c (suc i) h)
+    (goes_on (survives trial.result) (trials ≡ []) (WalksOver limits items plan pieces point chances trials) (fails trial 0 refl) walks.2) (λ t i h. fails t (suc i) h) other index here right
+
+pub none_survives : NoneSurvives
+none_survives limits items plan pieces point ring trials timed walks fails other index here right =
+    none_of limits items plan pieces point (table ring) trials (all_timed ring timed) walks fails other index here right
+
+-- trials of the same chance, path and result are the same
+equal_trials : (trial other : Trial) → trial.chance ≡ other.chance → trial.path ≡ other.path → trial.result ≡ other.result → trial ≡ other
+equal_trials trial other chance path result =
+    let first : trial ≡ record trial { chance = other.chance } = ap (λ (c : Chance). made c trial.path trial.result) chance in
+    let second : record trial { chance = other.chance } ≡ record other { result = trial.result } = ap (λ (p : Path). made other.chance p trial.result) path in
+    let third : record other { result = trial.result } ≡ other = ap (λ (r : Tried). made other.chance other.path r) result in
+    first ∙ second ∙ third
+  where
+    made : Chance → Path → Tried → Trial
+    made chance path result = record { chance = chance; path = path; result = result }
+
+ends_there : (b : Bool) (ends on : Type 0) → b ≡ true → MatchBool b ends on → ends
+ends_there true ends on is h = h
+ends_there false ends on is h = absurd (cc)
+
+one_walk_of : (limits : Limits) (items : List Item) (plan : List Override) (pieces : List Send) (point : ℕ) (chances : List Chance) (trials others : List Trial)
+    → ((chance : Chance) (index : ℕ) → slice_get chances index ≡ Some chance → IsTimed chance.checkpoint) → WalksOver limits items plan pieces point chances trials → WalksOver limits items plan pieces point chances others → trials ≡ others
+one_walk_of limits items plan pieces point [] [] [] timed walks walked = refl
+one_walk_of limits items plan pieces point [] [] (other ∷ others) timed walks walked = absurd walked
+one_walk_of limits items plan pieces point [] (trial ∷ trials) others timed walks walked = absurd walks
+one_walk_of limits items plan pieces point (chance ∷ chances) [] others timed walks walked = absurd walks
+one_walk_of limits items plan pieces point (chance ∷ chances) (trial ∷ trials) [] timed walks walked = absurd walked
+one_walk_of limits items plan pieces point (chance ∷ chances) (trial ∷ trials) (other ∷ others) timed walks walked =
+    let is : trial.chance ≡ other.chance = walks.0 ∙ sym walked.0 in
+    let same = same_trial limits items plan pieces point trial other is (subst (λ (c : Chance). IsTimed c.checkpoint) (sym walks.0) (timed chance 0 refl)) walks.1 walked.1 in
+    let first : trial ≡ other = equal_trials trial other is same.path same.result in
+    of_survives (survives trial.result) refl (ap survives (sym same.result)) first (one_walk_of limits items plan pieces point chances trials others (λ c i h. timed c (suc i) h)) walks.2 walked.2
+  where
+    of_survives : (b : Bool) → survives trial.result ≡ b → survives other.result ≡ survives trial.result → trial ≡ other
+        → (WalksOver limits items plan pieces point chances trials → WalksOver limits items plan pieces point chances others → trials ≡ others)
+        → MatchBool (survives trial.result) (trials ≡ []) (WalksOver limits items plan pieces point chances trials) → MatchBool (survives other.result) (others ≡ []) (WalksOver limits items plan pieces point chances others)
+        → trial ∷ trials ≡ other ∷ others
+    of_survives true is alike first by one two =
+        let none = ends_there (survives trial.result) (trials ≡ []) (WalksOver limits items plan pieces point chances trials) is one in
+        let empty = ends_there (survives other.result) (others ≡ []) (WalksOver limits items plan pieces point chances others) (alike ∙ is) two in
+        ap (λ (t : Trial). t ∷ trials) first ∙ ap (λ (ts : List Trial). other ∷ ts) (none ∙ sym empty)
+    of_survives false is alike first by one two =
+        let on = goes_on (survives trial.result) (trials ≡ []) (WalksOver limits items plan pieces point chances trials) is one in
+        let further = goes_on (survives other.result) (others ≡ []) (WalksOver limits items plan pieces point chances others) (alike ∙ is) two in
+        ap (λ (t : Trial). t ∷ trials) first ∙ ap (λ (ts : List Trial). other ∷ ts) (by on further)
+
+pub one_walk : OneWalk
+one_walk limits items plan pieces point ring trials others timed walks walked = one_walk_of limits items plan pieces point (table ring) trials others (all_timed ring timed) walks walked
+
+-- a trial that survives among those of a walk
+record Found (limits : Limits) (items : List Item) (plan : List Override) (pieces : List Send) (point : ℕ) (chances : List Chance) (trials : List Trial) (trial : Trial) : Type 0 where
+  right : IsRight limits items plan pieces point trial
+  survives_it : survives trial.result ≡ true
+  failing : List Trial
+  last : trials ≡ failing ++ trial ∷ []
+  none : survivor_in failing ≡ None
+  place : ℕ
+  here : slice_get chances place ≡ Some trial.chance
+
+found : (limits : Limits) (items : List Item) (plan : List Override) (pieces : List Send) (point : ℕ) (chances : List Chance) (trials : List Trial) (trial : Trial) → WalksOver limits items plan pieces point chances trials
+    → survivor_in trials ≡ Some trial → Found limits items plan pieces point chances trials trial
+found limits items plan pieces point chances [] trial walks is = absurd (none-some trial is)
+found limits items plan pieces point [] (first ∷ trials) trial walks is = absurd walks
+found limits items plan pieces point (chance ∷ chances) (first ∷ trials) trial walks is = of_survives (survives first.result) refl is (found limits items plan pieces point chances trials trial)
+  where
+    of_survives : (b : Bool) → survives first.result ≡ b → cond b (Some first) (survivor_in trials) ≡ Some trial
+        → (WalksOver limits items plan pieces point chances trials → survivor_in trials ≡ Some trial → Found limits items plan pieces point chances trials trial) → Found limits items plan pieces point (chance ∷ chances) (first ∷ trials) trial
+    of_survives true fits is by =
+        let same : first ≡ trial = same_Some first trial is in
+        let none = ends_there (survives first.result) (trials ≡ []) (WalksOver limits items plan pieces point chances trials) fits walks.2 in
+        record {
+          right = subst (IsRight limits items plan pieces point) same walks.1;
+          survives_it = ap (λ (t : Trial). survives t.result) (sym same) ∙ fits;
+          failing = [];
+          last = ap (λ (ts : List Trial). first ∷ ts) none ∙ ap (λ (t : Trial). t ∷ []) same;
+          none = refl;
+          place = 0;
+          here = ap (λ (c : Chance). Some c) (sym walks.0 ∙ ap (λ (t : Trial). t.chance) same);
+        }
+    of_survives false fails is by =
+        let rest = by (goes_on (survives first.result) (trials ≡ []) (WalksOver limits items plan pieces point chances trials) fails walks.2) is in
+        record {
+          right = rest.right;
+          survives_it = rest.survives_it;
+          failing = first ∷ rest.failing;
+          last = ap (λ (ts : List Trial). first ∷ ts) rest.last;
+          none = ap (λ (b : Bool). cond b (Some first) (survivor_in rest.failing)) fails ∙ rest.none;
+          place = suc rest.place;
+          here = rest.here;
+        }
+
+pub walk_adopts : WalkAdopts
+walk_adopts limits items plan pieces point ring trials trial walks is =
+    let it = found limits items plan pieces point (table ring) trials trial walks is in
+    let from = chance_of ring it.place trial.chance it.here in
+    record { right = it.right; survives_it = it.survives_it; failing = it.failing; last = it.last; none = it.none; index = from.0; checkpoint = from.1 }
+
+-- where no trial survives, each fails
+pub none_fails : (trials : List Trial) → survivor_in trials ≡ None → (trial : Trial) (index : ℕ) → slice_get trials index ≡ Some trial → survives trial.result ≡ false
+none_fails [] none trial index here = absurd (none-some trial here)
+none_fails (first ∷ trials) none trial index here = of_survives (survives first.result) refl none (none_fails trials) index here
+  where
+    of_index : survives first.result ≡ false → ((trial : Trial) (index : ℕ) → slice_get trials index ≡ Some trial → survives trial.result ≡ false) → (index : ℕ) → slice_get (first ∷ trials) index ≡ Some trial → survives trial.result ≡ false
+    of_index fails by zero here = ap (λ (t : Trial). survives t.result) (sym (same_Some first trial here)) ∙ fails
+    of_index fails by (suc index) here = by trial index here
+
+    of_survives : (b : Bool) → survives first.result ≡ b → cond b (Some first) (survivor_in trials) ≡ None
+        → (survivor_in trials ≡ None → (trial : Trial) (index : ℕ) → slice_get trials index ≡ Some trial → survives trial.result ≡ false) → (index : ℕ) → slice_get (first ∷ trials) index ≡ Some trial → survives trial.result ≡ false
+    of_survives true fits none by index here = absurd (none-some first (sym none))
+    of_survives false fails none by index here = of_index fails (by none) index here
+
+whole_of : (limits : Limits) (items : List Item) (plan : List Override) (pieces : List Send) (point : ℕ) (chances : List Chance) (trials : List Trial) → WalksOver limits items plan pieces point chances trials
+    → ((trial : Trial) (index : ℕ) → slice_get trials index ≡ Some trial → survives trial.result ≡ false) → map (λ (trial : Trial). trial.chance) trials ≡ chances
+whole_of limits items plan pieces point [] [] walks fails = refl
+whole_of limits items plan pieces point [] (trial ∷ trials) walks fails = absurd walks
+whole_of limits items plan pieces point (chance ∷ chances) [] walks fails = absurd walks
+whole_of limits items plan pieces point (chance ∷ chances) (trial ∷ trials) walks fails =
+    let rest = whole_of limits items plan pieces point chances trials (goes_on (survives trial.result) (trials ≡ []) (WalksOver limits items plan pieces point chances trials) (fails trial 0 refl) walks.2) (λ t i h. fails t (suc i) h) in
+    ap (λ (c : Chance). c ∷ map (λ (t : Trial). t.chance) trials) walks.0 ∙ ap (λ (cs : List Chance). chance ∷ cs) rest
+
+pub walk_gives_up : WalkGivesUp
+walk_gives_up limits items plan pieces point ring trials walks none = (whole_of limits items plan pieces point (table ring) trials walks (none_fails trials none), none_fails trials none)

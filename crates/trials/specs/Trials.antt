@@ -1,0 +1,60 @@
+-- What comes of a trial: a program that failed runs again from a checkpoint, in another environment.
+use Rattle.std.specs.Prelude.{◌≡◌, ℕ, ◌+◌, ◌<◌, ◌≤◌, List, ◌∷◌, false, ◌⊎◌, Some, IsSome, if◌then◌else◌, ◌==◌}
+use Rattle.rx_io.specs.declared.bytes.Item.{Item}
+use Rattle.rx_io.specs.Sends.{Send, sent_to}
+use Rattle.alloc_env.specs.declared.env.Env.{Env}
+use Rattle.reply_ledger.specs.Trials.{agree}
+use Rattle.run_history.specs.Machine.{State}
+use Rattle.run_history.specs.Run.{output}
+use Rattle.run_history.specs.Served.{Limits, Override, Path, Served, planned_next, FailsBy, AsksFor}
+use Rattle.session_history.specs.Passing.{Covers, CoversBefore, Agrees, IsFeasible}
+use Rattle.session_notes.specs.declared.episode.Tried.{Tried}
+use Rattle.session_notes.specs.declared.episode.Tried.TheVariants as tried
+
+-- The plan of a trial, which stays in force if the trial is adopted. Up to the checkpoint, where so many items were taken, the earlier
+-- plan; from the next item on, or from the start where the checkpoint is the start, the trial's environment, until four items more
+-- were taken than at the failure; then Plain.
+abbrev pub plan_of_trial : List Override → ℕ → Env → ℕ → List Override
+plan_of_trial plan checkpoint env point = record { low = if checkpoint == 0 then 0 else checkpoint + 1; until = point + 4; env = env } ∷ plan
+
+-- A trial is unharmed so far: no byte that it emits differs from the passed byte at its place, it took no item before it had emitted each
+-- byte that was passed before that item was received, and it took no more items than the run that failed.
+pub record IsUnharmed (pieces : List Send) (point : ℕ) (state : State) : Type 0 where
+  pub agrees : Agrees pieces state
+  pub feasible : IsFeasible pieces state
+  pub early : state.machine.taken ≤ point
+
+-- it has just emitted a byte that differs from the passed byte at its place
+pub record IsContradicted (limits : Limits) (items : List Item) (plan : List Override) (checkpoint : Path) (pieces : List Send) (point : ℕ) (path : Path) : Type 0 where
+  pub before : Path
+  pub from : Served limits items plan checkpoint before
+  pub unharmed : IsUnharmed pieces point before.state
+  pub next : planned_next limits items plan before ≡ Some path
+  pub no_item : path.state.machine.taken ≡ before.state.machine.taken
+  pub conn : ℕ
+  pub differs : agree (output path.state conn) (sent_to conn pieces) ≡ false
+
+-- it asks for an item that the run that failed had taken, and hasn't emitted each byte that was passed before that item was received
+pub record IsBehindAt (limits : Limits) (plan : List Override) (pieces : List Send) (point : ℕ) (path : Path) (item : ℕ) : Type 0 where
+  pub early : item < point
+  pub asks : AsksFor limits plan path item
+  pub behind : ¬ CoversBefore item pieces path.state
+
+-- it has come past the failure: it asks for the item that the run that failed never took, or has ended itself
+abbrev pub IsPast : Limits → List Override → ℕ → Path → Type 0
+IsPast limits plan point path = AsksFor limits plan path point ⊎ IsSome path.state.ended
+
+-- What came of a trial that goes on from a checkpoint under a plan and now stands here, by what was passed to connections and by the
+-- point, the number of items that the run that failed had taken.
+abbrev pub ComesTo : Limits → List Item → List Override → Path → List Send → ℕ → Path → Tried → Type 0
+ComesTo limits items plan checkpoint pieces point path tried.Asks = IsUnharmed pieces point path.state × AsksFor limits plan path point × Covers pieces path.state
+ComesTo limits items plan checkpoint pieces point path (tried.Exits code) = IsUnharmed pieces point path.state × (path.state.ended ≡ Some code) × Covers pieces path.state
+ComesTo limits items plan checkpoint pieces point path (tried.Failed cause) = IsUnharmed pieces point path.state × FailsBy limits plan path cause
+ComesTo limits items plan checkpoint pieces point path tried.Contradicts = IsContradicted limits items plan checkpoint pieces point path
+ComesTo limits items plan checkpoint pieces point path tried.Behind =
+    IsUnharmed pieces point path.state × (((item : ℕ) × IsBehindAt limits plan pieces point path item) ⊎ (IsPast limits plan point path × (¬ Covers pieces path.state)))
+
+-- a trial from a checkpoint has come here, and this is its result
+pub record IsTrial (limits : Limits) (items : List Item) (plan : List Override) (checkpoint : Path) (pieces : List Send) (point : ℕ) (path : Path) (result : Tried) : Type 0 where
+  pub from : Served limits items plan checkpoint path
+  pub comes : ComesTo limits items plan checkpoint pieces point path result

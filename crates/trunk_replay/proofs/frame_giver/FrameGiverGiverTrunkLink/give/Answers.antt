@@ -1,5 +1,0 @@
-use Rattle.trunk_replay.proofs.FrontLemmas.{gave_first}
-use Rattle.trunk_replay.proofs.frame_giver.FrameGiverGiverTrunkLink.give.Goals as goal
-
-pub returns-clause-gave : goal.returns-clause-gave
-returns-clause-gave g c = gave_first _ _ _ _ c.args.conn c.args.bytes.now c.give.result c.give.ensures.frame

@@ -1,2 +1,0 @@
-pub mod Trunk
-pub mod Serving

@@ -1,0 +1,293 @@
+#!/usr/bin/env python3
+"""Whether each shipped guest does in the built rx what its description says, run from the shell.
+
+The example guests are assembled by `rx asm` from their texts in crates/example_guests/src; the servers in C are the built ones of
+guests. Each run is a line of the shell, `printf INPUT | rx run GUEST ..`, in a folder of its own. Standard output, the status and
+the answer that standard error tells are compared with what was worked out by hand from the guests' texts and from docs/USING.md. A
+line that differs is printed, so that it can be run again.
+
+Behind a run that came to its end its record is replayed, `printf INPUT | rx replay GUEST record`. That has to write the same bytes; but where
+replies were held back, they may come in another order, the same to each connection.
+
+With --no-recovery the first failure has to be the end. Without it the values are those of an rx that recovers. With --no-replay nothing
+is replayed.
+
+usage: shipped.py [--no-recovery] [--no-replay] [RX]
+RX is the built rx, crates/rx/out/rx unless it is given. The status is 0 where all runs are right.
+"""
+
+import argparse
+import collections
+import os
+import subprocess
+import sys
+import tempfile
+
+HERE = os.path.dirname(os.path.abspath(__file__))
+sys.path.insert(0, os.path.join(HERE, "..", "compare"))
+
+# pylint: disable=wrong-import-position
+from second.checks import OPENS_0, lines_in, out, piece  # noqa: E402
+from second.guests import FOLDER, text_of  # noqa: E402
+from second.said import answer_of  # noqa: E402
+from second.trunk import CLOSES, OPENS, SETTLES, frame, payloads  # noqa: E402
+
+TOP = os.path.join(HERE, "..")
+SERVERS = os.path.join(TOP, "guests")
+
+FINISHED = ("Finished",)
+BUDGET = 1_000_000  # where it isn't given
+
+# A guest of the example guests, or "C NAME" for a server in C; options of rx; the input; and output and answer. `recovers` is
+# output and answer of an rx that recovers, where these are others.
+Run = collections.namedtuple("Run", "guest options stream output answer recovers", defaults=(FINISHED, None))
+
+
+def gave_up(point, cause):
+    return ("GaveUp", point, cause)
+
+
+def opens(*connections):
+    return b"".join(frame(OPENS, connection) for connection in connections)
+
+
+def told(number):
+    return b"%08x\n" % number
+
+
+NAMES = [b"name%03d" % number for number in range(129)]
+LONGEST = b"l" * 4095 + b"\n"
+HEAP = 0x13000  # of guests whose text takes a page, and whose data takes two
+
+ECHO = [
+    Run("echo", "", lines_in(b"hi\n", b"two words\n"), out((0, b"hi\n"), (0, b"two words\n"))),
+    Run("echo", "", b"", b""),
+    # lines of three connections, in pieces
+    Run("echo", "--frame line", opens(0, 4095, 7) + piece(4095, b"x") + piece(0, b"a\nb\nc") + piece(7, b"") + piece(4095, b"y\n\n")
+        + piece(0, b"\n"),
+        out((0, b"a\n"), (0, b"b\n"), (4095, b"xy\n"), (4095, b"\n"), (0, b"c\n"))),
+    Run("echo", "", lines_in(LONGEST), out((0, LONGEST))),
+    Run("echo", "", lines_in(b"hi\n", b"l" + LONGEST), out((0, b"hi\n")), ("MessageTooLong", 0)),
+    Run("echo", "--frame length", lines_in(b"\2\0\0\0hi\0\0", b"\0\0\3\0\0\0yes\1\0"), out((0, b"hi"), (0, b"yes"))),
+    Run("echo", "--frame length", lines_in(b"\1\x10\0\0"), b"", ("MessageTooLong", 0)),
+    Run("echo", "--frame whole", opens(3) + piece(3, b"a\nb") + piece(3, b"") + piece(3, LONGEST), out((3, b"a\nb"), (3, LONGEST))),
+    Run("echo", "--frame whole", opens(3) + piece(3, LONGEST + b"\n"), b"", ("MessageTooLong", 3)),
+    # its bytes are held until 1000 items more have come, the connection closes, or all is settled
+    Run("echo", "--hold 1000", opens(0, 1) + piece(0, b"a\n") + piece(1, b"b\n") + frame(CLOSES, 1) + frame(SETTLES, 0) + piece(0, b"c\n"),
+        out((1, b"b\n"), (0, b"a\n"), (0, b"c\n"))),
+]
+
+REFUSED = [
+    Run("echo", "", lines_in(b"hi\n") + frame(5, 0), out((0, b"hi\n")), ("InputRefused", 1, 13)),
+    Run("echo", "", lines_in(b"hi\n") + frame(OPENS, 4096), out((0, b"hi\n")), ("InputRefused", 2, 13)),
+    Run("echo", "", opens(0, 0), b"", ("InputRefused", 3, 5)),
+    Run("echo", "", opens(0) + frame(CLOSES, 0) + opens(0), b"", ("InputRefused", 3, 10)),
+    Run("echo", "", piece(0, b"hi\n"), b"", ("InputRefused", 4, 0)),
+    Run("echo", "", opens(0) + frame(CLOSES, 0) + piece(0, b"hi\n"), b"", ("InputRefused", 4, 10)),
+    Run("echo", "", lines_in(b"hi\n") + b"\2\0\0", out((0, b"hi\n")), ("InputRefused", 5, 13)),
+    Run("echo", "", lines_in(b"hi\n")[:-1], b"", ("InputRefused", 5, 5)),
+    Run("echo", "", opens(0) + frame(SETTLES, 0, b"x"), b"", ("InputRefused", 6, 5)),
+]
+
+WITHOUT_FAULT = [
+    Run("counter", "", opens(0, 9) + b"".join(piece(number % 2 * 9, b"x\n") for number in range(1, 13)),
+        out(*[(number % 2 * 9, b"%d\n" % number) for number in range(1, 13)])),
+    Run("divide", "", lines_in(b"7 -2\n", b"-7 2\n", b"7 0\n", b"-2147483648 -1\n", b"2147483647 10\n", b"x\n", b"-5\n"),
+        out(*[(0, line) for line in (b"-3 1\n", b"-3 -1\n", b"-1 7\n", b"-2147483648 0\n", b"214748364 7\n", b"-1 0\n", b"-1 -5\n")])),
+    Run("dirty", "--window 1 --frames 2", lines_in(b"a\n", b"b\n", b"c\n"), out((0, b"a\n"), (0, b"b\n"), (0, b"c\n"))),
+    Run("three", "", b"", b""),
+    Run("three", "--budget 4", b"", b""),
+    Run("three", "--budget 3", b"", b"", gave_up(0, "Hang")),
+    Run("three", "", OPENS_0, b"", gave_up(1, "BadAccess")),
+    Run("keys", "", opens(0, 1) + piece(0, b"set city Rome\n") + piece(1, b"get city\n") + piece(1, b"set city Oslo\n") + piece(0, b"get city\n")
+        + piece(0, b"get sea\n") + piece(0, b"put sea\n") + piece(0, b"set sea \n") + piece(0, b"set " + b"k" * 16 + b" v\n"),
+        out((0, b"ok\n"), (1, b"Rome\n"), (1, b"ok\n"), (0, b"Oslo\n"), (0, b"none\n"), (0, b"bad\n"), (0, b"bad\n"), (0, b"ok\n"))),
+    Run("keys", "", lines_in(*[b"set %s v\n" % name for name in NAMES], b"set name000 w\n", b"get name000\n"),
+        out(*[(0, b"ok\n")] * 128, (0, b"full\n"), (0, b"ok\n"), (0, b"w\n"))),
+]
+
+LONG = b"a" * 39 + b"\n"
+GO = opens(0, 1) + piece(1, b"go\n")
+
+WITH_FAULT = [
+    Run("keys", "", lines_in(b"set " + b"k" * 17 + b" v\n", b"get " + b"k" * 17 + b"\n"), b"", gave_up(2, "AssertFailed 6"),
+        (out((0, b"ok\n"), (0, b"v\n")), FINISHED)),
+    Run("null", "", lines_in(b"hi\n"), b"", gave_up(2, "BadAccess")),
+    Run("overflow", "", lines_in(b"hi\n", b"s" * 15 + b"\n"), out((0, b"hi\n"), (0, b"s" * 15 + b"\n"))),
+    Run("overflow", "", lines_in(b"hi\n", LONG, b"hi\n"), out((0, b"hi\n")), gave_up(3, "AssertFailed 1"),
+        (out((0, b"hi\n"), (0, LONG), (0, b"hi\n")), FINISHED)),
+    Run("unset", "", lines_in(b"hi\n"), b"", gave_up(2, "AssertFailed 2"), (out((0, b"hi\n")), FINISHED)),
+    Run("twice", "", lines_in(b"hi\n"), b"", gave_up(2, "BadFree"), (out((0, b"hi\n")), FINISHED)),
+    Run("stale", "", lines_in(b"a\n", b"b\n", b"c\n"), out((0, b"a\n")), gave_up(3, "AssertFailed 3"),
+        (out((0, b"a\n"), (0, b"b\n"), (0, b"c\n")), FINISHED)),
+    Run("tell_free", "", lines_in(b"a\n"), out((0, told(HEAP))), gave_up(2, "BadFree"), (out((0, told(HEAP))), FINISHED)),
+    Run("tell_over", "", lines_in(b"a\n"), out((0, told(HEAP))), gave_up(2, "AssertFailed 5")),
+    # held back when it fails, and passed at the end
+    Run("tell_over", "--hold 2", lines_in(b"a\n"), out((0, told(HEAP))), gave_up(2, "AssertFailed 5"), (out((0, told(HEAP + 256))), FINISHED)),
+    # `a` was sent before the failure, and isn't written a second time
+    Run("late", "", lines_in(b"x\n"), out((0, b"a\n")), gave_up(2, "BadFree"), (out((0, b"a\n")), FINISHED)),
+    Run("pair", "", GO, out((0, b"a\n")), gave_up(3, "BadFree"), (out((0, b"a\n"), (1, b"b\n")), FINISHED)),
+]
+
+SEVENTY = b"add " + b" ".join(b"%d" % number for number in range(1, 71)) + b"\n"
+SAW = out((0, b"<tr><td>saw 12&quot;</td><td>steel</td><td>24.90</td></tr>\n"))
+HAND_SAW = out((0, b"<tr><td>hand saw 12&quot;</td><td>steel</td><td>19.90</td></tr>\n"))
+HALL = out((0, b"hall: users 1\n"), (0, b"hall: users 1\n"), (0, b"hall: users 1, looks 1\n"))
+NUMBERS = out((0, b"numbers 70\n"), (0, b"numbers 0\n"), (0, b"numbers 2\n"))
+
+IN_C = [
+    Run("C echo", "--frame whole", lines_in(b"hi\n", b"\0\xff"), out((0, b"hi\n"), (0, b"\0\xff"))),
+    Run("C upper", "", lines_in(b"two words\n"), out((0, b"TWO WORDS\nmessage 1: 2 words of 4.00 letters; in all 2 words, "
+        b"the longest of 5, the most frequent letter O\n"))),
+    Run("C store", "", opens(0, 1) + piece(0, b"set city Rome\n") + piece(1, b"get city\n") + frame(CLOSES, 0) + piece(1, b"get city\n"),
+        out((0, b"ok\n"), (1, b"Rome\n"), (1, b"none\n"))),
+    Run("C overrun", "", lines_in(b"saw 12\",steel,24.90\n", b"hand saw 12\",steel,19.90\n"),
+        SAW, gave_up(3, "AssertFailed 1"), (SAW + HAND_SAW, FINISHED)),
+    Run("C dangling", "", lines_in(b"enter hall\n", b"enter hall\n", b"look\n", b"leave\n"), HALL, gave_up(5, "BadFree"),
+        (HALL + out((0, b"left hall\n")), FINISHED)),
+    Run("C unset", "", lines_in(SEVENTY, b"clear\n", b"add 5 8\n", b"show\n"), NUMBERS, gave_up(5, "AssertFailed 1"),
+        (NUMBERS + out((0, b"numbers 2, least 5, most 8, mean 6.50, above it 1\n")), FINISHED)),
+    Run("C hopeless", "", lines_in(b"90 min in h\n", b"90 min in fortnights\n"), out((0, b"1.50 h\n")), gave_up(3, "BadAccess")),
+]
+
+RUNS = ECHO + REFUSED + WITHOUT_FAULT + WITH_FAULT + IN_C
+
+# Lines of the shell, their output and status. Names of guests are those of the assembled ones.
+WORDS = "--record record --report report"
+LINES = [
+    ('"$RX"', b"", 2),
+    ('"$RX" replay echo', b"", 2),
+    ('"$RX" run echo --record record', b"", 2),
+    ('"$RX" run echo --record report --report report', b"", 2),
+    ('"$RX" run echo other %s' % WORDS, b"", 2),
+    ('"$RX" run echo %s --record again' % WORDS, b"", 2),
+    ('"$RX" run echo %s --frame lines' % WORDS, b"", 2),
+    ('"$RX" run echo %s --budget 0' % WORDS, b"", 2),
+    ('"$RX" run echo %s --budget 16777217' % WORDS, b"", 2),
+    ('"$RX" run echo %s --window 65' % WORDS, b"", 2),
+    ('"$RX" run echo %s --hold 01' % WORDS, b"", 2),
+    ('"$RX" run echo %s --ring=3' % WORDS, b"", 2),
+    ('"$RX" asm echo.s', b"", 2),
+    ('"$RX" run echo.s %s < /dev/null' % WORDS, b"", 3),
+    ("echo nonsense > wrong.s; \"$RX\" asm wrong.s wrong; status=$?; test -e wrong || exit $status", b"", 3),
+    ("printf 'li a0, 7\\nli a7, 5\\necall\\n' > seven.s; \"$RX\" asm seven.s seven && \"$RX\" run seven %s < /dev/null" % WORDS, b"", 1),
+    ("printf 'li a0, 0\\nli a7, 5\\necall\\n' > zero.s; \"$RX\" asm zero.s zero && \"$RX\" run zero %s < /dev/null" % WORDS, b"", 0),
+    ('"$RX" run echo %s < /' % WORDS, b"", 7),
+    ("printf '\\1\\0\\0\\0\\0\\2\\0\\0\\3\\0hi\\n' | \"$RX\" run echo %s > /dev/full" % WORDS, b"", 8),
+    ('"$RX" run nothing %s < /dev/null' % WORDS, b"", 9),
+    # the program may stand anywhere, and a bound of each option is one of its values
+    ("printf '\\1\\0\\0\\0\\0\\2\\0\\0\\2\\0hi' | \"$RX\" run --window 64 --report report --frame whole --hold 1000 echo --ring 16 --every 64 "
+     "--frames 2 --budget 16777216 --form json --record record", b"\2\0\0\2\0hi", 0),
+]
+
+
+# ---- the shell
+
+
+def quoted(content):
+    """Bytes as an operand of printf."""
+    plain = b"abcdefghijklmnopqrstuvwxyzABCDEFGHIJKLMNOPQRSTUVWXYZ "
+    return "'%s'" % "".join(chr(byte) if byte in plain else "\\%03o" % byte for byte in content)
+
+
+class Shell:
+    """Lines of the shell in a folder, where rx is RX."""
+
+    def __init__(self, rx, folder):
+        self.rx, self.folder, self.made = rx, folder, {}
+
+    def run(self, line):
+        done = subprocess.run(["sh", "-c", line], cwd=self.folder, env=dict(os.environ, RX=self.rx), capture_output=True, check=False)
+        return done.stdout, done.returncode, done.stderr.decode(errors="replace")
+
+    def program(self, guest):
+        """The program file of a guest; None where its text isn't assembled."""
+        if guest.startswith("C "):
+            return os.path.join(SERVERS, guest[2:])
+        if guest not in self.made:
+            with open(os.path.join(self.folder, guest + ".s"), "w", encoding="utf-8") as text:
+                text.write(text_of(guest))
+            self.made[guest] = self.run('"$RX" asm %s.s %s' % (guest, guest))
+        return guest if self.made[guest] == (b"", 0, "") else None
+
+
+def differences(shell, run, recovers):
+    """What differs in a run, and its line."""
+    output, answer = run.recovers if recovers and run.recovers else (run.output, run.answer)
+    program = shell.program(run.guest)
+    if program is None:
+        return ["assembly: %s %s %s" % shell.made[run.guest]], ""
+    line = 'printf %s | "$RX" run %s --record record --report report %s' % (quoted(run.stream), program, run.options)
+    came, status, said = shell.run(line)
+    with open(os.path.join(shell.folder, "output"), "wb") as written:
+        written.write(came)
+    words = run.options.split()
+    told_answer = answer_of(status, said, int(words[words.index("--budget") + 1]) if "--budget" in words else BUDGET)
+    found = []
+    if came != output:
+        found.append("output %r in place of %r" % (came, output))
+    if told_answer != answer:
+        found.append("answer %s in place of %s" % (told_answer, answer))
+    return found, line
+
+
+def has_end(shell):
+    """Whether the last run's record has its last line."""
+    with open(os.path.join(shell.folder, "record"), "rb") as record:
+        return b"\nend " in record.read()
+
+
+def replay_differs(shell, run):
+    """What differs where the run's record is replayed, or None."""
+    came, status, said = shell.run('printf %s | "$RX" replay %s record' % (quoted(run.stream), shell.program(run.guest)))
+    if status:
+        return "replay: status %d, %r" % (status, said)
+    with open(os.path.join(shell.folder, "output"), "rb") as written:
+        output = written.read()
+    same = payloads(came) == payloads(output) if "--hold" in run.options else came == output
+    return None if same else "replay: output %r in place of %r" % (came, output)
+
+
+def line_differs(shell, line, output, status):
+    """What differs in a line, or None. Each status but 0 comes with a sentence."""
+    came, found, said = shell.run(line)
+    if (came, found) != (output, status) or said.startswith("rx: ") != (status != 0):
+        return "output %r, status %d, %r in place of %r, %d" % (came, found, said, output, status)
+    return None
+
+
+def main(words):
+    parser = argparse.ArgumentParser(description="Runs each shipped guest from the shell.")
+    parser.add_argument("--no-recovery", action="store_true")
+    parser.add_argument("--no-replay", action="store_true")
+    parser.add_argument("rx", nargs="?", default=os.path.join(TOP, "crates", "rx", "out", "rx"))
+    asked = parser.parse_args(words)
+    right, wrong, replays = collections.Counter(), 0, 0
+    texts = {name[:-3] for name in os.listdir(FOLDER) if name.endswith(".rt")} - {"lib", "catalogue"}
+    for guest in sorted(texts - {run.guest for run in RUNS}):
+        wrong += 1
+        print("%s: it has no run here" % guest)
+    with tempfile.TemporaryDirectory() as folder:
+        shell = Shell(os.path.abspath(asked.rx), folder)
+        for run in RUNS:
+            found, line = differences(shell, run, not asked.no_recovery)
+            if not (found or asked.no_replay) and has_end(shell):
+                replays += 1
+                found = [difference for difference in [replay_differs(shell, run)] if difference]
+            right[run.guest] += not found
+            wrong += bool(found)
+            for difference in found:
+                print("%s: %s\n  %s" % (run.guest, difference, line))
+        for line in LINES:
+            difference = line_differs(shell, *line)
+            right["other lines"] += not difference
+            wrong += bool(difference)
+            if difference:
+                print("%s\n  %s" % (difference, line[0]))
+    print(", ".join("%s %d" % pair for pair in sorted(right.items())))
+    print("%d runs are right, %d aren't; %d were replayed" % (sum(right.values()), wrong, replays))
+    return 1 if wrong else 0
+
+
+if __name__ == "__main__":
+    sys.exit(main(sys.argv[1:]))
