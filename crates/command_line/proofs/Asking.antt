@@ -1,14 +1,13 @@
 -- Which command the first word asks for.
-use Rattle.std.proofs.Common.{◌≡◌, ◌∙◌, ◌≤◌, ◌-◌, true, false, ap, refl, sym, arith, List, [], ◌∷◌, take, drop, length, Some, None}
+use Rattle.std.proofs.Common.{◌≡◌, ◌∙◌, ◌≤◌, ◌-◌, cond, true, false, ap, refl, sym, arith, List, [], ◌∷◌, take, drop, length, Some, None}
 use Rattle.std.specs.Prelude.{String, string_bytes}
 use Rattle.std.specs.declared.alloc.Global.{Global}
 use Rattle.std.specs.List.{slice_index_or}
 use Rattle.std.specs.Str.{bytes_eq}
 use Rattle.std.proofs.lemmas.List.{take_rest}
 use Rattle.command_line.specs.Texts.{Text}
-use Rattle.command_line.specs.Table.{asm_form, replay_form, run_form}
 use Rattle.command_line.specs.Parts.{Parts, parts, texts_of}
-use Rattle.command_line.specs.Commands.{asm, asm_of, asm_value, command_of, is_asm, is_replay, is_run, replay, replay_of, replay_value, run, run_of, run_value}
+use Rattle.command_line.specs.Commands.{RunValue, asm, asm_of, asm_value, command_of, is_asm, is_replay, is_run, replay, replay_of, replay_value, run, run_of, run_value, asm_form, replay_form, run_form}
 
 pub first_word : (ws : List (String Global)) (w : String Global) (t : Text) → 1 ≤ length ws → w ≡ slice_index_or ws 0 w → t ≡ string_bytes w
     → texts_of ws ≡ t ∷ texts_of (take (length ws - 1) (drop 1 ws))
@@ -48,3 +47,52 @@ asm_refused p e = rw e refl
 
 pub replay_refused : (p : Parts) → is_replay p ≡ false → replay_of p ≡ None
 replay_refused p e = rw e refl
+
+-- ---- words that are a `run`
+
+-- words that are a `run`: their parts are those of one, and the value is theirs
+pub record IsRun (value : RunValue) : Type 0 where
+  pub parts_are : Parts
+  pub is : is_run parts_are ≡ true
+  pub value_is : run_value parts_are ≡ value
+
+of_parts : (p : Parts) (value : RunValue) → run_of p ≡ Some (run value) → IsRun value
+of_parts p value asked =
+    elim (is_run p) as (λ b. is_run p ≡ b → cond b (Some (run (run_value p))) None ≡ Some (run value) → IsRun value) [
+      | true ↦ λ e some. let same_value : run_value p ≡ value = cc in record { parts_are = p; is = e; value_is = same_value }
+      | false ↦ λ e none. absurd (let no_such : None ≡ Some (run value) = none in cc)
+    ] refl asked
+
+not_asm : (p : Parts) (value : RunValue) → asm_of p ≡ Some (run value) → ⊥
+not_asm p value asked =
+    elim (is_asm p) as (λ b. cond b (Some (asm (asm_value p))) None ≡ Some (run value) → ⊥) [
+      | true ↦ λ some. let other_kind : Some (asm (asm_value p)) ≡ Some (run value) = some in cc
+      | false ↦ λ none. let no_such : None ≡ Some (run value) = none in cc
+    ] asked
+
+not_replay : (p : Parts) (value : RunValue) → replay_of p ≡ Some (run value) → ⊥
+not_replay p value asked =
+    elim (is_replay p) as (λ b. cond b (Some (replay (replay_value p))) None ≡ Some (run value) → ⊥) [
+      | true ↦ λ some. let other_kind : Some (replay (replay_value p)) ≡ Some (run value) = some in cc
+      | false ↦ λ none. let no_such : None ≡ Some (run value) = none in cc
+    ] asked
+
+-- words of another command aren't a `run`
+not_other : (word : Text) (rest : List Text) (value : RunValue)
+    → cond (bytes_eq word asm_form.name) (asm_of (parts rest)) (cond (bytes_eq word replay_form.name) (replay_of (parts rest)) None) ≡ Some (run value) → ⊥
+not_other word rest value asked =
+    elim (bytes_eq word asm_form.name) as (λ b. cond b (asm_of (parts rest)) (cond (bytes_eq word replay_form.name) (replay_of (parts rest)) None) ≡ Some (run value) → ⊥) [
+      | true ↦ λ more. not_asm (parts rest) value more
+      | false ↦ λ more. elim (bytes_eq word replay_form.name) as (λ b. cond b (replay_of (parts rest)) None ≡ Some (run value) → ⊥) [
+        | true ↦ λ last. not_replay (parts rest) value last
+        | false ↦ λ none. let no_such : None ≡ Some (run value) = none in cc
+      ] more
+    ] asked
+
+pub asked_run : (words : List Text) (value : RunValue) → command_of words ≡ Some (run value) → IsRun value
+asked_run [] value asked = absurd (let no_such : None ≡ Some (run value) = asked in cc)
+asked_run (word ∷ rest) value asked =
+    elim (bytes_eq word run_form.name) as (λ b. cond b (run_of (parts rest)) (cond (bytes_eq word asm_form.name) (asm_of (parts rest)) (cond (bytes_eq word replay_form.name) (replay_of (parts rest)) None)) ≡ Some (run value) → IsRun value) [
+      | true ↦ λ some. of_parts (parts rest) value some
+      | false ↦ λ some. absurd (not_other word rest value some)
+    ] asked

@@ -2,7 +2,7 @@ mod Numbers
 mod Listed
 mod Arguing
 mod Taking
-mod Asking
+pub mod Asking
 mod Pieces
 mod Walking
 mod Cutting
@@ -10,4 +10,4 @@ mod Rows
 mod Finding
 mod Clapping
 mod Readable
-pub mod Ranges
+mod Ranges

@@ -5,12 +5,13 @@ use Rattle.std.specs.Option.{option_map, option_map_or}
 use Rattle.std.specs.Str.{bytes_eq}
 use Rattle.command_line.specs.declared.options.TakesOf.TheVariants.{Name, OneOf, Number}
 use Rattle.command_line.specs.Texts.{Text, is_name, number_of}
-use Rattle.command_line.specs.Table.{Row, Takes, asm_form, replay_form, run_form}
+use Rattle.command_line.specs.Table.{Row, Takes}
 use Rattle.command_line.specs.Options.{Options, are_options, default_of, has_option, is_between, is_for, is_taken, number_at, takes_of, value_of}
-use Rattle.command_line.specs.Parts.{Parts, are_positionals, parts}
-use Rattle.command_line.specs.Commands.{RunValue, command_of, asm, asm_of, asm_value, fits, is_asm, is_replay, is_run, replay, replay_of, replay_value, run, run_of, run_value}
+use Rattle.command_line.specs.Parts.{Parts, are_positionals}
+use Rattle.command_line.specs.Commands.{fits, is_run, run_value, run_form}
 use Rattle.command_line.specs.Reading.{EachRow}
 use Rattle.command_line.specs.Ranges.{AreInRange, EachInRange, IsInRange, NumbersOf, RangesOf, takes_numbers}
+use Rattle.command_line.proofs.Asking.{asked_run}
 use Rattle.command_line.proofs.Numbers.{both}
 use Rattle.command_line.proofs.Pieces.{is_row}
 use Rattle.command_line.proofs.Rows.{apart, each_both}
@@ -100,53 +101,6 @@ in_ranges p e =
     let names = both (are_positionals (length run_form.positionals) p.positionals) _ (both (fits run_form p) _ e).0 in
     let taken = (both (are_options run_form.options p.options) _ names.1).0 in
     each_in_range run_form.options p.options taken run_form.options (each_alone run_form.options refl) refl
-
--- words that are a `run`: their parts are those of one, and the value is theirs
-pub record IsRun (value : RunValue) : Type 0 where
-  pub parts_are : Parts
-  pub is : is_run parts_are ≡ true
-  pub value_is : run_value parts_are ≡ value
-
-of_parts : (p : Parts) (value : RunValue) → run_of p ≡ Some (run value) → IsRun value
-of_parts p value asked =
-    elim (is_run p) as (λ b. is_run p ≡ b → cond b (Some (run (run_value p))) None ≡ Some (run value) → IsRun value) [
-      | true ↦ λ e some. let same_value : run_value p ≡ value = cc in record { parts_are = p; is = e; value_is = same_value }
-      | false ↦ λ e none. absurd (let no_such : None ≡ Some (run value) = none in cc)
-    ] refl asked
-
-not_asm : (p : Parts) (value : RunValue) → asm_of p ≡ Some (run value) → ⊥
-not_asm p value asked =
-    elim (is_asm p) as (λ b. cond b (Some (asm (asm_value p))) None ≡ Some (run value) → ⊥) [
-      | true ↦ λ some. let other_kind : Some (asm (asm_value p)) ≡ Some (run value) = some in cc
-      | false ↦ λ none. let no_such : None ≡ Some (run value) = none in cc
-    ] asked
-
-not_replay : (p : Parts) (value : RunValue) → replay_of p ≡ Some (run value) → ⊥
-not_replay p value asked =
-    elim (is_replay p) as (λ b. cond b (Some (replay (replay_value p))) None ≡ Some (run value) → ⊥) [
-      | true ↦ λ some. let other_kind : Some (replay (replay_value p)) ≡ Some (run value) = some in cc
-      | false ↦ λ none. let no_such : None ≡ Some (run value) = none in cc
-    ] asked
-
--- words of another command aren't a `run`
-not_other : (word : Text) (rest : List Text) (value : RunValue)
-    → cond (bytes_eq word asm_form.name) (asm_of (parts rest)) (cond (bytes_eq word replay_form.name) (replay_of (parts rest)) None) ≡ Some (run value) → ⊥
-not_other word rest value asked =
-    elim (bytes_eq word asm_form.name) as (λ b. cond b (asm_of (parts rest)) (cond (bytes_eq word replay_form.name) (replay_of (parts rest)) None) ≡ Some (run value) → ⊥) [
-      | true ↦ λ more. not_asm (parts rest) value more
-      | false ↦ λ more. elim (bytes_eq word replay_form.name) as (λ b. cond b (replay_of (parts rest)) None ≡ Some (run value) → ⊥) [
-        | true ↦ λ last. not_replay (parts rest) value last
-        | false ↦ λ none. let no_such : None ≡ Some (run value) = none in cc
-      ] more
-    ] asked
-
-pub asked_run : (words : List Text) (value : RunValue) → command_of words ≡ Some (run value) → IsRun value
-asked_run [] value asked = absurd (let no_such : None ≡ Some (run value) = asked in cc)
-asked_run (word ∷ rest) value asked =
-    elim (bytes_eq word run_form.name) as (λ b. cond b (run_of (parts rest)) (cond (bytes_eq word asm_form.name) (asm_of (parts rest)) (cond (bytes_eq word replay_form.name) (replay_of (parts rest)) None)) ≡ Some (run value) → IsRun value) [
-      | true ↦ λ some. of_parts (parts rest) value some
-      | false ↦ λ some. absurd (not_other word rest value some)
-    ] asked
 
 pub ranges_of : RangesOf
 ranges_of words value asked =

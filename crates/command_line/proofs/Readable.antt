@@ -5,9 +5,8 @@ use Rattle.clap.specs.Simple.{built, matches_of}
 use Rattle.clap.specs.Takes.{takes}
 use Rattle.clap.specs.Walk.{Text, rows_of}
 use Rattle.clap.specs.declared.parser.matches.ArgMatches.{ArgMatches}
-use Rattle.command_line.specs.Commands.{fits, positional}
+use Rattle.command_line.specs.Commands.{fits, positional, asm_form, replay_form, run_form}
 use Rattle.command_line.specs.Parts.{parts}
-use Rattle.command_line.specs.Table.{asm_form, replay_form, run_form}
 use Rattle.command_line.specs.Reading.{EachName, HasRead, app_of_form}
 use Rattle.command_line.proofs.Pieces.{is_row, plain_rule}
 use Rattle.command_line.proofs.Rows.{each_optional}

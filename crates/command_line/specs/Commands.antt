@@ -1,20 +1,24 @@
 -- The command that words ask for.
-use Rattle.std.specs.Prelude.{ℕ, ◌&&◌, Bool, not, List, [], ◌∷◌, Option, Some, None, if◌then◌else◌, length, slice_get, unwrap_or}
+use Rattle.std.specs.Prelude.{◌≡◌, true, ℕ, ◌&&◌, Bool, not, List, [], ◌∷◌, Option, Some, None, if◌then◌else◌, length, slice_get, unwrap_or}
 use Rattle.std.specs.Str.{bytes_eq}
 use Rattle.msg_frame.specs.declared.framing.Framing.{Framing}
 use Rattle.msg_frame.specs.declared.framing.Framing.TheVariants.{Line, Length, Whole}
 use Rattle.command_line.specs.Texts.{Text}
-use Rattle.command_line.specs.Parts.{Parts, are_positionals, parts}
+use Rattle.command_line.specs.Parts.{Parts, are_positionals, parts, parts_of}
 use Rattle.command_line.specs.Options.{are_options, has_required, number_at, value_of}
 use Rattle.command_line.specs.declared.run_words.Form.{Form}
 use Rattle.command_line.specs.declared.run_words.Form.TheVariants as form
 use Rattle.command_line.specs.declared.command.Command.{Command}
 use Rattle.command_line.specs.declared.command.Command.TheVariants.{Run, Asm, Replay}
 use Rattle.command_line.specs.declared.run_words.RunCommand.{RunCommand}
-use Rattle.command_line.specs.declared.command.AsmCommand.{AsmCommand}
-use Rattle.command_line.specs.declared.command.ReplayCommand.{ReplayCommand}
+use Rattle.command_line.specs.declared.command.Asked.{Asked}
+use Rattle.command_line.specs.declared.command.Asked.TheVariants as asked
+use Rattle.command_line.specs.declared.asm_words.AsmCommand.{AsmCommand}
+use Rattle.command_line.specs.declared.asm_words.TheConstants as asm_table
+use Rattle.command_line.specs.declared.replay_words.ReplayCommand.{ReplayCommand}
+use Rattle.command_line.specs.declared.replay_words.TheConstants as replay_table
 use Rattle.command_line.specs.declared.run_words.TheConstants as table
-use Rattle.command_line.specs.Table.{CommandForm, Row, static_row, run_form, asm_form, replay_form, record_row, report_row, form_row, frame_row}
+use Rattle.command_line.specs.Table.{CommandForm, Row, static_row, static_form, record_row, report_row, form_row, frame_row}
 
 -- what a session of a program is asked for
 pub record RunValue : Type 0 where
@@ -45,6 +49,16 @@ pub data CommandValue : Type 0 where
   run : RunValue → CommandValue
   asm : AsmValue → CommandValue
   replay : ReplayValue → CommandValue
+
+-- the name, the positionals and the options of each command
+unfoldable pub run_form : CommandForm
+run_form = static_form table.RUN
+
+unfoldable pub asm_form : CommandForm
+asm_form = static_form asm_table.ASM
+
+unfoldable pub replay_form : CommandForm
+replay_form = static_form replay_table.REPLAY
 
 -- the positionals are as many as the command has, all of them names, and the options are of its rows, each at most once,
 -- those without a default present
@@ -155,3 +169,9 @@ abbrev pub shown : Command → CommandValue
 shown (Run c) = run (run_shown c)
 shown (Asm c) = asm (asm_shown c)
 shown (Replay c) = replay (replay_shown c)
+
+-- the words ask for this command, and these stand behind its name
+abbrev pub Asks : List Text → Asked → Type 0
+Asks words (asked.Run rest) = (is_run (parts_of rest.now) ≡ true) × (command_of words ≡ Some (run (run_value (parts_of rest.now))))
+Asks words (asked.Asm rest) = (is_asm (parts_of rest.now) ≡ true) × (command_of words ≡ Some (asm (asm_value (parts_of rest.now))))
+Asks words (asked.Replay rest) = (is_replay (parts_of rest.now) ≡ true) × (command_of words ≡ Some (replay (replay_value (parts_of rest.now))))

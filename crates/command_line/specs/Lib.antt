@@ -3,6 +3,5 @@ pub mod Parts
 pub mod Table
 pub mod Options
 pub mod Commands
-pub mod Meant
 pub mod Reading
 pub mod Ranges

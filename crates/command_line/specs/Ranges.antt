@@ -2,8 +2,8 @@
 use Rattle.std.specs.Prelude.{◌≡◌, ℕ, ◌≤◌, Bool, true, false, List, [], ◌∷◌, Some, filter, map}
 use Rattle.command_line.specs.declared.options.TakesOf.TheVariants.{Name, OneOf, Number}
 use Rattle.command_line.specs.Texts.{Text}
-use Rattle.command_line.specs.Table.{Row, Takes, run_form}
-use Rattle.command_line.specs.Commands.{CommandValue, RunValue, asm, command_of, numbers, replay, run}
+use Rattle.command_line.specs.Table.{Row, Takes}
+use Rattle.command_line.specs.Commands.{CommandValue, RunValue, command_of, numbers, run, run_form}
 
 -- a row takes numbers
 abbrev pub takes_numbers : Takes → Bool
@@ -26,11 +26,10 @@ EachInRange (number ∷ rest) = IsInRange number.0.takes number.1 × EachInRange
 abbrev pub AreInRange : RunValue → Type 0
 AreInRange value = EachInRange (numbers value)
 
--- the same of a command; `asm` and `replay` have no numbers
+-- the same of a command; the others have no numbers
 abbrev pub HasRanges : CommandValue → Type 0
 HasRanges (run value) = AreInRange value
-HasRanges (asm value) = Unit {0}
-HasRanges (replay value) = Unit {0}
+HasRanges _ = Unit {0}
 
 -- the numbers of words that are a `run` are in the ranges of their rows
 abbrev pub RangesOf : Type 0

@@ -1,4 +1,4 @@
--- The table of the commands and their options, as plain texts and numbers.
+-- The rows of the table of commands and options, as plain texts and numbers.
 use Rattle.std.specs.Prelude.{List, map, option_map}
 use Rattle.std.specs.Borrow.{Bor}
 use Rattle.command_line.specs.Texts.{Text}
@@ -6,7 +6,6 @@ use Rattle.command_line.specs.declared.options.CommandOf.{CommandOf}
 use Rattle.command_line.specs.declared.options.RowOf.{RowOf}
 use Rattle.command_line.specs.declared.options.TakesOf.{TakesOf}
 use Rattle.command_line.specs.declared.options.TakesOf.TheVariants.{Name, OneOf, Number}
-use Rattle.command_line.specs.declared.command.TheConstants as commands
 use Rattle.command_line.specs.declared.run_words.TheConstants as table
 
 -- what an option takes, a row of the table, and a command with its rows
@@ -66,15 +65,6 @@ static_row row = row_by (λ text. text.now) static_texts row
 
 abbrev pub static_form : CommandOf StaticText StaticTexts (record { now : List StaticRow }) → CommandForm
 static_form command = record { name = command.name.now; positionals = static_texts command.positionals; options = map static_row command.options.now }
-
-unfoldable pub run_form : CommandForm
-run_form = static_form table.RUN
-
-unfoldable pub asm_form : CommandForm
-asm_form = static_form commands.ASM
-
-unfoldable pub replay_form : CommandForm
-replay_form = static_form commands.REPLAY
 
 unfoldable pub record_row : Row
 record_row = static_row table.RECORD

@@ -1,56 +1,23 @@
-// The commands, and what the words of one come to.
-use crate::options::{CommandOf, CommandRow, OptionRow};
-use crate::run_words::{PROGRAM, RUN, RunCommand};
+// The commands, and the one that the words ask for.
+ghost use Rattle.std.specs.Prelude.{◌≡◌, Ok, None, IfOk, IfSome, MatchOption, is_some, option_map};
+ghost use Rattle.command_line.specs.Parts.{texts_of};
+ghost use Rattle.command_line.specs.Commands.{Asks, asm_form, command_of, replay_form, run_form, shown};
+ghost use Rattle.command_line.specs.Ranges.{HasRanges};
 
-/// The file of an assembler's text.
-pub const SOURCE: &str = "SOURCE";
-/// The file that is written.
-pub const OUT: &str = "OUT";
-
-/// The file of a record.
-pub const RECORDED: &str = "RECORD";
-
-/// The options of `asm`.
-pub const ASM_OPTIONS: [OptionRow; 0] = [];
-
-// The name of the command that assembles.
-pub(crate) const ASM_NAME: &str = "asm";
-
-/// Assembles a program.
-pub const ASM: CommandRow = CommandOf {
-    name: ASM_NAME,
-    positionals: &[SOURCE, OUT],
-    options: &ASM_OPTIONS,
-};
-
-/// The options of `replay`.
-pub const REPLAY_OPTIONS: [OptionRow; 0] = [];
-
-// The name of the command that replays.
-pub(crate) const REPLAY_NAME: &str = "replay";
-
-/// Replays a record.
-pub const REPLAY: CommandRow = CommandOf {
-    name: REPLAY_NAME,
-    positionals: &[PROGRAM, RECORDED],
-    options: &REPLAY_OPTIONS,
-};
+use crate::asm_words::{ASM, ASM_NAME, AsmCommand, are_asm_words, asm_command};
+use crate::options::CommandRow;
+use crate::replay_words::{REPLAY, REPLAY_NAME, ReplayCommand, are_replay_words, replay_command};
+use crate::run_words::{RUN, RUN_NAME, RunCommand, are_run_words, run_command};
+use std::alloc::{AllocError, Global};
 
 /// The commands.
 pub const COMMANDS: [CommandRow; 3] = [RUN, ASM, REPLAY];
 
-/// An assembly: the names of its source and of what it writes, not alike.
-#[derive(Clone, Copy, Debug)]
-pub struct AsmCommand<'a> {
-    pub source: &'a str,
-    pub out: &'a str,
-}
+static ALL: [CommandRow; 3] = COMMANDS;
 
-/// A replay: the names of the program and of its record.
-#[derive(Clone, Copy, Debug)]
-pub struct ReplayCommand<'a> {
-    pub program: &'a str,
-    pub recording: &'a str,
+// The commands, as the sentences about them want them.
+pub(crate) fn commands() -> &'static [CommandRow] {
+    &ALL
 }
 
 /// What the words ask for.
@@ -59,4 +26,79 @@ pub enum Command<'a> {
     Run(RunCommand<'a>),
     Asm(AsmCommand<'a>),
     Replay(ReplayCommand<'a>),
+}
+
+/// Which command the words ask for, with the words behind its name.
+#[derive(Clone, Copy)]
+pub enum Asked<'a> {
+    Run(&'a [String]),
+    Asm(&'a [String]),
+    Replay(&'a [String]),
+}
+
+/// The command that the words ask for, if they are those of one.
+pub(crate) fn find_command<'a>(words: &'a [String]) -> Option<Asked<'a>>
+    ensures { MatchOption result (command_of (texts_of words.now) ≡ None) (λ found. Asks (texts_of words.now) found) }
+{
+    let [command, rest @ ..] = words else {
+        return None;
+    };
+    if command.as_str() == RUN_NAME {
+        if !are_run_words(rest) {
+            return None;
+        }
+        return Some(Asked::Run(rest));
+    }
+    if command.as_str() == ASM_NAME {
+        if !are_asm_words(rest) {
+            return None;
+        }
+        return Some(Asked::Asm(rest));
+    }
+    if command.as_str() == REPLAY_NAME {
+        if !are_replay_words(rest) {
+            return None;
+        }
+        return Some(Asked::Replay(rest));
+    }
+    None
+}
+
+/// Whether the words behind the program's own name are those of a command.
+pub fn is_command(words: &[String]) -> bool
+    ensures { result ≡ is_some (command_of (texts_of words.now)) }
+{
+    match find_command(words) {
+        None => false,
+        Some(Asked::Run(_)) => true,
+        Some(Asked::Asm(_)) => true,
+        Some(Asked::Replay(_)) => true,
+    }
+}
+
+/// The command that the words behind the program's own name ask for, and `None` exactly where they ask for none. The words are
+/// checked first, so memory is wanted for a command alone.
+pub fn read_command<'a>(
+    alloc: Global,
+    words: &'a [String],
+) -> Result<Option<Command<'a>>, AllocError>
+    ensures read { IfOk result (λ command. option_map shown command ≡ command_of (texts_of words.now)) }
+    ensures ranges { IfOk result (λ command. IfSome command (λ c. HasRanges (shown c))) }
+    ensures refused { command_of (texts_of words.now) ≡ None → result ≡ Ok None }
+{
+    match find_command(words) {
+        None => Ok(None),
+        Some(Asked::Run(rest)) => match run_command(alloc, rest) {
+            Ok(run) => Ok(Some(Command::Run(run))),
+            Err(error) => Err(error),
+        },
+        Some(Asked::Asm(rest)) => match asm_command(alloc, rest) {
+            Ok(asm) => Ok(Some(Command::Asm(asm))),
+            Err(error) => Err(error),
+        },
+        Some(Asked::Replay(rest)) => match replay_command(alloc, rest) {
+            Ok(replay) => Ok(Some(Command::Replay(replay))),
+            Err(error) => Err(error),
+        },
+    }
 }

@@ -6,23 +6,22 @@
 #![tactic(auto)]
 
 mod accepted;
+mod asm_words;
 mod command;
 mod laws;
 mod matching;
 mod options;
 mod parts;
-mod reading;
+mod replay_words;
 mod run_words;
 mod texts;
 mod wording;
 
-pub use accepted::is_command;
-pub use command::{
-    ASM, ASM_OPTIONS, AsmCommand, COMMANDS, Command, REPLAY, REPLAY_OPTIONS, ReplayCommand,
-};
+pub use asm_words::{ASM, ASM_OPTIONS, AsmCommand};
+pub use command::{COMMANDS, Command, is_command, read_command};
 pub use laws::{numbers_of, ranges_of};
 pub use options::{CommandOf, CommandRow, OptionRow, RowOf, Takes, TakesOf, takes_value};
-pub use reading::read_command;
+pub use replay_words::{REPLAY, REPLAY_OPTIONS, ReplayCommand};
 pub use run_words::{Form, RUN, RUN_OPTIONS, RunCommand};
 pub use texts::{is_name, number};
 pub use wording::{complaint, range_of, usage};

@@ -1,15 +1,11 @@
 // The words read by clap, which gives the values and the defaults.
-ghost use Rattle.std.specs.Prelude.{◌≡◌, true, false, fold, map, IfOk, IfErr, Some, List, ℕ};
+ghost use Rattle.std.specs.Prelude.{◌≡◌, false, fold, map, IfOk, Some, List, ℕ};
 ghost use Rattle.clap.specs.Words.{app_of, first_value, found_of, kind_of, new_rule, rule_of, with_rule};
 ghost use Rattle.clap.specs.declared.error.kind.ErrorKind.TheVariants.{OutOfMemory};
-ghost use Rattle.command_line.specs.Commands.{fits};
-ghost use Rattle.command_line.specs.Parts.{parts_of};
-ghost use Rattle.command_line.specs.Reading.{HasRead, app_of_form, option_rule};
-ghost use Rattle.command_line.specs.Table.{asm_form, form_read, replay_form, row_read, rows_read, run_form};
+ghost use Rattle.command_line.specs.Reading.{app_of_form, option_rule};
+ghost use Rattle.command_line.specs.Table.{form_read, row_read, rows_read};
 
-use crate::command::{ASM, REPLAY};
 use crate::options::{CommandRow, OptionRow};
-use crate::run_words::RUN;
 use clap::{Arg, ArgMatches, Error};
 use std::alloc::{AllocError, Global};
 
@@ -56,7 +52,7 @@ fn with_options<'a>(
 }
 
 // clap's command of a row of our table.
-fn parser<'a>(alloc: Global, form: &CommandRow) -> Result<clap::Command<'a>, AllocError>
+pub(crate) fn parser<'a>(alloc: Global, form: &CommandRow) -> Result<clap::Command<'a>, AllocError>
     ensures { IfOk result (λ c. app_of c ≡ app_of_form (form_read form.now)) }
 {
     let bare = clap::Command::new(alloc, form.name)
@@ -64,36 +60,6 @@ fn parser<'a>(alloc: Global, form: &CommandRow) -> Result<clap::Command<'a>, All
         .disable_help_flag(true);
     let named = with_positionals(alloc, bare, form.positionals)?;
     with_options(alloc, named, form.options)
-}
-
-/// The words behind `run`, read by clap. What our own check takes has no fault there: only memory may be wanted.
-pub fn read_run<'a>(alloc: Global, words: &'a [String]) -> Result<ArgMatches<'a>, Error>
-    requires { fits run_form (parts_of words.now) ≡ true }
-    ensures read { IfOk result (λ m. HasRead run_form (parts_of words.now) m) }
-    ensures faultless { IfErr result (λ e. kind_of e ≡ OutOfMemory) }
-{
-    let command = parser(alloc, &RUN)?;
-    command.try_get_matches_from(words)
-}
-
-/// The words behind `asm`, read by clap. What our own check takes has no fault there: only memory may be wanted.
-pub fn read_asm<'a>(alloc: Global, words: &'a [String]) -> Result<ArgMatches<'a>, Error>
-    requires { fits asm_form (parts_of words.now) ≡ true }
-    ensures read { IfOk result (λ m. HasRead asm_form (parts_of words.now) m) }
-    ensures faultless { IfErr result (λ e. kind_of e ≡ OutOfMemory) }
-{
-    let command = parser(alloc, &ASM)?;
-    command.try_get_matches_from(words)
-}
-
-/// The words behind `replay`, read by clap. What our own check takes has no fault there: only memory may be wanted.
-pub fn read_replay<'a>(alloc: Global, words: &'a [String]) -> Result<ArgMatches<'a>, Error>
-    requires { fits replay_form (parts_of words.now) ≡ true }
-    ensures read { IfOk result (λ m. HasRead replay_form (parts_of words.now) m) }
-    ensures faultless { IfErr result (λ e. kind_of e ≡ OutOfMemory) }
-{
-    let command = parser(alloc, &REPLAY)?;
-    command.try_get_matches_from(words)
 }
 
 /// The value that clap has read under an id.
@@ -104,4 +70,12 @@ pub fn value_in<'a>(matches: &ArgMatches<'a>, id: &str) -> &'a str
         Some(text) => text,
         None => "",
     }
+}
+
+// The one error that clap has at words that our own check takes.
+pub(crate) fn out_of_memory(error: Error) -> AllocError
+    requires { kind_of error ≡ OutOfMemory }
+{
+    let _error = error;
+    AllocError
 }

@@ -1,17 +1,22 @@
 // The command `run`: its options, and what its words come to. One more option is a row, its place among the others, a field of
 // `RunCommand` and a line of `run_from`.
-ghost use Rattle.std.specs.Prelude.{◌≡◌, unwrap_or};
+ghost use Rattle.std.specs.Prelude.{◌≡◌, true, IfOk, IfErr, unwrap_or};
+ghost use Rattle.clap.specs.Words.{kind_of};
+ghost use Rattle.clap.specs.declared.error.kind.ErrorKind.TheVariants.{OutOfMemory};
 ghost use Rattle.command_line.specs.Texts.{number_of};
-ghost use Rattle.command_line.specs.Parts.{Parts};
-ghost use Rattle.command_line.specs.Table.{run_form};
-ghost use Rattle.command_line.specs.Commands.{form_of, frame_of, run_shown, run_value};
+ghost use Rattle.command_line.specs.Options.{value_of};
+ghost use Rattle.command_line.specs.Parts.{Parts, parts_of};
+ghost use Rattle.command_line.specs.Table.{record_row, report_row};
+ghost use Rattle.command_line.specs.Commands.{differ, fits, form_of, frame_of, is_run, run_form, run_shown, run_value};
 ghost use Rattle.command_line.specs.Reading.{HasRead};
 
-use crate::matching::value_in;
+use crate::accepted::{have_form, name_at, value};
+use crate::matching::{out_of_memory, parser, value_in};
 use crate::options::{CommandOf, CommandRow, OptionRow, RowOf, TakesOf};
 use crate::texts::number;
-use clap::ArgMatches;
+use clap::{ArgMatches, Error};
 use msg_frame::Framing;
+use std::alloc::{AllocError, Global};
 
 /// The program's file.
 pub const PROGRAM: &str = "PROGRAM";
@@ -157,8 +162,66 @@ fn number_or_zero(text: &str) -> u32
     }
 }
 
-/// The names and numbers of `run`, once clap has read the words.
-pub fn run_from<'a>(matches: &ArgMatches<'a>) -> RunCommand<'a>
+// Whether the words have the form of `run`.
+#[tactic(auto, unfolding(crate::specs::Commands::run_form))]
+fn fit_run(words: &[String]) -> bool
+    ensures { result ≡ fits run_form (parts_of words.now) }
+{
+    have_form(words, &RUN)
+}
+
+// Where the record goes.
+#[tactic(auto, unfolding(crate::specs::Table::record_row))]
+pub(crate) fn recording<'a>(words: &'a [String]) -> &'a str
+    ensures { result.now ≡ value_of record_row (parts_of words.now).options }
+{
+    value(words, &RECORD)
+}
+
+// Where the report goes.
+#[tactic(auto, unfolding(crate::specs::Table::report_row))]
+pub(crate) fn report<'a>(words: &'a [String]) -> &'a str
+    ensures { result.now ≡ value_of report_row (parts_of words.now).options }
+{
+    value(words, &REPORT)
+}
+
+// Whether no two of three texts are alike.
+fn differ(first: &str, second: &str, third: &str) -> bool
+    ensures { result ≡ differ first.now second.now third.now }
+{
+    if first == second {
+        return false;
+    }
+    if first == third {
+        return false;
+    }
+    second != third
+}
+
+// Whether these are the words behind `run`.
+#[tactic(auto, unfolding(crate::specs::Commands::is_run))]
+pub(crate) fn are_run_words(words: &[String]) -> bool
+    ensures { result ≡ is_run (parts_of words.now) }
+{
+    if !fit_run(words) {
+        return false;
+    }
+    differ(name_at(words, 0), recording(words), report(words))
+}
+
+// The words behind `run`, read by clap. What our own check takes has no fault there: only memory may be wanted.
+fn read_run<'a>(alloc: Global, words: &'a [String]) -> Result<ArgMatches<'a>, Error>
+    requires { fits run_form (parts_of words.now) ≡ true }
+    ensures read { IfOk result (λ m. HasRead run_form (parts_of words.now) m) }
+    ensures faultless { IfErr result (λ e. kind_of e ≡ OutOfMemory) }
+{
+    let command = parser(alloc, &RUN)?;
+    command.try_get_matches_from(words)
+}
+
+// The names and numbers of `run`, once clap has read the words.
+fn run_from<'a>(matches: &ArgMatches<'a>) -> RunCommand<'a>
     ensures { (p : Parts) → HasRead run_form p matches.now → run_shown result ≡ run_value p }
 {
     RunCommand {
@@ -173,5 +236,19 @@ pub fn run_from<'a>(matches: &ArgMatches<'a>) -> RunCommand<'a>
         every: number_or_zero(value_in(matches, EVERY.name)),
         frames: number_or_zero(value_in(matches, FRAMES.name)),
         budget: number_or_zero(value_in(matches, BUDGET.name)),
+    }
+}
+
+// The command that the words behind `run` are.
+pub(crate) fn run_command<'a>(
+    alloc: Global,
+    words: &'a [String],
+) -> Result<RunCommand<'a>, AllocError>
+    requires { is_run (parts_of words.now) ≡ true }
+    ensures { IfOk result (λ run. run_shown run ≡ run_value (parts_of words.now)) }
+{
+    match read_run(alloc, words) {
+        Ok(matches) => Ok(run_from(&matches)),
+        Err(error) => Err(out_of_memory(error)),
     }
 }

@@ -1,18 +1,12 @@
 // What is wrong with words that are refused, for a person.
-use crate::accepted::{name_at, recording, report};
-use crate::command::{ASM_NAME, COMMANDS, OUT, SOURCE};
+use crate::accepted::name_at;
+use crate::asm_words::{ASM_NAME, OUT, SOURCE};
+use crate::command::commands;
 use crate::options::{CommandRow, OptionRow, Takes, TakesOf, is_named, takes_value};
 use crate::parts::{Part, given, is_there, next_part, positional};
-use crate::run_words::{PROGRAM, RUN_NAME};
+use crate::run_words::{PROGRAM, RUN_NAME, recording, report};
 use crate::texts::is_name;
 use std::alloc::{AllocError, Global};
-
-static ALL: [CommandRow; 3] = COMMANDS;
-
-// The commands.
-fn commands() -> &'static [CommandRow] {
-    &ALL
-}
 
 // The command of this name.
 fn command_named(name: &str) -> Option<&'static CommandRow> {

@@ -1,19 +1,20 @@
-// Standard error: what was wrong, where, and what would be right.
+// Standard error: what was wrong, where, and what would be right. A part for each command, and the choice among them at the end.
 ghost use Rattle.std.specs.Prelude.{◌≡◌, IfSome};
 ghost use Rattle.elf_image.specs.Layout.{IsWindow};
 ghost use Rattle.command_line.specs.Commands.{run_shown};
 ghost use Rattle.command_line.specs.Ranges.{AreInRange};
 
-use crate::message::{AsmMessage, ReplayMessage, RunMessage};
+use crate::message::{write_outside, write_refused};
 use command_line::{
     AsmCommand, Command, ReplayCommand, RunCommand, complaint, read_command, usage,
 };
 use elf_image::{RefusedField, field_of_refusal};
-use run_history::Answer;
+use run_history::{Answer, Cause};
 use rv_asm::explain;
 use rx_io::{Files, StdFiles};
 use rx_serve::{MAX_PROGRAM, MAX_RECORD, MAX_SOURCE};
 use schedule_file::read_record;
+use std::fmt;
 
 /// Tells that memory ran out.
 pub fn tell_memory(rt: &HostRuntime) {
@@ -50,14 +51,6 @@ fn tell_words(rt: &HostRuntime, words: &[String]) {
     }
 }
 
-// The bytes of a program's window.
-fn window_bytes(run: &RunCommand<'_>) -> u32
-    requires { AreInRange (run_shown run.now) }
-    ensures { IsWindow result }
-{
-    run.window << 20
-}
-
 // The field that the program file is refused for, where that was the answer.
 fn refused_field(
     rt: &HostRuntime,
@@ -78,29 +71,92 @@ fn refused_field(
         .flatten()
 }
 
-// The bytes of a record's window.
-fn recorded_window(rt: &HostRuntime, recording: &str) -> Option<u32>
-    ensures { IfSome result (λ window. IsWindow window) }
-{
-    let text = match StdFiles::make(rt, rt.alloc()).load(rt.alloc(), recording, MAX_RECORD) {
-        Ok(text) => text,
-        Err(_) => return None,
-    };
-    match read_record(rt.alloc(), text.as_slice()) {
-        Ok(recorded) => Some(recorded.window << 20),
-        Err(_) => None,
+// ---- run
+
+// The sentence for an answer to `run`.
+#[derive(Debug, Drop)]
+struct RunMessage<'a> {
+    answer: Answer,
+    program: &'a str,
+    recording: &'a str,
+    report: &'a str,
+    /// How many instructions may go by between two items.
+    budget: u32,
+    /// The field that the program file is refused for, where it was found.
+    field: Option<RefusedField>,
+}
+
+impl RunMessage<'_> {
+    fn cause<W: fmt::Write>(&self, f: &mut fmt::Formatter<W>, cause: Cause) -> fmt::Result {
+        let budget = self.budget;
+        match cause {
+            Cause::BadAccess => write!(f, "it touched memory that it may not touch so"),
+            Cause::BadJump => write!(f, "it jumped to an address that is no multiple of 4"),
+            Cause::BadInstruction => write!(f, "it came to a word that is no instruction"),
+            Cause::AssertFailed(code) => write!(f, "its assertion {code} failed"),
+            Cause::Hang => write!(
+                f,
+                "{budget} instructions came since the last item or the start, which is the limit that --budget sets"
+            ),
+            Cause::BadFree => write!(f, "it freed what wasn't its own"),
+            Cause::BadCall => write!(f, "it made a call with a number in a7 that isn't 1 to 6"),
+        }
+    }
+
+    fn gave_up<W: fmt::Write>(
+        &self,
+        f: &mut fmt::Formatter<W>,
+        point: u64,
+        cause: Cause,
+    ) -> fmt::Result {
+        let program = self.program;
+        let report = self.report;
+        write!(
+            f,
+            "the program {program} failed with {point} items taken, opens and closes among them: "
+        )?;
+        self.cause(f, cause)?;
+        write!(f, "; the report {report} says where, and what was tried")
+    }
+
+    // Which file it was isn't known.
+    fn file_fault<W: fmt::Write>(&self, f: &mut fmt::Formatter<W>) -> fmt::Result {
+        let program = self.program;
+        let recording = self.recording;
+        let report = self.report;
+        write!(
+            f,
+            "the program file {program} can't be read, or the record {recording} or the report {report} can't be written"
+        )
     }
 }
 
-// What is wrong with the text, where that was the answer.
-fn explanation(rt: &HostRuntime, answer: Answer, source: &str) -> Option<String> {
-    let Answer::AsmRefused { kind, line } = answer else {
-        return None;
-    };
-    let text = StdFiles::make(rt, rt.alloc())
-        .load(rt.alloc(), source, MAX_SOURCE)
-        .ok()?;
-    explain(rt.alloc(), text.as_slice(), kind, line).ok()
+impl fmt::Display for RunMessage<'_> {
+    fn fmt<W: fmt::Write>(&self, f: &mut fmt::Formatter<W>) -> fmt::Result {
+        let program = self.program;
+        match self.answer {
+            Answer::FileFault => self.file_fault(f),
+            Answer::TooLarge => write!(
+                f,
+                "the program file {program} has more than {MAX_PROGRAM} bytes, which is the limit"
+            ),
+            Answer::ElfRefused(kind) => write_refused(f, program, kind, &self.field),
+            Answer::GaveUp { point, cause } => self.gave_up(f, point, cause),
+            Answer::Exited(code) => write!(
+                f,
+                "the program {program} ended itself with the code {code}"
+            ),
+            _ => write_outside(f, self.answer),
+        }
+    }
+}
+
+// The bytes of a program's window.
+fn window_bytes(run: &RunCommand<'_>) -> u32
+    requires { AreInRange (run_shown run.now) }
+    ensures { IsWindow result }
+{
+    run.window << 20
 }
 
 fn tell_run(rt: &HostRuntime, answer: Answer, run: &RunCommand<'_>)
@@ -117,6 +173,124 @@ fn tell_run(rt: &HostRuntime, answer: Answer, run: &RunCommand<'_>)
     let _ = eprintln!(rt; "rx: {message}");
 }
 
+// ---- asm
+
+// The sentence for an answer to `asm`.
+#[derive(Debug, Drop)]
+struct AsmMessage<'a> {
+    answer: Answer,
+    source: &'a str,
+    out: &'a str,
+    /// What is wrong with a refused text, where it was found.
+    explanation: Option<String>,
+}
+
+impl AsmMessage<'_> {
+    fn refused<W: fmt::Write>(&self, f: &mut fmt::Formatter<W>, line: u32) -> fmt::Result {
+        let source = self.source;
+        match &self.explanation {
+            Some(explanation) => write!(f, "the text {source} isn't assembled: {explanation}"),
+            None => write!(f, "the text {source} isn't assembled: line {line} is wrong"),
+        }
+    }
+}
+
+impl fmt::Display for AsmMessage<'_> {
+    fn fmt<W: fmt::Write>(&self, f: &mut fmt::Formatter<W>) -> fmt::Result {
+        let source = self.source;
+        let out = self.out;
+        match self.answer {
+            Answer::FileFault => {
+                write!(
+                    f,
+                    "the text {source} can't be read, or {out} can't be written"
+                )
+            }
+            Answer::TooLarge => write!(
+                f,
+                "the text {source} has more than {MAX_SOURCE} bytes, which is the limit"
+            ),
+            Answer::AsmRefused { line, .. } => self.refused(f, line),
+            Answer::Memory => write!(f, "memory ran out"),
+            _ => write!(f, "the command ended with {:?}", self.answer),
+        }
+    }
+}
+
+// What is wrong with the text, where that was the answer.
+fn explanation(rt: &HostRuntime, answer: Answer, source: &str) -> Option<String> {
+    let Answer::AsmRefused { kind, line } = answer else {
+        return None;
+    };
+    let text = StdFiles::make(rt, rt.alloc())
+        .load(rt.alloc(), source, MAX_SOURCE)
+        .ok()?;
+    explain(rt.alloc(), text.as_slice(), kind, line).ok()
+}
+
+fn tell_asm(rt: &HostRuntime, answer: Answer, asm: &AsmCommand<'_>) {
+    let message = AsmMessage {
+        answer,
+        source: asm.source,
+        out: asm.out,
+        explanation: explanation(rt, answer, asm.source),
+    };
+    let _ = eprintln!(rt; "rx: {message}");
+}
+
+// ---- replay
+
+// The sentence for an answer to `replay`.
+#[derive(Debug, Drop)]
+struct ReplayMessage<'a> {
+    answer: Answer,
+    program: &'a str,
+    recording: &'a str,
+    /// The field that the program file is refused for, where it was found.
+    field: Option<RefusedField>,
+}
+
+impl fmt::Display for ReplayMessage<'_> {
+    fn fmt<W: fmt::Write>(&self, f: &mut fmt::Formatter<W>) -> fmt::Result {
+        let program = self.program;
+        let recording = self.recording;
+        match self.answer {
+            Answer::FileFault => write!(
+                f,
+                "the program file {program} or the record {recording} can't be read"
+            ),
+            Answer::TooLarge => write!(
+                f,
+                "the program file {program} has more than {MAX_PROGRAM} bytes, or the record {recording} more than {MAX_RECORD}: these are the limits"
+            ),
+            Answer::RecordRefused { line } => write!(
+                f,
+                "the record {recording} isn't replayed: line {line} isn't of its form"
+            ),
+            Answer::Mismatch { step } => write!(
+                f,
+                "the program {program} doesn't go on as the record {recording} says: it went as recorded for {step} instructions"
+            ),
+            Answer::ElfRefused(kind) => write_refused(f, program, kind, &self.field),
+            _ => write_outside(f, self.answer),
+        }
+    }
+}
+
+// The bytes of a record's window.
+fn recorded_window(rt: &HostRuntime, recording: &str) -> Option<u32>
+    ensures { IfSome result (λ window. IsWindow window) }
+{
+    let text = match StdFiles::make(rt, rt.alloc()).load(rt.alloc(), recording, MAX_RECORD) {
+        Ok(text) => text,
+        Err(_) => return None,
+    };
+    match read_record(rt.alloc(), text.as_slice()) {
+        Ok(recorded) => Some(recorded.window << 20),
+        Err(_) => None,
+    }
+}
+
 fn tell_replay(rt: &HostRuntime, answer: Answer, replay: &ReplayCommand<'_>) {
     let field = match recorded_window(rt, replay.recording) {
         Some(window) => refused_field(rt, answer, replay.program, window),
@@ -131,15 +305,7 @@ fn tell_replay(rt: &HostRuntime, answer: Answer, replay: &ReplayCommand<'_>) {
     let _ = eprintln!(rt; "rx: {message}");
 }
 
-fn tell_asm(rt: &HostRuntime, answer: Answer, asm: &AsmCommand<'_>) {
-    let message = AsmMessage {
-        answer,
-        source: asm.source,
-        out: asm.out,
-        explanation: explanation(rt, answer, asm.source),
-    };
-    let _ = eprintln!(rt; "rx: {message}");
-}
+// ---- all commands
 
 /// Tells what an answer to these words means. The names and numbers in it are those of the command that the words ask for.
 pub fn tell(rt: &HostRuntime, answer: Answer, words: &[String]) {

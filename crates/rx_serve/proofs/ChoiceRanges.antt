@@ -16,7 +16,7 @@ use Rattle.guest_cpu.proofs.HeapLemmas.{zeroed_within}
 use Rattle.guest_cpu.proofs.StartLemmas.{heap_above_null}
 use Rattle.run_history.specs.Machine.{Machine, State, Effect, Goes, Emits, Ends, Wants, Chooses, Fails, register, start, start_machine}
 use Rattle.run_history.specs.Call.{takes, received, chooses, allocated}
-use Rattle.run_history.specs.Run.{Run, run, next, after, effect, does}
+use Rattle.run_history.specs.Run.{Run, next, after, effect, does}
 use Rattle.run_history.proofs.Repeats.{repeated_keeps}
 use Rattle.run_history.proofs.Runs.{next_parts, received_keeps, allocated_keeps}
 use Rattle.run_history.proofs.Shapes.{Shape, Same, Takes, Picks, Alone, does_shape}

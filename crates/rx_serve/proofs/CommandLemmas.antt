@@ -28,6 +28,7 @@ use Rattle.rx_serve.specs.declared.ending.End.{End}
 use Rattle.rx_serve.specs.Commands.{HasServed}
 use Rattle.rx_serve.specs.Laws.{HasSameOutside, IsReplayedBy, RecordsAreReplayed}
 use Rattle.rx_serve.specs.Limits.{program_limit}
+use Rattle.rx_serve.specs.Outside.{Outside}
 use Rattle.rx_serve.specs.Replaying.{HasRecord, HasReplayCause, HasBeenReplayed, window_in}
 use Rattle.rx_serve.specs.Settings.{options_of, rules_of_run, window_of}
 use Rattle.rx_serve.proofs.ChoiceRanges.{choices_fine}
@@ -49,8 +50,8 @@ not_large : (found : Option (List ℕ)) (file : List ℕ) → found ≡ Some fil
 not_large None file there small large = absurd (none-some file there)
 not_large (Some bytes) file there small large = omega (arith, small, large, ap length (same_Some bytes file there))
 
-module _ (value : RunValue) (replaying : ReplayValue) (files files_later again : Contents) (input input_again : Stream) (input_later : Option Stream) (output output_later : Option (List ℕ)) (end : End) (counted : ℕ)
-    (served : HasServed value (Some files) (Some files_later) (Some input) input_later output output_later end counted) (ranges : AreInRange value) (ends : IsEnd end.answer)
+module _ (value : RunValue) (replaying : ReplayValue) (files files_later again : Contents) (input input_again : Stream) (old new : Outside) (end : End)
+    (served : HasServed value (record old { files = Some files; input = Some input }) (record new { files = Some files_later }) end) (ranges : AreInRange value) (ends : IsEnd end.answer)
     (outside : HasSameOutside value replaying files files_later again input input_again) where
   -- the record that the run left
   abbrev left : Recorded
@@ -67,8 +68,7 @@ module _ (value : RunValue) (replaying : ReplayValue) (files files_later again :
   is_record : IsRecord left
   is_record =
       let serves = served.noted.serves in
-      let few = few_counts (options_of value) (options_in_range value ranges (options_of value) refl) (λ heap at len. true) served.image value served.files_started served.files_served (Some input) input_later output output_later served.ended
-      end.recorded end.tail end.taken end.steps counted served.noted in
+      let few = few_counts (options_of value) (options_in_range value ranges (options_of value) refl) (λ heap at len. true) served.noted in
       record {
         some_window = window_some value ranges;
         window = window_few value ranges;
@@ -113,32 +113,30 @@ module _ (value : RunValue) (replaying : ReplayValue) (files files_later again :
   begins_so one _ cause = absurd cause
 
   -- and is that of the session
-  pub replays_so : OneReading → SameBytesAreReplayed → (input_again_later : Option Stream) (written written_later : Option (List ℕ)) (answered : Answer) (counted_again : ℕ)
-      → HasBeenReplayed replaying (Some again) (Some input_again) input_again_later written written_later answered counted_again
-      → IsReplayedBy again replaying answered × (answered ≡ answer.Finished → WritesSends written written_later served.noted.serves.session.survivor.now.state.sends)
-  replays_so one law input_again_later written written_later answered counted_again has =
+  pub replays_so : OneReading → SameBytesAreReplayed → (old_again new_again : Outside) (answered : Answer) → HasBeenReplayed replaying (record old_again { files = Some again; input = Some input_again }) new_again answered
+      → IsReplayedBy again replaying answered × (answered ≡ answer.Finished → WritesSends old_again.output new_again.output served.noted.serves.session.survivor.now.state.sends)
+  replays_so one law old_again new_again answered has =
       let recorded_is = same_record one has.recorded has.recording in
       let program_is = same_program has.program has.file.has in
       let there : IsImage served.program.file (window_of value) has.image =
       subst (λ (n : ℕ). IsImage served.program.file n has.image) (ap window_in recorded_is) (subst (λ (l : List ℕ). IsImage l (window_in has.recorded) has.image) program_is has.is) in
       let image_is : has.image ≡ served.image =
       same_image has.image served.image (there.entry ∙ sym served.program.is.entry) (there.in_window ∙ sym served.program.is.in_window) (there.segments ∙ sym served.program.is.segments) in
-      let replays : ReplaysTrunk served.image left (Some input_again) input_again_later written written_later answered counted_again =
-      subst (λ (x : Recorded). ReplaysTrunk served.image x (Some input_again) input_again_later written written_later answered counted_again) recorded_is
-      (subst (λ (i : Image). ReplaysTrunk i has.recorded (Some input_again) input_again_later written written_later answered counted_again) image_is has.replays) in
+      let replays : ReplaysTrunk served.image left (Some input_again) new_again.input old_again.output new_again.output answered has.counted =
+      subst (λ (x : Recorded). ReplaysTrunk served.image x (Some input_again) new_again.input old_again.output new_again.output answered has.counted) recorded_is
+      (subst (λ (i : Image). ReplaysTrunk i has.recorded (Some input_again) new_again.input old_again.output new_again.output answered has.counted) image_is has.replays) in
       let within : IsWithin (rules_of_run value).bounds (bounds_of left) = record { items = omega arith; events = omega arith } in
       let both =
-      law (rules_of_run value) (keeping_for (options_of value)) served.image input input_again input_later input_again_later output output_later written written_later served.ended answered
-      (noted (Some []) (Some [])) (noted (Some served.noted.choices) (Some served.noted.episodes)) end.recorded end.tail end.taken end.steps counted counted_again left served.noted.serves replays has_session within outside.bytes in
+      law (rules_of_run value) (keeping_for (options_of value)) served.image input input_again new.input new_again.input old.output new.output old_again.output new_again.output served.ended answered
+      (noted (Some []) (Some [])) (noted (Some served.noted.choices) (Some served.noted.episodes)) end.recorded end.tail end.taken end.steps served.noted.counted has.counted left served.noted.serves replays has_session within outside.bytes in
       (as_replayed again replaying answered both.0, both.1)
 
 pub records_are_replayed : OneReading → SameBytesAreReplayed → RecordsAreReplayed
-records_are_replayed one law value replaying files files_later again again_later input input_again input_later input_again_later output output_later written written_later end end_again counted counted_again served replayed ranges ends outside =
+records_are_replayed one law value replaying files files_later files_again input input_again old new again again_later end end_again served replayed ranges ends outside =
     elim replayed.replays [
       | inl not_begun ↦ (
-        begins_so value replaying files files_later again input input_again input_later output output_later end counted served ranges ends outside one end_again.answer not_begun.cause,
-        λ finished. absurd (subst (HasReplayCause (Some again) replaying) finished not_begun.cause),
+        begins_so value replaying files files_later files_again input input_again old new end served ranges ends outside one end_again.answer not_begun.cause,
+        λ finished. absurd (subst (HasReplayCause (Some files_again) replaying) finished not_begun.cause),
       )
-      | inr has ↦
-          replays_so value replaying files files_later again input input_again input_later output output_later end counted served ranges ends outside one law input_again_later written written_later end_again.answer counted_again has
+      | inr has ↦ replays_so value replaying files files_later files_again input input_again old new end served ranges ends outside one law again again_later end_again.answer has
     ]

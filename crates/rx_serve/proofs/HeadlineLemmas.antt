@@ -27,6 +27,7 @@ use Rattle.session_history.proofs.Endings.{passed_all, received_at_end}
 use Rattle.over_trunk.specs.Trunk.{StopsTrunk, Carries}
 use Rattle.over_trunk.specs.Serving.{ServesTrunk}
 use Rattle.rx_serve.specs.declared.ending.End.{End}
+use Rattle.rx_serve.specs.Outside.{Outside}
 use Rattle.rx_serve.specs.Headline.{received_items, Passed, LastExits, Headline}
 
 ended_of : Option State → Option ℕ
@@ -113,11 +114,11 @@ recorded_in session end ended recording told episodes has = record {
       ∙ ap (λ list. recording ++ list) (sym has.tail_is);
 }
 
-pub headline : (rules : Rules) (keeping : Keeping) (image : Image) (source source_later : Option Stream) (sink sink_later : Option (List ℕ)) (ended : Answer) (end : End) (recording : List Choice) (told : List Episode)
+pub headline : (rules : Rules) (keeping : Keeping) (image : Image) (old new : Outside) (ended : Answer) (end : End) (recording : List Choice) (told : List Episode)
     → (IsEnd end.answer → end.answer ≡ ended) → (counted : ℕ)
-    (s : ServesTrunk rules keeping image source source_later sink sink_later ended (noted (Some []) (Some [])) (noted (Some recording) (Some told)) end.recorded end.tail end.taken end.steps counted)
-    → Headline rules image s.session recording source source_later sink sink_later end
-headline rules keeping image source source_later sink sink_later ended end recording told same counted s =
+    (s : ServesTrunk rules keeping image old.input new.input old.output new.output ended (noted (Some []) (Some [])) (noted (Some recording) (Some told)) end.recorded end.tail end.taken end.steps counted)
+    → Headline rules image s.session recording old new end
+headline rules keeping image old new ended end recording told same counted s =
     let session : Session = s.session in
     let items : List Item = received_items rules session in
     let state : State = session.survivor.now.state in
@@ -131,13 +132,13 @@ headline rules keeping image source source_later sink sink_later ended end recor
       all_recorded = λ is. s.notes.all_recorded (subst IsEnd (same is) is);
       taken = s.taken_is;
       received = subst (λ n. n ≤ length items) s.taken_is s.account.taken;
-      passed = passed_bytes rules image sink sink_later session s.at_end end.answer s.account
+      passed = passed_bytes rules image old.output new.output session s.at_end end.answer s.account
           (λ is. let owes = ends_whole rules s.coming session ended (subst IsEnd (same is) is) s.ends in all_at_end rules image session s.at_end s.account owes.0 owes.1) s.carried;
       finished = λ e.
           let is : ended ≡ answer.Finished = ends_at answer.Finished tt e in
           let ends : EndsBy rules s.coming session answer.Finished = subst (EndsBy rules s.coming session) is s.ends in
           let asks : state.machine.taken ≡ received rules.bounds (before_end session) = ends.0.0.taken in
-          (sym s.taken_is ∙ asks ∙ sym (ap (λ (list : List Item). length list) (received_at_end rules.bounds session s.pieces (subst AreGiven (sym (ends_whole rules s.coming session ended (subst IsEnd (sym is) tt) s.ends).1) tt))), drained source source_later _ (subst (StopsTrunk source source_later _) is s.stops));
+          (sym s.taken_is ∙ asks ∙ sym (ap (λ (list : List Item). length list) (received_at_end rules.bounds session s.pieces (subst AreGiven (sym (ends_whole rules s.coming session ended (subst IsEnd (sym is) tt) s.ends).1) tt))), drained old.input new.input _ (subst (StopsTrunk old.input new.input _) is s.stops));
       exited = λ code e.
           let is : ended ≡ answer.Exited code = ends_at (answer.Exited code) tt e in
           let ends : EndsBy rules s.coming session (answer.Exited code) = subst (EndsBy rules s.coming session) is s.ends in

@@ -10,3 +10,4 @@ mod RecordLemmas
 mod ReplayLemmas
 mod ChoiceRanges
 mod CommandLemmas
+mod EndsLemmas

@@ -1,5 +1,5 @@
 -- What stands in a session's files at its end, and that the counts of it fit into a record.
-use Rattle.std.proofs.Common.{◌≡◌, ℕ, ◌+◌, ◌*◌, ◌^◌, ◌<◌, ◌≤◌, List, [], length, Bool, true, true≢false, refl, Option, None, Some, Result, Ok, Err, inl, inr, sym, subst, arith}
+use Rattle.std.proofs.Common.{◌≡◌, ℕ, ◌+◌, ◌*◌, ◌^◌, ◌<◌, ◌≤◌, List, [], Bool, true, true≢false, refl, Option, None, Some, Ok, inl, inr, sym, subst, arith}
 use Rattle.std.proofs.lemmas.Nat.{mul-le}
 use Rattle.block_book.specs.Heap.{Heap}
 use Rattle.block_book.specs.declared.choice.Choice.{Choice}
@@ -19,7 +19,6 @@ use Rattle.session_state.specs.Options.{AreInRange, rules_of, keeping_for}
 use Rattle.session_state.specs.Serving.{IsNoteAnswer, UnlessNoteFault}
 use Rattle.session_state.specs.declared.options.Options.{Options}
 use Rattle.rx_io.specs.Named.{Contents}
-use Rattle.rx_io.specs.Outside.{Stream}
 use Rattle.rx_io.specs.declared.fault.IoFault.{IoFault}
 use Rattle.rx_io.specs.declared.fault.IoFault.TheVariants as fault
 use Rattle.run_history.specs.declared.answer.Answer.{Answer}
@@ -28,6 +27,7 @@ use Rattle.schedule_file.specs.declared.recorded.TheConstants.{MAX_TAKEN}
 use Rattle.session_history.specs.Account.{journal_of}
 use Rattle.session_history.specs.Ends.{IsEnd}
 use Rattle.rx_serve.specs.Noting.{StartsFiles, EndsFiles, HaveTexts, ServesNoted, ClosesFiles, names_of, report_form}
+use Rattle.rx_serve.specs.Outside.{Outside}
 use Rattle.rx_serve.specs.Status.{status_of}
 use Rattle.rx_serve.proofs.FewItems.{few_items}
 use Rattle.rx_serve.proofs.FewSteps.{few_steps}
@@ -106,31 +106,33 @@ unless_whole answer.ReadFault left is = nothing_left left is
 unless_whole answer.WriteFault left is = nothing_left left is
 
 -- a session served with notes that were new, and that stand in its files
-pub serves_noted : (rules : Rules) (keeping : Keeping) (image : Image) (value : RunValue) (files files_later : Option Contents) (source source_later : Option Stream) (sink sink_later : Option (List ℕ)) (ended : Answer) (recorded : ℕ) (tail : List Choice) (taken steps counted : ℕ)
+pub serves_noted : {rules : Rules} {keeping : Keeping} {image : Image} (value : RunValue) (old new : Outside) {ended : Answer} {recorded : ℕ} {tail : List Choice} {taken steps counted : ℕ}
     → (names : Names) (wanted : Form) (told : Option Contents) (choices_before choices : List Choice) (episodes_before episodes : List Episode) (left_before left : Left)
-    → choices_before ≡ [] → episodes_before ≡ [] → left_before ≡ Nothing
-    → ServesTrunk rules keeping image source source_later sink sink_later ended (noted (Some choices_before) (Some episodes_before)) (noted (Some choices) (Some episodes)) recorded tail taken steps counted
-    → names ≡ names_of value → wanted ≡ report_form value.form → told ≡ files → Stands names wanted told files_later choices episodes left → UnlessNoteFault ended (is_whole left ≡ is_whole left_before)
-    → ServesNoted rules keeping image value files files_later source source_later sink sink_later ended recorded tail taken steps counted
-serves_noted rules keeping image value files files_later source source_later sink sink_later ended recorded tail taken steps counted names wanted told choices_before choices episodes_before episodes left_before left none none_told none_left serves names_are form_is told_is stands works = record {
+    → choices_before ≡ [] → episodes_before ≡ [] → left_before ≡ Nothing → new.counter ≡ old.counter + counted
+    → ServesTrunk rules keeping image old.input new.input old.output new.output ended (noted (Some choices_before) (Some episodes_before)) (noted (Some choices) (Some episodes)) recorded tail taken steps counted
+    → names ≡ names_of value → wanted ≡ report_form value.form → told ≡ old.files → Stands names wanted told new.files choices episodes left → UnlessNoteFault ended (is_whole left ≡ is_whole left_before)
+    → ServesNoted rules keeping image value old new ended recorded tail taken steps
+serves_noted {rules = rules} {keeping = keeping} {image = image} value old new {ended = ended} {recorded = recorded} {tail = tail} {taken = taken} {steps = steps} {counted = counted} names wanted told choices_before choices episodes_before episodes left_before left none none_told none_left count serves names_are form_is told_is stands works = record {
   choices = choices;
   episodes = episodes;
   left = left;
+  counted = counted;
+  counts = count;
   serves =
-      subst (λ list. ServesTrunk rules keeping image source source_later sink sink_later ended (noted (Some []) (Some list)) (noted (Some choices) (Some episodes)) recorded tail taken steps counted) none_told
-      (subst (λ list. ServesTrunk rules keeping image source source_later sink sink_later ended (noted (Some list) (Some episodes_before)) (noted (Some choices) (Some episodes)) recorded tail taken steps counted) none serves);
+      subst (λ list. ServesTrunk rules keeping image old.input new.input old.output new.output ended (noted (Some []) (Some list)) (noted (Some choices) (Some episodes)) recorded tail taken steps counted) none_told
+      (subst (λ list. ServesTrunk rules keeping image old.input new.input old.output new.output ended (noted (Some list) (Some episodes_before)) (noted (Some choices) (Some episodes)) recorded tail taken steps counted) none serves);
   stands =
-      subst (λ before. Stands (names_of value) (report_form value.form) before files_later choices episodes left) told_is
-      (subst (λ f. Stands (names_of value) f told files_later choices episodes left) form_is (subst (λ n. Stands n wanted told files_later choices episodes left) names_are stands));
+      subst (λ before. Stands (names_of value) (report_form value.form) before new.files choices episodes left) told_is
+      (subst (λ f. Stands (names_of value) f told new.files choices episodes left) form_is (subst (λ n. Stands n wanted told new.files choices episodes left) names_are stands));
   whole = unless_whole ended left (subst (λ before. UnlessNoteFault ended (is_whole left ≡ is_whole before)) none_left works);
 }
 
 -- ---- the counts
 
 -- an account of a session within its bounds: few items were taken, and few instructions done
-pub few_counts : (options : Options) → AreInRange options → (permits : Heap → ℕ → ℕ → Bool) (image : Image) (value : RunValue) (files files_later : Option Contents) (source source_later : Option Stream) (sink sink_later : Option (List ℕ)) (ended : Answer) (recorded : ℕ) (tail : List Choice) (taken steps counted : ℕ)
-    → ServesNoted (rules_of options permits) (keeping_for options) image value files files_later source source_later sink sink_later ended recorded tail taken steps counted → (taken ≤ MAX_TAKEN) × (steps < 2 ^ 63)
-few_counts options ranges permits image value files files_later source source_later sink sink_later ended recorded tail taken steps counted noted =
+pub few_counts : (options : Options) → AreInRange options → (permits : Heap → ℕ → ℕ → Bool) {image : Image} {value : RunValue} {old new : Outside} {ended : Answer} {recorded : ℕ} {tail : List Choice} {taken steps : ℕ}
+    → ServesNoted (rules_of options permits) (keeping_for options) image value old new ended recorded tail taken steps → (taken ≤ MAX_TAKEN) × (steps < 2 ^ 63)
+few_counts options ranges permits {image = image} noted =
     let s = noted.serves in
     let few : s.session.survivor.now.state.machine.taken ≤ 2 ^ 20 =
     let account = s.account.taken in

@@ -1,5 +1,5 @@
 -- A line at which a record is refused is one of its lines, or the one behind them.
-use Rattle.std.proofs.Common.{◌≡◌, ◌≤◌, ◌+◌, ◌<◌, ℕ, Bool, true, false, List, [], ◌∷◌, length, Option, Some, None, suc, arith}
+use Rattle.std.proofs.Common.{◌≡◌, ◌≤◌, ◌+◌, ℕ, Bool, true, false, List, [], ◌∷◌, length, Some, None, arith}
 use Rattle.std.specs.Prelude.{is_some, if◌then◌else◌, ◌==◌}
 use Rattle.schedule_file.specs.Telling.{head_of, choice_of, end_of}
 use Rattle.schedule_file.specs.Refusals.{onto, lines_of, refused_behind, refused_from, refused_lines, refused_line}

@@ -1,5 +1,5 @@
 -- The command `replay`: what it leaves, from the calls that make it.
-use Rattle.std.proofs.Common.{◌≡◌, ℕ, ◌*◌, ◌^◌, List, Option, subst, inl, inr}
+use Rattle.std.proofs.Common.{◌≡◌, ℕ, ◌+◌, List, Option, subst, inl, inr}
 use Rattle.command_line.specs.Commands.{ReplayValue}
 use Rattle.rx_io.specs.Named.{Contents}
 use Rattle.rx_io.specs.Outside.{Stream}
@@ -12,31 +12,31 @@ use Rattle.replay.specs.Replaying.{EndsBy}
 use Rattle.over_trunk.specs.Replaying.{ReplaysTrunk}
 use Rattle.rx_serve.specs.Limits.{program_limit}
 use Rattle.rx_serve.specs.Loading.{HasFile}
+use Rattle.rx_serve.specs.Outside.{Outside}
 use Rattle.rx_serve.specs.Replaying.{HasRecord, HasReplayCause, ReplaysFile, window_in}
 
 -- a record was replayed
-pub has_replayed : (value : ReplayValue) (files mid : Option Contents) (program slice : List ℕ) (recording : Recorded) (image : Image) (window : ℕ) (source source_later : Option Stream) (sink sink_later : Option (List ℕ)) (end : Answer) (counted : ℕ)
-    → HasFile files value.program program_limit program → mid ≡ files → HasRecord mid value.recording recording → slice ≡ program → window ≡ window_in recording → IsImage slice window image
-    → ReplaysTrunk image recording source source_later sink sink_later end counted → ReplaysFile value files source source_later sink sink_later end counted
-has_replayed value files mid program slice recording image window source source_later sink sink_later end counted file same record_is bytes window_is is replays = inr (record {
+pub has_replayed : (value : ReplayValue) (old new : Outside) {mid : Option Contents} {program slice : List ℕ} {recording : Recorded} {image : Image} {window : ℕ} (end : Answer) {counted : ℕ}
+    → HasFile old.files value.program program_limit program → mid ≡ old.files → HasRecord mid value.recording recording → slice ≡ program → window ≡ window_in recording → IsImage slice window image
+    → new.counter ≡ old.counter + counted → ReplaysTrunk image recording old.input new.input old.output new.output end counted → ReplaysFile value old new end
+has_replayed value old new {program = program} {recording = recording} {image = image} {window = window} end {counted = counted} file same record_is bytes window_is is count replays = inr (record {
   program = program;
   image = image;
   recorded = recording;
   file = file;
   recording = subst (λ told. HasRecord told value.recording recording) same record_is;
   is = subst (λ (n : ℕ). IsImage program n image) window_is (subst (λ (l : List ℕ). IsImage l window image) bytes is);
+  counted = counted;
+  counts = count;
   replays = replays;
 })
 
 -- no replay is answered by a fault of the files
-pub no_file_fault : (image : Image) (recording : Recorded) (source source_later : Option Stream) (sink sink_later : Option (List ℕ)) (end : Answer) (counted : ℕ)
+pub no_file_fault : {image : Image} {recording : Recorded} {source source_later : Option Stream} {sink sink_later : Option (List ℕ)} {end : Answer} {counted : ℕ}
     → ReplaysTrunk image recording source source_later sink sink_later end counted → end ≡ answer.FileFault → ⊥
-no_file_fault image recording source source_later sink sink_later end counted replays is =
-    subst (λ (a : Answer). EndsBy image recording replays.entries replays.coming replays.replay a) is replays.ends
+no_file_fault {image = image} {recording = recording} replays is = subst (λ (a : Answer). EndsBy image recording replays.entries replays.coming replays.replay a) is replays.ends
 
 -- nor by bad words
-pub not_bad_words : (value : ReplayValue) (files : Option Contents) (source source_later : Option Stream) (sink sink_later : Option (List ℕ)) (end : Answer) (counted : ℕ)
-    → ReplaysFile value files source source_later sink sink_later end counted → end ≡ answer.BadWords → ⊥
-not_bad_words value files source source_later sink sink_later end counted (inl begun) is = subst (λ (a : Answer). HasReplayCause files value a) is begun.cause
-not_bad_words value files source source_later sink sink_later end counted (inr done) is =
-    subst (λ (a : Answer). EndsBy done.image done.recorded done.replays.entries done.replays.coming done.replays.replay a) is done.replays.ends
+pub replay_not_refused : (value : ReplayValue) (old new : Outside) (end : Answer) → ReplaysFile value old new end → end ≡ answer.BadWords → ⊥
+replay_not_refused value old new end (inl begun) is = subst (λ (a : Answer). HasReplayCause old.files value a) is begun.cause
+replay_not_refused value old new end (inr done) is = subst (λ (a : Answer). EndsBy done.image done.recorded done.replays.entries done.replays.coming done.replays.replay a) is done.replays.ends

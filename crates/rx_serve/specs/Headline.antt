@@ -3,7 +3,7 @@ use Rattle.std.specs.Prelude.{◌≡◌, ℕ, ◌+◌, ◌≤◌, List, [], ◌+
 use Rattle.std.specs.Io.KnownBytes.{Appends}
 use Rattle.block_book.specs.declared.choice.Choice.{Choice}
 use Rattle.rx_io.specs.declared.bytes.Item.{Item}
-use Rattle.rx_io.specs.Outside.{Stream, IsDrained}
+use Rattle.rx_io.specs.Outside.{IsDrained}
 use Rattle.rx_io.specs.Prefix.{Prefix}
 use Rattle.elf_image.specs.declared.image.Image.{Image}
 use Rattle.run_history.specs.declared.answer.Answer.{Answer}
@@ -17,6 +17,7 @@ use Rattle.session_history.specs.Account.{Session, journal_of}
 use Rattle.session_history.specs.Ends.{IsEnd}
 use Rattle.trunk_wire.specs.Pieces.{payload}
 use Rattle.rx_serve.specs.declared.ending.End.{End}
+use Rattle.rx_serve.specs.Outside.{Outside}
 
 -- the items that a session received: those of the events that it heeded
 abbrev pub received_items : Rules → Session → List Item
@@ -39,7 +40,7 @@ pub record LastExits (image : Image) (items : List Item) (choices : List Choice)
   pub exits : effect items choices before.machine ≡ Ends code
 
 -- Over the account of a session:
-pub record Headline (rules : Rules) (image : Image) (session : Session) (recording : List Choice) (source source_later : Option Stream) (sink sink_later : Option (List ℕ)) (end : End) : Type 0 where
+pub record Headline (rules : Rules) (image : Image) (session : Session) (recording : List Choice) (old new : Outside) (end : End) : Type 0 where
   -- one run of the program from its start on flat memory, which takes the received items once each in order, and of which every answer of
   -- malloc is one that C allows: those that stand in the record, and those of the tail
   pub recorded : length recording ≡ end.recorded
@@ -49,8 +50,8 @@ pub record Headline (rules : Rules) (image : Image) (session : Session) (recordi
   pub taken : session.survivor.now.state.machine.taken ≡ end.taken
   pub received : end.taken ≤ length (received_items rules session)
   -- the bytes passed to each connection are a prefix of those that this run emits on it, and at an end all of them
-  pub passed : IfSome sink (λ before. Passed rules session end.answer before sink_later)
+  pub passed : IfSome old.output (λ before. Passed rules session end.answer before new.output)
   -- at Finished every received item is taken, and no byte of the input is left
-  pub finished : end.answer ≡ answer.Finished → (end.taken ≡ length (received_items rules session)) × IfSome source (λ _. IsDrained source_later)
+  pub finished : end.answer ≡ answer.Finished → (end.taken ≡ length (received_items rules session)) × IfSome old.input (λ _. IsDrained new.input)
   -- at Exited the run's last instruction is exit with that code
   pub exited : (code : ℕ) → end.answer ≡ answer.Exited code → LastExits image (received_items rules session) (recording ++ end.tail) end.steps code

@@ -1,6 +1,6 @@
 -- What holds of a `run`, and of a `replay` of the record that it left.
-use Rattle.std.specs.Prelude.{◌≡◌, ℕ, List, Option, Some}
-use Rattle.command_line.specs.Commands.{RunValue, ReplayValue}
+use Rattle.std.specs.Prelude.{◌≡◌, Option, Some, None}
+use Rattle.command_line.specs.Commands.{CommandValue, RunValue, ReplayValue}
 use Rattle.command_line.specs.Ranges.{AreInRange}
 use Rattle.rx_io.specs.Named.{Contents}
 use Rattle.rx_io.specs.Outside.{Stream}
@@ -9,9 +9,10 @@ use Rattle.run_history.specs.declared.answer.Answer.TheVariants as answer
 use Rattle.session_history.specs.Ends.{IsEnd}
 use Rattle.over_trunk.specs.Replaying.{WritesSends}
 use Rattle.rx_serve.specs.declared.ending.End.{End}
-use Rattle.rx_serve.specs.Commands.{HasServed, ReplayEnds}
+use Rattle.rx_serve.specs.Commands.{HasServed, ReplayEnds, Ends}
 use Rattle.rx_serve.specs.Limits.{record_limit}
 use Rattle.rx_serve.specs.Loading.{IsTooLarge}
+use Rattle.rx_serve.specs.Outside.{Outside}
 
 -- A `replay` has what a `run` had: the same bytes as its program, as its record those that the run left, and the same input from its first byte.
 pub record HasSameOutside (value : RunValue) (replaying : ReplayValue) (files files_later again : Contents) (input input_again : Stream) : Type 0 where
@@ -33,9 +34,12 @@ IsReplayedBy again replaying _ = ⊥
 -- written, and no byte more.
 abbrev pub RecordsAreReplayed : Type 0
 RecordsAreReplayed =
-    (value : RunValue) (replaying : ReplayValue) (files files_later again : Contents) (again_later : Option Contents) (input input_again : Stream) (input_later input_again_later : Option Stream)
-    (output output_later written written_later : Option (List ℕ)) (end end_again : End) (counted counted_again : ℕ)
-    (served : HasServed value (Some files) (Some files_later) (Some input) input_later output output_later end counted) →
-    ReplayEnds replaying (Some again) again_later (Some input_again) input_again_later written written_later end_again counted_again →
-    AreInRange value → IsEnd end.answer → HasSameOutside value replaying files files_later again input input_again →
-    IsReplayedBy again replaying end_again.answer × (end_again.answer ≡ answer.Finished → WritesSends written written_later served.noted.serves.session.survivor.now.state.sends)
+    (value : RunValue) (replaying : ReplayValue) (files files_later files_again : Contents) (input input_again : Stream) (old new again again_later : Outside) (end end_again : End)
+    (served : HasServed value (record old { files = Some files; input = Some input }) (record new { files = Some files_later }) end) →
+    ReplayEnds replaying (record again { files = Some files_again; input = Some input_again }) again_later end_again →
+    AreInRange value → IsEnd end.answer → HasSameOutside value replaying files files_later files_again input input_again →
+    IsReplayedBy files_again replaying end_again.answer × (end_again.answer ≡ answer.Finished → WritesSends again.output again_later.output served.noted.serves.session.survivor.now.state.sends)
+
+-- BadWords is answered to words of no command alone.
+abbrev pub OnlyBadWordsAreRefused : Type 0
+OnlyBadWordsAreRefused = (asked : Option CommandValue) (old new : Outside) (end : End) → Ends asked old new end → end.answer ≡ answer.BadWords → asked ≡ None

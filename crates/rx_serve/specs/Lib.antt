@@ -1,4 +1,5 @@
 pub mod Limits
+pub mod Outside
 pub mod Loading
 pub mod Assembly
 pub mod Status

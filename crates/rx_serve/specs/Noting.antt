@@ -1,5 +1,5 @@
 -- The two files of a session: its record and its report.
-use Rattle.std.specs.Prelude.{◌≡◌, ◌⊎◌, ℕ, List, [], Option, Some, Result, Ok, Err}
+use Rattle.std.specs.Prelude.{◌≡◌, ◌⊎◌, ℕ, ◌+◌, List, [], Option, Some, Result, Ok, Err}
 use Rattle.block_book.specs.declared.choice.Choice.{Choice}
 use Rattle.command_line.specs.Commands.{RunValue}
 use Rattle.command_line.specs.declared.run_words.Form.{Form as Wanted}
@@ -18,13 +18,13 @@ use Rattle.run_report.specs.declared.form.Form.TheVariants as form
 use Rattle.run_report.specs.Report as report
 use Rattle.session_state.specs.Serving.{IsNoteAnswer, UnlessNoteFault}
 use Rattle.rx_io.specs.Named.{Contents}
-use Rattle.rx_io.specs.Outside.{Stream}
 use Rattle.rx_io.specs.declared.fault.IoFault.{IoFault}
 use Rattle.schedule_file.specs.Lines as recording
 use Rattle.session_history.specs.Ends.{IsEnd}
 use Rattle.recovery.specs.Handling.{Keeping}
 use Rattle.session_history.specs.Lawful.{Rules}
 use Rattle.over_trunk.specs.Serving.{ServesTrunk}
+use Rattle.rx_serve.specs.Outside.{Outside}
 use Rattle.rx_serve.specs.Status.{status_of}
 
 -- the names of the two files
@@ -49,13 +49,15 @@ HaveTexts value choices episodes ended taken steps files files_later =
     StartsBoth (names_of value) (recording.record_text value.window value.frame choices steps taken) (report_text (report_form value.form) episodes (status_of ended) taken steps) files files_later (Ok tt)
 
 -- A session served a trunk, and what it noted stands in its two files behind their first lines: a line of each answer of malloc that can't be rolled
--- back, and the text of each episode. Where it wasn't broken off by its notes, no part of a text stands there.
-pub record ServesNoted (rules : Rules) (keeping : Keeping) (image : Image) (value : RunValue) (files files_later : Option Contents) (source source_later : Option Stream) (sink sink_later : Option (List ℕ)) (ended : Answer) (recorded : ℕ) (tail : List Choice) (taken steps counted : ℕ) : Type 0 where
+-- back, and the text of each episode. Where it wasn't broken off by its notes, no part of a text stands there. So many instructions were counted.
+pub record ServesNoted (rules : Rules) (keeping : Keeping) (image : Image) (value : RunValue) (old new : Outside) (ended : Answer) (recorded : ℕ) (tail : List Choice) (taken steps : ℕ) : Type 0 where
   pub choices : List Choice
   pub episodes : List Episode
   pub left : Left
-  pub serves : ServesTrunk rules keeping image source source_later sink sink_later ended (noted (Some []) (Some [])) (noted (Some choices) (Some episodes)) recorded tail taken steps counted
-  pub stands : Stands (names_of value) (report_form value.form) files files_later choices episodes left
+  pub counted : ℕ
+  pub counts : new.counter ≡ old.counter + counted
+  pub serves : ServesTrunk rules keeping image old.input new.input old.output new.output ended (noted (Some []) (Some [])) (noted (Some choices) (Some episodes)) recorded tail taken steps counted
+  pub stands : Stands (names_of value) (report_form value.form) old.files new.files choices episodes left
   pub whole : UnlessNoteFault ended (left ≡ Nothing)
 
 -- What a session that came to this end leaves behind its notes. At an end of its own the last lines were written; where that failed, the answer

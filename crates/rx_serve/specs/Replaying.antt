@@ -1,8 +1,7 @@
 -- The command `replay`: a program and a record of it are loaded, and the recorded run is done again.
-use Rattle.std.specs.Prelude.{◌≡◌, ◌⊎◌, ℕ, ◌*◌, ◌^◌, List, Option, Some, Result, Ok, Err}
+use Rattle.std.specs.Prelude.{◌≡◌, ◌⊎◌, ℕ, ◌+◌, ◌*◌, ◌^◌, List, Option, Some, Result, Ok, Err}
 use Rattle.command_line.specs.Commands.{ReplayValue}
 use Rattle.rx_io.specs.Named.{Contents}
-use Rattle.rx_io.specs.Outside.{Stream}
 use Rattle.elf_image.specs.declared.image.Image.{Image}
 use Rattle.elf_image.specs.Refusals.{refusal, IsImage}
 use Rattle.run_history.specs.declared.answer.Answer.{Answer}
@@ -11,9 +10,9 @@ use Rattle.schedule_file.specs.Records.{IsReading}
 use Rattle.schedule_file.specs.Refusals.{refused_line}
 use Rattle.schedule_file.specs.declared.recorded.Recorded.{Recorded}
 use Rattle.over_trunk.specs.Replaying.{ReplaysTrunk}
-use Rattle.rx_serve.specs.Ended.{IsUntouched}
 use Rattle.rx_serve.specs.Limits.{program_limit, record_limit}
 use Rattle.rx_serve.specs.Loading.{HasFile, IsTooLarge}
+use Rattle.rx_serve.specs.Outside.{Outside, IsUntouched}
 
 -- the file of a name is the text of this record
 pub record HasRecord (told : Option Contents) (name : List ℕ) (recorded : Recorded) : Type 0 where
@@ -63,21 +62,21 @@ HasReplayCause told value Memory = Unit {0}
 HasReplayCause told value _ = ⊥
 
 -- no replay began: a file can't be loaded or is refused, or memory ran out. Nothing was read, written or run
-pub record HasNotReplayed (value : ReplayValue) (files : Option Contents) (source source_later : Option Stream) (sink sink_later : Option (List ℕ)) (end : Answer) (counted : ℕ) : Type 0 where
-  pub cause : HasReplayCause files value end
-  pub untouched : IsUntouched source source_later sink sink_later
-  pub none_counted : counted ≡ 0
+pub record HasNotReplayed (value : ReplayValue) (old new : Outside) (end : Answer) : Type 0 where
+  pub cause : HasReplayCause old.files value end
+  pub untouched : IsUntouched old new
 
--- the record was replayed over the trunk, with the image of the program in the record's window
-pub record HasBeenReplayed (value : ReplayValue) (files : Option Contents) (source source_later : Option Stream) (sink sink_later : Option (List ℕ)) (end : Answer) (counted : ℕ) : Type 0 where
+-- the record was replayed over the trunk, with the image of the program in the record's window, and so many instructions were counted
+pub record HasBeenReplayed (value : ReplayValue) (old new : Outside) (end : Answer) : Type 0 where
   pub program : List ℕ
   pub image : Image
   pub recorded : Recorded
-  pub file : HasFile files value.program program_limit program
-  pub recording : HasRecord files value.recording recorded
+  pub file : HasFile old.files value.program program_limit program
+  pub recording : HasRecord old.files value.recording recorded
   pub is : IsImage program (window_in recorded) image
-  pub replays : ReplaysTrunk image recorded source source_later sink sink_later end counted
+  pub counted : ℕ
+  pub counts : new.counter ≡ old.counter + counted
+  pub replays : ReplaysTrunk image recorded old.input new.input old.output new.output end counted
 
-abbrev pub ReplaysFile : ReplayValue → Option Contents → Option Stream → Option Stream → Option (List ℕ) → Option (List ℕ) → Answer → ℕ → Type 0
-ReplaysFile value files source source_later sink sink_later end counted =
-    HasNotReplayed value files source source_later sink sink_later end counted ⊎ HasBeenReplayed value files source source_later sink sink_later end counted
+abbrev pub ReplaysFile : ReplayValue → Outside → Outside → Answer → Type 0
+ReplaysFile value old new end = HasNotReplayed value old new end ⊎ HasBeenReplayed value old new end

@@ -1,5 +1,5 @@
-//! A law of the commands `run` and `replay`.
-ghost use Rattle.rx_serve.specs.Laws.{RecordsAreReplayed};
+//! Laws of the commands.
+ghost use Rattle.rx_serve.specs.Laws.{RecordsAreReplayed, OnlyBadWordsAreRefused};
 
 use over_trunk::laws::same_bytes_are_replayed;
 use schedule_file::laws::one_reading;
@@ -11,3 +11,8 @@ pub fn records_are_replayed()
     one_reading();
     same_bytes_are_replayed();
 }
+
+/// BadWords is answered to words of no command alone.
+pub fn only_bad_words_are_refused()
+    ensures { OnlyBadWordsAreRefused }
+{}

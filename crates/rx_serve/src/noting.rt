@@ -13,6 +13,7 @@ ghost use Rattle.run_history.specs.declared.answer.Answer.TheVariants as answer;
 ghost use Rattle.schedule_file.specs.declared.recorded.TheConstants.{MAX_TAKEN};
 ghost use Rattle.session_history.specs.Ends.{IsEnd};
 ghost use Rattle.rx_serve.specs.Noting.{names_of, report_form, StartsFiles, ServesNoted, ClosesFiles};
+ghost use Rattle.rx_serve.specs.Outside.{outside, faults, HasFaults};
 
 use crate::ending::status_of_answer;
 use command_line::RunCommand;
@@ -98,11 +99,9 @@ pub(crate) fn serve_noted<R: AccessRule, F: Files, S: Source, K: Sink, L: Ledger
     requires two { AreTwo (names_of (run_shown run.now)) }
     requires begun { IsReadyToServe session.old }
     ensures serves { (image : Image) → IsBegun image session.old.options session.old.cpu.rule session.old
-        → (counted : ℕ) → steps.new ≡ steps.old + counted → ServesNoted (rules_of session.old.options (R.rule session.old.cpu.rule)) (keeping_for session.old.options) image (run_shown run.now) (F.told files.old) (F.told files.new) (S.told input.old) (S.told input.new) (K.told output.old) (K.told output.new) result session.new.recorded session.new.choices session.new.taken session.new.steps counted }
+        → ServesNoted (rules_of session.old.options (R.rule session.old.cpu.rule)) (keeping_for session.old.options) image (run_shown run.now) (outside (F.told files.old) (S.told input.old) (K.told output.old) steps.old) (outside (F.told files.new) (S.told input.new) (K.told output.new) steps.new) result session.new.recorded session.new.choices session.new.taken session.new.steps }
     ensures later { F.faults files.old ≤ F.faults files.new }
-    ensures file_fault { result ≡ answer.FileFault → Rose (F.faults files.old) (F.faults files.new) }
-    ensures read_fault { result ≡ answer.ReadFault → Rose (S.faults input.old) (S.faults input.new) }
-    ensures write_fault { result ≡ answer.WriteFault → Rose (K.faults output.old) (K.faults output.new) }
+    ensures faults { HasFaults (faults (F.faults files.old) (S.faults input.old) (K.faults output.old)) (faults (F.faults files.new) (S.faults input.new) (K.faults output.new)) result }
     ensures counted_at_least { steps.old + session.new.steps ≤ steps.new }
 {
     let names = FileNames {

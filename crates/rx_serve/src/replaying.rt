@@ -1,7 +1,8 @@
 // The command `replay`: a program and a record of it are loaded, and the recorded run is done again over the trunk of input and output.
-ghost use Rattle.std.specs.Prelude.{◌≡◌, ℕ, ◌+◌, ◌≤◌};
+ghost use Rattle.std.specs.Prelude.{◌≡◌, ◌≤◌};
 ghost use Rattle.command_line.specs.Commands.{replay_shown};
 ghost use Rattle.rx_io.specs.Faults.{Rose};
+ghost use Rattle.rx_serve.specs.Outside.{outside, faults, HasFaults};
 ghost use Rattle.rx_serve.specs.Replaying.{LoadsRecord, ReplaysFile};
 
 use crate::loading::{MAX_PROGRAM, image_in, load_file};
@@ -43,12 +44,10 @@ pub(crate) fn replay_file<F: Files, S: Source, K: Sink, L: Ledger>(
     output: &mut K,
     steps: &mut Steps<L>,
 ) -> Answer
-    ensures replays { (counted : ℕ) → steps.new ≡ steps.old + counted → ReplaysFile (replay_shown replay.now) (F.told files.old) (S.told input.old) (S.told input.new) (K.told output.old) (K.told output.new) result counted }
+    ensures replays { ReplaysFile (replay_shown replay.now) (outside (F.told files.old) (S.told input.old) (K.told output.old) steps.old) (outside (F.told files.new) (S.told input.new) (K.told output.new) steps.new) result }
     ensures same { F.told files.new ≡ F.told files.old }
     ensures counted_more { steps.old ≤ steps.new }
-    ensures file_fault { result ≡ Answer.FileFault → Rose (F.faults files.old) (F.faults files.new) }
-    ensures read_fault { result ≡ Answer.ReadFault → Rose (S.faults input.old) (S.faults input.new) }
-    ensures write_fault { result ≡ Answer.WriteFault → Rose (K.faults output.old) (K.faults output.new) }
+    ensures faults { HasFaults (faults (F.faults files.old) (S.faults input.old) (K.faults output.old)) (faults (F.faults files.new) (S.faults input.new) (K.faults output.new)) result }
 {
     let program = match load_file(alloc, files, replay.program, MAX_PROGRAM) {
         Ok(program) => program,

@@ -1,10 +1,9 @@
 // The top call: the words in, the answer and its status out.
-ghost use Rattle.std.specs.Prelude.{◌≡◌, ℕ, ◌+◌, ◌≤◌, ◌↔◌, Some, None};
+ghost use Rattle.std.specs.Prelude.{◌≡◌, ◌+◌, ◌≤◌};
 ghost use Rattle.command_line.specs.Parts.{texts_of};
-ghost use Rattle.command_line.specs.Commands.{RunValue, AsmValue, ReplayValue, command_of, run, asm, replay};
-ghost use Rattle.rx_io.specs.Faults.{Rose};
-ghost use Rattle.rx_serve.specs.Commands.{RunEnds, AsmEnds, ReplayEnds};
-ghost use Rattle.rx_serve.specs.Ended.{HasNoSession, IsUntouched};
+ghost use Rattle.command_line.specs.Commands.{command_of};
+ghost use Rattle.rx_serve.specs.Commands.{Ends};
+ghost use Rattle.rx_serve.specs.Outside.{outside, faults, HasFaults};
 ghost use Rattle.rx_serve.specs.Status.{status_of};
 
 use crate::assembly::assemble_file;
@@ -33,35 +32,16 @@ pub fn run_rx<F: Files, S: Source, K: Sink, N: Listener, L: Ledger>(
     listener: &mut N,
     steps: &mut Steps<L>,
 ) -> End
-    // The headline, with the account that it is true of; or no session began, by its cause: nothing was read or passed, and of the files at most the record and the report were begun.
-    ensures headline { (value : RunValue) → command_of (texts_of words.now) ≡ Some (run value)
-        → (counted : ℕ) → steps.new ≡ steps.old + counted → RunEnds value (F.told files.old) (F.told files.new) (S.told input.old) (S.told input.new) (K.told output.old) (K.told output.new) result counted }
-
-    // `asm` writes the executable of the text's image, and touches nothing else.
-    ensures assembles { (value : AsmValue) → command_of (texts_of words.now) ≡ Some (asm value)
-        → AsmEnds value (F.told files.old) (F.told files.new) (S.told input.old) (S.told input.new) (K.told output.old) (K.told output.new) result }
-
-    // `replay` does the recorded run again, or no replay began, by its cause: nothing was read or written. No file is touched.
-    ensures replays { (value : ReplayValue) → command_of (texts_of words.now) ≡ Some (replay value)
-        → (counted : ℕ) → steps.new ≡ steps.old + counted → ReplayEnds value (F.told files.old) (F.told files.new) (S.told input.old) (S.told input.new) (K.told output.old) (K.told output.new) result counted }
-
-    // Words of no command are refused, and nothing is touched.
-    ensures bad_words { (result.answer ≡ Answer.BadWords) ↔ (command_of (texts_of words.now) ≡ None) }
-    ensures untouched { command_of (texts_of words.now) ≡ None → IsUntouched (S.told input.old) (S.told input.new) (K.told output.old) (K.told output.new) }
-    ensures nothing { command_of (texts_of words.now) ≡ None → HasNoSession result }
+    // What is left, by cases on the command that the words ask for. `run`: the headline, with the account that it is true of; or no session began, by its
+    // cause. `asm`: the executable of the text's image, and nothing else is touched. `replay`: the recorded run is done again, or no replay began,
+    // by its cause. Words of no command are refused, and nothing is touched.
+    ensures ends { Ends (command_of (texts_of words.now)) (outside (F.told files.old) (S.told input.old) (K.told output.old) steps.old) (outside (F.told files.new) (S.told input.new) (K.told output.new) steps.new) result }
 
     // A fault is answered only where the count of that object's own faults rose.
-    ensures file_fault { result.answer ≡ Answer.FileFault → Rose (F.faults files.old) (F.faults files.new) }
-    ensures read_fault { result.answer ≡ Answer.ReadFault → Rose (S.faults input.old) (S.faults input.new) }
-    ensures write_fault { result.answer ≡ Answer.WriteFault → Rose (K.faults output.old) (K.faults output.new) }
+    ensures faults { HasFaults (faults (F.faults files.old) (S.faults input.old) (K.faults output.old)) (faults (F.faults files.new) (S.faults input.new) (K.faults output.new)) result.answer }
 
-    // What is left alone.
-    ensures files { command_of (texts_of words.now) ≡ None → F.told files.new ≡ F.told files.old }
     ensures listener { listener.new ≡ listener.old }
-
     ensures status { result.status ≡ status_of result.answer }
-    ensures uncounted { ((value : RunValue) → command_of (texts_of words.now) ≡ Some (run value) → ⊥)
-        → ((value : ReplayValue) → command_of (texts_of words.now) ≡ Some (replay value) → ⊥) → steps.new ≡ steps.old }
     ensures counted_at_least { steps.old + result.steps ≤ steps.new }
 {
     // `run` has one trunk, its input and output: no command of today listens.

@@ -1,11 +1,11 @@
 // The command `run`: a program is loaded, and serves the trunk of input and output.
-ghost use Rattle.std.specs.Prelude.{◌≡◌, ℕ, ◌+◌, ◌≤◌};
+ghost use Rattle.std.specs.Prelude.{◌≡◌, ◌+◌, ◌≤◌};
 ghost use Rattle.command_line.specs.Commands.{run_shown};
 ghost use Rattle.command_line.specs.Ranges.{AreInRange};
-ghost use Rattle.rx_io.specs.Faults.{Rose};
 ghost use Rattle.file_notes.specs.Names.{AreTwo};
 ghost use Rattle.rx_serve.specs.Commands.{RunEnds};
 ghost use Rattle.rx_serve.specs.Noting.{names_of};
+ghost use Rattle.rx_serve.specs.Outside.{outside, faults, HasFaults};
 ghost use Rattle.rx_serve.specs.Status.{status_of};
 
 use crate::ending::End;
@@ -31,10 +31,8 @@ pub fn run_program<F: Files, S: Source, K: Sink, L: Ledger>(
 ) -> End
     requires in_range { AreInRange (run_shown run.now) }
     requires two { AreTwo (names_of (run_shown run.now)) }
-    ensures ends { (counted : ℕ) → steps.new ≡ steps.old + counted → RunEnds (run_shown run.now) (F.told files.old) (F.told files.new) (S.told input.old) (S.told input.new) (K.told output.old) (K.told output.new) result counted }
-    ensures file_fault { result.answer ≡ Answer.FileFault → Rose (F.faults files.old) (F.faults files.new) }
-    ensures read_fault { result.answer ≡ Answer.ReadFault → Rose (S.faults input.old) (S.faults input.new) }
-    ensures write_fault { result.answer ≡ Answer.WriteFault → Rose (K.faults output.old) (K.faults output.new) }
+    ensures ends { RunEnds (run_shown run.now) (outside (F.told files.old) (S.told input.old) (K.told output.old) steps.old) (outside (F.told files.new) (S.told input.new) (K.told output.new) steps.new) result }
+    ensures faults { HasFaults (faults (F.faults files.old) (S.faults input.old) (K.faults output.old)) (faults (F.faults files.new) (S.faults input.new) (K.faults output.new)) result.answer }
     ensures status { result.status ≡ status_of result.answer }
     ensures counted_at_least { steps.old + result.steps ≤ steps.new }
 {

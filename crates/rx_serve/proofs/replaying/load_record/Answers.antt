@@ -1,4 +1,4 @@
-use Rattle.std.proofs.Common.{◌≡◌, ◌≤◌, ℕ, List, length, Some, arith, sym, subst}
+use Rattle.std.proofs.Common.{ℕ, List, arith, subst}
 use Rattle.std.specs.Prelude.{Err}
 use Rattle.schedule_file.specs.Answers.{ReadsRecord}
 use Rattle.schedule_file.specs.declared.recorded.RecordRefusal.{RecordRefusal}

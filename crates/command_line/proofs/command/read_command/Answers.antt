@@ -2,7 +2,7 @@ use Rattle.std.proofs.Common.{◌∙◌, ap, sym, Some}
 use Rattle.command_line.specs.Parts.{texts_of}
 use Rattle.command_line.specs.Commands.{RunValue, run, run_shown}
 use Rattle.command_line.proofs.Ranges.{ranges_of}
-use Rattle.command_line.proofs.reading.read_command.Goals as goal
+use Rattle.command_line.proofs.command.read_command.Goals as goal
 
 pub returns-in-Ok-clause-ranges : goal.returns-in-Ok-clause-ranges
 returns-in-Ok-clause-ranges c =

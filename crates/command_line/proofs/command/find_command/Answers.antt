@@ -1,8 +1,8 @@
 use Rattle.std.proofs.Common.{◌≡◌, ◌∙◌, true, false, sym, ap}
 use Rattle.std.specs.Str.{bytes_eq}
-use Rattle.command_line.specs.Table.{asm_form, replay_form, run_form}
+use Rattle.command_line.specs.Commands.{asm_form, replay_form, run_form}
 use Rattle.command_line.proofs.Asking.{asm_asked, asm_refused, first_word, of_asm, of_none, of_replay, of_run, replay_asked, replay_refused, run_asked, run_refused}
-use Rattle.command_line.proofs.accepted.find_command.Goals as goal
+use Rattle.command_line.proofs.command.find_command.Goals as goal
 
 pub returns-then-not-are_run_words : goal.returns-then-not-are_run_words
 unfolding run_form

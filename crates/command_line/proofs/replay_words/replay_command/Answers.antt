@@ -1,5 +1,5 @@
 use Rattle.command_line.specs.Commands.{is_replay}
-use Rattle.command_line.proofs.reading.replay_command.Goals as goal
+use Rattle.command_line.proofs.replay_words.replay_command.Goals as goal
 
 pub read_replay-requires : goal.read_replay-requires
 unfolding is_replay

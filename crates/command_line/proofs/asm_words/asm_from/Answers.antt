@@ -1,6 +1,5 @@
-use Rattle.command_line.specs.Table.{asm_form}
-use Rattle.command_line.specs.Commands.{asm_value}
-use Rattle.command_line.proofs.reading.asm_from.Goals as goal
+use Rattle.command_line.specs.Commands.{asm_value, asm_form}
+use Rattle.command_line.proofs.asm_words.asm_from.Goals as goal
 
 pub returns : goal.returns
 unfolding asm_value asm_form

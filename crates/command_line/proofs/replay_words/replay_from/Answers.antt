@@ -1,6 +1,5 @@
-use Rattle.command_line.specs.Table.{replay_form}
-use Rattle.command_line.specs.Commands.{replay_value}
-use Rattle.command_line.proofs.reading.replay_from.Goals as goal
+use Rattle.command_line.specs.Commands.{replay_value, replay_form}
+use Rattle.command_line.proofs.replay_words.replay_from.Goals as goal
 
 pub returns : goal.returns
 unfolding replay_value replay_form

@@ -1,6 +1,6 @@
 use Rattle.command_line.specs.Commands.{is_asm}
 use Rattle.command_line.proofs.Numbers.{both}
-use Rattle.command_line.proofs.reading.asm_command.Goals as goal
+use Rattle.command_line.proofs.asm_words.asm_command.Goals as goal
 
 pub read_asm-requires : goal.read_asm-requires
 unfolding is_asm
