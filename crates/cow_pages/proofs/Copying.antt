@@ -11,6 +11,7 @@ use Rattle.cow_pages.proofs.Counting.{AreBelow, or_first, or_second, has-append,
 use Rattle.cow_pages.proofs.Walks.{in_use, places-here, places-there}
 use Rattle.cow_pages.proofs.Frames.{copied, length-copied, copy_within-copied, contents-copied, contents-copied_apart}
 use Rattle.cow_pages.proofs.Stores.{saved_numbers-is, table_below, shared-is, use-has, used-sum}
+use Rattle.cow_pages.specs.declared.frame_copy.TheConstants.{PAGE}
 
 -- a list with another number at one place
 pub places-set : (n : ℕ) (xs : List ℕ) (k y : ℕ) → k < length xs → places n (set xs k y) + places n (get_or xs k 0 ∷ []) ≡ places n xs + places n (y ∷ [])
@@ -225,18 +226,18 @@ stay_owns store page own =
     }
 
 -- the pool after `copy_within` is the pool with the frame copied
-moved_pool : (frames n count from to old fresh : ℕ) (pool moved : List ℕ) → length pool ≡ 4096 * frames → old < frames → fresh < frames → from ≡ 4096 * old → to ≡ 4096 * fresh → count ≡ 4096 → n ≡ length pool → moved ≡ take to pool ++ take count (drop from pool) ++ drop (to + count) pool → take n (moved ++ drop (length moved) pool) ≡ copied pool old fresh
+moved_pool : (frames n count from to old fresh : ℕ) (pool moved : List ℕ) → length pool ≡ PAGE * frames → old < frames → fresh < frames → from ≡ PAGE * old → to ≡ PAGE * fresh → count ≡ PAGE → n ≡ length pool → moved ≡ take to pool ++ take count (drop from pool) ++ drop (to + count) pool → take n (moved ++ drop (length moved) pool) ≡ copied pool old fresh
 moved_pool frames n count from to old fresh pool moved size one other start place many whole is =
     let e : moved ≡ copied pool old fresh =
     is
     ∙ ap (λ k. take to pool ++ take k (drop from pool) ++ drop (to + k) pool) many
-    ∙ ap (λ k. take to pool ++ take 4096 (drop k pool) ++ drop (to + 4096) pool) start
-    ∙ ap (λ k. take k pool ++ take 4096 (drop (4096 * old) pool) ++ drop (k + 4096) pool) place
+    ∙ ap (λ k. take to pool ++ take PAGE (drop k pool) ++ drop (to + PAGE) pool) start
+    ∙ ap (λ k. take k pool ++ take PAGE (drop (PAGE * old) pool) ++ drop (k + PAGE) pool) place
     ∙ copy_within-copied frames old fresh pool size one other in
     take_at moved (drop (length moved) pool) n (ap length e ∙ length-copied frames old fresh pool size one other ∙ sym whole) ∙ e
 
 -- the fields of a store whose shared page has moved
-pub moved_sound : (pages frames held n count from to : ℕ) (pool whole moved live counts free rest : List ℕ) (reserved reserve : ℕ) (slots : List Slot) (store : Pages) (page fresh : ℕ) → IsSound pages frames held pool live counts free reserved slots → pages_of pages frames pool live slots ≡ store → page < store.pages → is_shared store page ≡ true → free ≡ rest ++ fresh ∷ [] → moved ≡ take to whole ++ take count (drop from whole) ++ drop (to + count) whole → whole ≡ pool → from ≡ 4096 * get_or live page 0 → to ≡ 4096 * fresh → count ≡ 4096 → n ≡ length pool → reserve ≡ reserved → IsSound pages frames held (take n (moved ++ drop (length moved) pool)) (set live page fresh) counts rest reserve slots
+pub moved_sound : (pages frames held n count from to : ℕ) (pool whole moved live counts free rest : List ℕ) (reserved reserve : ℕ) (slots : List Slot) (store : Pages) (page fresh : ℕ) → IsSound pages frames held pool live counts free reserved slots → pages_of pages frames pool live slots ≡ store → page < store.pages → is_shared store page ≡ true → free ≡ rest ++ fresh ∷ [] → moved ≡ take to whole ++ take count (drop from whole) ++ drop (to + count) whole → whole ≡ pool → from ≡ PAGE * get_or live page 0 → to ≡ PAGE * fresh → count ≡ PAGE → n ≡ length pool → reserve ≡ reserved → IsSound pages frames held (take n (moved ++ drop (length moved) pool)) (set live page fresh) counts rest reserve slots
 moved_sound pages frames held n count from to pool whole moved live counts free rest reserved reserve slots store page fresh so is inside shared top moving full start place many size room =
     let mine : IsSound pages frames held pool live counts (rest ++ fresh ∷ []) reserved slots = subst (λ xs. IsSound pages frames held pool live counts xs reserved slots) top so in
     let less : page < pages = subst (λ s. page < s.pages) (sym is) inside in
@@ -250,7 +251,7 @@ moved_sound pages frames held n count from to pool whole moved live counts free 
     (copy_sound pages frames held pool live counts rest reserved slots page fresh mine less hit))
 
 -- what it holds
-pub moved_owns : (pages frames held n count from to : ℕ) (pool whole moved live counts free rest : List ℕ) (reserved : ℕ) (slots : List Slot) (store : Pages) (page fresh : ℕ) → IsSound pages frames held pool live counts free reserved slots → pages_of pages frames pool live slots ≡ store → page < store.pages → is_shared store page ≡ true → free ≡ rest ++ fresh ∷ [] → moved ≡ take to whole ++ take count (drop from whole) ++ drop (to + count) whole → whole ≡ pool → from ≡ 4096 * get_or live page 0 → to ≡ 4096 * fresh → count ≡ 4096 → n ≡ length pool → Owns store (pages_of pages frames (take n (moved ++ drop (length moved) pool)) (set live page fresh) slots) page
+pub moved_owns : (pages frames held n count from to : ℕ) (pool whole moved live counts free rest : List ℕ) (reserved : ℕ) (slots : List Slot) (store : Pages) (page fresh : ℕ) → IsSound pages frames held pool live counts free reserved slots → pages_of pages frames pool live slots ≡ store → page < store.pages → is_shared store page ≡ true → free ≡ rest ++ fresh ∷ [] → moved ≡ take to whole ++ take count (drop from whole) ++ drop (to + count) whole → whole ≡ pool → from ≡ PAGE * get_or live page 0 → to ≡ PAGE * fresh → count ≡ PAGE → n ≡ length pool → Owns store (pages_of pages frames (take n (moved ++ drop (length moved) pool)) (set live page fresh) slots) page
 moved_owns pages frames held n count from to pool whole moved live counts free rest reserved slots store page fresh so is inside shared top moving full start place many size =
     let mine : IsSound pages frames held pool live counts (rest ++ fresh ∷ []) reserved slots = subst (λ xs. IsSound pages frames held pool live counts xs reserved slots) top so in
     let less : page < pages = subst (λ s. page < s.pages) (sym is) inside in
@@ -265,7 +266,7 @@ moved_owns pages frames held n count from to pool whole moved live counts free r
 
 -- the frame that is taken is another one than that of the page
 pub moved_apart : (pages frames held from to : ℕ) (pool live counts free rest : List ℕ) (reserved : ℕ) (slots : List Slot) (page fresh : ℕ) → IsSound pages frames held pool live counts free reserved slots → page < pages → free ≡ rest ++ fresh ∷ []
-    → from ≡ 4096 * get_or live page 0 → to ≡ 4096 * fresh → (from + 4096 ≤ to) ⊎ (to + 4096 ≤ from)
+    → from ≡ PAGE * get_or live page 0 → to ≡ PAGE * fresh → (from + PAGE ≤ to) ⊎ (to + PAGE ≤ from)
 moved_apart pages frames held from to pool live counts free rest reserved slots page fresh so less top start place =
     let mine : IsSound pages frames held pool live counts (rest ++ fresh ∷ []) reserved slots = subst (λ xs. IsSound pages frames held pool live counts xs reserved slots) top so in
     let none : has fresh live ≡ false = (or_parts (nat_lt 0 (get_or counts fresh 0)) (has fresh live) (top_unused counts live rest fresh mine.stack)).1 in

@@ -10,6 +10,8 @@ use Rattle.cow_pages.specs.declared.slot.Slot.{Slot}
 use Rattle.cow_pages.proofs.Counting.{AreBelow, has-get_or, has-nowhere, places-none, places-some, places-le-one}
 use Rattle.cow_pages.proofs.Frames.{get_or-contents, length-contents}
 use Rattle.cow_pages.proofs.Stores.{table_below, used-sum}
+use Rattle.cow_pages.specs.declared.frame_copy.TheConstants.{PAGE}
+use Rattle.cow_pages.specs.declared.store.TheConstants.{MAX_FRAMES_PER_PAGE, MAX_PAGES, MAX_SLOTS}
 
 -- nothing is saved in any slot
 abbrev pub IsBlank : ℕ → Slot → Type 0
@@ -87,7 +89,7 @@ first_stack pages frames live free counts low high less is =
           row_places pages frames live free n low high less (omega (arith, size)) ∙ ap (λ b. cond (b || has n live) 0 1) (sym zero_count);
     }
 
-pub made_sound : (pages frames count : ℕ) (pool live counts free : List ℕ) (reserved : ℕ) (slots : List Slot) → (1 ≤ pages) × (pages ≤ 16384) → (1 ≤ count) × (count ≤ 16) → (2 * pages ≤ frames) × (frames ≤ 16 * pages) → pool ≡ replicate (frames * 4096) 0 → IsRow 0 pages live → counts ≡ replicate frames 0 → IsRow pages frames free → frames ≤ reserved → AreBlank count pages slots → IsSound pages frames 0 pool live counts free reserved slots
+pub made_sound : (pages frames count : ℕ) (pool live counts free : List ℕ) (reserved : ℕ) (slots : List Slot) → (1 ≤ pages) × (pages ≤ MAX_PAGES) → (1 ≤ count) × (count ≤ MAX_SLOTS) → (2 * pages ≤ frames) × (frames ≤ MAX_FRAMES_PER_PAGE * pages) → pool ≡ replicate (frames * PAGE) 0 → IsRow 0 pages live → counts ≡ replicate frames 0 → IsRow pages frames free → frames ≤ reserved → AreBlank count pages slots → IsSound pages frames 0 pool live counts free reserved slots
 made_sound pages frames count pool live counts free reserved slots few numbered enough bytes low zeros high room blank =
     let none : table_numbers slots ≡ [] = blank_numbers pages slots blank.each in
     let size : length counts ≡ frames = ap length zeros ∙ length-replicate frames 0 in
@@ -97,7 +99,7 @@ made_sound pages frames count pool live counts free reserved slots few numbered 
       few = few;
       enough = enough;
       numbered = (omega (arith, blank.size, numbered.0), omega (arith, blank.size, numbered.1));
-      pool_size = ap length bytes ∙ length-replicate (frames * 4096) 0 ∙ (let e : frames * 4096 ≡ 4096 * frames = omega arith in e);
+      pool_size = ap length bytes ∙ length-replicate (frames * PAGE) 0 ∙ (let e : frames * PAGE ≡ PAGE * frames = omega arith in e);
       counts_size = size;
       reserved_room = room;
       homes = homes;
@@ -117,22 +119,22 @@ made_sound pages frames count pool live counts free reserved slots few numbered 
       room = omega (arith, enough.0);
     }
 
-pub made_is : (pages frames count : ℕ) (pool live counts free : List ℕ) (reserved : ℕ) (slots : List Slot) → IsSound pages frames 0 pool live counts free reserved slots → pool ≡ replicate (frames * 4096) 0 → IsRow pages frames free → AreBlank count pages slots → IsMade pages count frames (pages_of pages frames pool live slots)
+pub made_is : (pages frames count : ℕ) (pool live counts free : List ℕ) (reserved : ℕ) (slots : List Slot) → IsSound pages frames 0 pool live counts free reserved slots → pool ≡ replicate (frames * PAGE) 0 → IsRow pages frames free → AreBlank count pages slots → IsMade pages count frames (pages_of pages frames pool live slots)
 made_is pages frames count pool live counts free reserved slots so bytes high blank =
     let below : AreBelow frames live = table_below pages frames so.homes live so.live_table so.homes_size in
-    let size : length (contents pool live) ≡ 4096 * length live = length-contents frames pool live so.pool_size below in
-    let zeros : length (replicate {A = ℕ} (4096 * pages) 0) ≡ 4096 * pages = length-replicate (4096 * pages) 0 in
+    let size : length (contents pool live) ≡ PAGE * length live = length-contents frames pool live so.pool_size below in
+    let zeros : length (replicate {A = ℕ} (PAGE * pages) 0) ≡ PAGE * pages = length-replicate (PAGE * pages) 0 in
     record {
       pages_are = refl;
       frames_are = refl;
-      zeros = same_number_lists (contents pool live) (replicate (4096 * pages) 0) (omega (arith, so.live_table.size))
+      zeros = same_number_lists (contents pool live) (replicate (PAGE * pages) 0) (omega (arith, so.live_table.size))
           (λ k less.
-          let number : get_or live (k / 4096) 0 < frames = below (k / 4096) (omega arith) in
-          let place : 4096 * get_or live (k / 4096) 0 + k % 4096 < frames * 4096 = omega arith in
+          let number : get_or live (k / PAGE) 0 < frames = below (k / PAGE) (omega arith) in
+          let place : PAGE * get_or live (k / PAGE) 0 + k % PAGE < frames * PAGE = omega arith in
           get_or-contents frames pool live k so.pool_size below (omega arith)
-          ∙ ap (λ xs. get_or xs (4096 * get_or live (k / 4096) 0 + k % 4096) 0) bytes
-          ∙ get_or-replicate (frames * 4096) (4096 * get_or live (k / 4096) 0 + k % 4096) 0 0 place
-          ∙ sym (get_or-replicate (4096 * pages) k 0 0 (omega (arith, so.live_table.size))));
+          ∙ ap (λ xs. get_or xs (PAGE * get_or live (k / PAGE) 0 + k % PAGE) 0) bytes
+          ∙ get_or-replicate (frames * PAGE) (PAGE * get_or live (k / PAGE) 0 + k % PAGE) 0 0 place
+          ∙ sym (get_or-replicate (PAGE * pages) k 0 0 (omega (arith, so.live_table.size))));
       empty = blank_seen pages pool slots blank.each ∙ ap (λ n. replicate n None) blank.size;
       used = omega (arith, used-sum pages frames 0 pool live counts free reserved slots so, high.size, so.enough);
     }

@@ -7,6 +7,7 @@ use Rattle.cow_pages.specs.Writes.{put_at, is_shared, IsFree, NumberAfter, reach
 use Rattle.cow_pages.proofs.Counting.{has-append, has-get_or, has-at, or_first, or_second}
 use Rattle.cow_pages.proofs.Frames.{put_at-put_at}
 use Rattle.cow_pages.proofs.Runs.{reached, reaching}
+use Rattle.cow_pages.specs.declared.frame_copy.TheConstants.{PAGE}
 
 -- nothing written
 reaches_nothing : (at page : ℕ) → reaches at 0 page ≡ false
@@ -43,7 +44,7 @@ reaches-append at first second page =
     let r = reached at (first + second) page h in
     elim (cases_lt 0 first) [
       | inl some ↦
-          (elim (cases_lt ((at + first - 1) / 4096) page) [
+          (elim (cases_lt ((at + first - 1) / PAGE) page) [
             | inl later ↦ or_second (reaches at first page) (reaches (at + first) second page) (reaching (at + first) second page (omega (arith, r.0, r.1, r.2)) (omega (arith, r.0, r.1, r.2)) (omega (arith, r.0, r.1, r.2)))
             | inr within ↦ or_first (reaches at first page) (reaches (at + first) second page) (reaching at first page some r.1 within)
           ])
@@ -127,7 +128,7 @@ copied-append old mid at second bytes (suc page) so less =
     omega (arith, fewer, whole, later, both_counts one two shared)
 
 -- a write right behind another one is a write of both
-pub writes_more : (old mid new : Pages) (at : ℕ) (first second : List ℕ) → Writes old mid at first → Writes mid new (at + length first) second → IsLawful old → IsLawful mid → at + length first + length second ≤ 4096 * old.pages → Writes old new at (first ++ second)
+pub writes_more : (old mid new : Pages) (at : ℕ) (first second : List ℕ) → Writes old mid at first → Writes mid new (at + length first) second → IsLawful old → IsLawful mid → at + length first + length second ≤ PAGE * old.pages → Writes old new at (first ++ second)
 writes_more old mid new at first second so then before between room =
     let many : length (first ++ second) ≡ length first + length second = length-append first second in
     let here : IsSpace old.pages old.frames old.live = before.spaces old.live (inl refl) in
@@ -160,7 +161,7 @@ take-longer xs n count =
     ∙ ap (λ ys. take n xs ++ ys) (drop-take n count xs)
 
 -- the loop of a write: the bytes so far, and the next part
-pub run_more : (old mid new : Pages) (at done count : ℕ) (bytes : List ℕ) → Writes old mid at (take done bytes) → Writes mid new (at + done) (take count (drop done bytes)) → IsLawful old → IsLawful mid → done + count ≤ length bytes → at + length bytes ≤ 4096 * old.pages → Writes old new at (take (done + count) bytes)
+pub run_more : (old mid new : Pages) (at done count : ℕ) (bytes : List ℕ) → Writes old mid at (take done bytes) → Writes mid new (at + done) (take count (drop done bytes)) → IsLawful old → IsLawful mid → done + count ≤ length bytes → at + length bytes ≤ PAGE * old.pages → Writes old new at (take (done + count) bytes)
 run_more old mid new at done count bytes so then before between less room =
     let size : length (take done bytes) ≡ done = length-take-le done bytes (omega arith) in
     let part : length (take count (drop done bytes)) ≡ count = length-take-le count (drop done bytes) (omega (arith, length-drop done bytes)) in
@@ -168,7 +169,7 @@ run_more old mid new at done count bytes so then before between less room =
     (writes_more old mid new at (take done bytes) (take count (drop done bytes)) so (subst (λ n. Writes mid new (at + n) (take count (drop done bytes))) (sym size) then) before between (omega arith))
 
 -- the same for zeros
-pub zeros_more : (old mid new : Pages) (at done count : ℕ) → Writes old mid at (replicate done 0) → Writes mid new (at + done) (replicate count 0) → IsLawful old → IsLawful mid → at + done + count ≤ 4096 * old.pages → Writes old new at (replicate (done + count) 0)
+pub zeros_more : (old mid new : Pages) (at done count : ℕ) → Writes old mid at (replicate done 0) → Writes mid new (at + done) (replicate count 0) → IsLawful old → IsLawful mid → at + done + count ≤ PAGE * old.pages → Writes old new at (replicate (done + count) 0)
 zeros_more old mid new at done count so then before between room =
     let size : length (replicate {A = ℕ} done 0) ≡ done = length-replicate done 0 in
     let part : length (replicate {A = ℕ} count 0) ≡ count = length-replicate count 0 in

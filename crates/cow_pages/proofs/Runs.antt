@@ -11,6 +11,7 @@ use Rattle.cow_pages.proofs.Counting.{AreBelow, has-append}
 use Rattle.cow_pages.proofs.Frames.{length-put_at, contents-put_here, contents-put_apart, part-put_at, set-put_at, get_or-contents, length-contents, run-contents}
 use Rattle.cow_pages.proofs.Stores.{saved_numbers-is, table_below, table_once, lawful}
 use Rattle.cow_pages.proofs.Copying.{slots_same, not-at}
+use Rattle.cow_pages.specs.declared.frame_copy.TheConstants.{PAGE}
 
 -- a page that has a frame of its own is in no slot
 pub owned-apart : (old new : Pages) (page : ℕ) → Owns old new page → is_shared new page ≡ false
@@ -45,23 +46,23 @@ put_sound pages frames held pool after live counts free reserved slots so size =
 }
 
 -- a write within one page reaches that page alone
-pub reaches-here : (at count : ℕ) → 0 < count → at % 4096 + count ≤ 4096 → reaches at count (at / 4096) ≡ true
+pub reaches-here : (at count : ℕ) → 0 < count → at % PAGE + count ≤ PAGE → reaches at count (at / PAGE) ≡ true
 reaches-here at count some within =
-    and_from (nat_lt 0 count) (nat_le (at / 4096) (at / 4096) && nat_le (at / 4096) ((at + count - 1) / 4096)) (lt-ltb 0 count some)
-    (and_from (nat_le (at / 4096) (at / 4096)) (nat_le (at / 4096) ((at + count - 1) / 4096)) (le-leb (at / 4096) (at / 4096) (omega arith)) (le-leb (at / 4096) ((at + count - 1) / 4096) (omega arith)))
+    and_from (nat_lt 0 count) (nat_le (at / PAGE) (at / PAGE) && nat_le (at / PAGE) ((at + count - 1) / PAGE)) (lt-ltb 0 count some)
+    (and_from (nat_le (at / PAGE) (at / PAGE)) (nat_le (at / PAGE) ((at + count - 1) / PAGE)) (le-leb (at / PAGE) (at / PAGE) (omega arith)) (le-leb (at / PAGE) ((at + count - 1) / PAGE) (omega arith)))
 
-pub reached : (at count page : ℕ) → reaches at count page ≡ true → (0 < count) × (at / 4096 ≤ page) × (page ≤ (at + count - 1) / 4096)
+pub reached : (at count page : ℕ) → reaches at count page ≡ true → (0 < count) × (at / PAGE ≤ page) × (page ≤ (at + count - 1) / PAGE)
 reached at count page h =
-    let a = and_parts (nat_lt 0 count) (nat_le (at / 4096) page && nat_le page ((at + count - 1) / 4096)) h in
-    let b = and_parts (nat_le (at / 4096) page) (nat_le page ((at + count - 1) / 4096)) a.1 in
-    (ltb-true 0 count a.0, leb-true (at / 4096) page b.0, leb-true page ((at + count - 1) / 4096) b.1)
+    let a = and_parts (nat_lt 0 count) (nat_le (at / PAGE) page && nat_le page ((at + count - 1) / PAGE)) h in
+    let b = and_parts (nat_le (at / PAGE) page) (nat_le page ((at + count - 1) / PAGE)) a.1 in
+    (ltb-true 0 count a.0, leb-true (at / PAGE) page b.0, leb-true page ((at + count - 1) / PAGE) b.1)
 
-pub reaching : (at count page : ℕ) → 0 < count → at / 4096 ≤ page → page ≤ (at + count - 1) / 4096 → reaches at count page ≡ true
+pub reaching : (at count page : ℕ) → 0 < count → at / PAGE ≤ page → page ≤ (at + count - 1) / PAGE → reaches at count page ≡ true
 reaching at count page some first last =
-    and_from (nat_lt 0 count) (nat_le (at / 4096) page && nat_le page ((at + count - 1) / 4096)) (lt-ltb 0 count some)
-    (and_from (nat_le (at / 4096) page) (nat_le page ((at + count - 1) / 4096)) (le-leb (at / 4096) page first) (le-leb page ((at + count - 1) / 4096) last))
+    and_from (nat_lt 0 count) (nat_le (at / PAGE) page && nat_le page ((at + count - 1) / PAGE)) (lt-ltb 0 count some)
+    (and_from (nat_le (at / PAGE) page) (nat_le page ((at + count - 1) / PAGE)) (le-leb (at / PAGE) page first) (le-leb page ((at + count - 1) / PAGE) last))
 
-pub reaches-other : (at count page : ℕ) → at % 4096 + count ≤ 4096 → (page ≡ at / 4096 → ⊥) → reaches at count page ≡ false
+pub reaches-other : (at count page : ℕ) → at % PAGE + count ≤ PAGE → (page ≡ at / PAGE → ⊥) → reaches at count page ≡ false
 reaches-other at count page within other =
     false_from_ne_true (reaches at count page) (λ h. let r = reached at count page h in other (omega (arith, r.0, r.1, r.2)))
 
@@ -73,33 +74,33 @@ same_test a b other =
     ]
 
 -- how many pages such a write copies
-pub copied_one : (store : Pages) (at count : ℕ) → 0 < count → at % 4096 + count ≤ 4096 → (pages : ℕ) → copied_pages store at count pages ≡ cond (nat_lt (at / 4096) pages && is_shared store (at / 4096)) 1 0
+pub copied_one : (store : Pages) (at count : ℕ) → 0 < count → at % PAGE + count ≤ PAGE → (pages : ℕ) → copied_pages store at count pages ≡ cond (nat_lt (at / PAGE) pages && is_shared store (at / PAGE)) 1 0
 copied_one store at count some within zero =
-    let far : nat_lt (at / 4096) 0 ≡ false = le-ltb (at / 4096) 0 (omega arith) in
-    sym (ap (λ b. cond (b && is_shared store (at / 4096)) 1 0) far)
+    let far : nat_lt (at / PAGE) 0 ≡ false = le-ltb (at / PAGE) 0 (omega arith) in
+    sym (ap (λ b. cond (b && is_shared store (at / PAGE)) 1 0) far)
 copied_one store at count some within (suc pages) =
-    let fewer : copied_pages store at count pages ≡ cond (nat_lt (at / 4096) pages && is_shared store (at / 4096)) 1 0 = copied_one store at count some within pages in
-    elim (cases_eq pages (at / 4096)) [
+    let fewer : copied_pages store at count pages ≡ cond (nat_lt (at / PAGE) pages && is_shared store (at / PAGE)) 1 0 = copied_one store at count some within pages in
+    elim (cases_eq pages (at / PAGE)) [
       | inl here ↦
-          (let far : nat_lt (at / 4096) pages ≡ false = le-ltb (at / 4096) pages (omega arith) in
-          let near : nat_lt (at / 4096) (suc pages) ≡ true = lt-ltb (at / 4096) (suc pages) (omega arith) in
-          let none : copied_pages store at count pages ≡ 0 = fewer ∙ ap (λ b. cond (b && is_shared store (at / 4096)) 1 0) far in
+          (let far : nat_lt (at / PAGE) pages ≡ false = le-ltb (at / PAGE) pages (omega arith) in
+          let near : nat_lt (at / PAGE) (suc pages) ≡ true = lt-ltb (at / PAGE) (suc pages) (omega arith) in
+          let none : copied_pages store at count pages ≡ 0 = fewer ∙ ap (λ b. cond (b && is_shared store (at / PAGE)) 1 0) far in
           let hit : reaches at count pages ≡ true = subst (λ p. reaches at count p ≡ true) (sym here) (reaches-here at count some within) in
-          let last : ◌≡◌ {A = ℕ} (cond (reaches at count pages && is_shared store pages) 1 0) (cond (is_shared store (at / 4096)) 1 0) = ap (λ b. cond (b && is_shared store pages) 1 0) hit ∙ ap (λ p. cond (is_shared store p) 1 0) here in
-          let sum : copied_pages store at count pages + cond (reaches at count pages && is_shared store pages) 1 0 ≡ 0 + cond (is_shared store (at / 4096)) 1 0 = ap (λ n. n + cond (reaches at count pages && is_shared store pages) 1 0) none ∙ ap (λ n. 0 + n) last in
+          let last : ◌≡◌ {A = ℕ} (cond (reaches at count pages && is_shared store pages) 1 0) (cond (is_shared store (at / PAGE)) 1 0) = ap (λ b. cond (b && is_shared store pages) 1 0) hit ∙ ap (λ p. cond (is_shared store p) 1 0) here in
+          let sum : copied_pages store at count pages + cond (reaches at count pages && is_shared store pages) 1 0 ≡ 0 + cond (is_shared store (at / PAGE)) 1 0 = ap (λ n. n + cond (reaches at count pages && is_shared store pages) 1 0) none ∙ ap (λ n. 0 + n) last in
           let plain : (n : ℕ) → 0 + n ≡ n = λ n. omega arith in
-          sum ∙ plain (cond (is_shared store (at / 4096)) 1 0) ∙ sym (ap (λ b. cond (b && is_shared store (at / 4096)) 1 0) near))
+          sum ∙ plain (cond (is_shared store (at / PAGE)) 1 0) ∙ sym (ap (λ b. cond (b && is_shared store (at / PAGE)) 1 0) near))
       | inr other ↦
           (let miss : ◌≡◌ {A = ℕ} (cond (reaches at count pages && is_shared store pages) 1 0) 0 = ap (λ b. cond (b && is_shared store pages) 1 0) (reaches-other at count pages within other) in
-          let same : nat_lt (at / 4096) pages ≡ nat_lt (at / 4096) (suc pages) = same_test (at / 4096) pages (λ e. other (sym e)) in
-          let sum : copied_pages store at count pages + cond (reaches at count pages && is_shared store pages) 1 0 ≡ cond (nat_lt (at / 4096) pages && is_shared store (at / 4096)) 1 0 = omega (arith, fewer, miss) in
-          sum ∙ ap (λ b. cond (b && is_shared store (at / 4096)) 1 0) same)
+          let same : nat_lt (at / PAGE) pages ≡ nat_lt (at / PAGE) (suc pages) = same_test (at / PAGE) pages (λ e. other (sym e)) in
+          let sum : copied_pages store at count pages + cond (reaches at count pages && is_shared store pages) 1 0 ≡ cond (nat_lt (at / PAGE) pages && is_shared store (at / PAGE)) 1 0 = omega (arith, fewer, miss) in
+          sum ∙ ap (λ b. cond (b && is_shared store (at / PAGE)) 1 0) same)
     ]
 
 -- a page gets a frame of its own, and bytes are written there
-pub owned_write : (old mid new : Pages) (at : ℕ) (bytes : List ℕ) → 0 < length bytes → at % 4096 + length bytes ≤ 4096 → at < 4096 * old.pages → Owns old mid (at / 4096) → new.pages ≡ mid.pages → new.frames ≡ mid.frames → new.slots ≡ mid.slots → new.live.numbers ≡ mid.live.numbers → new.live.bytes ≡ put_at at bytes mid.live.bytes → Writes old new at bytes
+pub owned_write : (old mid new : Pages) (at : ℕ) (bytes : List ℕ) → 0 < length bytes → at % PAGE + length bytes ≤ PAGE → at < PAGE * old.pages → Owns old mid (at / PAGE) → new.pages ≡ mid.pages → new.frames ≡ mid.frames → new.slots ≡ mid.slots → new.live.numbers ≡ mid.live.numbers → new.live.bytes ≡ put_at at bytes mid.live.bytes → Writes old new at bytes
 owned_write old mid new at bytes some within inside so pages frames slots numbers written =
-    let page : at / 4096 < old.pages = omega arith in
+    let page : at / PAGE < old.pages = omega arith in
     record {
       pages = pages ∙ so.pages;
       frames = frames ∙ so.frames;
@@ -107,78 +108,78 @@ owned_write old mid new at bytes some within inside so pages frames slots number
       written = written ∙ ap (put_at at bytes) so.bytes;
       numbers = λ p less.
           subst (λ xs. NumberAfter (reaches at (length bytes) p && is_shared old p) old p (get_or xs p 0)) (sym numbers)
-          (elim (cases_eq p (at / 4096)) [
+          (elim (cases_eq p (at / PAGE)) [
             | inl here ↦
                 subst (λ q. NumberAfter (reaches at (length bytes) q && is_shared old q) old q (get_or mid.live.numbers q 0)) (sym here)
-                (subst (λ b. NumberAfter (b && is_shared old (at / 4096)) old (at / 4096) (get_or mid.live.numbers (at / 4096) 0)) (sym (reaches-here at (length bytes) some within)) so.number)
+                (subst (λ b. NumberAfter (b && is_shared old (at / PAGE)) old (at / PAGE) (get_or mid.live.numbers (at / PAGE) 0)) (sym (reaches-here at (length bytes) some within)) so.number)
             | inr other ↦
                 subst (λ b. NumberAfter (b && is_shared old p) old p (get_or mid.live.numbers p 0)) (sym (reaches-other at (length bytes) p within other)) (so.others p less other)
           ]);
       used =
           (let same : used_of new ≡ used_of mid = ap (λ xs. different (xs ++ saved_numbers new.slots)) numbers ∙ ap (λ xs. different (mid.live.numbers ++ saved_numbers xs)) slots in
-          let one : copied_pages old at (length bytes) old.pages ≡ cond (is_shared old (at / 4096)) 1 0 = copied_one old at (length bytes) some within old.pages ∙ ap (λ b. cond (b && is_shared old (at / 4096)) 1 0) (lt-ltb (at / 4096) old.pages page) in
+          let one : copied_pages old at (length bytes) old.pages ≡ cond (is_shared old (at / PAGE)) 1 0 = copied_one old at (length bytes) some within old.pages ∙ ap (λ b. cond (b && is_shared old (at / PAGE)) 1 0) (lt-ltb (at / PAGE) old.pages page) in
           same ∙ so.used ∙ ap (λ n. used_of old + n) (sym one));
     }
 
 -- the pool's bytes behind a place, read as those of the live space
-pub byte_is : (pages frames held : ℕ) (pool live counts free : List ℕ) (reserved : ℕ) (slots : List Slot) (store : Pages) (at place x : ℕ) → IsSound pages frames held pool live counts free reserved slots → pages_of pages frames pool live slots ≡ store → at < 4096 * store.pages → place ≡ 4096 * get_or store.live.numbers (at / 4096) 0 + at % 4096 → x ≡ get_or pool place x → slice_get store.live.bytes at ≡ Some x
+pub byte_is : (pages frames held : ℕ) (pool live counts free : List ℕ) (reserved : ℕ) (slots : List Slot) (store : Pages) (at place x : ℕ) → IsSound pages frames held pool live counts free reserved slots → pages_of pages frames pool live slots ≡ store → at < PAGE * store.pages → place ≡ PAGE * get_or store.live.numbers (at / PAGE) 0 + at % PAGE → x ≡ get_or pool place x → slice_get store.live.bytes at ≡ Some x
 byte_is pages frames held pool live counts free reserved slots store at place x so is inside there read =
     let below : AreBelow frames live = table_below pages frames so.homes live so.live_table so.homes_size in
-    let near : at < 4096 * pages = subst (λ s. at < 4096 * s.pages) (sym is) inside in
-    let where' : place ≡ 4096 * get_or live (at / 4096) 0 + at % 4096 = subst (λ s. place ≡ 4096 * get_or s.live.numbers (at / 4096) 0 + at % 4096) (sym is) there in
-    let number : get_or live (at / 4096) 0 < frames = below (at / 4096) (omega (arith, so.live_table.size)) in
-    let whole : length (contents pool live) ≡ 4096 * length live = length-contents frames pool live so.pool_size below in
+    let near : at < PAGE * pages = subst (λ s. at < PAGE * s.pages) (sym is) inside in
+    let where' : place ≡ PAGE * get_or live (at / PAGE) 0 + at % PAGE = subst (λ s. place ≡ PAGE * get_or s.live.numbers (at / PAGE) 0 + at % PAGE) (sym is) there in
+    let number : get_or live (at / PAGE) 0 < frames = below (at / PAGE) (omega (arith, so.live_table.size)) in
+    let whole : length (contents pool live) ≡ PAGE * length live = length-contents frames pool live so.pool_size below in
     let within : at < length (contents pool live) = omega (arith, so.live_table.size) in
     subst (λ s. slice_get s.live.bytes at ≡ Some x) is
     (slice_get-get_or (contents pool live) at 0 within
     ∙ ap Some (get_or-contents frames pool live at so.pool_size below (omega arith) ∙ ap (λ n. get_or pool n 0) (sym where') ∙ get_or_default pool place 0 x (omega (arith, so.pool_size)) ∙ sym read))
 
-pub run_is : (pages frames held : ℕ) (pool live counts free : List ℕ) (reserved : ℕ) (slots : List Slot) (store : Pages) (at count place : ℕ) → IsSound pages frames held pool live counts free reserved slots → pages_of pages frames pool live slots ≡ store → at < 4096 * store.pages → at % 4096 + count ≤ 4096 → place ≡ 4096 * get_or store.live.numbers (at / 4096) 0 + at % 4096 → take count (drop place pool) ≡ take count (drop at store.live.bytes)
+pub run_is : (pages frames held : ℕ) (pool live counts free : List ℕ) (reserved : ℕ) (slots : List Slot) (store : Pages) (at count place : ℕ) → IsSound pages frames held pool live counts free reserved slots → pages_of pages frames pool live slots ≡ store → at < PAGE * store.pages → at % PAGE + count ≤ PAGE → place ≡ PAGE * get_or store.live.numbers (at / PAGE) 0 + at % PAGE → take count (drop place pool) ≡ take count (drop at store.live.bytes)
 run_is pages frames held pool live counts free reserved slots store at count place so is inside within there =
     let below : AreBelow frames live = table_below pages frames so.homes live so.live_table so.homes_size in
-    let near : at < 4096 * pages = subst (λ s. at < 4096 * s.pages) (sym is) inside in
-    let where' : place ≡ 4096 * get_or live (at / 4096) 0 + at % 4096 = subst (λ s. place ≡ 4096 * get_or s.live.numbers (at / 4096) 0 + at % 4096) (sym is) there in
+    let near : at < PAGE * pages = subst (λ s. at < PAGE * s.pages) (sym is) inside in
+    let where' : place ≡ PAGE * get_or live (at / PAGE) 0 + at % PAGE = subst (λ s. place ≡ PAGE * get_or s.live.numbers (at / PAGE) 0 + at % PAGE) (sym is) there in
     subst (λ s. take count (drop place pool) ≡ take count (drop at s.live.bytes)) is
     (ap (λ n. take count (drop n pool)) where' ∙ sym (run-contents frames pool live at count so.pool_size below (omega (arith, so.live_table.size)) within))
 
 -- the store after bytes were written behind a place of the pool
-pub put_done : (pages frames held : ℕ) (pool after live counts free : List ℕ) (reserved : ℕ) (slots : List Slot) (old mid : Pages) (at place : ℕ) (bytes : List ℕ) → IsSound pages frames held pool live counts free reserved slots → pages_of pages frames pool live slots ≡ mid → Owns old mid (at / 4096) → place ≡ 4096 * get_or mid.live.numbers (at / 4096) 0 + at % 4096 → after ≡ put_at place bytes pool → 0 < length bytes → at % 4096 + length bytes ≤ 4096 → at < 4096 * old.pages → Writes old (pages_of pages frames after live slots) at bytes
+pub put_done : (pages frames held : ℕ) (pool after live counts free : List ℕ) (reserved : ℕ) (slots : List Slot) (old mid : Pages) (at place : ℕ) (bytes : List ℕ) → IsSound pages frames held pool live counts free reserved slots → pages_of pages frames pool live slots ≡ mid → Owns old mid (at / PAGE) → place ≡ PAGE * get_or mid.live.numbers (at / PAGE) 0 + at % PAGE → after ≡ put_at place bytes pool → 0 < length bytes → at % PAGE + length bytes ≤ PAGE → at < PAGE * old.pages → Writes old (pages_of pages frames after live slots) at bytes
 put_done pages frames held pool after live counts free reserved slots old mid at place bytes so is owns there e some within inside =
-    let mine : Owns old (pages_of pages frames pool live slots) (at / 4096) = subst (λ s. Owns old s (at / 4096)) (sym is) owns in
-    let where' : place ≡ 4096 * get_or live (at / 4096) 0 + at % 4096 = subst (λ s. place ≡ 4096 * get_or s.live.numbers (at / 4096) 0 + at % 4096) (sym is) there in
+    let mine : Owns old (pages_of pages frames pool live slots) (at / PAGE) = subst (λ s. Owns old s (at / PAGE)) (sym is) owns in
+    let where' : place ≡ PAGE * get_or live (at / PAGE) 0 + at % PAGE = subst (λ s. place ≡ PAGE * get_or s.live.numbers (at / PAGE) 0 + at % PAGE) (sym is) there in
     let below : AreBelow frames live = table_below pages frames so.homes live so.live_table so.homes_size in
-    let near : at < 4096 * length live = omega (arith, so.live_table.size, mine.pages) in
-    let n = get_or live (at / 4096) 0 in
-    let number : n < frames = below (at / 4096) (omega arith) in
-    let none : has n (table_numbers slots) ≡ false = ap (has n) (sym (saved_numbers-is pool slots)) ∙ owned-apart old (pages_of pages frames pool live slots) (at / 4096) mine in
-    let written : after ≡ put_at (4096 * n + at % 4096) bytes pool = e ∙ ap (λ m. put_at m bytes pool) where' in
+    let near : at < PAGE * length live = omega (arith, so.live_table.size, mine.pages) in
+    let n = get_or live (at / PAGE) 0 in
+    let number : n < frames = below (at / PAGE) (omega arith) in
+    let none : has n (table_numbers slots) ≡ false = ap (has n) (sym (saved_numbers-is pool slots)) ∙ owned-apart old (pages_of pages frames pool live slots) (at / PAGE) mine in
+    let written : after ≡ put_at (PAGE * n + at % PAGE) bytes pool = e ∙ ap (λ m. put_at m bytes pool) where' in
     subst (λ xs. Writes old (pages_of pages frames xs live slots) at bytes) (sym written)
-    (owned_write old (pages_of pages frames pool live slots) (pages_of pages frames (put_at (4096 * n + at % 4096) bytes pool) live slots) at bytes some within inside mine refl refl
-    (slots_same pages frames n so.homes pool (put_at (4096 * n + at % 4096) bytes pool) slots so.homes_size so.slot_tables none (λ table under gone. contents-put_apart frames n (at % 4096) bytes pool table so.pool_size under number within (not-at n table gone)))
+    (owned_write old (pages_of pages frames pool live slots) (pages_of pages frames (put_at (PAGE * n + at % PAGE) bytes pool) live slots) at bytes some within inside mine refl refl
+    (slots_same pages frames n so.homes pool (put_at (PAGE * n + at % PAGE) bytes pool) slots so.homes_size so.slot_tables none (λ table under gone. contents-put_apart frames n (at % PAGE) bytes pool table so.pool_size under number within (not-at n table gone)))
     refl
     (contents-put_here frames bytes pool live at so.pool_size below (table_once pages so.homes live so.live_table) near within))
 
-pub used_one : (old new : Pages) (at : ℕ) (bytes : List ℕ) → Writes old new at bytes → 0 < length bytes → at % 4096 + length bytes ≤ 4096 → at < 4096 * old.pages → used_of new ≡ used_of old + cond (is_shared old (at / 4096)) 1 0
+pub used_one : (old new : Pages) (at : ℕ) (bytes : List ℕ) → Writes old new at bytes → 0 < length bytes → at % PAGE + length bytes ≤ PAGE → at < PAGE * old.pages → used_of new ≡ used_of old + cond (is_shared old (at / PAGE)) 1 0
 used_one old new at bytes so some within inside =
-    let near : nat_lt (at / 4096) old.pages ≡ true = lt-ltb (at / 4096) old.pages (omega arith) in
-    so.used ∙ ap (λ n. used_of old + n) (copied_one old at (length bytes) some within old.pages ∙ ap (λ b. cond (b && is_shared old (at / 4096)) 1 0) near)
+    let near : nat_lt (at / PAGE) old.pages ≡ true = lt-ltb (at / PAGE) old.pages (omega arith) in
+    so.used ∙ ap (λ n. used_of old + n) (copied_one old at (length bytes) some within old.pages ∙ ap (λ b. cond (b && is_shared old (at / PAGE)) 1 0) near)
 
 -- a list of the same length written whole, as a vector's slice is
 pub refill : (n : ℕ) (xs ys : List ℕ) → length ys ≡ n → take n (ys ++ drop (length ys) xs) ≡ ys
 refill n xs ys size = take_at ys (drop (length ys) xs) n size
 
 -- a place of the pool has room for what is written within its page
-pub place_room : (pages frames held : ℕ) (pool live counts free : List ℕ) (reserved : ℕ) (slots : List Slot) (old mid : Pages) (at place count : ℕ) → IsSound pages frames held pool live counts free reserved slots → pages_of pages frames pool live slots ≡ mid → Owns old mid (at / 4096) → place ≡ 4096 * get_or mid.live.numbers (at / 4096) 0 + at % 4096 → at % 4096 + count ≤ 4096 → at < 4096 * old.pages → place + count ≤ length pool
+pub place_room : (pages frames held : ℕ) (pool live counts free : List ℕ) (reserved : ℕ) (slots : List Slot) (old mid : Pages) (at place count : ℕ) → IsSound pages frames held pool live counts free reserved slots → pages_of pages frames pool live slots ≡ mid → Owns old mid (at / PAGE) → place ≡ PAGE * get_or mid.live.numbers (at / PAGE) 0 + at % PAGE → at % PAGE + count ≤ PAGE → at < PAGE * old.pages → place + count ≤ length pool
 place_room pages frames held pool live counts free reserved slots old mid at place count so is owns there within inside =
-    let mine : Owns old (pages_of pages frames pool live slots) (at / 4096) = subst (λ s. Owns old s (at / 4096)) (sym is) owns in
-    let where' : place ≡ 4096 * get_or live (at / 4096) 0 + at % 4096 = subst (λ s. place ≡ 4096 * get_or s.live.numbers (at / 4096) 0 + at % 4096) (sym is) there in
-    let number : get_or live (at / 4096) 0 < frames = table_below pages frames so.homes live so.live_table so.homes_size (at / 4096) (omega (arith, so.live_table.size, mine.pages)) in
+    let mine : Owns old (pages_of pages frames pool live slots) (at / PAGE) = subst (λ s. Owns old s (at / PAGE)) (sym is) owns in
+    let where' : place ≡ PAGE * get_or live (at / PAGE) 0 + at % PAGE = subst (λ s. place ≡ PAGE * get_or s.live.numbers (at / PAGE) 0 + at % PAGE) (sym is) there in
+    let number : get_or live (at / PAGE) 0 < frames = table_below pages frames so.homes live so.live_table so.homes_size (at / PAGE) (omega (arith, so.live_table.size, mine.pages)) in
     omega (arith, so.pool_size, number)
 
 -- the store after one byte, or several, were written
-pub byte_done : (pages frames held : ℕ) (pool live counts free : List ℕ) (reserved : ℕ) (slots : List Slot) (old mid : Pages) (at place byte : ℕ) → IsSound pages frames held pool live counts free reserved slots → pages_of pages frames pool live slots ≡ mid → Owns old mid (at / 4096) → place ≡ 4096 * get_or mid.live.numbers (at / 4096) 0 + at % 4096 → at < 4096 * old.pages → Writes old (pages_of pages frames (set pool place byte) live slots) at (byte ∷ [])
+pub byte_done : (pages frames held : ℕ) (pool live counts free : List ℕ) (reserved : ℕ) (slots : List Slot) (old mid : Pages) (at place byte : ℕ) → IsSound pages frames held pool live counts free reserved slots → pages_of pages frames pool live slots ≡ mid → Owns old mid (at / PAGE) → place ≡ PAGE * get_or mid.live.numbers (at / PAGE) 0 + at % PAGE → at < PAGE * old.pages → Writes old (pages_of pages frames (set pool place byte) live slots) at (byte ∷ [])
 byte_done pages frames held pool live counts free reserved slots old mid at place byte so is owns there inside =
-    let within : at % 4096 + 1 ≤ 4096 = omega arith in
+    let within : at % PAGE + 1 ≤ PAGE = omega arith in
     put_done pages frames held pool (set pool place byte) live counts free reserved slots old mid at place (byte ∷ []) so is owns there
     (set-put_at pool place byte (omega (arith, place_room pages frames held pool live counts free reserved slots old mid at place 1 so is owns there within inside)))
     (omega arith) within inside
@@ -194,7 +195,7 @@ part_pool n place count pool bytes whole part size room is same many =
     take_at written (drop (length written) pool) n (ap length e ∙ length-put_at place bytes pool room ∙ sym size) ∙ e
 
 -- the store then
-pub part_done : (pages frames held : ℕ) (pool live counts free : List ℕ) (reserved : ℕ) (slots : List Slot) (old mid : Pages) (at place n count : ℕ) (bytes whole part : List ℕ) → IsSound pages frames held pool live counts free reserved slots → pages_of pages frames pool live slots ≡ mid → Owns old mid (at / 4096) → place ≡ 4096 * get_or mid.live.numbers (at / 4096) 0 + at % 4096 → 0 < length bytes → at % 4096 + length bytes ≤ 4096 → at < 4096 * old.pages → n ≡ length pool → whole ≡ pool → part ≡ bytes → count ≡ length bytes → Writes old (pages_of pages frames (take n (take place whole ++ (part ++ drop count (drop place whole)) ++ drop (length (take place whole ++ (part ++ drop count (drop place whole)))) pool)) live slots) at bytes
+pub part_done : (pages frames held : ℕ) (pool live counts free : List ℕ) (reserved : ℕ) (slots : List Slot) (old mid : Pages) (at place n count : ℕ) (bytes whole part : List ℕ) → IsSound pages frames held pool live counts free reserved slots → pages_of pages frames pool live slots ≡ mid → Owns old mid (at / PAGE) → place ≡ PAGE * get_or mid.live.numbers (at / PAGE) 0 + at % PAGE → 0 < length bytes → at % PAGE + length bytes ≤ PAGE → at < PAGE * old.pages → n ≡ length pool → whole ≡ pool → part ≡ bytes → count ≡ length bytes → Writes old (pages_of pages frames (take n (take place whole ++ (part ++ drop count (drop place whole)) ++ drop (length (take place whole ++ (part ++ drop count (drop place whole)))) pool)) live slots) at bytes
 part_done pages frames held pool live counts free reserved slots old mid at place n count bytes whole part so is owns there some within inside size full same many =
     put_done pages frames held pool (take n (take place whole ++ (part ++ drop count (drop place whole)) ++ drop (length (take place whole ++ (part ++ drop count (drop place whole)))) pool)) live counts free reserved slots old mid at place bytes so is owns there
     (part_pool n place count pool bytes whole part size (place_room pages frames held pool live counts free reserved slots old mid at place (length bytes) so is owns there within inside) full same many)

@@ -11,6 +11,7 @@ use Rattle.cow_pages.proofs.Walks.{below_append}
 use Rattle.cow_pages.proofs.Stores.{saved_numbers-is, table_below, table_home, table_once, lawful, slot_within, slot_saved}
 use Rattle.cow_pages.proofs.Slots.{places-slots, places-released, tables_below, counts_same, same_different, places-slots_le, saved_slot, slots_set, saved_space, release_counts, release_held, slot_counted, slot_table}
 use Rattle.cow_pages.proofs.Runs.{refill}
+use Rattle.cow_pages.specs.declared.store.TheConstants.{MAX_SLOTS}
 
 -- a list that has no number which another one hasn't has no more different ones
 occupied-le : (k : ℕ) (xs ys : List ℕ) → ((n : ℕ) → n < k → has n xs ≡ true → has n ys ≡ true) → occupied k xs ≤ occupied k ys
@@ -37,7 +38,7 @@ over_places n live slots i slot next less is was saved table =
     omega (arith, a, b, places-slots n slots i slot next less is, places-released n slot.table.items slots i slot (emptied slot) less is was refl refl, places-append n slot.table.items (table_numbers (set slots i (emptied slot))), places-append n live (table_numbers (set slots i (emptied slot))))
 
 -- no number is counted more often than there are slots
-over_few : (pages frames held : ℕ) (pool live counts free : List ℕ) (reserved : ℕ) (slots : List Slot) → IsSound pages frames held pool live counts free reserved slots → (n : ℕ) → get_or counts n 0 ≤ 16
+over_few : (pages frames held : ℕ) (pool live counts free : List ℕ) (reserved : ℕ) (slots : List Slot) → IsSound pages frames held pool live counts free reserved slots → (n : ℕ) → get_or counts n 0 ≤ MAX_SLOTS
 over_few pages frames held pool live counts free reserved slots so n =
     elim (cases_lt n (length counts)) [
       | inl less ↦ omega (arith, so.counted.each n less, places-slots_le pages n so.homes slots so.slot_tables, so.numbered.1)

@@ -9,6 +9,7 @@ use Rattle.cow_pages.specs.declared.slot.Slot.{Slot}
 use Rattle.cow_pages.proofs.Counting.{AreBelow, or_second, has-is, places-none, places-some, places-append, places-le-one, has-get_or, different-same}
 use Rattle.cow_pages.proofs.Walks.{in_use, below_append, stack_same}
 use Rattle.cow_pages.proofs.Stores.{saved_numbers-is, table_below, table_once, used-sum}
+use Rattle.cow_pages.specs.declared.store.TheConstants.{MAX_SLOTS}
 
 -- another slot at a place
 pub places-slots : (n : ℕ) (slots : List Slot) (i : ℕ) (slot next : Slot) → i < length slots → slot ≡ get_or slots i slot → places n (table_numbers (set slots i next)) + places n (slot_numbers slot) ≡ places n (table_numbers slots) + places n (slot_numbers next)
@@ -63,7 +64,7 @@ same_different top xs ys bx by same = different-same top xs ys bx by (λ n less.
 pub save_few : (pages frames held : ℕ) (pool live counts free : List ℕ) (reserved : ℕ) (slots : List Slot) → IsSound pages frames held pool live counts free reserved slots → (n : ℕ) → get_or counts n 0 + places n live < 256
 save_few pages frames held pool live counts free reserved slots so n =
     let once : places n live ≤ 1 = places-le-one n live (table_once pages so.homes live so.live_table) in
-    let few : get_or counts n 0 ≤ 16 =
+    let few : get_or counts n 0 ≤ MAX_SLOTS =
     elim (cases_lt n (length counts)) [
       | inl less ↦ omega (arith, so.counted.each n less, places-slots_le pages n so.homes slots so.slot_tables, so.numbered.1)
       | inr past ↦ omega (arith, get_or_past counts n 0 past)

@@ -10,6 +10,7 @@ use Rattle.cow_pages.specs.declared.slot.Slot.{Slot}
 use Rattle.cow_pages.proofs.Counting.{AreBelow, has-append, has-is, length-free}
 use Rattle.cow_pages.proofs.Walks.{below_append, in_use}
 use Rattle.cow_pages.proofs.Frames.{IsOnce, length-contents, run-contents}
+use Rattle.cow_pages.specs.declared.frame_copy.TheConstants.{PAGE}
 
 pub saved_numbers-is : (pool : List ℕ) (slots : List Slot) → saved_numbers (map (slot_space pool) slots) ≡ table_numbers slots
 saved_numbers-is pool [] = refl
@@ -74,26 +75,26 @@ table_of pages frames held pool live counts free reserved slots so space stands 
           table_found pages pool so.homes space slots i less there.1 so.slot_tables)
     ]
 
-space_is : (pages frames : ℕ) (pool homes table : List ℕ) → length pool ≡ 4096 * frames → length homes ≡ frames → IsTable pages homes table → IsSpace pages frames (space_of pool table)
+space_is : (pages frames : ℕ) (pool homes table : List ℕ) → length pool ≡ PAGE * frames → length homes ≡ frames → IsTable pages homes table → IsSpace pages frames (space_of pool table)
 space_is pages frames pool homes table size many so = record {
   numbers = so.size;
   below = λ page less. subst (λ n. get_or table page 0 < n) many (so.below page less);
-  bytes = length-contents frames pool table size (table_below pages frames homes table so many) ∙ ap (λ n. 4096 * n) so.size;
+  bytes = length-contents frames pool table size (table_below pages frames homes table so many) ∙ ap (λ n. PAGE * n) so.size;
 }
 
-page_is : (pages frames : ℕ) (pool homes table : List ℕ) (page : ℕ) → length pool ≡ 4096 * frames → length homes ≡ frames → IsTable pages homes table → page < length table → page_of (space_of pool table) page ≡ take 4096 (drop (4096 * get_or table page 0 + 0) pool)
+page_is : (pages frames : ℕ) (pool homes table : List ℕ) (page : ℕ) → length pool ≡ PAGE * frames → length homes ≡ frames → IsTable pages homes table → page < length table → page_of (space_of pool table) page ≡ take PAGE (drop (PAGE * get_or table page 0 + 0) pool)
 page_is pages frames pool homes table page size many so less =
-    let here : 4096 * page / 4096 ≡ page = omega arith in
-    let start : 4096 * page % 4096 ≡ 0 = omega arith in
-    run-contents frames pool table (4096 * page) 4096 size (table_below pages frames homes table so many) (omega arith) (omega arith)
-    ∙ ap (λ p. take 4096 (drop (4096 * get_or table p 0 + 4096 * page % 4096) pool)) here
-    ∙ ap (λ n. take 4096 (drop (4096 * get_or table page 0 + n) pool)) start
+    let here : PAGE * page / PAGE ≡ page = omega arith in
+    let start : PAGE * page % PAGE ≡ 0 = omega arith in
+    run-contents frames pool table (PAGE * page) PAGE size (table_below pages frames homes table so many) (omega arith) (omega arith)
+    ∙ ap (λ p. take PAGE (drop (PAGE * get_or table p 0 + PAGE * page % PAGE) pool)) here
+    ∙ ap (λ n. take PAGE (drop (PAGE * get_or table page 0 + n) pool)) start
 
-agree_is : (pages frames : ℕ) (pool homes table other : List ℕ) → length pool ≡ 4096 * frames → length homes ≡ frames → IsTable pages homes table → IsTable pages homes other → Agree (space_of pool table) (space_of pool other)
+agree_is : (pages frames : ℕ) (pool homes table other : List ℕ) → length pool ≡ PAGE * frames → length homes ≡ frames → IsTable pages homes table → IsTable pages homes other → Agree (space_of pool table) (space_of pool other)
 agree_is pages frames pool homes table other size many so too = λ page place lp lq e. (
   table_home pages homes table other so too page place lp lq e,
   page_is pages frames pool homes table page size many so lp
-      ∙ ap (λ n. take 4096 (drop (4096 * n + 0) pool)) e
+      ∙ ap (λ n. take PAGE (drop (PAGE * n + 0) pool)) e
       ∙ sym (page_is pages frames pool homes other place size many too lq),
 )
 

@@ -1,5 +1,7 @@
--- What a store of pages holds: a live space and numbered slots, each of them pages of 4096 bytes.
+-- What a store of pages holds: a live space and numbered slots, each of them pages of PAGE bytes.
 use Rattle.std.specs.Prelude.{◌≡◌, ℕ, ◌+◌, ◌*◌, ◌<◌, ◌≤◌, Bool, false, ◌||◌, ◌==◌, if◌then◌else◌, Option, Some, None, List, [], ◌∷◌, ◌++◌, length, take, drop, replicate, slice_index, slice_index_or, ◌⊎◌}
+use Rattle.cow_pages.specs.declared.frame_copy.TheConstants.{PAGE}
+use Rattle.cow_pages.specs.declared.store.TheConstants.{MAX_FRAMES_PER_PAGE, MAX_PAGES}
 
 -- one space: the number of the frame in which each page stands, and all its bytes
 pub record Space : Type 0 where
@@ -43,13 +45,13 @@ slot_at store slot = slice_index_or store.slots slot None
 
 -- the bytes of one page of a space
 abbrev pub page_of : Space → ℕ → List ℕ
-page_of space page = take 4096 (drop (4096 * page) space.bytes)
+page_of space page = take PAGE (drop (PAGE * page) space.bytes)
 
--- a space has a number below the frames for each page, and 4096 bytes for each page
+-- a space has a number below the frames for each page, and PAGE bytes for each page
 pub record IsSpace (pages frames : ℕ) (space : Space) : Type 0 where
   pub numbers : length space.numbers ≡ pages
   pub below : (page : ℕ) → page < pages → slice_index space.numbers page < frames
-  pub bytes : length space.bytes ≡ 4096 * pages
+  pub bytes : length space.bytes ≡ PAGE * pages
 
 -- a number that two spaces have is that of one and the same page, which has the same bytes in both
 abbrev pub Agree : Space → Space → Type 0
@@ -61,8 +63,8 @@ Stands store space = (space ≡ store.live) ⊎ ((slot : ℕ) × (slot_at store 
 
 -- what holds of every store: there is a free frame for each page that a write may have to copy, and equal numbers are shared pages
 pub record IsLawful (store : Pages) : Type 0 where
-  pub few : store.pages ≤ 16384
-  pub enough : store.frames ≤ 16 * store.pages
+  pub few : store.pages ≤ MAX_PAGES
+  pub enough : store.frames ≤ MAX_FRAMES_PER_PAGE * store.pages
   pub used : used_of store ≤ store.frames
   pub room : held_of store + store.pages ≤ store.frames
   pub spaces : (space : Space) → Stands store space → IsSpace store.pages store.frames space
@@ -72,6 +74,6 @@ pub record IsLawful (store : Pages) : Type 0 where
 pub record IsMade (pages slots frames : ℕ) (store : Pages) : Type 0 where
   pub pages_are : store.pages ≡ pages
   pub frames_are : store.frames ≡ frames
-  pub zeros : store.live.bytes ≡ replicate (4096 * pages) 0
+  pub zeros : store.live.bytes ≡ replicate (PAGE * pages) 0
   pub empty : store.slots ≡ replicate slots None
   pub used : used_of store ≡ pages

@@ -2,11 +2,13 @@
 use Rattle.std.specs.Prelude.{◌≡◌, ℕ, ◌+◌, ◌-◌, ◌*◌, ◌<◌, ◌≤◌, true, false, ◌||◌, ◌==◌, nat_lt, if◌then◌else◌, Option, Some, None, List, [], ◌∷◌, ◌++◌, length, take, drop, map, All, slice_index}
 use Rattle.cow_pages.specs.Pages.{Space, Pages, has, different}
 use Rattle.cow_pages.specs.declared.slot.Slot.{Slot}
+use Rattle.cow_pages.specs.declared.frame_copy.TheConstants.{PAGE}
+use Rattle.cow_pages.specs.declared.store.TheConstants.{MAX_FRAMES_PER_PAGE, MAX_PAGES, MAX_SLOTS}
 
 -- the bytes of frames, one after the other
 abbrev pub contents : List ℕ → List ℕ → List ℕ
 contents pool [] = []
-contents pool (n ∷ numbers) = take 4096 (drop (4096 * n) pool) ++ contents pool numbers
+contents pool (n ∷ numbers) = take PAGE (drop (PAGE * n) pool) ++ contents pool numbers
 
 -- the space whose pages stand in these frames
 abbrev pub space_of : List ℕ → List ℕ → Space
@@ -75,10 +77,10 @@ pub record IsSlot (pages : ℕ) (homes : List ℕ) (slot : Slot) : Type 0 where
 
 -- the tables, counts and free frames fit together
 pub record IsSound (pages frames held : ℕ) (pool live counts free : List ℕ) (reserved : ℕ) (slots : List Slot) : Type 0 where
-  pub few : (1 ≤ pages) × (pages ≤ 16384)
-  pub enough : (2 * pages ≤ frames) × (frames ≤ 16 * pages)
-  pub numbered : (1 ≤ length slots) × (length slots ≤ 16)
-  pub pool_size : length pool ≡ 4096 * frames
+  pub few : (1 ≤ pages) × (pages ≤ MAX_PAGES)
+  pub enough : (2 * pages ≤ frames) × (frames ≤ MAX_FRAMES_PER_PAGE * pages)
+  pub numbered : (1 ≤ length slots) × (length slots ≤ MAX_SLOTS)
+  pub pool_size : length pool ≡ PAGE * frames
   pub counts_size : length counts ≡ frames
   pub reserved_room : frames ≤ reserved
   pub homes : List ℕ

@@ -1,6 +1,7 @@
 -- What a write to the live space of a store leaves.
 use Rattle.std.specs.Prelude.{◌≡◌, ℕ, zero, suc, ◌+◌, ◌-◌, ◌/◌, ◌<◌, Bool, false, ◌&&◌, nat_le, nat_lt, if◌then◌else◌, List, ◌++◌, length, take, drop, slice_index, MatchBool}
 use Rattle.cow_pages.specs.Pages.{Pages, has, saved_numbers, used_of}
+use Rattle.cow_pages.specs.declared.frame_copy.TheConstants.{PAGE}
 
 -- a list with other elements from a place on
 abbrev pub put_at : ℕ → List ℕ → List ℕ → List ℕ
@@ -20,7 +21,7 @@ NumberAfter copied old page n = MatchBool copied (IsFree old n) (n ≡ slice_ind
 
 -- whether a write of so many bytes from an address on reaches a page
 abbrev pub reaches : ℕ → ℕ → ℕ → Bool
-reaches at count page = nat_lt 0 count && (nat_le (at / 4096) page && nat_le page ((at + count - 1) / 4096))
+reaches at count page = nat_lt 0 count && (nat_le (at / PAGE) page && nat_le page ((at + count - 1) / PAGE))
 
 -- how many of the first so many pages a write reaches and a slot has
 abbrev pub copied_pages : Pages → ℕ → ℕ → ℕ → ℕ

@@ -1,4 +1,4 @@
-//! Pages of 4096 bytes that are shared by copy on write: a live space, and numbered slots that it is saved in.
+//! Pages of `PAGE` bytes that are shared by copy on write: a live space, and numbered slots that it is saved in.
 //!
 //! A slot and the live space have a frame in common until the live space is written there.
 //! One can rest on this: no write to the live space changes a slot, and no save copies a byte.
@@ -12,4 +12,5 @@ mod slot;
 mod store;
 mod tables;
 
-pub use store::PageStore;
+pub use frame_copy::PAGE;
+pub use store::{MAX_FRAMES_PER_PAGE, MAX_PAGES, MAX_SLOTS, PageStore};

@@ -5,17 +5,23 @@ ghost use Rattle.cow_pages.specs.Pages.{held_of, used_of, slot_at, IsLawful, IsM
 ghost use Rattle.cow_pages.specs.Writes.{is_shared, Writes, Owns};
 ghost use Rattle.cow_pages.specs.Little.{little_number, little_bytes};
 
-use crate::frame_copy::copy_frame;
+use crate::frame_copy::{PAGE, copy_frame};
 use crate::little::{half_bytes, half_of, word_bytes, word_of};
 use crate::slot::{Slot, blank_slots};
 use crate::tables::{count_table, give_up, renew_table, row, uncount_table};
 use std::alloc::{AllocError, Global};
 use std::marker::Model;
 
-// How many bytes a page has.
-const PAGE: u32 = 4096;
+/// How many pages a store has at most.
+pub const MAX_PAGES: u32 = 16384;
 
-/// A live space of pages, and slots that it is saved in. A page stands in a frame of 4096 bytes. The live space and the
+/// How many slots a store has at most.
+pub const MAX_SLOTS: u32 = 16;
+
+/// How many frames a store has at most for each page.
+pub const MAX_FRAMES_PER_PAGE: u32 = 16;
+
+/// A live space of pages, and slots that it is saved in. A page stands in a frame of `PAGE` bytes. The live space and the
 /// slots share a frame until the live space is written there, so that saving, releasing and restoring cost a table of the
 /// pages and not their bytes. Addresses are of the live space, from 0.
 #[derive(Debug, Drop)]
@@ -48,12 +54,13 @@ impl Model for PageStore {
 }
 
 impl PageStore {
-    /// A store with all bytes 0 and nothing saved: 1 to 16384 pages, 1 to 16 slots, and 2 to 16 frames for each page. All
-    /// memory is taken here, 4096 bytes for each frame. No other call takes any, and none can fail.
+    /// A store with all bytes 0 and nothing saved: 1 to `MAX_PAGES` pages, 1 to `MAX_SLOTS` slots, and 2 to
+    /// `MAX_FRAMES_PER_PAGE` frames for each page. All memory is taken here, `PAGE` bytes for each frame. No other call
+    /// takes any, and none can fail.
     pub fn make(alloc: Global, pages: u32, slots: u32, frames: u32) -> Result<PageStore, AllocError>
-        requires few { (1 ≤ pages) × (pages ≤ 16384) }
-        requires numbered { (1 ≤ slots) × (slots ≤ 16) }
-        requires enough { (2 * pages ≤ frames) × (frames ≤ 16 * pages) }
+        requires few { (1 ≤ pages) × (pages ≤ MAX_PAGES) }
+        requires numbered { (1 ≤ slots) × (slots ≤ MAX_SLOTS) }
+        requires enough { (2 * pages ≤ frames) × (frames ≤ MAX_FRAMES_PER_PAGE * pages) }
         ensures made { IfOk result (λ store. IsMade pages slots frames store) }
         ensures lawful { IfOk result (λ store. IsLawful store) }
     {
@@ -121,7 +128,7 @@ impl PageStore {
     /// The byte at an address of the live space.
     #[inline(always)]
     pub fn byte_at(&self, at: u32) -> u8
-        requires { at < 4096 * self.now.pages }
+        requires { at < PAGE * self.now.pages }
         ensures byte { slice_get self.now.live.bytes at ≡ Some result }
         ensures lawful { IsLawful self.now }
     {
@@ -131,8 +138,8 @@ impl PageStore {
     /// The number of the two bytes from an address on, the lowest first. They lie within one page.
     #[inline(always)]
     pub fn half_at(&self, at: u32) -> u16
-        requires inside { at < 4096 * self.now.pages }
-        requires within { at % 4096 + 2 ≤ 4096 }
+        requires inside { at < PAGE * self.now.pages }
+        requires within { at % PAGE + 2 ≤ PAGE }
         ensures half { result ≡ little_number (take 2 (drop at self.now.live.bytes)) }
         ensures lawful { IsLawful self.now }
     {
@@ -143,8 +150,8 @@ impl PageStore {
     /// The number of the four bytes from an address on, the lowest first. They lie within one page.
     #[inline(always)]
     pub fn word_at(&self, at: u32) -> u32
-        requires inside { at < 4096 * self.now.pages }
-        requires within { at % 4096 + 4 ≤ 4096 }
+        requires inside { at < PAGE * self.now.pages }
+        requires within { at % PAGE + 4 ≤ PAGE }
         ensures word { result ≡ little_number (take 4 (drop at self.now.live.bytes)) }
         ensures lawful { IsLawful self.now }
     {
@@ -155,9 +162,9 @@ impl PageStore {
     /// Puts a byte at an address of the live space.
     #[inline(always)]
     pub fn put_byte(&mut self, at: u32, byte: u8)
-        requires { at < 4096 * self.old.pages }
+        requires { at < PAGE * self.old.pages }
         ensures writes { Writes self.old self.new at (byte ∷ []) }
-        ensures used { used_of self.new ≡ used_of self.old + (if is_shared self.old (at / 4096) then 1 else 0) }
+        ensures used { used_of self.new ≡ used_of self.old + (if is_shared self.old (at / PAGE) then 1 else 0) }
         ensures lawful { IsLawful self.new }
     {
         let place = self.own_place(at);
@@ -167,10 +174,10 @@ impl PageStore {
     /// Puts a number of two bytes from an address on, the lowest byte first. They lie within one page.
     #[inline(always)]
     pub fn put_half(&mut self, at: u32, value: u16)
-        requires inside { at < 4096 * self.old.pages }
-        requires within { at % 4096 + 2 ≤ 4096 }
+        requires inside { at < PAGE * self.old.pages }
+        requires within { at % PAGE + 2 ≤ PAGE }
         ensures writes { Writes self.old self.new at (little_bytes 2 value) }
-        ensures used { used_of self.new ≡ used_of self.old + (if is_shared self.old (at / 4096) then 1 else 0) }
+        ensures used { used_of self.new ≡ used_of self.old + (if is_shared self.old (at / PAGE) then 1 else 0) }
         ensures lawful { IsLawful self.new }
     {
         let bytes = half_bytes(value);
@@ -181,10 +188,10 @@ impl PageStore {
     /// Puts a number of four bytes from an address on, the lowest byte first. They lie within one page.
     #[inline(always)]
     pub fn put_word(&mut self, at: u32, value: u32)
-        requires inside { at < 4096 * self.old.pages }
-        requires within { at % 4096 + 4 ≤ 4096 }
+        requires inside { at < PAGE * self.old.pages }
+        requires within { at % PAGE + 4 ≤ PAGE }
         ensures writes { Writes self.old self.new at (little_bytes 4 value) }
-        ensures used { used_of self.new ≡ used_of self.old + (if is_shared self.old (at / 4096) then 1 else 0) }
+        ensures used { used_of self.new ≡ used_of self.old + (if is_shared self.old (at / PAGE) then 1 else 0) }
         ensures lawful { IsLawful self.new }
     {
         let bytes = word_bytes(value);
@@ -194,7 +201,7 @@ impl PageStore {
 
     /// Reads the bytes from an address of the live space on.
     pub fn read_run(&self, at: u32, buf: &mut [u8])
-        requires { at + length buf.old ≤ 4096 * self.now.pages }
+        requires { at + length buf.old ≤ PAGE * self.now.pages }
         ensures read { buf.new ≡ take (length buf.old) (drop at self.now.live.bytes) }
         ensures lawful { IsLawful self.now }
     {
@@ -212,7 +219,7 @@ impl PageStore {
 
     /// Writes bytes from an address of the live space on.
     pub fn write_run(&mut self, at: u32, bytes: &[u8])
-        requires { at + length bytes.now ≤ 4096 * self.old.pages }
+        requires { at + length bytes.now ≤ PAGE * self.old.pages }
         ensures writes { Writes self.old self.new at bytes.now }
         ensures lawful { IsLawful self.new }
     {
@@ -229,7 +236,7 @@ impl PageStore {
 
     /// Writes so many zeros from an address of the live space on.
     pub fn zero_run(&mut self, at: u32, count: u32)
-        requires { at + count ≤ 4096 * self.old.pages }
+        requires { at + count ≤ PAGE * self.old.pages }
         ensures writes { Writes self.old self.new at (replicate count 0) }
         ensures lawful { IsLawful self.new }
     {
@@ -313,8 +320,8 @@ impl PageStore {
     // Where a byte of the live space stands in the pool.
     #[inline(always)]
     fn place_of(&self, at: u32) -> usize
-        requires { at < 4096 * self.now.pages }
-        ensures { result ≡ 4096 * slice_index self.now.live.numbers (at / 4096) + at % 4096 }
+        requires { at < PAGE * self.now.pages }
+        ensures { result ≡ PAGE * slice_index self.now.live.numbers (at / PAGE) + at % PAGE }
     {
         place_in(self.live[(at / PAGE) as usize], at)
     }
@@ -322,9 +329,9 @@ impl PageStore {
     // Gives the page of an address a frame of its own, unless it has one. The answer is where the byte stands then.
     #[inline(always)]
     fn own_place(&mut self, at: u32) -> usize
-        requires { at < 4096 * self.old.pages }
-        ensures owns { Owns self.old self.new (at / 4096) }
-        ensures place { result ≡ 4096 * slice_index self.new.live.numbers (at / 4096) + at % 4096 }
+        requires { at < PAGE * self.old.pages }
+        ensures owns { Owns self.old self.new (at / PAGE) }
+        ensures place { result ≡ PAGE * slice_index self.new.live.numbers (at / PAGE) + at % PAGE }
     {
         let page = (at / PAGE) as usize;
         let frame = self.live[page];
@@ -358,8 +365,8 @@ impl PageStore {
     // Puts bytes from an address on that lie within one page.
     fn put_within(&mut self, at: u32, bytes: &[u8])
         requires some { 0 < length bytes.now }
-        requires inside { at < 4096 * self.old.pages }
-        requires within { at % 4096 + length bytes.now ≤ 4096 }
+        requires inside { at < PAGE * self.old.pages }
+        requires within { at % PAGE + length bytes.now ≤ PAGE }
         ensures writes { Writes self.old self.new at bytes.now }
         ensures lawful { IsLawful self.new }
     {
@@ -370,8 +377,8 @@ impl PageStore {
     // Puts so many zeros from an address on that lie within one page.
     fn zero_within(&mut self, at: u32, count: u32)
         requires some { 0 < count }
-        requires inside { at < 4096 * self.old.pages }
-        requires within { at % 4096 + count ≤ 4096 }
+        requires inside { at < PAGE * self.old.pages }
+        requires within { at % PAGE + count ≤ PAGE }
         ensures writes { Writes self.old self.new at (replicate count 0) }
         ensures lawful { IsLawful self.new }
     {
@@ -383,7 +390,7 @@ impl PageStore {
 // Where a byte of a page stands in the pool, by the page's frame.
 #[inline(always)]
 fn place_in(frame: u32, at: u32) -> usize
-    ensures { result ≡ 4096 * frame + at % 4096 }
+    ensures { result ≡ PAGE * frame + at % PAGE }
 {
     frame as usize * PAGE as usize + (at % PAGE) as usize
 }

@@ -8,6 +8,7 @@ use Rattle.elf_image.specs.declared.segment.Segment.{Segment}
 use Rattle.elf_image.specs.declared.program_header.ProgramHeader.{ProgramHeader}
 use Rattle.elf_image.specs.Layout.{lowest, highest, window_start, heap_floor, too_large, IsWindow}
 use Rattle.elf_image.specs.ProgramFile.{is_loaded, place_of}
+use Rattle.elf_image.specs.declared.layout.TheConstants.{PAGE, STACK_AND_GUARD}
 
 -- a test of segments, asked of their program headers
 any_cond : (f : Segment → Bool) (b : Bool) (header : ProgramHeader) (headers : List ProgramHeader) (rest : Bool) → rest ≡ list_any f (map place_of headers) → ((b && f (place_of header)) || rest) ≡ list_any f (map place_of (cond b (header ∷ headers) headers))
@@ -29,17 +30,17 @@ any_behind end (segment ∷ segments) =
     ∙ or_max end (segment.vaddr + segment.memsz) (highest segments)
 
 -- one of the segments begins at the lowest address
-lowest_from_some : (segment : Segment) (segments : List Segment) → list_any (λ (s : Segment). s.vaddr / 4096 * 4096 == window_start (segment ∷ segments)) (segment ∷ segments) ≡ true
-lowest_from_some segment [] = or_left _ _ (eq-eqb (segment.vaddr / 4096 * 4096) (segment.vaddr / 4096 * 4096) refl)
+lowest_from_some : (segment : Segment) (segments : List Segment) → list_any (λ (s : Segment). s.vaddr / PAGE * PAGE == window_start (segment ∷ segments)) (segment ∷ segments) ≡ true
+lowest_from_some segment [] = or_left _ _ (eq-eqb (segment.vaddr / PAGE * PAGE) (segment.vaddr / PAGE * PAGE) refl)
 lowest_from_some segment (next ∷ segments) =
     let low : ℕ = lowest (next ∷ segments) in
     ⊎_elim
     (λ (below : segment.vaddr < low).
     let e : min segment.vaddr low ≡ segment.vaddr = omega arith in
-    or_left _ _ (eq-eqb (segment.vaddr / 4096 * 4096) (min segment.vaddr low / 4096 * 4096) (ap (λ n. n / 4096 * 4096) (sym e))))
+    or_left _ _ (eq-eqb (segment.vaddr / PAGE * PAGE) (min segment.vaddr low / PAGE * PAGE) (ap (λ n. n / PAGE * PAGE) (sym e))))
     (λ (above : low ≤ segment.vaddr).
     let e : low ≡ min segment.vaddr low = omega arith in
-    or_right _ _ (ap (λ n. list_any (λ (s : Segment). s.vaddr / 4096 * 4096 == n / 4096 * 4096) (next ∷ segments)) (sym e) ∙ lowest_from_some next segments))
+    or_right _ _ (ap (λ n. list_any (λ (s : Segment). s.vaddr / PAGE * PAGE == n / PAGE * PAGE) (next ∷ segments)) (sym e) ∙ lowest_from_some next segments))
     (cases_lt segment.vaddr low)
 
 -- an element passes where the first that passes has a place
@@ -59,7 +60,7 @@ pub position_some : {X : Type 0} (p : X → Bool) (xs : List X) → is_some (pos
 position_some p xs = some_cond (nat_lt (position_or_len p xs) (length xs)) (position_or_len p xs) ∙ any_position p xs
 
 -- where a window would end above 2 ^ 32, a segment begins in the window's first page
-begins_first : (window : ℕ) (segments : List Segment) → window ≤ 2 ^ 26 → 2 ^ 32 ≤ window_start segments + window → list_any (λ (s : Segment). s.vaddr / 4096 * 4096 == window_start segments) segments ≡ true
+begins_first : (window : ℕ) (segments : List Segment) → window ≤ 2 ^ 26 → 2 ^ 32 ≤ window_start segments + window → list_any (λ (s : Segment). s.vaddr / PAGE * PAGE == window_start segments) segments ≡ true
 begins_first window [] most past = absurd (omega arith)
 begins_first window (segment ∷ segments) most past = lowest_from_some segment segments
 
@@ -67,18 +68,18 @@ large_above : (window : ℕ) (segments : List Segment) → 2 ^ 32 ≤ window_sta
 unfolding too_large
 large_above window segments past = or_left _ _ (le-leb (2 ^ 32) (window_start segments + window) past)
 
-pub lowest_found : (headers : List ProgramHeader) (window start : ℕ) → start ≡ window_start (map place_of (filter is_loaded headers)) → window ≤ 2 ^ 26 → 2 ^ 32 ≤ start + window → is_some (position (λ (header : ProgramHeader). is_loaded header && (header.p_vaddr / 4096 * 4096 == start)) headers) ≡ too_large window (map place_of (filter is_loaded headers))
+pub lowest_found : (headers : List ProgramHeader) (window start : ℕ) → start ≡ window_start (map place_of (filter is_loaded headers)) → window ≤ 2 ^ 26 → 2 ^ 32 ≤ start + window → is_some (position (λ (header : ProgramHeader). is_loaded header && (header.p_vaddr / PAGE * PAGE == start)) headers) ≡ too_large window (map place_of (filter is_loaded headers))
 lowest_found headers window start is most past =
     let segments : List Segment = map place_of (filter is_loaded headers) in
     let past_end : 2 ^ 32 ≤ window_start segments + window = omega arith in
-    position_some (λ (header : ProgramHeader). is_loaded header && (header.p_vaddr / 4096 * 4096 == start)) headers
-    ∙ any_place (λ (s : Segment). s.vaddr / 4096 * 4096 == start) headers
-    ∙ ap (λ n. list_any (λ (s : Segment). s.vaddr / 4096 * 4096 == n) segments) is
+    position_some (λ (header : ProgramHeader). is_loaded header && (header.p_vaddr / PAGE * PAGE == start)) headers
+    ∙ any_place (λ (s : Segment). s.vaddr / PAGE * PAGE == start) headers
+    ∙ ap (λ n. list_any (λ (s : Segment). s.vaddr / PAGE * PAGE == n) segments) is
     ∙ begins_first window segments most past_end
     ∙ sym (large_above window segments past_end)
 
 -- where it ends below, a segment ends too high exactly where no page is left
-large_below : (window end : ℕ) (segments : List Segment) → IsWindow window → window_start segments + window < 2 ^ 32 → end ≡ window_start segments + window - 69632 - 4096 → nat_lt end (highest segments) ≡ too_large window segments
+large_below : (window end : ℕ) (segments : List Segment) → IsWindow window → window_start segments + window < 2 ^ 32 → end ≡ window_start segments + window - STACK_AND_GUARD - PAGE → nat_lt end (highest segments) ≡ too_large window segments
 unfolding too_large
 large_below window end segments is below at =
     let least = is.least in
@@ -87,17 +88,17 @@ large_below window end segments is below at =
     ⊎_elim
     (λ (high : end < highest segments).
     lt-ltb end (highest segments) high
-    ∙ sym (or_right (nat_le (2 ^ 32) top) _ (lt-ltb (top - 69632) (heap_floor segments + 4096) (omega arith))))
+    ∙ sym (or_right (nat_le (2 ^ 32) top) _ (lt-ltb (top - STACK_AND_GUARD) (heap_floor segments + PAGE) (omega arith))))
     (λ (low : highest segments ≤ end).
     le-ltb end (highest segments) low
-    ∙ sym (or_from (nat_le (2 ^ 32) top) _ (lt-leb (2 ^ 32) top below) (le-ltb (top - 69632) (heap_floor segments + 4096) (omega arith))))
+    ∙ sym (or_from (nat_le (2 ^ 32) top) _ (lt-leb (2 ^ 32) top below) (le-ltb (top - STACK_AND_GUARD) (heap_floor segments + PAGE) (omega arith))))
     (cases_lt end (highest segments))
 
-pub highest_found : (headers : List ProgramHeader) (window start end : ℕ) → IsWindow window → start ≡ window_start (map place_of (filter is_loaded headers)) → start + window < 2 ^ 32 → end ≡ start + window - 69632 - 4096 → is_some (position (λ (header : ProgramHeader). is_loaded header && nat_lt end (header.p_vaddr + header.p_memsz)) headers) ≡ too_large window (map place_of (filter is_loaded headers))
+pub highest_found : (headers : List ProgramHeader) (window start end : ℕ) → IsWindow window → start ≡ window_start (map place_of (filter is_loaded headers)) → start + window < 2 ^ 32 → end ≡ start + window - STACK_AND_GUARD - PAGE → is_some (position (λ (header : ProgramHeader). is_loaded header && nat_lt end (header.p_vaddr + header.p_memsz)) headers) ≡ too_large window (map place_of (filter is_loaded headers))
 highest_found headers window start end is at below from =
     let segments : List Segment = map place_of (filter is_loaded headers) in
     let under : window_start segments + window < 2 ^ 32 = omega arith in
-    let ends : end ≡ window_start segments + window - 69632 - 4096 = omega arith in
+    let ends : end ≡ window_start segments + window - STACK_AND_GUARD - PAGE = omega arith in
     position_some (λ (header : ProgramHeader). is_loaded header && nat_lt end (header.p_vaddr + header.p_memsz)) headers
     ∙ any_place (λ (s : Segment). nat_lt end (s.vaddr + s.memsz)) headers
     ∙ any_behind end segments

@@ -11,6 +11,7 @@ use Rattle.elf_image.specs.declared.program_header.ProgramHeader.{ProgramHeader}
 use Rattle.elf_image.specs.Layout.{lowest, highest, window_start, heap_floor, share_byte, overlap, no_load, executable, bad_entry, too_large, layout_refusal, IsPlaced, HasBytes}
 use Rattle.elf_image.specs.ProgramFile.{e_entry, e_phoff, e_phnum, program_headers, is_loaded, segment_of, place_of, segments_of}
 use Rattle.elf_image.specs.Refusals.{short, bad_table, header_refusal, is_bad, bad_segment, table_refusal, refusal}
+use Rattle.elf_image.specs.declared.layout.TheConstants.{PAGE, STACK_AND_GUARD}
 
 -- the file has an ELF header, and its program headers lie in it
 pub header_lies : (bytes : List ℕ) → header_refusal bytes ≡ None → 52 ≤ length bytes
@@ -42,7 +43,7 @@ pub top_below : (entry window : ℕ) (segments : List Segment) → layout_refusa
 unfolding too_large
 top_below entry window segments h = leb-false _ _ (or_parts _ _ (large_unrefused entry window segments h)).0
 
-pub page_fits : (entry window : ℕ) (segments : List Segment) → layout_refusal entry window segments ≡ None → heap_floor segments + 4096 ≤ window_start segments + window - 69632
+pub page_fits : (entry window : ℕ) (segments : List Segment) → layout_refusal entry window segments ≡ None → heap_floor segments + PAGE ≤ window_start segments + window - STACK_AND_GUARD
 unfolding too_large
 page_fits entry window segments h = ltb-false _ _ (or_parts _ _ (large_unrefused entry window segments h)).1
 

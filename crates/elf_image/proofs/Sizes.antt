@@ -8,6 +8,7 @@ use Rattle.elf_image.specs.declared.image.Image.{Image}
 use Rattle.elf_image.specs.Layout.{highest, share_byte, overlap, IsPlaced}
 use Rattle.elf_image.specs.Image.{base, heap_start, heap_end, stack_top, file_bytes}
 use Rattle.elf_image.proofs.Valid.{no_overlap, segments_above, heap_has_page, heap_ends}
+use Rattle.elf_image.specs.declared.layout.TheConstants.{PAGE, STACK_AND_GUARD}
 
 -- how many of a segment's bytes lie below an address
 abbrev below : ℕ → Segment → ℕ
@@ -68,7 +69,7 @@ file_bytes-below at (segment ∷ segments) behind placed =
 pub file_bytes-window : (image : Image) → length (file_bytes image.segments) ≤ image.window
 file_bytes-window image =
     let apart : overlap image.segments ≡ false = no_overlap image.entry image.window image.segments image.accepted in
-    let page : heap_start image + 4096 ≤ heap_end image = heap_has_page image in
-    let ends : heap_end image + 69632 ≡ stack_top image = heap_ends image in
+    let page : heap_start image + PAGE ≤ heap_end image = heap_has_page image in
+    let ends : heap_end image + STACK_AND_GUARD ≡ stack_top image = heap_ends image in
     let behind : highest image.segments ≤ base image + image.window = omega arith in
     omega (arith, file_bytes-below (base image + image.window) image.segments behind image.placed, all_below-count (base image) image.window image.segments (segments_above image) apart)

@@ -13,17 +13,18 @@ use Rattle.elf_image.specs.Layout.{lowest, highest, share_byte, overlap, no_load
 use Rattle.elf_image.specs.Image.{base, heap_start, heap_end, stack_top}
 use Rattle.elf_image.proofs.Overlaps.{distinct, some_meet-extents}
 use Rattle.elf_image.proofs.Refusing.{top_below, page_fits}
+use Rattle.elf_image.specs.declared.layout.TheConstants.{PAGE, STACK_AND_GUARD}
 
 -- the window ends below 2 ^ 32
 pub stack_top_below : (image : Image) → stack_top image < 2 ^ 32
 stack_top_below image = top_below image.entry image.window image.segments image.accepted
 
 -- the heap has a page at least
-pub heap_has_page : (image : Image) → heap_start image + 4096 ≤ heap_end image
+pub heap_has_page : (image : Image) → heap_start image + PAGE ≤ heap_end image
 heap_has_page image = page_fits image.entry image.window image.segments image.accepted
 
--- the heap ends a page below the stack, which has 65536 bytes
-pub heap_ends : (image : Image) → heap_end image + 69632 ≡ stack_top image
+-- the heap ends a page below the stack, which has STACK bytes
+pub heap_ends : (image : Image) → heap_end image + STACK_AND_GUARD ≡ stack_top image
 heap_ends image = let least = image.in_window.least in omega arith
 
 lowest_of : (segments : List Segment) → All (λ (segment : Segment). lowest segments ≤ segment.vaddr) segments

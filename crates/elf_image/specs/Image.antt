@@ -7,9 +7,10 @@ use Rattle.rv_isa.specs.Words.{little_bytes}
 use Rattle.elf_image.specs.Memory.{Area}
 use Rattle.elf_image.specs.Layout.{window_start, heap_floor}
 pub use Rattle.elf_image.specs.Layout.{lowest, highest}
+use Rattle.elf_image.specs.declared.layout.TheConstants.{STACK, STACK_AND_GUARD}
 
 -- The window begins at the page of the lowest byte. The heap begins at the first page behind the segments and ends
--- a page below the stack, which is the window's last 65536 bytes.
+-- a page below the stack, which is the window's last STACK bytes.
 abbrev pub base : Image → ℕ
 base image = window_start image.segments
 
@@ -20,7 +21,7 @@ abbrev pub stack_top : Image → ℕ
 stack_top image = base image + image.window
 
 abbrev pub heap_end : Image → ℕ
-heap_end image = stack_top image - 69632
+heap_end image = stack_top image - STACK_AND_GUARD
 
 unfoldable pub zeros : ℕ → List ℕ
 zeros count = replicate count 0
@@ -40,7 +41,7 @@ blank_area start end = record { start = start; flags = 6; bytes = zeros (end - s
 -- memory at the start: the segments, the heap and the stack
 abbrev pub memory_of : Image → List Area
 memory_of image =
-    map segment_area image.segments ++ blank_area (heap_start image) (heap_end image) ∷ blank_area (stack_top image - 65536) (stack_top image) ∷ []
+    map segment_area image.segments ++ blank_area (heap_start image) (heap_end image) ∷ blank_area (stack_top image - STACK) (stack_top image) ∷ []
 
 -- the header of an executable that is written
 abbrev pub file_header : Image → List ℕ

@@ -2,6 +2,7 @@
 use Rattle.std.specs.Prelude.{◌≡◌, ℕ, ◌+◌, ◌-◌, ◌*◌, ◌/◌, ◌%◌, ◌^◌, ◌<◌, ◌≤◌, min, max, Bool, false, not, ◌&&◌, ◌||◌, List, [], ◌∷◌, length, Option, Some, None, nat_le, nat_lt, if◌then◌else◌, ◌==◌}
 use Rattle.std.specs.List.{list_any, list_all}
 use Rattle.elf_image.specs.declared.segment.Segment.{Segment}
+use Rattle.elf_image.specs.declared.layout.TheConstants.{PAGE, STACK_AND_GUARD}
 
 -- the lowest address of a segment, and the first address behind all of them
 abbrev pub lowest : List Segment → ℕ
@@ -15,10 +16,10 @@ highest (segment ∷ segments) = max (segment.vaddr + segment.memsz) (highest se
 
 -- the window begins at the page of the lowest byte, and the heap at the first page behind the segments
 abbrev pub window_start : List Segment → ℕ
-window_start segments = lowest segments / 4096 * 4096
+window_start segments = lowest segments / PAGE * PAGE
 
 abbrev pub heap_floor : List Segment → ℕ
-heap_floor segments = (highest segments + 4095) / 4096 * 4096
+heap_floor segments = (highest segments + (PAGE - 1)) / PAGE * PAGE
 
 -- a whole number of MiB, from 1 to 64
 pub record IsWindow (window : ℕ) : Type 0 where
@@ -64,10 +65,10 @@ bad_entry entry segments =
     not (entry % 4 == 0) || not (list_all (executable segments) (entry ∷ (entry + 1) ∷ (entry + 2) ∷ (entry + 3) ∷ []))
 
 -- TooLarge: the window reaches 2 ^ 32, or a page doesn't fit between the segments and the stack. The heap ends a page
--- below the stack, which is the window's last 65536 bytes.
+-- below the stack, which is the window's last STACK bytes.
 unfoldable pub too_large : ℕ → List Segment → Bool
 too_large window segments =
-    nat_le (2 ^ 32) (window_start segments + window) || nat_lt (window_start segments + window - 69632) (heap_floor segments + 4096)
+    nat_le (2 ^ 32) (window_start segments + window) || nat_lt (window_start segments + window - STACK_AND_GUARD) (heap_floor segments + PAGE)
 
 -- the first that holds, by its number
 unfoldable pub layout_refusal : ℕ → ℕ → List Segment → Option ℕ

@@ -8,6 +8,7 @@ use Rattle.elf_image.specs.declared.refused_field.RefusedField.{RefusedField}
 use Rattle.elf_image.specs.ProgramFile.{number_at, e_type, e_phoff, e_phentsize, is_loaded, place_of}
 use Rattle.elf_image.specs.Refusals.{is_bad, table_refusal}
 use Rattle.elf_image.specs.Layout.{overlap, too_large}
+use Rattle.elf_image.specs.declared.layout.TheConstants.{PAGE}
 
 -- the value is what stands in the file where the field is
 abbrev pub StandsIn : List ℕ → RefusedField → Type 0
@@ -76,7 +77,7 @@ is_misplaced size header = is_loaded header && is_bad size header
 
 -- one of a segment that begins in the page at an address, and one of a segment that ends behind an address
 abbrev pub begins_at : ℕ → ProgramHeader → Bool
-begins_at start header = is_loaded header && (header.p_vaddr / 4096 * 4096 == start)
+begins_at start header = is_loaded header && (header.p_vaddr / PAGE * PAGE == start)
 
 abbrev pub ends_behind : ℕ → ProgramHeader → Bool
 ends_behind end header = is_loaded header && nat_lt end (header.p_vaddr + header.p_memsz)

@@ -7,11 +7,14 @@ use crate::Segment;
 use crate::overlap::has_overlap;
 use std::alloc::{AllocError, Global};
 
-// How many bytes a page has.
-const PAGE: u32 = 4096;
+/// How many bytes a page has.
+pub const PAGE: u32 = 4096;
 
-/// How many bytes at the window's end aren't the heap's: the stack has 65536, and the page below it is in no area.
-pub const STACK_AND_GUARD: u32 = 69632;
+/// How many bytes the stack has, at the window's end.
+pub const STACK: u32 = 65536;
+
+/// How many bytes at the window's end aren't the heap's: the stack's, and the page below it, which is in no area.
+pub const STACK_AND_GUARD: u32 = STACK + PAGE;
 
 // The lowest address of a segment, or 0 where there is none.
 fn lowest(segments: &[Segment]) -> u32
@@ -51,7 +54,8 @@ pub fn heap_floor(segments: &[Segment]) -> u64
     ensures value { result ≡ heap_floor segments.now }
     ensures bound { result < 2 ^ 34 }
 {
-    (highest(segments) + 4095) / 4096 * 4096
+    let page = u64::from(PAGE);
+    (highest(segments) + (page - 1)) / page * page
 }
 
 // Whether no segment has a byte.

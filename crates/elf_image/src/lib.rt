@@ -21,6 +21,7 @@ mod writing;
 pub use elf_refusal::ElfRefusal;
 pub use file_bytes::FileBytes;
 pub use image::{Image, Segments};
+pub use layout::{PAGE, STACK};
 pub use reading::read_image;
 pub use refused_field::{RefusedField, field_of_refusal};
 pub use segment::Segment;

@@ -12,7 +12,7 @@ use crate::file_header::{
     E_ENTRY, E_FLAGS, E_MACHINE, E_PHENTSIZE, E_PHNUM, E_PHOFF, E_TYPE, E_VERSION, EI_CLASS,
     EI_DATA, HEADER, PROGRAM_HEADER, refusal_of_header,
 };
-use crate::layout::{STACK_AND_GUARD, window_start};
+use crate::layout::{PAGE, STACK_AND_GUARD, window_start};
 use crate::overlap::has_overlap;
 use crate::program_header::{ProgramHeader, is_bad, is_loaded, places, refusal_of_table};
 use crate::reading::headers_of;
@@ -274,7 +274,7 @@ fn first_at(headers: &[ProgramHeader], start: u32) -> Option<usize>
     ensures first { result ≡ position (begins_at start) headers.now }
     ensures below { IfSome result (λ index. index < length headers.now) }
 {
-    headers.iter().position(|header| is_loaded(header) && header.p_vaddr / 4096 * 4096 == start)
+    headers.iter().position(|header| is_loaded(header) && header.p_vaddr / PAGE * PAGE == start)
 }
 
 // The first program header of a segment that ends behind an address.
@@ -325,7 +325,7 @@ fn field_of_window(
     if top >= 1 << 32 {
         return Ok(field_of_lowest(bytes, headers, start));
     }
-    let end = top - u64::from(STACK_AND_GUARD) - 4096;
+    let end = top - u64::from(STACK_AND_GUARD) - u64::from(PAGE);
     Ok(field_of_highest(bytes, headers, end))
 }
 

@@ -21,6 +21,9 @@ use Rattle.guest_cpu.specs.Cpus.{cpu_state, IsCpu, IsStartCore, IsFreshCpu}
 use Rattle.elf_image.specs.Image.{heap_start, heap_end, stack_top}
 use Rattle.elf_image.specs.Layout.{executable}
 use Rattle.elf_image.proofs.Valid.{segments_below, entry_executable, heap_has_page}
+use Rattle.cow_pages.specs.declared.frame_copy.TheConstants.{PAGE}
+use Rattle.cow_pages.specs.declared.store.TheConstants.{MAX_SLOTS}
+use Rattle.elf_image.specs.declared.layout.TheConstants.{STACK}
 
 -- an address of a segment lies below what is at or above each segment's end
 within : (segments : List Segment) (at limit : ℕ) → All (λ (segment : Segment). segment.vaddr + segment.memsz ≤ limit) segments → executable segments at ≡ true → at < limit
@@ -50,11 +53,11 @@ contains_mid [] zs y = (zero, omega arith, refl)
 contains_mid (x ∷ xs) zs y = let later = contains_mid xs zs y in (suc later.0, omega (arith, later.1), later.2)
 
 -- nothing is saved in the memory of a start
-line_at_start : (image : Image) (slots frames : ℕ) (space : GuestPages) → IsStart image (image.window / 4096) slots frames space → 2 * (image.window / 4096) ≤ frames → IsLine space.store (line_of [] None)
+line_at_start : (image : Image) (slots frames : ℕ) (space : GuestPages) → IsStart image (image.window / PAGE) slots frames space → 2 * (image.window / PAGE) ≤ frames → IsLine space.store (line_of [] None)
 line_at_start image slots frames space start enough =
-    let blank : Pages = record space.store { live = record space.store.live { bytes = replicate (4096 * (image.window / 4096)) 0 } } in
-    let made : IsMade (image.window / 4096) slots frames blank = record { pages_are = start.pages_are; frames_are = start.frames_are; zeros = refl; empty = start.empty; used = start.used } in
-    let line = line_starts (image.window / 4096) slots frames blank made enough in
+    let blank : Pages = record space.store { live = record space.store.live { bytes = replicate (PAGE * (image.window / PAGE)) 0 } } in
+    let made : IsMade (image.window / PAGE) slots frames blank = record { pages_are = start.pages_are; frames_are = start.frames_are; zeros = refl; empty = start.empty; used = start.used } in
+    let line = line_starts (image.window / PAGE) slots frames blank made enough in
     record {
       distinct = line.distinct;
       each_saved = line.each_saved;
@@ -67,14 +70,14 @@ line_at_start image slots frames space start enough =
 
 -- a guest that was just made
 pub fresh_cpu : {R : Type 0} (rule : R) (image : Image) (slots frames : ℕ) (core : Core) (space : GuestPages) (cores : List Core) (line : Line)
-    → IsStartCore image core → IsStart image (image.window / 4096) slots frames space → All (IsStartCore image) cores → length cores ≡ slots → line ≡ line_of [] None
-    → 2 * (image.window / 4096) ≤ frames → slots ≤ 16 → IsCpu core space cores line × IsFreshCpu image slots frames rule (cpu_state rule core space cores line)
+    → IsStartCore image core → IsStart image (image.window / PAGE) slots frames space → All (IsStartCore image) cores → length cores ≡ slots → line ≡ line_of [] None
+    → 2 * (image.window / PAGE) ≤ frames → slots ≤ MAX_SLOTS → IsCpu core space cores line × IsFreshCpu image slots frames rule (cpu_state rule core space cores line)
 fresh_cpu rule image slots frames core space cores line begins start each many line_is enough few =
     let count : length space.store.slots ≡ slots = ap length start.empty ∙ length-replicate {A = Option Space} slots None in
     rw line_is (
       record {
         line_is = line_at_start image slots frames space start enough;
-        heap = rw (start.spans_are, begins.start_is, begins.end_is) (contains_mid (map segment_span image.segments) (blank_span (stack_top image - 65536) (stack_top image) ∷ []) (blank_span (heap_start image) (heap_end image)));
+        heap = rw (start.spans_are, begins.start_is, begins.end_is) (contains_mid (map segment_span image.segments) (blank_span (stack_top image - STACK) (stack_top image) ∷ []) (blank_span (heap_start image) (heap_end image)));
         counts = begins.counts;
         each_slot = many ∙ sym count;
         same = All-weaker (IsStartCore image) (λ (other : Core). SameEnds core.book other.book × AreCounted other.marks)

@@ -11,6 +11,8 @@ use Rattle.run_history.specs.Machine.{start_machine}
 use Rattle.guest_cpu.specs.declared.guest_core.Core.{Core}
 use Rattle.guest_cpu.specs.Standing.{Standing, standing, AreCounted, Live}
 use Rattle.guest_cpu.specs.Turns.{HasHeap}
+use Rattle.cow_pages.specs.declared.frame_copy.TheConstants.{PAGE}
+use Rattle.cow_pages.specs.declared.store.TheConstants.{MAX_SLOTS}
 
 -- one guest: the rule of its accesses, where its window begins, its live state and those that are saved, and for each page
 -- whether a byte of it was written since the checkpoint on which the live state stands
@@ -80,10 +82,10 @@ module _ {R : Type 0} where
     pub live_is : cpu.slots.live ≡ start_standing image
     pub none_saved : cpu.slots.saved ≡ []
     pub no_base : cpu.slots.base ≡ None
-    pub all_written : cpu.written ≡ replicate (image.window / 4096) true
-    pub written_is : cpu.slots.written ≡ image.window / 4096
+    pub all_written : cpu.written ≡ replicate (image.window / PAGE) true
+    pub written_is : cpu.slots.written ≡ image.window / PAGE
     pub count_is : cpu.slots.count ≡ slots
-    pub pages_are : cpu.slots.pages ≡ image.window / 4096
+    pub pages_are : cpu.slots.pages ≡ image.window / PAGE
     pub frames_are : cpu.slots.frames ≡ frames
 
 -- the parts of a guest fit together
@@ -93,4 +95,4 @@ pub record IsCpu (core : Core) (space : GuestPages) (saved : List Core) (line : 
   pub counts : AreCounted core.marks
   pub each_slot : length saved ≡ length space.store.slots
   pub same : All (λ other. SameEnds core.book other.book × AreCounted other.marks) saved
-  pub few : length space.store.slots ≤ 16
+  pub few : length space.store.slots ≤ MAX_SLOTS

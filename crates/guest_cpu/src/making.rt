@@ -6,6 +6,7 @@ use crate::guest_core::Core;
 use crate::{Cpu, Marks};
 use block_book::Book;
 use call_gate::ConnSet;
+use cow_pages::{MAX_FRAMES_PER_PAGE, MAX_SLOTS, PAGE};
 use elf_image::Image;
 use guest_space::{AccessRule, GuestSpace};
 use page_line::SlotLine;
@@ -13,8 +14,8 @@ use run_history::Regs;
 use std::alloc::{AllocError, Global};
 
 impl<R: AccessRule + Drop> Cpu<R> {
-    /// A guest at the start of a program, with so many slots for checkpoints, 1 to 16, and so many frames, 2 to 16 for each
-    /// page of its window. Memory for all of them is taken here.
+    /// A guest at the start of a program, with 1 to `MAX_SLOTS` slots for checkpoints, and 2 to `MAX_FRAMES_PER_PAGE` frames for
+    /// each page of its window. Memory for all of them is taken here.
     pub fn make(
         alloc: Global,
         image: &Image,
@@ -22,8 +23,8 @@ impl<R: AccessRule + Drop> Cpu<R> {
         frames: u32,
         rule: R,
     ) -> Result<Cpu<R>, AllocError>
-        requires numbered { (1 ≤ slots) × (slots ≤ 16) }
-        requires enough { (2 * (image.now.window / 4096) ≤ frames) × (frames ≤ 16 * (image.now.window / 4096)) }
+        requires numbered { (1 ≤ slots) × (slots ≤ MAX_SLOTS) }
+        requires enough { (2 * (image.now.window / PAGE) ≤ frames) × (frames ≤ MAX_FRAMES_PER_PAGE * (image.now.window / PAGE)) }
         ensures { IfOk result (λ cpu. IsFreshCpu image.now slots frames rule cpu) }
     {
         Ok(Cpu {

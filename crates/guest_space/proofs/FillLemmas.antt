@@ -14,6 +14,7 @@ use Rattle.cow_pages.specs.Writes.{put_at}
 use Rattle.cow_pages.proofs.Frames.{length-put_at, get_or-put_before, get_or-put_inside, get_or-put_behind}
 use Rattle.guest_space.specs.Space.{Span, area_of, LiesIn, meet, segment_span}
 use Rattle.guest_space.specs.Filling.{filled_bytes}
+use Rattle.cow_pages.specs.declared.frame_copy.TheConstants.{PAGE}
 
 -- a part of a list outside of what was put
 area-put_out : (first n place : ℕ) (bytes xs : List ℕ) → place + length bytes ≤ length xs → first + n ≤ length xs → (first + n ≤ place) ⊎ (place + length bytes ≤ first) → take n (drop first (put_at place bytes xs)) ≡ take n (drop first xs)
@@ -66,11 +67,11 @@ sides a b apart one other = grind (arith, nat_tests)
 -- a segment in a window
 pub record IsThere (base pages : ℕ) (segment : Segment) : Type 0 where
   pub above : base ≤ segment.vaddr
-  pub below : segment.vaddr + segment.memsz ≤ base + 4096 * pages
+  pub below : segment.vaddr + segment.memsz ≤ base + PAGE * pages
   pub some : 0 < segment.memsz
   pub given : length segment.filled ≤ segment.memsz
 
-size-filled : (base pages : ℕ) (segments : List Segment) (xs : List ℕ) → All (IsThere base pages) segments → length xs ≡ 4096 * pages → length (filled_bytes base segments xs) ≡ 4096 * pages
+size-filled : (base pages : ℕ) (segments : List Segment) (xs : List ℕ) → All (IsThere base pages) segments → length xs ≡ PAGE * pages → length (filled_bytes base segments xs) ≡ PAGE * pages
 size-filled base pages [] xs there size = size
 size-filled base pages (segment ∷ segments) xs there size =
     let one : IsThere base pages segment = All-head (IsThere base pages) segment segments there in
@@ -80,7 +81,7 @@ size-filled base pages (segment ∷ segments) xs there size =
     size-filled base pages segments (put_at (segment.vaddr - base) segment.filled xs) (All-tail (IsThere base pages) segment segments there) (length-put_at (segment.vaddr - base) segment.filled xs (omega arith) ∙ size)
 
 -- a span that is apart from a segment is the same after it was filled
-keeps_one : (base pages : ℕ) (segment : Segment) (xs : List ℕ) (span : Span) → IsThere base pages segment → length xs ≡ 4096 * pages → LiesIn base pages span → span.start < span.end → meet (segment_span segment) span ≡ false → take (span.end - span.start) (drop (span.start - base) (put_at (segment.vaddr - base) segment.filled xs)) ≡ take (span.end - span.start) (drop (span.start - base) xs)
+keeps_one : (base pages : ℕ) (segment : Segment) (xs : List ℕ) (span : Span) → IsThere base pages segment → length xs ≡ PAGE * pages → LiesIn base pages span → span.start < span.end → meet (segment_span segment) span ≡ false → take (span.end - span.start) (drop (span.start - base) (put_at (segment.vaddr - base) segment.filled xs)) ≡ take (span.end - span.start) (drop (span.start - base) xs)
 keeps_one base pages segment xs span one size lies some apart =
     let above = one.above in
     let below = one.below in
@@ -95,7 +96,7 @@ keeps_one base pages segment xs span one size lies some apart =
       | inr behind ↦ inl (omega arith)
     ])
 
-pub keeps : (base pages : ℕ) (segments : List Segment) (xs : List ℕ) (span : Span) → All (IsThere base pages) segments → length xs ≡ 4096 * pages → LiesIn base pages span → span.start < span.end → All (λ (s : Segment). meet (segment_span s) span ≡ false) segments → take (span.end - span.start) (drop (span.start - base) (filled_bytes base segments xs)) ≡ take (span.end - span.start) (drop (span.start - base) xs)
+pub keeps : (base pages : ℕ) (segments : List Segment) (xs : List ℕ) (span : Span) → All (IsThere base pages) segments → length xs ≡ PAGE * pages → LiesIn base pages span → span.start < span.end → All (λ (s : Segment). meet (segment_span s) span ≡ false) segments → take (span.end - span.start) (drop (span.start - base) (filled_bytes base segments xs)) ≡ take (span.end - span.start) (drop (span.start - base) xs)
 keeps base pages [] xs span there size lies some apart = refl
 keeps base pages (segment ∷ segments) xs span there size lies some apart =
     let one : IsThere base pages segment = All-head (IsThere base pages) segment segments there in
@@ -121,7 +122,7 @@ span_lies base pages segment one = (one.above, omega arith, one.below)
 meet_comm : (a b : Span) → meet a b ≡ false → meet b a ≡ false
 meet_comm a b h = grind (arith, nat_tests)
 
-still_blank : (base pages : ℕ) (segment : Segment) (xs : List ℕ) (other : Segment) → IsThere base pages segment → length xs ≡ 4096 * pages → IsThere base pages other → meet (segment_span segment) (segment_span other) ≡ false → IsBlank base xs other → IsBlank base (put_at (segment.vaddr - base) segment.filled xs) other
+still_blank : (base pages : ℕ) (segment : Segment) (xs : List ℕ) (other : Segment) → IsThere base pages segment → length xs ≡ PAGE * pages → IsThere base pages other → meet (segment_span segment) (segment_span other) ≡ false → IsBlank base xs other → IsBlank base (put_at (segment.vaddr - base) segment.filled xs) other
 still_blank base pages segment xs other one size two apart blank =
     let some = two.some in
     let e : other.vaddr + other.memsz - other.vaddr ≡ other.memsz = omega arith in
@@ -131,12 +132,12 @@ still_blank base pages segment xs other one size two apart blank =
     ∙ ap (λ n. take n (drop (other.vaddr - base) xs)) e
     ∙ blank
 
-all_still_blank : (base pages : ℕ) (segment : Segment) (xs : List ℕ) (segments : List Segment) → IsThere base pages segment → length xs ≡ 4096 * pages → All (IsThere base pages) segments → All (λ (s : Segment). meet (segment_span segment) (segment_span s) ≡ false) segments → All (IsBlank base xs) segments → All (IsBlank base (put_at (segment.vaddr - base) segment.filled xs)) segments
+all_still_blank : (base pages : ℕ) (segment : Segment) (xs : List ℕ) (segments : List Segment) → IsThere base pages segment → length xs ≡ PAGE * pages → All (IsThere base pages) segments → All (λ (s : Segment). meet (segment_span segment) (segment_span s) ≡ false) segments → All (IsBlank base xs) segments → All (IsBlank base (put_at (segment.vaddr - base) segment.filled xs)) segments
 all_still_blank base pages segment xs segments one size there apart blank = λ k d less.
     still_blank base pages segment xs (get_or segments k d) one size (there k d less) (apart k d less) (blank k d less)
 
 -- the areas of the segments, once all are filled
-pub segments_flat : (base pages : ℕ) (segments : List Segment) (xs : List ℕ) → All (IsThere base pages) segments → AllPairs (λ (a b : Segment). share_byte a b ≡ false) segments → length xs ≡ 4096 * pages → All (IsBlank base xs) segments → map (area_of base (filled_bytes base segments xs)) (map segment_span segments) ≡ map segment_area segments
+pub segments_flat : (base pages : ℕ) (segments : List Segment) (xs : List ℕ) → All (IsThere base pages) segments → AllPairs (λ (a b : Segment). share_byte a b ≡ false) segments → length xs ≡ PAGE * pages → All (IsBlank base xs) segments → map (area_of base (filled_bytes base segments xs)) (map segment_span segments) ≡ map segment_area segments
 unfolding zeros
 segments_flat base pages [] xs there apart size blank = refl
 segments_flat base pages (segment ∷ segments) xs there apart size blank =
@@ -149,7 +150,7 @@ segments_flat base pages (segment ∷ segments) xs there apart size blank =
     let some = one.some in
     let place = segment.vaddr - base in
     let ys = put_at place segment.filled xs in
-    let many : length ys ≡ 4096 * pages = length-put_at place segment.filled xs (omega arith) ∙ size in
+    let many : length ys ≡ PAGE * pages = length-put_at place segment.filled xs (omega arith) ∙ size in
     let n : segment.vaddr + segment.memsz - segment.vaddr ≡ segment.memsz = omega arith in
     let head : take (segment.vaddr + segment.memsz - segment.vaddr) (drop place (filled_bytes base segments ys)) ≡ segment.filled ++ replicate (segment.memsz - length segment.filled) 0 =
     keeps base pages segments ys (segment_span segment) rest many (span_lies base pages segment one) (omega arith)

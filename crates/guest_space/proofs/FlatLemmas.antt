@@ -10,12 +10,13 @@ use Rattle.elf_image.specs.Memory.{Area, covers, byte_at, each_covered, permitte
 use Rattle.cow_pages.specs.Writes.{put_at}
 use Rattle.guest_space.specs.Space.{Span, area_of, flat_of, LiesIn, meet, AreApart}
 use Rattle.guest_space.specs.Ranges.{has_address, has_range, some_has, AreHeld}
+use Rattle.cow_pages.specs.declared.frame_copy.TheConstants.{PAGE}
 
 -- a span's area has all of its addresses
-bytes_size : (base pages : ℕ) (xs : List ℕ) (span : Span) → LiesIn base pages span → length xs ≡ 4096 * pages → length (take (span.end - span.start) (drop (span.start - base) xs)) ≡ span.end - span.start
+bytes_size : (base pages : ℕ) (xs : List ℕ) (span : Span) → LiesIn base pages span → length xs ≡ PAGE * pages → length (take (span.end - span.start) (drop (span.start - base) xs)) ≡ span.end - span.start
 bytes_size base pages xs span lies size = length-take-le (span.end - span.start) (drop (span.start - base) xs) (omega (arith, length-drop (span.start - base) xs))
 
-covers-area : (flag base pages at : ℕ) (xs : List ℕ) (span : Span) → LiesIn base pages span → length xs ≡ 4096 * pages → covers flag (area_of base xs span) at ≡ has_address flag at span
+covers-area : (flag base pages at : ℕ) (xs : List ℕ) (span : Span) → LiesIn base pages span → length xs ≡ PAGE * pages → covers flag (area_of base xs span) at ≡ has_address flag at span
 covers-area flag base pages at xs span lies size =
     let e : span.start + length (take (span.end - span.start) (drop (span.start - base) xs)) ≡ span.end = omega (arith, bytes_size base pages xs span lies size) in
     ap (λ n. (span.flags / flag % 2 == 1) && nat_le span.start at && nat_lt at n) e
@@ -24,7 +25,7 @@ pub address_parts : (flag at : ℕ) (span : Span) → has_address flag at span �
 address_parts flag at span h = grind (arith, nat_tests)
 
 -- a byte of a span is a byte of the window
-byte_in : (base pages at : ℕ) (xs : List ℕ) (span : Span) → LiesIn base pages span → length xs ≡ 4096 * pages → span.start ≤ at → at < span.end → slice_get (take (span.end - span.start) (drop (span.start - base) xs)) (at - span.start) ≡ slice_get xs (at - base)
+byte_in : (base pages at : ℕ) (xs : List ℕ) (span : Span) → LiesIn base pages span → length xs ≡ PAGE * pages → span.start ≤ at → at < span.end → slice_get (take (span.end - span.start) (drop (span.start - base) xs)) (at - span.start) ≡ slice_get xs (at - base)
 byte_in base pages at xs span lies size from to =
     let n = span.end - span.start in
     let rest = drop (span.start - base) xs in
@@ -37,7 +38,7 @@ byte_in base pages at xs span lies size from to =
     ∙ sym (slice_get-get_or xs (at - base) 0 inside)
 
 -- the byte at an address is that of the window, where a span has it
-pub byte_at-flat : (flag base pages : ℕ) (spans : List Span) (xs : List ℕ) (at : ℕ) → All (LiesIn base pages) spans → length xs ≡ 4096 * pages → byte_at flag (flat_of base spans xs) at ≡ cond (some_has flag at spans) (slice_get xs (at - base)) None
+pub byte_at-flat : (flag base pages : ℕ) (spans : List Span) (xs : List ℕ) (at : ℕ) → All (LiesIn base pages) spans → length xs ≡ PAGE * pages → byte_at flag (flat_of base spans xs) at ≡ cond (some_has flag at spans) (slice_get xs (at - base)) None
 unfolding flat_of
 byte_at-flat flag base pages [] xs at lies size = refl
 byte_at-flat flag base pages (span ∷ spans) xs at lies size =
@@ -59,7 +60,7 @@ byte_at-flat flag base pages (span ∷ spans) xs at lies size =
     ]
 
 -- an address of a span lies in the window
-pub held_inside : (flag base pages at : ℕ) (spans : List Span) → All (LiesIn base pages) spans → some_has flag at spans ≡ true → (base ≤ at) × (at < base + 4096 * pages)
+pub held_inside : (flag base pages at : ℕ) (spans : List Span) → All (LiesIn base pages) spans → some_has flag at spans ≡ true → (base ≤ at) × (at < base + PAGE * pages)
 held_inside flag base pages at [] lies h = absurd (false≢true h)
 held_inside flag base pages at (span ∷ spans) lies h =
     let one : LiesIn base pages span = All-head (LiesIn base pages) span spans lies in
@@ -70,7 +71,7 @@ held_inside flag base pages at (span ∷ spans) lies h =
       | inr later ↦ held_inside flag base pages at spans (All-tail (LiesIn base pages) span spans lies) later
     ]
 
-is_some-flat : (flag base pages : ℕ) (spans : List Span) (xs : List ℕ) (at : ℕ) → All (LiesIn base pages) spans → length xs ≡ 4096 * pages → is_some (byte_at flag (flat_of base spans xs) at) ≡ some_has flag at spans
+is_some-flat : (flag base pages : ℕ) (spans : List Span) (xs : List ℕ) (at : ℕ) → All (LiesIn base pages) spans → length xs ≡ PAGE * pages → is_some (byte_at flag (flat_of base spans xs) at) ≡ some_has flag at spans
 is_some-flat flag base pages spans xs at lies size =
     ap is_some (byte_at-flat flag base pages spans xs at lies size)
     ∙ elim (cases_Bool (some_has flag at spans)) [
@@ -84,14 +85,14 @@ is_some-flat flag base pages spans xs at lies size =
     ]
 
 -- bytes that may be touched are addresses of spans, and the other way round
-each_covered-held : (flag base pages : ℕ) (spans : List Span) (xs : List ℕ) (at size : ℕ) → All (LiesIn base pages) spans → length xs ≡ 4096 * pages → AreHeld flag spans at size → each_covered flag (flat_of base spans xs) at size ≡ true
+each_covered-held : (flag base pages : ℕ) (spans : List Span) (xs : List ℕ) (at size : ℕ) → All (LiesIn base pages) spans → length xs ≡ PAGE * pages → AreHeld flag spans at size → each_covered flag (flat_of base spans xs) at size ≡ true
 each_covered-held flag base pages spans xs at zero lies many held = refl
 each_covered-held flag base pages spans xs at (suc size) lies many held =
     ap (λ b. b && is_some (byte_at flag (flat_of base spans xs) (at + size))) (each_covered-held flag base pages spans xs at size lies many (λ k less. held k (omega arith)))
     ∙ is_some-flat flag base pages spans xs (at + size) lies many
     ∙ held size (omega arith)
 
-held-each_covered : (flag base pages : ℕ) (spans : List Span) (xs : List ℕ) (at size : ℕ) → All (LiesIn base pages) spans → length xs ≡ 4096 * pages → each_covered flag (flat_of base spans xs) at size ≡ true → AreHeld flag spans at size
+held-each_covered : (flag base pages : ℕ) (spans : List Span) (xs : List ℕ) (at size : ℕ) → All (LiesIn base pages) spans → length xs ≡ PAGE * pages → each_covered flag (flat_of base spans xs) at size ≡ true → AreHeld flag spans at size
 held-each_covered flag base pages spans xs at zero lies many h = λ k less. absurd (omega arith)
 held-each_covered flag base pages spans xs at (suc size) lies many h =
     let parts = and_parts _ _ h in
@@ -115,17 +116,17 @@ pub permitted-within : (flag : ℕ) (memory : List Area) (at count : ℕ) → pe
 unfolding permitted
 permitted-within flag memory at count h = leb-true (at + count) (2 ^ 32) (and_parts _ _ h).0
 
-pub permitted-held : (flag base pages : ℕ) (spans : List Span) (xs : List ℕ) (at size : ℕ) → All (LiesIn base pages) spans → length xs ≡ 4096 * pages → at + size ≤ 2 ^ 32 → AreHeld flag spans at size → permitted flag (flat_of base spans xs) at size ≡ true
+pub permitted-held : (flag base pages : ℕ) (spans : List Span) (xs : List ℕ) (at size : ℕ) → All (LiesIn base pages) spans → length xs ≡ PAGE * pages → at + size ≤ 2 ^ 32 → AreHeld flag spans at size → permitted flag (flat_of base spans xs) at size ≡ true
 permitted-held flag base pages spans xs at size lies many near held =
     permitted-near flag (flat_of base spans xs) at size near ∙ each_covered-held flag base pages spans xs at size lies many held
 
-pub held-permitted : (flag base pages : ℕ) (spans : List Span) (xs : List ℕ) (at size : ℕ) → All (LiesIn base pages) spans → length xs ≡ 4096 * pages → permitted flag (flat_of base spans xs) at size ≡ true → AreHeld flag spans at size
+pub held-permitted : (flag base pages : ℕ) (spans : List Span) (xs : List ℕ) (at size : ℕ) → All (LiesIn base pages) spans → length xs ≡ PAGE * pages → permitted flag (flat_of base spans xs) at size ≡ true → AreHeld flag spans at size
 held-permitted flag base pages spans xs at size lies many h =
     let near = permitted-within flag (flat_of base spans xs) at size h in
     held-each_covered flag base pages spans xs at size lies many (sym (permitted-near flag (flat_of base spans xs) at size near) ∙ h)
 
 -- an address that no span has may not be touched
-pub permitted-miss : (flag base pages : ℕ) (spans : List Span) (xs : List ℕ) (at k size : ℕ) → All (LiesIn base pages) spans → length xs ≡ 4096 * pages → k < size → some_has flag (at + k) spans ≡ false → permitted flag (flat_of base spans xs) at size ≡ false
+pub permitted-miss : (flag base pages : ℕ) (spans : List Span) (xs : List ℕ) (at k size : ℕ) → All (LiesIn base pages) spans → length xs ≡ PAGE * pages → k < size → some_has flag (at + k) spans ≡ false → permitted flag (flat_of base spans xs) at size ≡ false
 permitted-miss flag base pages spans xs at k size lies many less miss =
     elim (cases_Bool (permitted flag (flat_of base spans xs) at size)) [
       | inl has ↦ absurd (false≢true (sym miss ∙ held-permitted flag base pages spans xs at size lies many has k less))
@@ -133,14 +134,14 @@ permitted-miss flag base pages spans xs at k size lies many less miss =
     ]
 
 -- a range of spans lies in the window
-pub range_inside : (flag base pages : ℕ) (spans : List Span) (at size : ℕ) → All (LiesIn base pages) spans → 0 < size → AreHeld flag spans at size → (base ≤ at) × (at + size ≤ base + 4096 * pages)
+pub range_inside : (flag base pages : ℕ) (spans : List Span) (at size : ℕ) → All (LiesIn base pages) spans → 0 < size → AreHeld flag spans at size → (base ≤ at) × (at + size ≤ base + PAGE * pages)
 range_inside flag base pages spans at size lies some held =
     let first = held_inside flag base pages (at + 0) spans lies (held 0 some) in
     let last = held_inside flag base pages (at + (size - 1)) spans lies (held (size - 1) (omega arith)) in
     (omega arith, omega arith)
 
 -- the bytes of a range stand one after the other in the window
-pub bytes_at-flat : (flag base pages : ℕ) (spans : List Span) (xs : List ℕ) (at size : ℕ) → All (LiesIn base pages) spans → length xs ≡ 4096 * pages → AreHeld flag spans at size → bytes_at flag (flat_of base spans xs) at size ≡ take size (drop (at - base) xs)
+pub bytes_at-flat : (flag base pages : ℕ) (spans : List Span) (xs : List ℕ) (at size : ℕ) → All (LiesIn base pages) spans → length xs ≡ PAGE * pages → AreHeld flag spans at size → bytes_at flag (flat_of base spans xs) at size ≡ take size (drop (at - base) xs)
 bytes_at-flat flag base pages spans xs at zero lies many held = refl
 bytes_at-flat flag base pages spans xs at (suc size) lies many held =
     let rest = drop (at - base) xs in
@@ -235,7 +236,7 @@ put_byte-cons_other area areas at byte h =
     ap (λ b. if b then record area { bytes = slice_set area.bytes (at - area.start) byte } ∷ areas else area ∷ put_byte areas at byte) h
 
 -- a byte that is put into flat memory is put into the window
-pub put_byte-flat : (base pages : ℕ) (spans : List Span) (xs : List ℕ) (at byte : ℕ) → All (LiesIn base pages) spans → AreApart spans → length xs ≡ 4096 * pages → some_has 2 at spans ≡ true → put_byte (flat_of base spans xs) at byte ≡ flat_of base spans (set xs (at - base) byte)
+pub put_byte-flat : (base pages : ℕ) (spans : List Span) (xs : List ℕ) (at byte : ℕ) → All (LiesIn base pages) spans → AreApart spans → length xs ≡ PAGE * pages → some_has 2 at spans ≡ true → put_byte (flat_of base spans xs) at byte ≡ flat_of base spans (set xs (at - base) byte)
 unfolding flat_of
 put_byte-flat base pages [] xs at byte lies apart size h = absurd (false≢true h)
 put_byte-flat base pages (span ∷ spans) xs at byte lies apart size h =
@@ -275,7 +276,7 @@ put-more xs bytes first byte below =
     ∙ ap (λ ys. ys ++ drop (first + suc (length bytes)) xs) (append_assoc (take first xs) (byte ∷ []) bytes)
 
 -- bytes that are put into flat memory are put into the window
-pub put_bytes-flat : (base pages : ℕ) (spans : List Span) (at : ℕ) (bytes xs : List ℕ) → All (LiesIn base pages) spans → AreApart spans → length xs ≡ 4096 * pages → AreHeld 2 spans at (length bytes) → put_bytes (flat_of base spans xs) at bytes ≡ flat_of base spans (put_at (at - base) bytes xs)
+pub put_bytes-flat : (base pages : ℕ) (spans : List Span) (at : ℕ) (bytes xs : List ℕ) → All (LiesIn base pages) spans → AreApart spans → length xs ≡ PAGE * pages → AreHeld 2 spans at (length bytes) → put_bytes (flat_of base spans xs) at bytes ≡ flat_of base spans (put_at (at - base) bytes xs)
 put_bytes-flat base pages spans at [] xs lies apart size held = ap (flat_of base spans) (sym (put-none (at - base) xs))
 put_bytes-flat base pages spans at (byte ∷ bytes) xs lies apart size held =
     let here : some_has 2 at spans ≡ true = subst (λ n. some_has 2 n spans ≡ true) (add-zero at) (held 0 (omega arith)) in

@@ -13,9 +13,10 @@ use Rattle.guest_space.specs.Space.{Span, GuestPages, guest_pages, flat_of, flat
 use Rattle.guest_space.specs.Access.{Puts, Saves, SavesOver, Releases, Restores}
 use Rattle.guest_space.specs.Ranges.{AreHeld}
 use Rattle.guest_space.proofs.FlatLemmas.{permitted-held, held-permitted, range_inside, bytes_at-flat, put_bytes-flat}
+use Rattle.cow_pages.specs.declared.frame_copy.TheConstants.{PAGE}
 
--- the window has 4096 bytes for each page
-pub bytes_are : (space : GuestPages) → IsLawfulSpace space → length space.store.live.bytes ≡ 4096 * space.store.pages
+-- the window has PAGE bytes for each page
+pub bytes_are : (space : GuestPages) → IsLawfulSpace space → length space.store.live.bytes ≡ PAGE * space.store.pages
 bytes_are space so = (so.store.spaces space.store.live (inl refl)).bytes
 
 pub is_permitted : (flag : ℕ) (space : GuestPages) (at size : ℕ) → IsLawfulSpace space → at + size ≤ 2 ^ 32 → AreHeld flag space.spans at size → permitted flag (flat space) at size ≡ true
@@ -39,7 +40,7 @@ is_answer flag space at size true so near h = sym (is_permitted flag space at si
 is_answer flag space at size false so near h = sym (is_refused flag space at size so h)
 
 -- a range lies in the window
-pub is_inside : (flag : ℕ) (space : GuestPages) (at size : ℕ) → IsLawfulSpace space → 0 < size → AreHeld flag space.spans at size → (space.base ≤ at) × (at + size ≤ space.base + 4096 * space.store.pages)
+pub is_inside : (flag : ℕ) (space : GuestPages) (at size : ℕ) → IsLawfulSpace space → 0 < size → AreHeld flag space.spans at size → (space.base ≤ at) × (at + size ≤ space.base + PAGE * space.store.pages)
 is_inside flag space at size so some held = range_inside flag space.base space.store.pages space.spans at size so.within some held
 
 pub is_near : (flag : ℕ) (space : GuestPages) (at size : ℕ) → IsLawfulSpace space → 0 < size → AreHeld flag space.spans at size → at + size ≤ 2 ^ 32
@@ -92,7 +93,7 @@ puts_none old at (byte ∷ bytes) so none = absurd (omega arith)
 -- the parts with other pages, as many
 pub parts_kept : (base : ℕ) (spans : List Span) (before store : Pages) → IsLawfulSpace (guest_pages base spans before) → store.pages ≡ before.pages → IsLawful store → IsLawfulSpace (guest_pages base spans store)
 parts_kept base spans before store so same lawful = record {
-  below = subst (λ n. base + 4096 * n ≤ 2 ^ 32) (sym same) so.below;
+  below = subst (λ n. base + PAGE * n ≤ 2 ^ 32) (sym same) so.below;
   within = subst (λ n. All (LiesIn base n) spans) (sym same) so.within;
   apart = so.apart;
   store = lawful;
@@ -112,11 +113,11 @@ parts_put base spans before store old at bytes so is wrote lawful held =
 pub one_byte : (value : ℕ) → value % 256 ∷ [] ≡ little_bytes 1 value
 one_byte value = refl
 
-pub half_bytes_are : (value : ℕ) → pages.little_bytes 2 (value % 65536) ≡ little_bytes 2 value
+pub half_bytes_are : (value : ℕ) → pages.little_bytes 2 (value % 2 ^ 16) ≡ little_bytes 2 value
 half_bytes_are value =
-    let low : value % 65536 % 256 ≡ value % 256 = omega arith in
-    let high : value % 65536 / 256 % 256 ≡ value / 256 % 256 = omega arith in
-    ap (λ n. n ∷ (value % 65536 / 256 % 256) ∷ []) low ∙ ap (λ n. value % 256 ∷ n ∷ []) high
+    let low : value % 2 ^ 16 % 256 ≡ value % 256 = omega arith in
+    let high : value % 2 ^ 16 / 256 % 256 ≡ value / 256 % 256 = omega arith in
+    ap (λ n. n ∷ (value % 2 ^ 16 / 256 % 256) ∷ []) low ∙ ap (λ n. value % 256 ∷ n ∷ []) high
 
 -- what is known of a space that is seen as its parts
 pub parts_answer : (flag base : ℕ) (spans seen : List Span) (store : Pages) (space : GuestPages) (at size : ℕ) (b : Bool) → IsLawfulSpace (guest_pages base spans store) → guest_pages base spans store ≡ space → seen ≡ spans → at + size ≤ 2 ^ 32 → MatchBool b (AreHeld flag seen at size) (AreHeld flag seen at size → ⊥) → b ≡ permitted flag (flat space) at size
@@ -135,7 +136,7 @@ parts_held flag base spans store space at size so is h =
 pub parts_back : (flag base : ℕ) (spans : List Span) (store : Pages) (space : GuestPages) (at size : ℕ) → guest_pages base spans store ≡ space → AreHeld flag space.spans at size → AreHeld flag spans at size
 parts_back flag base spans store space at size is h = subst (λ (s : GuestPages). AreHeld flag s.spans at size) (sym is) h
 
-pub parts_room : (flag base : ℕ) (spans : List Span) (store : Pages) (at size : ℕ) → IsLawfulSpace (guest_pages base spans store) → 0 < size → AreHeld flag spans at size → (base ≤ at) × (at - base + size ≤ 4096 * store.pages)
+pub parts_room : (flag base : ℕ) (spans : List Span) (store : Pages) (at size : ℕ) → IsLawfulSpace (guest_pages base spans store) → 0 < size → AreHeld flag spans at size → (base ≤ at) × (at - base + size ≤ PAGE * store.pages)
 parts_room flag base spans store at size so some held =
     let inside = is_inside flag (guest_pages base spans store) at size so some held in
     (inside.0, omega arith)
@@ -218,10 +219,10 @@ saved_is old new slot less so =
     ∙ ap (option_map (λ (saved : Space). flat_of old.base old.spans saved.bytes)) (get_or-set_same old.store.slots slot (Some old.store.live) None less)
 
 -- where a range lies
-pub parts_place : (flag base : ℕ) (spans : List Span) (store : Pages) (space : GuestPages) (at size : ℕ) → IsLawfulSpace (guest_pages base spans store) → guest_pages base spans store ≡ space → 0 < size → AreHeld flag space.spans at size → (base ≤ at) × (at - base + size ≤ 4096 * store.pages)
+pub parts_place : (flag base : ℕ) (spans : List Span) (store : Pages) (space : GuestPages) (at size : ℕ) → IsLawfulSpace (guest_pages base spans store) → guest_pages base spans store ≡ space → 0 < size → AreHeld flag space.spans at size → (base ≤ at) × (at - base + size ≤ PAGE * store.pages)
 parts_place flag base spans store space at size so is some held =
     parts_room flag base spans store at size so some (parts_back flag base spans store space at size is held)
 
-pub parts_run : (flag base : ℕ) (spans : List Span) (store : Pages) (space : GuestPages) (at size : ℕ) → IsLawfulSpace (guest_pages base spans store) → guest_pages base spans store ≡ space → 0 < size → permitted flag (flat space) at size ≡ true → (base ≤ at) × (at - base + size ≤ 4096 * store.pages)
+pub parts_run : (flag base : ℕ) (spans : List Span) (store : Pages) (space : GuestPages) (at size : ℕ) → IsLawfulSpace (guest_pages base spans store) → guest_pages base spans store ≡ space → 0 < size → permitted flag (flat space) at size ≡ true → (base ≤ at) × (at - base + size ≤ PAGE * store.pages)
 parts_run flag base spans store space at size so is some h =
     parts_room flag base spans store at size so some (parts_held flag base spans store space at size so is h)

@@ -18,6 +18,9 @@ use Rattle.guest_space.specs.Space.{Span, guest_pages, area_of, flat_of, LiesIn,
 use Rattle.guest_space.specs.Access.{IsStart}
 use Rattle.guest_space.specs.Filling.{filled_bytes, FilesIn, Fills}
 use Rattle.guest_space.proofs.FillLemmas.{IsThere, IsBlank, keeps, segments_flat}
+use Rattle.cow_pages.specs.declared.frame_copy.TheConstants.{PAGE}
+use Rattle.elf_image.specs.declared.layout.TheConstants.{STACK}
+use Rattle.cow_pages.specs.declared.store.TheConstants.{MAX_PAGES}
 
 -- nothing is shared where nothing is saved
 saved_none : (n : ℕ) → saved_numbers (replicate n None) ≡ []
@@ -74,10 +77,10 @@ pub file_there : (base pages i : ℕ) (segments : List Segment) (segment : Segme
 file_there base pages i segments segment less is all = subst (FilesIn base pages) (sym is) (all i segment less)
 
 -- the window of an image has its pages
-pub window_pages : (image : Image) → stack_top image ≡ base image + 4096 * (image.window / 4096)
+pub window_pages : (image : Image) → stack_top image ≡ base image + PAGE * (image.window / PAGE)
 window_pages image = let whole = image.in_window.whole in omega arith
 
-pub pages_few : (image : Image) → (1 ≤ image.window / 4096) × (image.window / 4096 ≤ 16384)
+pub pages_few : (image : Image) → (1 ≤ image.window / PAGE) × (image.window / PAGE ≤ MAX_PAGES)
 pages_few image =
     let least = image.in_window.least in
     let most = image.in_window.most in
@@ -89,7 +92,7 @@ segment_end image i segment less is =
     omega (arith, below, heap_has_page image, heap_ends image, stack_top_below image)
 
 -- its segments lie there
-segments_there : (image : Image) → All (IsThere (base image) (image.window / 4096)) image.segments
+segments_there : (image : Image) → All (IsThere (base image) (image.window / PAGE)) image.segments
 segments_there image = λ k d less.
     let placed : IsPlaced (get_or image.segments k d) = image.placed k d less in
     record {
@@ -99,9 +102,9 @@ segments_there image = λ k d less.
       given = placed.given;
     }
 
-pub files_there : (image : Image) (pages : ℕ) → pages ≡ image.window / 4096 → All (FilesIn (base image) pages) image.segments
+pub files_there : (image : Image) (pages : ℕ) → pages ≡ image.window / PAGE → All (FilesIn (base image) pages) image.segments
 files_there image pages is = λ k d less.
-    let one : IsThere (base image) (image.window / 4096) (get_or image.segments k d) = segments_there image k d less in
+    let one : IsThere (base image) (image.window / PAGE) (get_or image.segments k d) = segments_there image k d less in
     (one.above, omega (arith, one.below, one.given, is))
 
 under : (b h : ℕ) (segments : List Segment) → 0 < length segments → All (λ (s : Segment). b ≤ s.vaddr) segments → All (λ (s : Segment). s.vaddr + s.memsz ≤ h) segments → b ≤ h
@@ -117,7 +120,7 @@ abbrev pub heap_of : Image → Span
 heap_of image = blank_span (heap_start image) (heap_end image)
 
 abbrev pub stack_of : Image → Span
-stack_of image = blank_span (stack_top image - 65536) (stack_top image)
+stack_of image = blank_span (stack_top image - STACK) (stack_top image)
 
 in_order : (a b : Span) → a.end ≤ b.start → meet a b ≡ false
 in_order a b before = grind (arith, nat_tests)
@@ -146,78 +149,78 @@ all_apart image =
     let first : AreApart (spans ++ heap ∷ []) =
     all_pairs_push (λ (a b : Span). meet a b ≡ false) spans heap (segment_spans_apart image.segments (segments_apart image))
     (λ k d less. in_order (get_or spans k d) heap (ends_before image (heap_start image) (omega arith) k d less)) in
-    let before : All (λ (s : Span). s.end ≤ stack_top image - 65536) (spans ++ heap ∷ []) =
-    All-push (λ (s : Span). s.end ≤ stack_top image - 65536) spans heap (ends_before image (stack_top image - 65536) (omega arith)) (omega arith) in
+    let before : All (λ (s : Span). s.end ≤ stack_top image - STACK) (spans ++ heap ∷ []) =
+    All-push (λ (s : Span). s.end ≤ stack_top image - STACK) spans heap (ends_before image (stack_top image - STACK) (omega arith)) (omega arith) in
     subst AreApart (append_assoc spans (heap ∷ []) (stack ∷ []))
     (all_pairs_push (λ (a b : Span). meet a b ≡ false) (spans ++ heap ∷ []) stack first (λ k d less. in_order (get_or (spans ++ heap ∷ []) k d) stack (before k d less)))
 
 segment_lies : (base pages : ℕ) (s : Segment) → IsThere base pages s → LiesIn base pages (segment_span s)
 segment_lies base pages s one = (one.above, omega arith, one.below)
 
-heap_lies : (image : Image) → LiesIn (base image) (image.window / 4096) (heap_of image)
+heap_lies : (image : Image) → LiesIn (base image) (image.window / PAGE) (heap_of image)
 heap_lies image = (heap_above image, omega (arith, heap_has_page image), omega (arith, heap_ends image, window_pages image))
 
-stack_lies : (image : Image) → LiesIn (base image) (image.window / 4096) (stack_of image)
+stack_lies : (image : Image) → LiesIn (base image) (image.window / PAGE) (stack_of image)
 stack_lies image = (
   omega (arith, heap_above image, heap_has_page image, heap_ends image),
   omega arith,
   omega (arith, window_pages image),
 )
 
-pub all_lie : (image : Image) → All (LiesIn (base image) (image.window / 4096)) (spans_of image)
+pub all_lie : (image : Image) → All (LiesIn (base image) (image.window / PAGE)) (spans_of image)
 all_lie image =
-    let P : Span → Type 0 = LiesIn (base image) (image.window / 4096) in
+    let P : Span → Type 0 = LiesIn (base image) (image.window / PAGE) in
     All-append P (map segment_span image.segments) (heap_of image ∷ stack_of image ∷ [])
-    (All-map P segment_span image.segments (All-weaker (IsThere (base image) (image.window / 4096)) (λ s. P (segment_span s)) (segment_lies (base image) (image.window / 4096)) image.segments (segments_there image)))
+    (All-map P segment_span image.segments (All-weaker (IsThere (base image) (image.window / PAGE)) (λ s. P (segment_span s)) (segment_lies (base image) (image.window / PAGE)) image.segments (segments_there image)))
     (All-cons P (heap_of image) (stack_of image ∷ []) (heap_lies image) (All-cons P (stack_of image) [] (stack_lies image) (All-nil P)))
 
 -- zeros are left where no segment is
-blank_flat : (base pages start end : ℕ) (segments : List Segment) (xs : List ℕ) → All (IsThere base pages) segments → xs ≡ replicate (4096 * pages) 0 → LiesIn base pages (blank_span start end) → start < end → All (λ (s : Segment). meet (segment_span s) (blank_span start end) ≡ false) segments → area_of base (filled_bytes base segments xs) (blank_span start end) ≡ blank_area start end
+blank_flat : (base pages start end : ℕ) (segments : List Segment) (xs : List ℕ) → All (IsThere base pages) segments → xs ≡ replicate (PAGE * pages) 0 → LiesIn base pages (blank_span start end) → start < end → All (λ (s : Segment). meet (segment_span s) (blank_span start end) ≡ false) segments → area_of base (filled_bytes base segments xs) (blank_span start end) ≡ blank_area start end
 unfolding zeros
 blank_flat base pages start end segments xs there is lies some apart =
-    let size : length xs ≡ 4096 * pages = ap length is ∙ length-replicate (4096 * pages) 0 in
+    let size : length xs ≡ PAGE * pages = ap length is ∙ length-replicate (PAGE * pages) 0 in
     ap (λ (bytes : List ℕ). record { start = start; flags = 6; bytes = bytes })
     (keeps base pages segments xs (blank_span start end) there size lies some apart
     ∙ ap (λ ys. take (end - start) (drop (start - base) ys)) is
-    ∙ ap (take (end - start)) (drop-replicate (start - base) (4096 * pages) 0)
-    ∙ take-replicate (end - start) (4096 * pages - (start - base)) 0 (omega arith))
+    ∙ ap (take (end - start)) (drop-replicate (start - base) (PAGE * pages) 0)
+    ∙ take-replicate (end - start) (PAGE * pages - (start - base)) 0 (omega arith))
 
-all_blank : (base pages : ℕ) (segments : List Segment) (xs : List ℕ) → All (IsThere base pages) segments → xs ≡ replicate (4096 * pages) 0 → All (IsBlank base xs) segments
+all_blank : (base pages : ℕ) (segments : List Segment) (xs : List ℕ) → All (IsThere base pages) segments → xs ≡ replicate (PAGE * pages) 0 → All (IsBlank base xs) segments
 all_blank base pages segments xs there is = λ k d less.
     let s : Segment = get_or segments k d in
     let one : IsThere base pages s = there k d less in
     let above = one.above in
     let below = one.below in
     ap (λ ys. take s.memsz (drop (s.vaddr - base) ys)) is
-    ∙ ap (take s.memsz) (drop-replicate (s.vaddr - base) (4096 * pages) 0)
-    ∙ take-replicate s.memsz (4096 * pages - (s.vaddr - base)) 0 (omega arith)
+    ∙ ap (take s.memsz) (drop-replicate (s.vaddr - base) (PAGE * pages) 0)
+    ∙ take-replicate s.memsz (PAGE * pages - (s.vaddr - base)) 0 (omega arith)
 
 map-append : {X Y : Type 0} (f : X → Y) (xs ys : List X) → map f (xs ++ ys) ≡ map f xs ++ map f ys
 map-append f [] ys = refl
 map-append f (x ∷ xs) ys = ap (λ zs. f x ∷ zs) (map-append f xs ys)
 
 -- the flat memory as a program begins
-start_flat : (image : Image) (xs : List ℕ) → xs ≡ replicate (4096 * (image.window / 4096)) 0 → flat_of (base image) (spans_of image) (filled_bytes (base image) image.segments xs) ≡ memory_of image
+start_flat : (image : Image) (xs : List ℕ) → xs ≡ replicate (PAGE * (image.window / PAGE)) 0 → flat_of (base image) (spans_of image) (filled_bytes (base image) image.segments xs) ≡ memory_of image
 unfolding flat_of
 start_flat image xs is =
-    let pages = image.window / 4096 in
+    let pages = image.window / PAGE in
     let area : Span → Area = area_of (base image) (filled_bytes (base image) image.segments xs) in
     let there = segments_there image in
-    let size : length xs ≡ 4096 * pages = ap length is ∙ length-replicate (4096 * pages) 0 in
+    let size : length xs ≡ PAGE * pages = ap length is ∙ length-replicate (PAGE * pages) 0 in
     let page = heap_has_page image in
     let ends = heap_ends image in
     let heap : area (heap_of image) ≡ blank_area (heap_start image) (heap_end image) =
     blank_flat (base image) pages (heap_start image) (heap_end image) image.segments xs there is (heap_lies image) (omega arith)
     (λ k d less. in_order (segment_span (get_or image.segments k d)) (heap_of image) (segments_below image k d less)) in
-    let stack : area (stack_of image) ≡ blank_area (stack_top image - 65536) (stack_top image) =
-    blank_flat (base image) pages (stack_top image - 65536) (stack_top image) image.segments xs there is (stack_lies image) (omega arith)
+    let stack : area (stack_of image) ≡ blank_area (stack_top image - STACK) (stack_top image) =
+    blank_flat (base image) pages (stack_top image - STACK) (stack_top image) image.segments xs there is (stack_lies image) (omega arith)
     (λ k d less. in_order (segment_span (get_or image.segments k d)) (stack_of image) (omega (arith, segments_below image k d less))) in
     map-append area (map segment_span image.segments) (heap_of image ∷ stack_of image ∷ [])
     ∙ ap (λ areas. areas ++ area (heap_of image) ∷ area (stack_of image) ∷ []) (segments_flat (base image) pages image.segments xs there (segments_apart image) size (all_blank (base image) pages image.segments xs there is))
     ∙ ap (λ a. map segment_area image.segments ++ a ∷ area (stack_of image) ∷ []) heap
     ∙ ap (λ a. map segment_area image.segments ++ blank_area (heap_start image) (heap_end image) ∷ a ∷ []) stack
 
-pub is_start : (image : Image) (pages slots frames start : ℕ) (spans : List Span) (made filled : Pages) → pages ≡ image.window / 4096 → start ≡ base image → IsMade pages slots frames made → Fills made start image.segments filled → spans ≡ spans_of image → IsStart image (image.window / 4096) slots frames (guest_pages start spans filled)
+pub is_start : (image : Image) (pages slots frames start : ℕ) (spans : List Span) (made filled : Pages) → pages ≡ image.window / PAGE → start ≡ base image → IsMade pages slots frames made → Fills made start image.segments filled → spans ≡ spans_of image → IsStart image (image.window / PAGE) slots frames (guest_pages start spans filled)
 is_start image pages slots frames start spans made filled count at made_so fill_so are = record {
   base_is = at;
   spans_are = are;
@@ -226,17 +229,17 @@ is_start image pages slots frames start spans made filled count at made_so fill_
   memory = ap (λ b. flat_of b spans filled.live.bytes) at
       ∙ ap (λ ss. flat_of (base image) ss filled.live.bytes) are
       ∙ ap (flat_of (base image) (spans_of image)) (fill_so.bytes ∙ ap (λ b. filled_bytes b image.segments made.live.bytes) at)
-      ∙ start_flat image made.live.bytes (made_so.zeros ∙ ap (λ n. replicate (4096 * n) 0) count);
+      ∙ start_flat image made.live.bytes (made_so.zeros ∙ ap (λ n. replicate (PAGE * n) 0) count);
   empty = fill_so.slots ∙ made_so.empty;
   used = fill_so.used ∙ made_so.used ∙ count;
 }
 
-pub start_lawful : (image : Image) (pages slots frames start : ℕ) (spans : List Span) (made filled : Pages) → pages ≡ image.window / 4096 → start ≡ base image → IsMade pages slots frames made → Fills made start image.segments filled → spans ≡ spans_of image → IsLawfulSpace (guest_pages start spans filled)
+pub start_lawful : (image : Image) (pages slots frames start : ℕ) (spans : List Span) (made filled : Pages) → pages ≡ image.window / PAGE → start ≡ base image → IsMade pages slots frames made → Fills made start image.segments filled → spans ≡ spans_of image → IsLawfulSpace (guest_pages start spans filled)
 start_lawful image pages slots frames start spans made filled count at made_so fill_so are =
-    let many : filled.pages ≡ image.window / 4096 = fill_so.pages ∙ made_so.pages_are ∙ count in
+    let many : filled.pages ≡ image.window / PAGE = fill_so.pages ∙ made_so.pages_are ∙ count in
     record {
       below = omega (arith, many, at, window_pages image, stack_top_below image);
-      within = subst (λ b. All (LiesIn b filled.pages) spans) (sym at) (subst (λ n. All (LiesIn (base image) n) spans) (sym many) (subst (All (LiesIn (base image) (image.window / 4096))) (sym are) (all_lie image)));
+      within = subst (λ b. All (LiesIn b filled.pages) spans) (sym at) (subst (λ n. All (LiesIn (base image) n) spans) (sym many) (subst (All (LiesIn (base image) (image.window / PAGE))) (sym are) (all_lie image)));
       apart = subst AreApart (sym are) (all_apart image);
       store = fill_so.lawful;
     }
@@ -247,6 +250,6 @@ none_saved pages slots frames made so = so.empty ∙ ap (λ n. replicate n None)
 pub seen_end : (image : Image) (seen : List Segment) (i : ℕ) (segment : Segment) → seen ≡ image.segments → i < length seen → segment ≡ get_or seen i segment → segment.vaddr + segment.memsz < 2 ^ 32
 seen_end image seen i segment e less is = segment_end image i segment (subst (λ xs. i < length xs) e less) (subst (λ xs. segment ≡ get_or xs i segment) e is)
 
-pub files_seen : (image : Image) (seen : List Segment) (start pages : ℕ) → seen ≡ image.segments → start ≡ base image → pages ≡ image.window / 4096 → All (FilesIn start pages) seen
+pub files_seen : (image : Image) (seen : List Segment) (start pages : ℕ) → seen ≡ image.segments → start ≡ base image → pages ≡ image.window / PAGE → All (FilesIn start pages) seen
 files_seen image seen start pages e at count =
     subst (All (FilesIn start pages)) (sym e) (subst (λ b. All (FilesIn b pages) image.segments) (sym at) (files_there image pages count))

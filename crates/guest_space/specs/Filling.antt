@@ -3,6 +3,7 @@ use Rattle.std.specs.Prelude.{◌≡◌, ℕ, ◌+◌, ◌-◌, ◌*◌, ◌≤�
 use Rattle.elf_image.specs.declared.segment.Segment.{Segment}
 use Rattle.cow_pages.specs.Pages.{Pages, used_of, IsLawful}
 use Rattle.cow_pages.specs.Writes.{put_at}
+use Rattle.cow_pages.specs.declared.frame_copy.TheConstants.{PAGE}
 
 -- a window of bytes after the file's bytes of segments were put into it, one segment after the other
 abbrev pub filled_bytes : ℕ → List Segment → List ℕ → List ℕ
@@ -11,7 +12,7 @@ filled_bytes base (segment ∷ segments) xs = filled_bytes base segments (put_at
 
 -- the file's bytes of a segment lie in a window of so many pages
 abbrev pub FilesIn : ℕ → ℕ → Segment → Type 0
-FilesIn base pages segment = (base ≤ segment.vaddr) × (segment.vaddr + length segment.filled ≤ base + 4096 * pages)
+FilesIn base pages segment = (base ≤ segment.vaddr) × (segment.vaddr + length segment.filled ≤ base + PAGE * pages)
 
 -- the file's bytes of segments were put into the live space of a store, and nothing else changed
 pub record Fills (old : Pages) (base : ℕ) (segments : List Segment) (new : Pages) : Type 0 where

@@ -6,6 +6,8 @@ use Rattle.elf_image.specs.declared.image.Image.{Image}
 use Rattle.elf_image.specs.Memory.{Area}
 use Rattle.elf_image.specs.Image.{heap_start, heap_end, stack_top}
 use Rattle.cow_pages.specs.Pages.{Space, Pages, slot_at, IsLawful}
+use Rattle.cow_pages.specs.declared.frame_copy.TheConstants.{PAGE}
+use Rattle.elf_image.specs.declared.layout.TheConstants.{STACK}
 
 -- Addresses from one up to another, which isn't part of it, and what may be done with their bytes: the flags of a
 -- program header (System V ABI, "Segment Permissions").
@@ -41,7 +43,7 @@ saved_flat space slot = option_map (λ (saved : Space). flat_of space.base space
 
 -- a span lies in a window of so many pages
 abbrev pub LiesIn : ℕ → ℕ → Span → Type 0
-LiesIn base pages span = (base ≤ span.start) × (span.start ≤ span.end) × (span.end ≤ base + 4096 * pages)
+LiesIn base pages span = (base ≤ span.start) × (span.start ≤ span.end) × (span.end ≤ base + PAGE * pages)
 
 -- two spans share an address
 abbrev pub meet : Span → Span → Bool
@@ -53,7 +55,7 @@ AreApart spans = AllPairs (λ (a b : Span). meet a b ≡ false) spans
 
 -- what holds of every guest's memory: the window lies below 2 ^ 32, the spans lie in it apart, and the pages are lawful
 pub record IsLawfulSpace (space : GuestPages) : Type 0 where
-  pub below : space.base + 4096 * space.store.pages ≤ 2 ^ 32
+  pub below : space.base + PAGE * space.store.pages ≤ 2 ^ 32
   pub within : All (LiesIn space.base space.store.pages) space.spans
   pub apart : AreApart space.spans
   pub store : IsLawful space.store
@@ -69,4 +71,4 @@ blank_span start end = record { flags = 6; start = start; end = end }
 -- the spans of an image: its segments, its heap and its stack
 abbrev pub spans_of : Image → List Span
 spans_of image =
-    map segment_span image.segments ++ blank_span (heap_start image) (heap_end image) ∷ blank_span (stack_top image - 65536) (stack_top image) ∷ []
+    map segment_span image.segments ++ blank_span (heap_start image) (heap_end image) ∷ blank_span (stack_top image - STACK) (stack_top image) ∷ []

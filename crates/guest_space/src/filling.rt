@@ -7,11 +7,8 @@ ghost use Rattle.guest_space.specs.Filling.{FilesIn, Fills};
 
 use crate::span::{Span, blank_span, segment_span};
 use cow_pages::PageStore;
-use elf_image::{Image, Segment};
+use elf_image::{Image, STACK, Segment};
 use std::alloc::{AllocError, Global};
-
-// How many bytes the stack has.
-const STACK: u32 = 65536;
 
 /// The spans of an image: its segments, its heap and its stack.
 pub fn spans_of(alloc: Global, image: &Image) -> Result<Vec<Span>, AllocError>

@@ -12,18 +12,18 @@ ghost use Rattle.guest_space.specs.Stretches.{IsOpen};
 use crate::filling::{fill, spans_of};
 use crate::span::{EXECUTE, READ, Span, WRITE, are_held, each_has, one_has, stretch_at};
 use crate::{BadAccess, Stretch};
-use cow_pages::PageStore;
+use cow_pages::{MAX_FRAMES_PER_PAGE, MAX_SLOTS, PAGE, PageStore};
 use elf_image::Image;
 use std::alloc::{AllocError, Global};
 use std::marker::Model;
 
-// How many bytes a page has.
-const PAGE: u32 = 4096;
+// A store's pages are those by which an image is laid out.
+const _: () = prove!(cow_pages::PAGE == elf_image::PAGE);
 
 // How many addresses there are.
 const ADDRESSES: u64 = 0x1_0000_0000;
 
-/// The memory of a guest: a window of pages of 4096 bytes from a base on, of which its spans may be touched.
+/// The memory of a guest: a window of pages of `PAGE` bytes from a base on, of which its spans may be touched.
 #[derive(Debug, Drop)]
 pub struct GuestSpace {
     base: u32,
@@ -43,16 +43,16 @@ impl Model for GuestSpace {
 
 impl GuestSpace {
     /// The memory at a program's start: its segments, its heap and its stack, with nothing saved. The window has a page for
-    /// each 4096 of its bytes: so many slots, 1 to 16, and 2 to 16 frames for each page.
+    /// each `PAGE` of its bytes: 1 to `MAX_SLOTS` slots, and 2 to `MAX_FRAMES_PER_PAGE` frames for each page.
     pub fn make(
         alloc: Global,
         image: &Image,
         slots: u32,
         frames: u32,
     ) -> Result<GuestSpace, AllocError>
-        requires numbered { (1 ≤ slots) × (slots ≤ 16) }
-        requires enough { (2 * (image.now.window / 4096) ≤ frames) × (frames ≤ 16 * (image.now.window / 4096)) }
-        ensures start { IfOk result (λ space. IsStart image.now (image.now.window / 4096) slots frames space) }
+        requires numbered { (1 ≤ slots) × (slots ≤ MAX_SLOTS) }
+        requires enough { (2 * (image.now.window / PAGE) ≤ frames) × (frames ≤ MAX_FRAMES_PER_PAGE * (image.now.window / PAGE)) }
+        ensures start { IfOk result (λ space. IsStart image.now (image.now.window / PAGE) slots frames space) }
         ensures lawful { IfOk result (λ space. IsLawfulSpace space) }
     {
         let base = image.base();

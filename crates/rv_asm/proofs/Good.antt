@@ -26,6 +26,7 @@ use Rattle.rv_asm.specs.Passes.{placed_at, counted, with_label, next_spot, with_
 use Rattle.rv_asm.proofs.Encodable.{AllOk, IsForm, Means, means}
 use Rattle.rv_asm.proofs.Forms.{line_form}
 use Rattle.rv_asm.proofs.Flaws.{is_out_of_place, after_label, after_words}
+use Rattle.rv_asm.specs.declared.layout.TheConstants.{MOST_BYTES}
 
 -- how many bytes some statements give a section
 abbrev pub size_in : Section → Placed → ℕ
@@ -40,7 +41,7 @@ sizes-push section [] placed = omega arith
 sizes-push section (first ∷ statements) placed = let rest = sizes-push section statements placed in omega (arith, rest)
 
 pub record IsGood (layout : Layout) : Type 0 where
-  pub within : layout.text_size + layout.data_size ≤ 524288
+  pub within : layout.text_size + layout.data_size ≤ MOST_BYTES
   pub labels : All IsDefined layout.labels
   pub statements : All IsReady layout.statements
   pub text_is : layout.text_size ≡ sizes section.Text layout.statements
@@ -56,7 +57,7 @@ good_sound layout good = record { within = good.within; labels = good.labels; st
 good_counted : (layout : Layout) → IsGood layout → IsGood (counted layout)
 good_counted layout good = record { within = good.within; labels = good.labels; statements = good.statements; text_is = good.text_is; data_is = good.data_is; whole = good.whole }
 
-small_bytes : (in_force : Section) (layout : Layout) → layout.text_size + layout.data_size ≤ 524288 → size_of_section in_force layout ≤ 524288
+small_bytes : (in_force : Section) (layout : Layout) → layout.text_size + layout.data_size ≤ MOST_BYTES → size_of_section in_force layout ≤ MOST_BYTES
 small_bytes section.Text layout h = omega arith
 small_bytes section.Data layout h = omega arith
 
@@ -79,7 +80,7 @@ good_section in_force layout good = record { within = good.within; labels = good
 
 -- a statement may come behind some lines
 pub record Comes (layout : Layout) (statement : Statement) : Type 0 where
-  pub small : layout.text_size + layout.data_size + size_of statement ≤ 524288
+  pub small : layout.text_size + layout.data_size + size_of statement ≤ MOST_BYTES
   pub encodable : IsEncodable statement
   pub whole : is_text layout.section ≡ true → size_of statement % 4 ≡ 0
 
@@ -160,7 +161,7 @@ none_if : (b : Bool) (flaw : Flaw) (rest : Option Flaw) → cond b (Some flaw) r
 none_if true flaw rest h = absurd (none-some flaw (sym h))
 none_if false flaw rest h = (refl, h)
 
-small_enough : (layout : Layout) (statement : Statement) → size_flaw (size_of_both layout) statement ≡ None → layout.text_size + layout.data_size + size_of statement ≤ 524288
+small_enough : (layout : Layout) (statement : Statement) → size_flaw (size_of_both layout) statement ≡ None → layout.text_size + layout.data_size + size_of statement ≤ MOST_BYTES
 small_enough layout statement h = ltb-false _ _ (none_if (is_too_large (size_of_both layout) statement) flaw.Range None h).0
 
 -- a statement that was read and isn't too large

@@ -1,5 +1,5 @@
 -- The image of two sections is valid.
-use Rattle.std.proofs.Common.{◌≡◌, ℕ, ◌+◌, ◌-◌, ◌^◌, ◌<◌, ◌≤◌, true, false, ◌&&◌, List, [], ◌∷◌, None, length, nat_lt, nat_le, refl, arith, lit<, lit≤}
+use Rattle.std.proofs.Common.{◌≡◌, ℕ, ◌+◌, ◌-◌, ◌*◌, ◌^◌, ◌<◌, ◌≤◌, true, false, ◌&&◌, List, [], ◌∷◌, None, length, nat_lt, nat_le, refl, arith, lit<, lit≤}
 use Rattle.std.specs.List.{All}
 use Rattle.std.proofs.lemmas.Bool.{le-leb, lt-leb, le-ltb, lt-ltb, or_from, and_from}
 use Rattle.std.proofs.lemmas.Bool.Decides.{nat_tests}
@@ -9,6 +9,8 @@ use Rattle.elf_image.specs.Layout.{window_start, heap_floor, IsWindow, IsPlaced,
 use Rattle.rv_asm.specs.Layout.{text_start, data_start}
 use Rattle.rv_asm.specs.Assembling.{segment, data_segments}
 use Rattle.rv_asm.specs.Steps.{AreSmall}
+use Rattle.elf_image.specs.declared.layout.TheConstants.{PAGE, STACK_AND_GUARD}
+use Rattle.rv_asm.specs.declared.layout.TheConstants.{MOST_BYTES}
 
 -- the segments of two sections, of which text has so many bytes
 abbrev pub segments_of : ℕ → List ℕ → List ℕ → List Segment
@@ -43,7 +45,7 @@ starts : (text_size : ℕ) (code variables : List ℕ) → window_start (segment
 starts text_size code [] = refl
 starts text_size code (byte ∷ bytes) = omega arith
 
-ends : (text_size : ℕ) (code variables : List ℕ) → AreSmall text_size code variables → heap_floor (segments_of text_size code variables) ≤ text_start + 536576
+ends : (text_size : ℕ) (code variables : List ℕ) → AreSmall text_size code variables → heap_floor (segments_of text_size code variables) ≤ text_start + (MOST_BYTES + 3 * PAGE)
 ends text_size code [] small = let e = small.text_is in let w = small.within in omega arith
 ends text_size code (byte ∷ bytes) small = let e = small.text_is in let w = small.within in omega arith
 
@@ -52,12 +54,12 @@ unfolding too_large
 fits text_size window code variables small in_window =
     let segments : List Segment = segments_of text_size code variables in
     let start : window_start segments ≡ text_start = starts text_size code variables in
-    let end : heap_floor segments ≤ text_start + 536576 = ends text_size code variables small in
+    let end : heap_floor segments ≤ text_start + (MOST_BYTES + 3 * PAGE) = ends text_size code variables small in
     let least = in_window.least in
     let most = in_window.most in
-    or_from (nat_le (2 ^ 32) (window_start segments + window)) (nat_lt (window_start segments + window - 69632) (heap_floor segments + 4096))
+    or_from (nat_le (2 ^ 32) (window_start segments + window)) (nat_lt (window_start segments + window - STACK_AND_GUARD) (heap_floor segments + PAGE))
     (lt-leb (2 ^ 32) (window_start segments + window) (omega (arith, start, most)))
-    (le-ltb (window_start segments + window - 69632) (heap_floor segments + 4096) (omega (arith, start, end, least)))
+    (le-ltb (window_start segments + window - STACK_AND_GUARD) (heap_floor segments + PAGE) (omega (arith, start, end, least)))
 
 pub accepted : (text_size window : ℕ) (code variables : List ℕ) → AreSmall text_size code variables → IsWindow window → layout_refusal text_start window (segments_of text_size code variables) ≡ None
 accepted text_size window code variables small in_window =

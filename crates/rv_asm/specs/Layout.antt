@@ -1,6 +1,6 @@
--- Where the lines of a text stand, and the addresses of its labels. Text begins at 0x10000, and data at the first page at
+-- Where the lines of a text stand, and the addresses of its labels. Text begins at TEXT_START, and data at the first page at
 -- or above the end of text.
-use Rattle.std.specs.Prelude.{ℕ, ◌+◌, ◌*◌, ◌/◌, Bool, false, List, [], ◌∷◌, ◌++◌, length, map, Option, Some, None, option_map, bytes_eq, if◌then◌else◌}
+use Rattle.std.specs.Prelude.{ℕ, ◌+◌, ◌-◌, ◌*◌, ◌/◌, Bool, false, List, [], ◌∷◌, ◌++◌, length, map, Option, Some, None, option_map, bytes_eq, if◌then◌else◌}
 use Rattle.std.specs.List.{find, sum_by}
 use Rattle.std.specs.Result.{result_ok}
 use Rattle.asm_lines.specs.declared.form.Section.{Section}
@@ -12,6 +12,8 @@ use Rattle.asm_lines.specs.declared.statement.Statement.TheVariants as statement
 use Rattle.asm_lines.specs.Lines.{lines_of, line_of}
 use Rattle.asm_lines.specs.Mnemonics.{is_text, is_data}
 use Rattle.asm_lines.specs.Statements.{statement_of, size_of}
+use Rattle.elf_image.specs.declared.layout.TheConstants.{PAGE}
+use Rattle.rv_asm.specs.declared.layout.TheConstants.{TEXT_START}
 
 -- what stands on each line of a text; none where a line isn't of the form of a line
 unfoldable pub read_lines : List ℕ → List (Option Line)
@@ -100,10 +102,10 @@ bytes_in section lines = sum_by (size_at section) (places lines)
 -- ---- addresses
 
 abbrev pub text_start : ℕ
-text_start = 0x10000
+text_start = TEXT_START
 
 abbrev pub data_start : ℕ → ℕ
-data_start text_size = (text_start + text_size + 4095) / 4096 * 4096
+data_start text_size = (text_start + text_size + (PAGE - 1)) / PAGE * PAGE
 
 -- the address behind so many bytes of a section, where text has this size
 abbrev pub address_in : ℕ → Section → ℕ → ℕ

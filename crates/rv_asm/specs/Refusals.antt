@@ -16,6 +16,7 @@ use Rattle.asm_lines.specs.declared.statement.Statement.TheVariants as statement
 use Rattle.asm_lines.specs.Mnemonics.{is_text, stands_in, gives_bytes}
 use Rattle.asm_lines.specs.Statements.{statement_of, size_of}
 use Rattle.rv_asm.specs.Layout.{Place, places, read_lines, line_number, label_on, has_label, statement_on, section_at, bytes_in, address_at, address_of}
+use Rattle.rv_asm.specs.declared.layout.TheConstants.{MOST_BYTES}
 
 -- what is wrong, and on which line, counted from 1
 abbrev pub fault : ℕ → Flaw → Fault
@@ -42,9 +43,9 @@ gives_text in_force (Some words) = is_text in_force && gives_bytes words.form
 abbrev pub has_no_text : Section → ℕ → Option Words → Bool
 has_no_text in_force text_size words = (text_size == 0) && not (gives_text in_force words)
 
--- text and data have more than 524288 bytes together, of which so many stand before a statement
+-- text and data have more than MOST_BYTES bytes together, of which so many stand before a statement
 abbrev pub is_too_large : ℕ → Statement → Bool
-is_too_large size statement = nat_lt 524288 (size + size_of statement)
+is_too_large size statement = nat_lt MOST_BYTES (size + size_of statement)
 
 abbrev pub size_flaw : ℕ → Statement → Option Flaw
 size_flaw size statement = if is_too_large size statement then Some flaw.Range else None

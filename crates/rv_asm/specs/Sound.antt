@@ -8,6 +8,7 @@ use Rattle.rv_asm.specs.declared.placed.Placed.{Placed}
 use Rattle.asm_lines.specs.declared.statement.Statement.{Statement}
 use Rattle.asm_lines.specs.declared.statement.Statement.TheVariants as statement
 use Rattle.rv_asm.specs.Places.{Definition}
+use Rattle.rv_asm.specs.declared.layout.TheConstants.{MOST_BYTES}
 
 -- the operands of a statement are those that its words can hold
 abbrev pub IsEncodable : Statement → Type 0
@@ -28,7 +29,7 @@ IsPlain _ = Unit {0}
 
 -- a place that no section passes
 abbrev pub IsSmall : Spot → Type 0
-IsSmall spot = spot.offset ≤ 524288
+IsSmall spot = spot.offset ≤ MOST_BYTES
 
 abbrev pub IsDefined : Definition → Type 0
 IsDefined definition = IsSmall definition.spot
@@ -38,6 +39,6 @@ pub record IsReady (placed : Placed) : Type 0 where
   pub encodable : IsEncodable placed.statement
 
 pub record IsSound (layout : Layout) : Type 0 where
-  pub within : layout.text_size + layout.data_size ≤ 524288
+  pub within : layout.text_size + layout.data_size ≤ MOST_BYTES
   pub labels : All IsDefined layout.labels
   pub statements : All IsReady layout.statements

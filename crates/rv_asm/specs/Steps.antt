@@ -17,6 +17,7 @@ use Rattle.rv_asm.specs.Layout.{text_start, data_start}
 use Rattle.rv_asm.specs.Refusals.{distance, target_flaw, label_flaw}
 use Rattle.rv_asm.specs.Assembling.{Cell, AreBytes, known_address, cells_at, segment, data_segments}
 use Rattle.rv_asm.specs.Passes.{spot_address, is_placed_in, layout_of, placed_cells, section_cells, label_address, lines_fault, added_flaw, labels_fault, after_line, no_lines}
+use Rattle.rv_asm.specs.declared.layout.TheConstants.{MOST_BYTES}
 
 -- a line more is taken, or it is wrong
 abbrev pub AddsLine : Layout → Layout → Bool → List ℕ → Result (Unit {0}) Trouble → Type 0
@@ -77,7 +78,7 @@ WritesSections layout (Err stop.Memory) = Unit {0}
 pub record AreSmall (text_size : ℕ) (code variables : List ℕ) : Type 0 where
   pub text_is : length code ≡ text_size
   pub some : 4 ≤ text_size
-  pub within : text_size + length variables ≤ 524288
+  pub within : text_size + length variables ≤ MOST_BYTES
 
 -- the image of these sections
 pub record IsImageOf (layout : Layout) (sections : Sections) (window : ℕ) (image : Image) : Type 0 where

@@ -11,6 +11,7 @@ use crate::placed::{Placed, Spot, Statements};
 use asm_lines::{
     Flaw, Line, Part, Section, Statement, Words, gives_bytes, line_of, stands_in, statement_of,
 };
+use elf_image::PAGE;
 use std::alloc::{AllocError, Global};
 
 /// Where the text section begins.
@@ -33,10 +34,10 @@ pub struct Layout<'a> {
 
 /// Where the data section begins: at the first page at or above the end of text.
 pub fn data_start(text_size: u32) -> u32
-    requires { text_size ≤ 524288 }
+    requires { text_size ≤ MOST_BYTES }
     ensures { result ≡ data_start text_size }
 {
-    (TEXT_START + text_size + 4095) / 4096 * 4096
+    (TEXT_START + text_size + (PAGE - 1)) / PAGE * PAGE
 }
 
 impl<'a> Layout<'a> {
@@ -184,8 +185,8 @@ impl<'a> Layout<'a> {
 
     /// The address of a place.
     pub fn address_at(&self, spot: Spot) -> u32
-        requires size { self.now.text_size ≤ 524288 }
-        requires offset { spot.offset ≤ 524288 }
+        requires size { self.now.text_size ≤ MOST_BYTES }
+        requires offset { spot.offset ≤ MOST_BYTES }
         ensures { result ≡ spot_address self.now spot }
     {
         match spot.section {

@@ -15,6 +15,7 @@ use Rattle.schedule_file.specs.Refusals.{lines_of, refused_behind, refused_from,
 use Rattle.schedule_file.specs.Steps.{first_line, behind_line}
 use Rattle.schedule_file.proofs.Lines.{lines_of-line, lines_is, is_line-head, is_line-choice, is_line-end}
 use Rattle.schedule_file.proofs.Written.{head_of-line, head_of-sound, is_head-from, choice_of-line, is_end-from, end_of-line, end_of-sound, choice_of-end}
+use Rattle.schedule_file.specs.declared.recorded.TheConstants.{MAX_WINDOW, MAX_TAKEN}
 
 empty_head : (window : ℕ) (frame : Framing) → head_line window frame ≡ [] → ⊥
 unfolding head_line
@@ -63,7 +64,7 @@ refused_behind-some number (byte ∷ bytes) h = ap (refused_behind number) (line
 
 -- ---- a text that has a reading isn't refused
 
-unrefused_end : (number : ℕ) (finish : End) → is_end finish ≡ true → finish.steps < 2 ^ 63 → finish.taken ≤ 1048576 → refused_from number (lines_of (end_line finish.steps finish.taken)) ≡ None
+unrefused_end : (number : ℕ) (finish : End) → is_end finish ≡ true → finish.steps < 2 ^ 63 → finish.taken ≤ MAX_TAKEN → refused_from number (lines_of (end_line finish.steps finish.taken)) ≡ None
 unrefused_end number finish ok small few =
     let line : List ℕ = end_line finish.steps finish.taken in
     let alone : lines_of line ≡ line ∷ [] = ap lines_of (sym (append-nil line)) ∙ lines_of-line line [] (is_line-end finish.steps finish.taken (omega arith) (omega arith)) in
@@ -73,8 +74,8 @@ pub refused-text_of : (value : Recorded) → IsRecord value → refused_line (te
 refused-text_of value is =
     let head : Head = record { window = value.window; frame = value.frame } in
     let finish : End = record { steps = value.steps; taken = value.taken } in
-    let window : value.window ≤ 64 = is.window in
-    let taken : value.taken ≤ 1048576 = is.taken in
+    let window : value.window ≤ MAX_WINDOW = is.window in
+    let taken : value.taken ≤ MAX_TAKEN = is.taken in
     let rest : List ℕ = choice_lines value.choices ++ end_line value.steps value.taken in
     let cut : lines_of (text_of value) ≡ head_line value.window value.frame ∷ lines_of rest = lines_of-line (head_line value.window value.frame) rest (is_line-head value.window value.frame (omega arith)) in
     let first : head_of (head_line value.window value.frame) ≡ Some head = head_of-line head (is_head-from head is.some_window is.window) (omega arith) in

@@ -16,6 +16,7 @@ use Rattle.schedule_file.specs.Telling.{head_of, choice_of, is_end, end_of}
 use Rattle.schedule_file.specs.Refusals.{onto, lines_of, refused_behind, refused_from, refused_lines, refused_line}
 use Rattle.schedule_file.proofs.Lines.{lines_of-line, is_line-head, is_line-choice, is_line-end}
 use Rattle.schedule_file.proofs.Written.{some_same, head_of-line, head_of-sound, is_head-from, is_head-facts, choice_of-line, choice_of-sound, is_end-from, is_end-facts, end_of-line, end_of-sound, choice_of-end}
+use Rattle.schedule_file.specs.declared.recorded.TheConstants.{MAX_WINDOW, MAX_TAKEN}
 
 -- ---- a reader of lines
 
@@ -35,7 +36,7 @@ abbrev whole_of : List (List ℕ) → Option Recorded
 whole_of [] = None
 whole_of (line ∷ lines) = whole_by (head_of line) (rest_of lines)
 
-rest_of-end : (finish : End) → is_end finish ≡ true → finish.steps < 2 ^ 63 → finish.taken ≤ 1048576 → rest_of (lines_of (end_line finish.steps finish.taken)) ≡ Some ([], finish)
+rest_of-end : (finish : End) → is_end finish ≡ true → finish.steps < 2 ^ 63 → finish.taken ≤ MAX_TAKEN → rest_of (lines_of (end_line finish.steps finish.taken)) ≡ Some ([], finish)
 rest_of-end finish ok small few =
     let line : List ℕ = end_line finish.steps finish.taken in
     let alone : lines_of line ≡ line ∷ [] = ap lines_of (sym (append-nil line)) ∙ lines_of-line line [] (is_line-end finish.steps finish.taken (omega arith) (omega arith)) in
@@ -55,7 +56,7 @@ whole_of-text : (value : Recorded) → IsRecord value → whole_of (lines_of (te
 whole_of-text value is =
     let head : Head = record { window = value.window; frame = value.frame } in
     let finish : End = record { steps = value.steps; taken = value.taken } in
-    let window : value.window ≤ 64 = is.window in
+    let window : value.window ≤ MAX_WINDOW = is.window in
     let rest : List ℕ = choice_lines value.choices ++ end_line value.steps value.taken in
     let cut : lines_of (text_of value) ≡ head_line value.window value.frame ∷ lines_of rest = lines_of-line (head_line value.window value.frame) rest (is_line-head value.window value.frame (omega arith)) in
     let first : head_of (head_line value.window value.frame) ≡ Some head = head_of-line head (is_head-from head is.some_window is.window) (omega arith) in

@@ -13,6 +13,7 @@ use Rattle.schedule_file.specs.Lines.{eight_digits, frame_name, head_line, choic
 use Rattle.schedule_file.specs.Records.{IsChoice}
 use Rattle.schedule_file.specs.Telling.{if_written, number_from, behind_digits, hex_from, frame_told, head_told, is_head, written_head, head_of, choice_told, is_choice, choice_of, end_told, is_end, written_end, end_of}
 use Rattle.schedule_file.proofs.Digits.{number-decimal, behind-decimal, hex-eight_digits}
+use Rattle.schedule_file.specs.declared.recorded.TheConstants.{MAX_WINDOW, MAX_TAKEN}
 
 -- ---- any form
 
@@ -54,16 +55,16 @@ head_told-line window frame small =
     (number-decimal window 32 behind small refl)
     (ap frame_told (behind-decimal window 32 behind small refl) ∙ by_frame frame)
 
-head_test : (window : ℕ) → 1 ≤ window → window ≤ 64 → (nat_le 1 window && nat_le window 64) ≡ true
+head_test : (window : ℕ) → 1 ≤ window → window ≤ MAX_WINDOW → (nat_le 1 window && nat_le window MAX_WINDOW) ≡ true
 head_test window h k = grind (arith, nat_tests)
 
-pub is_head-from : (head : Head) → 1 ≤ head.window → head.window ≤ 64 → is_head head ≡ true
+pub is_head-from : (head : Head) → 1 ≤ head.window → head.window ≤ MAX_WINDOW → is_head head ≡ true
 is_head-from head h k = head_test head.window h k
 
-head_facts : (window : ℕ) → (nat_le 1 window && nat_le window 64) ≡ true → (1 ≤ window) × (window ≤ 64)
+head_facts : (window : ℕ) → (nat_le 1 window && nat_le window MAX_WINDOW) ≡ true → (1 ≤ window) × (window ≤ MAX_WINDOW)
 head_facts window h = (grind (arith, nat_tests), grind (arith, nat_tests))
 
-pub is_head-facts : (head : Head) → is_head head ≡ true → (1 ≤ head.window) × (head.window ≤ 64)
+pub is_head-facts : (head : Head) → is_head head ≡ true → (1 ≤ head.window) × (head.window ≤ MAX_WINDOW)
 is_head-facts head h = head_facts head.window h
 
 pub head_of-line : (head : Head) → is_head head ≡ true → head.window < 2 ^ 64 → head_of (head_line head.window head.frame) ≡ Some head
@@ -150,16 +151,16 @@ end_told-line finish small few =
     (number-decimal finish.steps 32 behind small refl)
     (ap (λ bytes. number_from 0 (drop 1 bytes)) rest_is ∙ number-decimal finish.taken 10 [] few refl)
 
-end_small : (steps taken : ℕ) → (nat_lt steps (2 ^ 63) && nat_le taken 1048576) ≡ true → (steps < 2 ^ 63) × (taken ≤ 1048576)
+end_small : (steps taken : ℕ) → (nat_lt steps (2 ^ 63) && nat_le taken MAX_TAKEN) ≡ true → (steps < 2 ^ 63) × (taken ≤ MAX_TAKEN)
 end_small steps taken h = (grind (arith, nat_tests), grind (arith, nat_tests))
 
-end_test : (steps taken : ℕ) → steps < 2 ^ 63 → taken ≤ 1048576 → (nat_lt steps (2 ^ 63) && nat_le taken 1048576) ≡ true
+end_test : (steps taken : ℕ) → steps < 2 ^ 63 → taken ≤ MAX_TAKEN → (nat_lt steps (2 ^ 63) && nat_le taken MAX_TAKEN) ≡ true
 end_test steps taken h k = grind (arith, nat_tests)
 
-pub is_end-from : (finish : End) → finish.steps < 2 ^ 63 → finish.taken ≤ 1048576 → is_end finish ≡ true
+pub is_end-from : (finish : End) → finish.steps < 2 ^ 63 → finish.taken ≤ MAX_TAKEN → is_end finish ≡ true
 is_end-from finish h k = end_test finish.steps finish.taken h k
 
-pub is_end-facts : (finish : End) → is_end finish ≡ true → (finish.steps < 2 ^ 63) × (finish.taken ≤ 1048576)
+pub is_end-facts : (finish : End) → is_end finish ≡ true → (finish.steps < 2 ^ 63) × (finish.taken ≤ MAX_TAKEN)
 is_end-facts finish h = end_small finish.steps finish.taken h
 
 pub end_of-line : (finish : End) → is_end finish ≡ true → end_of (end_line finish.steps finish.taken) ≡ Some finish

@@ -16,7 +16,7 @@ use Rattle.links.specs.declared.journal.LinkFault.{LinkFault}
 use Rattle.links.specs.declared.journal.LinkFault.TheVariants.{Refused, ReadFault, WriteFault, Memory}
 use Rattle.trunk_wire.specs.CallLaws.{reads_more}
 use Rattle.trunk_wire.specs.Calls.{Reads, Writes, count_after, Brings, IsRefused, TakesBy, WritesBy, Behind, read_fault, write_fault}
-use Rattle.trunk_wire.specs.Frames.{header_bytes, IsFrameOf, piece_frame}
+use Rattle.trunk_wire.specs.Frames.{header_bytes, IsFrameOf, piece_frame, FitsTwoBytes}
 use Rattle.trunk_wire.specs.Grammar.{Part, front, header_refusal, event_of}
 use Rattle.trunk_wire.specs.declared.header.Header.{Header}
 use Rattle.trunk_wire.proofs.GrammarLemmas.{front-refused, front-cut, frame-passes, passes_all}
@@ -52,22 +52,22 @@ brings_frame drained (event.Closes conn) bytes is = is
 brings_frame drained event.Settles bytes is = is
 brings_frame drained event.Ends bytes is = absurd is
 
-pub rest_refused : (phases : Phases) (header : Header) (Taken : List ℕ → Type 0) (drained : Type 0) (kind : ℕ) → header.conn < 65536 → header.length < 65536 → header_refusal phases header ≡ Some kind
+pub rest_refused : (phases : Phases) (header : Header) (Taken : List ℕ → Type 0) (drained : Type 0) (kind : ℕ) → FitsTwoBytes header.conn → FitsTwoBytes header.length → header_refusal phases header ≡ Some kind
     → Taken [] → (bytes : List ℕ) × Behind (header_bytes header) Taken bytes × IsRefused phases drained kind bytes
 rest_refused phases header Taken drained kind conn_few few refused taken =
     (header_bytes header ++ [], ([], refl, taken), inl (front-refused phases header kind conn_few few refused, refl))
 
-pub rest_cut : (phases : Phases) (header : Header) (Taken : List ℕ → Type 0) (payload : List ℕ) → header.conn < 65536 → header.length < 65536 → header_refusal phases header ≡ None
+pub rest_cut : (phases : Phases) (header : Header) (Taken : List ℕ → Type 0) (payload : List ℕ) → FitsTwoBytes header.conn → FitsTwoBytes header.length → header_refusal phases header ≡ None
     → Taken payload → length payload < header.length → (bytes : List ℕ) × Behind (header_bytes header) Taken bytes × (front phases bytes ≡ Part)
 rest_cut phases header Taken payload conn_few few passes taken short =
     (header_bytes header ++ payload, (payload, refl, taken), front-cut phases header payload conn_few few passes short)
 
-pub rest_truncated : (phases : Phases) (header : Header) (Taken : List ℕ → Type 0) (drained : Type 0) (payload : List ℕ) → header.conn < 65536 → header.length < 65536 → header_refusal phases header ≡ None
+pub rest_truncated : (phases : Phases) (header : Header) (Taken : List ℕ → Type 0) (drained : Type 0) (payload : List ℕ) → FitsTwoBytes header.conn → FitsTwoBytes header.length → header_refusal phases header ≡ None
     → Taken payload → length payload < header.length → drained → (bytes : List ℕ) × Behind (header_bytes header) Taken bytes × IsRefused phases drained 5 bytes
 rest_truncated phases header Taken drained payload conn_few few passes taken short end =
     (header_bytes header ++ payload, (payload, refl, taken), inr (refl, front-cut phases header payload conn_few few passes short, omega arith, end))
 
-pub rest_whole : (phases : Phases) (header : Header) (Taken : List ℕ → Type 0) (drained : Type 0) (payload : List ℕ) → header.length < 65536 → header_refusal phases header ≡ None
+pub rest_whole : (phases : Phases) (header : Header) (Taken : List ℕ → Type 0) (drained : Type 0) (payload : List ℕ) → FitsTwoBytes header.length → header_refusal phases header ≡ None
     → Taken payload → length payload ≡ header.length → (bytes : List ℕ) × Behind (header_bytes header) Taken bytes × Brings drained (event_of header payload) bytes
 rest_whole phases header Taken drained payload few passes taken counted = (
   header_bytes header ++ payload,

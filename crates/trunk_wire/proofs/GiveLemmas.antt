@@ -12,7 +12,7 @@ use Rattle.links.specs.declared.journal.LinkEvent.{LinkEvent}
 use Rattle.links.specs.declared.journal.LinkFault.{LinkFault}
 use Rattle.links.specs.declared.journal.LinkFault.TheVariants.{Refused, ReadFault, WriteFault, Memory}
 use Rattle.trunk_wire.specs.Calls.{Writes, WritesBy, count_after}
-use Rattle.trunk_wire.specs.Frames.{piece_frame}
+use Rattle.trunk_wire.specs.Frames.{piece_frame, FitsTwoBytes}
 use Rattle.trunk_wire.specs.Parts.{put_bytes, last_bytes}
 use Rattle.trunk_wire.specs.Pieces.{read_from, events, fresh, cut_piece, piece_reader, written, pieces}
 use Rattle.trunk_wire.specs.Tellings.{is_empty, is_whole, told_events, told_pieces, trunk_told, told_nothing}
@@ -45,7 +45,7 @@ record Grows (wrote now : ℕ) (gives : Bool) (bytes later : List ℕ) (more : L
   in_step : is_whole now gives later ≡ true
   grown : pieces (last_bytes now later) ≡ pieces (last_bytes wrote bytes) ++ more
 
-grow_whole : (wrote now conn : ℕ) (bytes piece : List ℕ) → conn < 65536 → length piece < 65536 → IsWhole wrote bytes → now ≡ wrote + length (piece_frame conn piece)
+grow_whole : (wrote now conn : ℕ) (bytes piece : List ℕ) → FitsTwoBytes conn → FitsTwoBytes (length piece) → IsWhole wrote bytes → now ≡ wrote + length (piece_frame conn piece)
     → Grows wrote now true bytes (bytes ++ piece_frame conn piece) (record { conn = conn; bytes = piece; gone = false } ∷ [])
 grow_whole wrote now conn bytes piece conn_few few step count =
     let last = last_bytes-append wrote now bytes (piece_frame conn piece) step.within count in
@@ -79,7 +79,7 @@ grew_by wrote now gives bytes later more grows = by_test (is_whole wrote true by
 counted_more : (wrote now : ℕ) (bytes later more : List ℕ) → wrote ≤ length bytes → later ≡ bytes ++ more → length later < 2 ^ 64 - 1 → now ≡ count_after wrote (length more) → now ≡ wrote + length more
 counted_more wrote now bytes later more within is few count = omega (arith, ap length is, length-append bytes more)
 
-pieces_whole : (old new : Option (List ℕ)) (wrote now conn : ℕ) (piece : List ℕ) → IfSome new (λ bytes. length bytes < 2 ^ 64 - 1) → conn < 65536 → length piece < 65536 → Writes old new wrote now (piece_frame conn piece)
+pieces_whole : (old new : Option (List ℕ)) (wrote now conn : ℕ) (piece : List ℕ) → IfSome new (λ bytes. length bytes < 2 ^ 64 - 1) → FitsTwoBytes conn → FitsTwoBytes (length piece) → Writes old new wrote now (piece_frame conn piece)
     → Grew (told_pieces old wrote true) (told_pieces new now true) (record { conn = conn; bytes = piece; gone = false } ∷ [])
 pieces_whole None new wrote now conn piece few conn_few piece_few wrote_it = tt
 pieces_whole (Some old) None wrote now conn piece few conn_few piece_few wrote_it = absurd wrote_it.wrote
@@ -110,7 +110,7 @@ tells_pieces events old new entries grown none = record {
   journal = tt;
 }
 
-cuts_told : (events : Option (List LinkEvent)) (old new : Option (List ℕ)) (wrote now conn : ℕ) (piece : List ℕ) → IfSome new (λ bytes. length bytes < 2 ^ 64 - 1) → conn < 65536 → length piece < 65536 → 0 < length piece
+cuts_told : (events : Option (List LinkEvent)) (old new : Option (List ℕ)) (wrote now conn : ℕ) (piece : List ℕ) → IfSome new (λ bytes. length bytes < 2 ^ 64 - 1) → FitsTwoBytes conn → FitsTwoBytes (length piece) → 0 < length piece
     → (front : List ℕ) × Prefix front (piece_frame conn piece) × Writes old new wrote now front
     → Cuts (trunk_told events (told_pieces old wrote true)) (trunk_told events (told_pieces new now false)) conn piece
 cuts_told events old new wrote now conn piece few conn_few piece_few some (front, whole, wrote_it) =
@@ -121,7 +121,7 @@ cuts_told events old new wrote now conn piece few conn_few piece_few some (front
     )
 
 -- what a trunk tells after a `give`
-pub give_told : (events : Option (List LinkEvent)) (old new : Option (List ℕ)) (wrote now conn : ℕ) (piece : List ℕ) (result : Result Given LinkFault) → IfSome new (λ bytes. length bytes < 2 ^ 64 - 1) → conn < 65536
+pub give_told : (events : Option (List LinkEvent)) (old new : Option (List ℕ)) (wrote now conn : ℕ) (piece : List ℕ) (result : Result Given LinkFault) → IfSome new (λ bytes. length bytes < 2 ^ 64 - 1) → FitsTwoBytes conn
     → 0 < length piece → length piece < 2 ^ 16 → WritesBy (Writes old new wrote now) conn piece result
     → Gives (trunk_told events (told_pieces old wrote true)) (trunk_told events (told_pieces new now (is_ok result))) conn piece result
 give_told events old new wrote now conn piece (Ok All) few conn_few some piece_few wrote_it =

@@ -16,6 +16,7 @@ use Rattle.trunk_wire.specs.Frames.{IsFrameOf, piece_frame}
 use Rattle.trunk_wire.specs.Going.{Intake, IsTail, TookFrames, Output, IsFramed, IsCut, WroteFrames}
 use Rattle.trunk_wire.specs.declared.refusal.Refusal.{Refusal}
 use Rattle.trunk_wire.specs.Tellings.{told_coming, refusal_in}
+use Rattle.links.specs.declared.connection_table.TheConstants.{CONNECTIONS}
 
 -- the frame of an event was taken
 took_frame : (old new : Intake) (event : LinkEvent) (bytes : List ℕ) → new.takes ≡ true → Reads old.told new.told old.took new.took bytes → IsFrameOf event bytes → IsInOrder old.phases event
@@ -81,7 +82,7 @@ wrote_cut old new piece framed gives (front, whole, wrote) = record {
 }
 
 -- what a `give` writes
-pub give_wrote : (old new : Output) (conn : ℕ) (bytes : List ℕ) (result : Result Given LinkFault) → conn < 4096 → 0 < length bytes → length bytes < 2 ^ 16 → new.gives ≡ is_ok result
+pub give_wrote : (old new : Output) (conn : ℕ) (bytes : List ℕ) (result : Result Given LinkFault) → conn < CONNECTIONS → 0 < length bytes → length bytes < 2 ^ 16 → new.gives ≡ is_ok result
     → WritesBy (Writes old.told new.told old.wrote new.wrote) conn bytes result → WroteFrames old new
 give_wrote old new conn bytes result below some few gives written = by_answer result gives written
   where

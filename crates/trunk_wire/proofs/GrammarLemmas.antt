@@ -1,5 +1,5 @@
 -- The grammar of the trunk: whole frames, cut ones and refused ones.
-use Rattle.std.proofs.Common.{◌≡◌, ℕ, ◌+◌, ◌*◌, ◌/◌, ◌%◌, ◌<◌, nat_lt, ◌==◌, not, ◌&&◌, ◌||◌, Bool, true, false, List, [], ◌∷◌, ◌++◌, length, take, Option, None, Some, if◌then◌else◌, arith, append-nil, length-append, refl, sym, ap, ◌∙◌, subst}
+use Rattle.std.proofs.Common.{◌≡◌, ℕ, ◌<◌, nat_lt, ◌==◌, not, ◌&&◌, ◌||◌, Bool, true, false, List, [], ◌∷◌, ◌++◌, length, take, Option, None, Some, if◌then◌else◌, arith, append-nil, length-append, refl, sym, ap, ◌∙◌, subst}
 use Rattle.std.proofs.lemmas.Bool.{ltb-true, lt-ltb, eqb-true}
 use Rattle.std.proofs.lemmas.Bool.Decides.{nat_tests}
 use Rattle.std.proofs.lemmas.List.{nil_from_length}
@@ -8,13 +8,14 @@ use Rattle.links.specs.ConnectionTables.{is_unopened, is_open, is_in_order}
 use Rattle.links.specs.Links.{Phases, Unopened, Open, IsInOrder, phases_after}
 use Rattle.links.specs.declared.journal.LinkEvent.{LinkEvent}
 use Rattle.links.specs.declared.journal.LinkEvent.TheVariants as event
-use Rattle.trunk_wire.specs.Frames.{header_of, header_bytes, frame, IsFrame, IsFrameOf}
+use Rattle.trunk_wire.specs.Frames.{header_of, header_bytes, frame, IsFrame, IsFrameOf, FitsTwoBytes, from_two_bytes, high_byte, low_byte}
 use Rattle.trunk_wire.specs.Grammar.{Whole, Part, Bad, front, front_by, front_accepted, front_behind, header_refusal, event_of, is_known, is_extra, is_reopened, is_not_open}
 use Rattle.trunk_wire.specs.Parts.{put_bytes}
 use Rattle.trunk_wire.specs.Pieces.{whole_event, event_reader}
 use Rattle.trunk_wire.specs.declared.header.Header.{Header}
 use Rattle.trunk_wire.specs.declared.header.TheConstants.{OPEN, BYTES, CLOSE, SETTLE}
 use Rattle.trunk_wire.proofs.ProgressLemmas.{IsSteady, put_bytes-whole}
+use Rattle.links.specs.declared.connection_table.TheConstants.{CONNECTIONS}
 
 -- behind an accepted header, a payload that is too short with more bytes is too short without them
 short_front : (header : Header) (payload more : List ℕ) → whole_event (front_accepted header (payload ++ more)) ≡ None → whole_event (front_accepted header payload) ≡ None
@@ -65,20 +66,21 @@ front-bad phases (_ ∷ _ ∷ _ ∷ _ ∷ []) more kind bad = cc
 front-bad phases (number ∷ conn_low ∷ conn_high ∷ length_low ∷ length_high ∷ payload) more kind bad =
     bad_by (header_refusal phases (header_of number conn_low conn_high length_low length_high)) kind (header_of number conn_low conn_high length_low length_high) payload more bad
 
-two_bytes_back : (n : ℕ) → n < 65536 → n % 256 + 256 * (n / 256 % 256) ≡ n
+-- a number is that of its two bytes
+pub two_bytes_back : (n : ℕ) → FitsTwoBytes n → from_two_bytes (low_byte n) (high_byte n) ≡ n
 two_bytes_back n few = omega arith
 
 -- a header that is read back is itself
-pub front-header : (phases : Phases) (header : Header) (payload : List ℕ) → header.conn < 65536 → header.length < 65536
+pub front-header : (phases : Phases) (header : Header) (payload : List ℕ) → FitsTwoBytes header.conn → FitsTwoBytes header.length
     → front phases (header_bytes header ++ payload) ≡ front_behind phases header payload
 front-header phases header payload conn_few few =
-    ap (λ conn. front_behind phases (record { kind = header.kind; conn = conn; length = header.length % 256 + 256 * (header.length / 256 % 256) }) payload) (two_bytes_back header.conn conn_few)
+    ap (λ conn. front_behind phases (record { kind = header.kind; conn = conn; length = from_two_bytes (low_byte header.length) (high_byte header.length) }) payload) (two_bytes_back header.conn conn_few)
     ∙ ap (λ length. front_behind phases (record { kind = header.kind; conn = header.conn; length = length }) payload) (two_bytes_back header.length few)
 
 -- a header that isn't refused passes each test
 pub record Passes (phases : Phases) (header : Header) : Type 0 where
   pub known : is_known header ≡ true
-  pub below : nat_lt header.conn 4096 ≡ true
+  pub below : nat_lt header.conn CONNECTIONS ≡ true
   pub no_extra : is_extra header ≡ false
   pub not_reopened : is_reopened phases header ≡ false
   pub open_now : is_not_open phases header ≡ false
@@ -96,7 +98,7 @@ five_tests true true false false false none = (refl, refl, refl, refl, refl)
 
 pub passes_all : (phases : Phases) (header : Header) → header_refusal phases header ≡ None → Passes phases header
 passes_all phases header none =
-    let all = five_tests (is_known header) (nat_lt header.conn 4096) (is_extra header) (is_reopened phases header) (is_not_open phases header) none in
+    let all = five_tests (is_known header) (nat_lt header.conn CONNECTIONS) (is_extra header) (is_reopened phases header) (is_not_open phases header) none in
     record { known = all.0; below = all.1; no_extra = all.2; not_reopened = all.3; open_now = all.4 }
 
 passed : (phases : Phases) (header : Header) → Passes phases header → header_refusal phases header ≡ None
@@ -127,15 +129,15 @@ bytes_of_frame header kind payload same counted =
     ap (λ n. header_bytes (record { kind = n; conn = header.conn; length = header.length }) ++ payload) same
     ∙ ap (λ n. header_bytes (record { kind = kind; conn = header.conn; length = n }) ++ payload) (sym counted)
 
-is_frame : (phases : Phases) (header : Header) (kind : ℕ) (payload : List ℕ) → Passes phases header → header.length < 65536 → header.kind ≡ kind → length payload ≡ header.length
+is_frame : (phases : Phases) (header : Header) (kind : ℕ) (payload : List ℕ) → Passes phases header → FitsTwoBytes header.length → header.kind ≡ kind → length payload ≡ header.length
     → IsFrame kind header.conn payload (header_bytes header ++ payload)
 is_frame phases header kind payload all few same counted = record {
   is = bytes_of_frame header kind payload same counted;
-  below = ltb-true header.conn 4096 all.below;
+  below = ltb-true header.conn CONNECTIONS all.below;
   few = omega (arith, counted);
 }
 
-is_frame_without : (phases : Phases) (header : Header) (kind : ℕ) (payload : List ℕ) → Passes phases header → header.length < 65536 → (header.kind == BYTES) ≡ false → header.kind ≡ kind → length payload ≡ header.length
+is_frame_without : (phases : Phases) (header : Header) (kind : ℕ) (payload : List ℕ) → Passes phases header → FitsTwoBytes header.length → (header.kind == BYTES) ≡ false → header.kind ≡ kind → length payload ≡ header.length
     → IsFrame kind header.conn [] (header_bytes header ++ payload)
 is_frame_without phases header kind payload all few other same counted =
     let none : payload ≡ [] = no_payload phases header payload all other counted in
@@ -146,7 +148,7 @@ not_other : (n kind other : ℕ) → (n == kind) ≡ true → (kind == other) �
 not_other n kind other is differs = rw (eqb-true n kind is) differs
 
 -- a header that passes, with its whole payload, is the frame of its event
-pub frame-passes : (phases : Phases) (header : Header) (payload : List ℕ) → Passes phases header → header.length < 65536 → length payload ≡ header.length
+pub frame-passes : (phases : Phases) (header : Header) (payload : List ℕ) → Passes phases header → FitsTwoBytes header.length → length payload ≡ header.length
     → IsFrameOf (event_of header payload) (header_bytes header ++ payload)
 frame-passes phases header payload all few counted = by_kind (header.kind == OPEN) (header.kind == BYTES) (header.kind == CLOSE) refl refl refl
   where
@@ -172,31 +174,31 @@ order-passes phases header payload all = by_kind (header.kind == OPEN) (header.k
     by_kind false false false first second = refl
 
 -- the header of an event's frame passes where the event is in order
-passes_kind : (phases : Phases) (kind conn count : ℕ) → nat_lt conn 4096 ≡ true → is_known (record { kind = kind; conn = conn; length = count }) ≡ true
+passes_kind : (phases : Phases) (kind conn count : ℕ) → nat_lt conn CONNECTIONS ≡ true → is_known (record { kind = kind; conn = conn; length = count }) ≡ true
     → is_extra (record { kind = kind; conn = conn; length = count }) ≡ false → is_reopened phases (record { kind = kind; conn = conn; length = count }) ≡ false
     → is_not_open phases (record { kind = kind; conn = conn; length = count }) ≡ false → header_refusal phases (record { kind = kind; conn = conn; length = count }) ≡ None
 passes_kind phases kind conn count below known no_extra not_reopened open_now =
     passed phases (record { kind = kind; conn = conn; length = count }) (record { known = known; below = below; no_extra = no_extra; not_reopened = not_reopened; open_now = open_now })
 
-passes_opens : (phases : Phases) (conn : ℕ) → conn < 4096 → phases conn ≡ Unopened → header_refusal phases (record { kind = OPEN; conn = conn; length = 0 }) ≡ None
-passes_opens phases conn below unopened = passes_kind phases OPEN conn 0 (lt-ltb conn 4096 below) refl refl (rw unopened refl) refl
+passes_opens : (phases : Phases) (conn : ℕ) → conn < CONNECTIONS → phases conn ≡ Unopened → header_refusal phases (record { kind = OPEN; conn = conn; length = 0 }) ≡ None
+passes_opens phases conn below unopened = passes_kind phases OPEN conn 0 (lt-ltb conn CONNECTIONS below) refl refl (rw unopened refl) refl
 
-passes_bytes : (phases : Phases) (conn count : ℕ) → conn < 4096 → phases conn ≡ Open → header_refusal phases (record { kind = BYTES; conn = conn; length = count }) ≡ None
-passes_bytes phases conn count below open_now = passes_kind phases BYTES conn count (lt-ltb conn 4096 below) refl refl refl (rw open_now refl)
+passes_bytes : (phases : Phases) (conn count : ℕ) → conn < CONNECTIONS → phases conn ≡ Open → header_refusal phases (record { kind = BYTES; conn = conn; length = count }) ≡ None
+passes_bytes phases conn count below open_now = passes_kind phases BYTES conn count (lt-ltb conn CONNECTIONS below) refl refl refl (rw open_now refl)
 
-passes_closes : (phases : Phases) (conn : ℕ) → conn < 4096 → phases conn ≡ Open → header_refusal phases (record { kind = CLOSE; conn = conn; length = 0 }) ≡ None
-passes_closes phases conn below open_now = passes_kind phases CLOSE conn 0 (lt-ltb conn 4096 below) refl refl refl (rw open_now refl)
+passes_closes : (phases : Phases) (conn : ℕ) → conn < CONNECTIONS → phases conn ≡ Open → header_refusal phases (record { kind = CLOSE; conn = conn; length = 0 }) ≡ None
+passes_closes phases conn below open_now = passes_kind phases CLOSE conn 0 (lt-ltb conn CONNECTIONS below) refl refl refl (rw open_now refl)
 
-passes_settles : (phases : Phases) (conn : ℕ) → conn < 4096 → header_refusal phases (record { kind = SETTLE; conn = conn; length = 0 }) ≡ None
-passes_settles phases conn below = passes_kind phases SETTLE conn 0 (lt-ltb conn 4096 below) refl refl refl refl
+passes_settles : (phases : Phases) (conn : ℕ) → conn < CONNECTIONS → header_refusal phases (record { kind = SETTLE; conn = conn; length = 0 }) ≡ None
+passes_settles phases conn below = passes_kind phases SETTLE conn 0 (lt-ltb conn CONNECTIONS below) refl refl refl refl
 
 -- bytes are a frame that its header lets pass
 pub record IsAccepted (phases : Phases) (event : LinkEvent) (bytes : List ℕ) : Type 0 where
   pub header : Header
   pub payload : List ℕ
   pub bytes_are : bytes ≡ header_bytes header ++ payload
-  pub conn_few : header.conn < 65536
-  pub few : header.length < 65536
+  pub conn_few : FitsTwoBytes header.conn
+  pub few : FitsTwoBytes header.length
   pub counted : length payload ≡ header.length
   pub passes : header_refusal phases header ≡ None
   pub event_is : event ≡ event_of header payload
@@ -251,11 +253,11 @@ cut_behind phases header payload passes short =
     ∙ ap (λ (b : Bool). if b then Part else Whole (event_of header (take header.length payload))) (lt-ltb (length payload) header.length short)
 
 -- a frame whose payload is cut short is a part
-pub front-cut : (phases : Phases) (header : Header) (payload : List ℕ) → header.conn < 65536 → header.length < 65536 → header_refusal phases header ≡ None → length payload < header.length
+pub front-cut : (phases : Phases) (header : Header) (payload : List ℕ) → FitsTwoBytes header.conn → FitsTwoBytes header.length → header_refusal phases header ≡ None → length payload < header.length
     → front phases (header_bytes header ++ payload) ≡ Part
 front-cut phases header payload conn_few few passes short = front-header phases header payload conn_few few ∙ cut_behind phases header payload passes short
 
-pub front-refused : (phases : Phases) (header : Header) (kind : ℕ) → header.conn < 65536 → header.length < 65536 → header_refusal phases header ≡ Some kind → front phases (header_bytes header ++ []) ≡ Bad kind
+pub front-refused : (phases : Phases) (header : Header) (kind : ℕ) → FitsTwoBytes header.conn → FitsTwoBytes header.length → header_refusal phases header ≡ Some kind → front phases (header_bytes header ++ []) ≡ Bad kind
 front-refused phases header kind conn_few few refused =
     front-header phases header [] conn_few few ∙ ap (λ refusal. front_by refusal (front_accepted header [])) refused
 
@@ -270,12 +272,12 @@ ended x [] = record { first = []; last = x; is = refl }
 ended x (y ∷ ys) = let rest = ended y ys in record { first = x ∷ rest.first; last = rest.last; is = ap (λ l. x ∷ l) rest.is }
 
 -- the frame of an event brings that event, and nothing but it
-read_accepted : (phases : Phases) (header : Header) (payload : List ℕ) (before : List LinkEvent) → header.conn < 65536 → header.length < 65536 → header_refusal phases header ≡ None → length payload ≡ header.length
+read_accepted : (phases : Phases) (header : Header) (payload : List ℕ) (before : List LinkEvent) → FitsTwoBytes header.conn → FitsTwoBytes header.length → header_refusal phases header ≡ None → length payload ≡ header.length
     → put_bytes event_reader (record { whole = before; state = phases; part = [] }) (header_bytes header ++ payload)
     ≡ record { whole = before ++ event_of header payload ∷ []; state = phases_after (event_of header payload) phases; part = [] }
 read_accepted phases header [] before conn_few few passes counted =
     put_bytes-whole event_reader events_steady before phases
-    (header.kind ∷ header.conn % 256 ∷ header.conn / 256 % 256 ∷ header.length % 256 ∷ []) (header.length / 256 % 256) (event_of header []) refl
+    (header.kind ∷ low_byte header.conn ∷ high_byte header.conn ∷ low_byte header.length ∷ []) (high_byte header.length) (event_of header []) refl
     (ap whole_event (front-header phases header [] conn_few few ∙ whole_behind phases header [] [] passes counted))
 read_accepted phases header (byte ∷ bytes) before conn_few few passes counted =
     let end = ended byte bytes in

@@ -1,14 +1,14 @@
 -- Frames of output: whole ones and cut ones.
-use Rattle.std.proofs.Common.{◌≡◌, ℕ, ◌+◌, ◌*◌, ◌/◌, ◌%◌, ◌<◌, nat_lt, Bool, false, List, [], ◌∷◌, ◌++◌, length, drop, None, Some, if◌then◌else◌, arith, append-nil, length-append, refl, sym, ap, ◌∙◌, subst}
+use Rattle.std.proofs.Common.{◌≡◌, ℕ, ◌<◌, nat_lt, Bool, false, List, [], ◌∷◌, ◌++◌, length, drop, None, Some, if◌then◌else◌, arith, append-nil, length-append, refl, sym, ap, ◌∙◌, subst}
 use Rattle.std.proofs.lemmas.Bool.{lt-ltb}
 use Rattle.std.proofs.lemmas.Bool.Decides.{nat_tests}
 use Rattle.links.specs.Links.{Piece, pieces_in, cut_entries}
 use Rattle.rx_io.specs.Prefix.{Prefix}
-use Rattle.trunk_wire.specs.Frames.{piece_frame, from_two_bytes}
+use Rattle.trunk_wire.specs.Frames.{piece_frame, from_two_bytes, FitsTwoBytes, high_byte, low_byte}
 use Rattle.trunk_wire.specs.Parts.{put_bytes}
 use Rattle.trunk_wire.specs.Pieces.{whole_piece, cut_piece, piece_reader}
 use Rattle.trunk_wire.specs.declared.header.TheConstants.{BYTES}
-use Rattle.trunk_wire.proofs.GrammarLemmas.{ended}
+use Rattle.trunk_wire.proofs.GrammarLemmas.{ended, two_bytes_back}
 use Rattle.trunk_wire.proofs.ProgressLemmas.{IsSteady, put_bytes-part, put_bytes-whole}
 
 abbrev piece_of : ℕ → List ℕ → Piece
@@ -30,35 +30,32 @@ piece_steady state (kind ∷ conn_low ∷ conn_high ∷ length_low ∷ length_hi
 pub pieces_steady : IsSteady piece_reader
 pieces_steady = record { fronts = piece_steady }
 
-two_bytes_back : (n : ℕ) → n < 65536 → n % 256 + 256 * (n / 256 % 256) ≡ n
-two_bytes_back n few = omega arith
-
 -- five bytes with a count and a connection, and some payload behind them
 abbrev headed : ℕ → ℕ → List ℕ → List ℕ
-headed conn count payload = BYTES ∷ conn % 256 ∷ conn / 256 % 256 ∷ count % 256 ∷ count / 256 % 256 ∷ payload
+headed conn count payload = BYTES ∷ low_byte conn ∷ high_byte conn ∷ low_byte count ∷ high_byte count ∷ payload
 
-headed_piece : (conn count : ℕ) (payload : List ℕ) → conn < 65536 → count < 65536
+headed_piece : (conn count : ℕ) (payload : List ℕ) → FitsTwoBytes conn → FitsTwoBytes count
     → whole_piece (headed conn count payload) ≡ (if nat_lt (length payload) count then None else Some (piece_of conn payload))
 headed_piece conn count payload conn_few few =
-    ap (λ n. if nat_lt (length payload) (count % 256 + 256 * (count / 256 % 256)) then None else Some (piece_of n payload)) (two_bytes_back conn conn_few)
+    ap (λ n. if nat_lt (length payload) (from_two_bytes (low_byte count) (high_byte count)) then None else Some (piece_of n payload)) (two_bytes_back conn conn_few)
     ∙ ap (λ n. if nat_lt (length payload) n then None else Some (piece_of conn payload)) (two_bytes_back count few)
 
-headed_short : (conn count : ℕ) (payload : List ℕ) → conn < 65536 → count < 65536 → length payload < count → whole_piece (headed conn count payload) ≡ None
+headed_short : (conn count : ℕ) (payload : List ℕ) → FitsTwoBytes conn → FitsTwoBytes count → length payload < count → whole_piece (headed conn count payload) ≡ None
 headed_short conn count payload conn_few few short =
     headed_piece conn count payload conn_few few ∙ ap (λ (b : Bool). if b then None else Some (piece_of conn payload)) (lt-ltb (length payload) count short)
 
 not_less : (n : ℕ) → nat_lt n n ≡ false
 not_less n = grind (arith, nat_tests)
 
-headed_whole : (conn : ℕ) (payload : List ℕ) → conn < 65536 → length payload < 65536 → whole_piece (headed conn (length payload) payload) ≡ Some (piece_of conn payload)
+headed_whole : (conn : ℕ) (payload : List ℕ) → FitsTwoBytes conn → FitsTwoBytes (length payload) → whole_piece (headed conn (length payload) payload) ≡ Some (piece_of conn payload)
 headed_whole conn payload conn_few few =
     headed_piece conn (length payload) payload conn_few few ∙ ap (λ (b : Bool). if b then None else Some (piece_of conn payload)) (not_less (length payload))
 
 -- a piece's frame is that piece, and nothing but it
-pub put_bytes-piece : (conn : ℕ) (bytes : List ℕ) (before : List Piece) → conn < 65536 → length bytes < 65536
+pub put_bytes-piece : (conn : ℕ) (bytes : List ℕ) (before : List Piece) → FitsTwoBytes conn → FitsTwoBytes (length bytes)
     → put_bytes piece_reader (record { whole = before; state = tt; part = [] }) (piece_frame conn bytes) ≡ record { whole = before ++ piece_of conn bytes ∷ []; state = tt; part = [] }
 put_bytes-piece conn [] before conn_few few =
-    put_bytes-whole piece_reader pieces_steady before tt (BYTES ∷ conn % 256 ∷ conn / 256 % 256 ∷ 0 ∷ []) 0 (piece_of conn []) refl (headed_whole conn [] conn_few few)
+    put_bytes-whole piece_reader pieces_steady before tt (BYTES ∷ low_byte conn ∷ high_byte conn ∷ 0 ∷ []) 0 (piece_of conn []) refl (headed_whole conn [] conn_few few)
 put_bytes-piece conn (byte ∷ bytes) before conn_few few =
     let end = ended byte bytes in
     let all : length end.first < length (byte ∷ bytes) = omega (arith, ap length end.is, length-append end.first (end.last ∷ [])) in
@@ -73,7 +70,7 @@ WritesCut before conn bytes front = Prefix (drop 5 front) bytes
     × ((put_bytes piece_reader (record { whole = before; state = tt; part = [] }) front).whole ++ cut_piece (put_bytes piece_reader (record { whole = before; state = tt; part = [] }) front).part
     ≡ before ++ pieces_in (cut_entries conn (drop 5 front)))
 
-cut_payload : (conn count : ℕ) (payload : List ℕ) → conn < 65536 → cut_piece (headed conn count payload) ≡ pieces_in (cut_entries conn payload)
+cut_payload : (conn count : ℕ) (payload : List ℕ) → FitsTwoBytes conn → cut_piece (headed conn count payload) ≡ pieces_in (cut_entries conn payload)
 cut_payload conn count [] conn_few = refl
 cut_payload conn count (byte ∷ bytes) conn_few = ap (λ n. piece_of n (byte ∷ bytes) ∷ []) (two_bytes_back conn conn_few)
 
@@ -81,7 +78,7 @@ whole_payload : (conn : ℕ) (bytes : List ℕ) → 0 < length bytes → piece_o
 whole_payload conn [] some = absurd (omega arith)
 whole_payload conn (byte ∷ bytes) some = refl
 
-headed_cut : (before : List Piece) (conn : ℕ) (bytes payload rest : List ℕ) → conn < 65536 → length bytes < 65536 → 0 < length bytes → payload ++ rest ≡ bytes
+headed_cut : (before : List Piece) (conn : ℕ) (bytes payload rest : List ℕ) → FitsTwoBytes conn → FitsTwoBytes (length bytes) → 0 < length bytes → payload ++ rest ≡ bytes
     → WritesCut before conn bytes (headed conn (length bytes) payload)
 headed_cut before conn bytes payload [] conn_few few some whole =
     let same : payload ≡ bytes = sym (append-nil payload) ∙ whole in
@@ -100,7 +97,7 @@ headed_cut before conn bytes payload (byte ∷ rest) conn_few few some whole =
     )
 
 -- a front of a piece's frame is what it has of the payload
-pub put_bytes-cut : (before : List Piece) (conn : ℕ) (bytes front rest : List ℕ) → conn < 65536 → length bytes < 65536 → 0 < length bytes → front ++ rest ≡ piece_frame conn bytes → WritesCut before conn bytes front
+pub put_bytes-cut : (before : List Piece) (conn : ℕ) (bytes front rest : List ℕ) → FitsTwoBytes conn → FitsTwoBytes (length bytes) → 0 < length bytes → front ++ rest ≡ piece_frame conn bytes → WritesCut before conn bytes front
 put_bytes-cut before conn bytes [] rest conn_few few some whole = ((bytes, refl), refl)
 put_bytes-cut before conn bytes (_ ∷ []) rest conn_few few some whole = ((bytes, refl), refl)
 put_bytes-cut before conn bytes (_ ∷ _ ∷ []) rest conn_few few some whole = ((bytes, refl), refl)

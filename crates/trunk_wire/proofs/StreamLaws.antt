@@ -1,5 +1,5 @@
 -- Laws of streams of frames: what whole frames bring in, what pieces take out, and that bytes have one reading.
-use Rattle.std.proofs.Common.{◌≡◌, ℕ, ◌+◌, ◌*◌, ◌/◌, ◌%◌, ◌<◌, false, List, [], ◌∷◌, ◌++◌, length, take, drop, None, arith, append_assoc, append-nil, refl, sym, ap, ◌∙◌, subst}
+use Rattle.std.proofs.Common.{◌≡◌, ℕ, ◌<◌, false, List, [], ◌∷◌, ◌++◌, length, take, drop, None, arith, append_assoc, append-nil, refl, sym, ap, ◌∙◌, subst}
 use Rattle.std.specs.List.{All, AllByRecursion}
 use Rattle.std.proofs.lemmas.List.Elements.{All-head, All-tail}
 use Rattle.std.proofs.Math.Seq.{take-append_seam, drop-append_seam}
@@ -7,13 +7,13 @@ use Rattle.links.specs.Links.{Phases, IsInOrder, phases_after, Piece, pieces_in,
 use Rattle.rx_io.specs.Prefix.{Prefix}
 use Rattle.links.specs.declared.journal.LinkEvent.{LinkEvent}
 use Rattle.links.specs.declared.journal.LinkEvent.TheVariants as event
-use Rattle.trunk_wire.specs.Frames.{header_of, IsFrame, IsFrameOf, AreFramesOf, piece_frame, frames}
+use Rattle.trunk_wire.specs.Frames.{header_of, IsFrame, IsFrameOf, AreFramesOf, piece_frame, frames, FitsTwoBytes, from_two_bytes, high_byte, low_byte}
 use Rattle.trunk_wire.specs.Going.{AreInOrder, IsFramed}
 use Rattle.trunk_wire.specs.Grammar.{front, event_of}
 use Rattle.trunk_wire.specs.Parts.{put_bytes}
 use Rattle.trunk_wire.specs.Pieces.{whole_event, event_reader, read_from, events, cut_piece, piece_reader, pieces, given_to, payload}
 use Rattle.trunk_wire.specs.declared.header.TheConstants.{OPEN, BYTES, CLOSE, SETTLE}
-use Rattle.trunk_wire.proofs.GrammarLemmas.{frame-accepted, events_steady, put_bytes-frame}
+use Rattle.trunk_wire.proofs.GrammarLemmas.{frame-accepted, events_steady, put_bytes-frame, two_bytes_back}
 use Rattle.trunk_wire.proofs.PieceLemmas.{put_bytes-piece, put_bytes-cut}
 use Rattle.trunk_wire.proofs.ProgressLemmas.{put_bytes-append, put_bytes-part}
 
@@ -61,23 +61,20 @@ read_all phases before (first ∷ list) bytes order (one, rest, whole, is, are) 
 pub events-frames : (phases : Phases) (list : List LinkEvent) (bytes : List ℕ) → AreInOrder phases list → AreFramesOf list bytes → events phases bytes ≡ list
 events-frames phases list bytes order are = read_all phases [] list bytes order are
 
-two_bytes_back : (n : ℕ) → n < 65536 → n % 256 + 256 * (n / 256 % 256) ≡ n
-two_bytes_back n few = omega arith
-
 -- the first frame of bytes, in order or not, and what is behind it
 abbrev first_event : List ℕ → LinkEvent
 first_event (kind ∷ conn_low ∷ conn_high ∷ length_low ∷ length_high ∷ payload) =
-    event_of (header_of kind conn_low conn_high length_low length_high) (take (length_low + 256 * length_high) payload)
+    event_of (header_of kind conn_low conn_high length_low length_high) (take (from_two_bytes length_low length_high) payload)
 first_event _ = event.Ends
 
 abbrev behind_first : List ℕ → List ℕ
-behind_first (kind ∷ conn_low ∷ conn_high ∷ length_low ∷ length_high ∷ payload) = drop (length_low + 256 * length_high) payload
+behind_first (kind ∷ conn_low ∷ conn_high ∷ length_low ∷ length_high ∷ payload) = drop (from_two_bytes length_low length_high) payload
 behind_first _ = []
 
 first_of_frame : (kind conn : ℕ) (payload bytes rest : List ℕ) → IsFrame kind conn payload bytes → first_event (bytes ++ rest) ≡ event_of (record { kind = kind; conn = conn; length = length payload }) payload
 first_of_frame kind conn payload bytes rest is =
     ap (λ l. first_event (l ++ rest)) is.is
-    ∙ ap (λ n. event_of (record { kind = kind; conn = n; length = length payload % 256 + 256 * (length payload / 256 % 256) }) (take (length payload % 256 + 256 * (length payload / 256 % 256)) (payload ++ rest)))
+    ∙ ap (λ n. event_of (record { kind = kind; conn = n; length = from_two_bytes (low_byte (length payload)) (high_byte (length payload)) }) (take (from_two_bytes (low_byte (length payload)) (high_byte (length payload))) (payload ++ rest)))
     (two_bytes_back conn (omega (arith, is.below)))
     ∙ ap (λ n. event_of (record { kind = kind; conn = conn; length = n }) (take n (payload ++ rest))) (two_bytes_back (length payload) (omega (arith, is.few)))
     ∙ ap (λ l. event_of (record { kind = kind; conn = conn; length = length payload }) l) (take-append_seam payload rest)
@@ -123,8 +120,8 @@ one_reading (first ∷ list) (other ∷ others) bytes (one, rest, whole, is, are
 
 -- a piece that a frame holds, all of it
 pub record IsSent (piece : Piece) : Type 0 where
-  pub conn : piece.conn < 65536
-  pub few : length piece.bytes < 65536
+  pub conn : FitsTwoBytes piece.conn
+  pub few : FitsTwoBytes (length piece.bytes)
   pub whole : piece.gone ≡ false
 
 -- what a trunk wrote are such pieces
@@ -148,7 +145,7 @@ pub pieces-frames : (list : List Piece) → AllByRecursion IsSent list → piece
 pieces-frames list all = ap (λ progress. progress.whole ++ cut_piece progress.part) (written_frames [] list all) ∙ append-nil list
 
 -- and with a frame that is cut short behind them, what it has of its payload too
-pub pieces-cut : (list : List Piece) (conn : ℕ) (bytes front : List ℕ) → AllByRecursion IsSent list → conn < 65536 → length bytes < 65536 → 0 < length bytes → Prefix front (piece_frame conn bytes)
+pub pieces-cut : (list : List Piece) (conn : ℕ) (bytes front : List ℕ) → AllByRecursion IsSent list → FitsTwoBytes conn → FitsTwoBytes (length bytes) → 0 < length bytes → Prefix front (piece_frame conn bytes)
     → pieces (frames list ++ front) ≡ list ++ pieces_in (cut_entries conn (drop 5 front))
 pieces-cut list conn bytes front all conn_few few some (rest, whole) =
     ap (λ progress. progress.whole ++ cut_piece progress.part) (put_bytes-append piece_reader (record { whole = []; state = tt; part = [] }) (frames list) front)
@@ -156,7 +153,7 @@ pieces-cut list conn bytes front all conn_few few some (rest, whole) =
     ∙ (put_bytes-cut list conn bytes front rest conn_few few some whole).1
 
 -- for each connection the payload is the joined bytes of the pieces, those of a cut one included
-pub payload-cut : (to : ℕ) (list : List Piece) (conn : ℕ) (bytes front : List ℕ) → AllByRecursion IsSent list → conn < 65536 → length bytes < 65536 → 0 < length bytes → Prefix front (piece_frame conn bytes)
+pub payload-cut : (to : ℕ) (list : List Piece) (conn : ℕ) (bytes front : List ℕ) → AllByRecursion IsSent list → FitsTwoBytes conn → FitsTwoBytes (length bytes) → 0 < length bytes → Prefix front (piece_frame conn bytes)
     → payload to (frames list ++ front) ≡ given_to to (list ++ pieces_in (cut_entries conn (drop 5 front)))
 payload-cut to list conn bytes front all conn_few few some whole = ap (given_to to) (pieces-cut list conn bytes front all conn_few few some whole)
 

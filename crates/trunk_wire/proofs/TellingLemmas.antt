@@ -1,12 +1,12 @@
 -- What a trunk tells grows with each call.
-use Rattle.std.proofs.Common.{◌≡◌, ℕ, zero, suc, ◌+◌, ◌-◌, ◌<◌, ◌≤◌, nat_le, nat_lt, ◌==◌, Bool, true, false, ◌&&◌, ◌*◌, List, [], ◌∷◌, ◌++◌, length, drop, None, if◌then◌else◌, arith, append-nil, length-append, refl, sym, ap, ◌∙◌, inl, inr}
+use Rattle.std.proofs.Common.{◌≡◌, ℕ, zero, suc, ◌+◌, ◌-◌, ◌<◌, ◌≤◌, nat_le, nat_lt, ◌==◌, Bool, true, false, ◌&&◌, List, [], ◌∷◌, ◌++◌, length, drop, None, if◌then◌else◌, arith, append-nil, length-append, refl, sym, ap, ◌∙◌, inl, inr}
 use Rattle.std.proofs.lemmas.Bool.{ltb-true, cases_lt}
 use Rattle.std.proofs.lemmas.Bool.Decides.{nat_tests}
 use Rattle.std.proofs.lemmas.List.{drop-append-le}
 use Rattle.links.specs.Links.{Phases, Phase, Unopened, Open, Closed, IsInOrder, phases_after, with_phase}
 use Rattle.links.specs.declared.journal.LinkEvent.{LinkEvent}
 use Rattle.links.specs.declared.journal.LinkEvent.TheVariants as event
-use Rattle.trunk_wire.specs.Frames.{IsFrameOf}
+use Rattle.trunk_wire.specs.Frames.{IsFrameOf, from_two_bytes}
 use Rattle.trunk_wire.specs.Grammar.{front, front_by, front_accepted, header_refusal}
 use Rattle.trunk_wire.specs.Parts.{Progress, put_bytes, last_bytes}
 use Rattle.trunk_wire.specs.Pieces.{whole_event, event_reader, read_from, events, fresh}
@@ -14,10 +14,11 @@ use Rattle.trunk_wire.specs.Tellings.{same_phase, same_phases, is_empty, is_in_s
 use Rattle.trunk_wire.specs.declared.header.Header.{Header}
 use Rattle.trunk_wire.proofs.GrammarLemmas.{frame-accepted, events_steady, put_bytes-frame}
 use Rattle.trunk_wire.proofs.ProgressLemmas.{put_bytes-append, put_bytes-part}
+use Rattle.links.specs.declared.connection_table.TheConstants.{CONNECTIONS}
 
--- each connection below 4096 has the same phase
+-- each connection below CONNECTIONS has the same phase
 pub record Agree (phases others : Phases) : Type 0 where
-  pub same : (conn : ℕ) → conn < 4096 → phases conn ≡ others conn
+  pub same : (conn : ℕ) → conn < CONNECTIONS → phases conn ≡ others conn
 
 same_phase_to : (p q : Phase) → same_phase p q ≡ true → p ≡ q
 same_phase_to Unopened Unopened is = refl
@@ -55,12 +56,12 @@ same_phases_from zero phases others all = refl
 same_phases_from (suc n) phases others all =
     rw (all n (omega arith), same_phase_self (others n)) (same_phases_from n phases others (λ conn below. all conn (omega arith)))
 
--- a header is looked at by the phase of its own connection, which is below 4096 or refused before
+-- a header is looked at by the phase of its own connection, which is below CONNECTIONS or refused before
 refusal_agrees : (phases others : Phases) (header : Header) → Agree phases others → header_refusal phases header ≡ header_refusal others header
-refusal_agrees phases others header agree = by_test (nat_lt header.conn 4096) refl
+refusal_agrees phases others header agree = by_test (nat_lt header.conn CONNECTIONS) refl
   where
-    by_test : (below : Bool) → nat_lt header.conn 4096 ≡ below → header_refusal phases header ≡ header_refusal others header
-    by_test true is = ap (λ phase. header_refusal (λ _. phase) header) (agree.same header.conn (ltb-true header.conn 4096 is))
+    by_test : (below : Bool) → nat_lt header.conn CONNECTIONS ≡ below → header_refusal phases header ≡ header_refusal others header
+    by_test true is = ap (λ phase. header_refusal (λ _. phase) header) (agree.same header.conn (ltb-true header.conn CONNECTIONS is))
     by_test false is = rw is refl
 
 pub front_agrees : (phases others : Phases) (bytes : List ℕ) → Agree phases others → front phases bytes ≡ front others bytes
@@ -70,8 +71,8 @@ front_agrees phases others (_ ∷ _ ∷ []) agree = refl
 front_agrees phases others (_ ∷ _ ∷ _ ∷ []) agree = refl
 front_agrees phases others (_ ∷ _ ∷ _ ∷ _ ∷ []) agree = refl
 front_agrees phases others (kind ∷ conn_low ∷ conn_high ∷ length_low ∷ length_high ∷ payload) agree =
-    ap (λ refusal. front_by refusal (front_accepted (record { kind = kind; conn = conn_low + 256 * conn_high; length = length_low + 256 * length_high }) payload))
-    (refusal_agrees phases others (record { kind = kind; conn = conn_low + 256 * conn_high; length = length_low + 256 * length_high }) agree)
+    ap (λ refusal. front_by refusal (front_accepted (record { kind = kind; conn = from_two_bytes conn_low conn_high; length = from_two_bytes length_low length_high }) payload))
+    (refusal_agrees phases others (record { kind = kind; conn = from_two_bytes conn_low conn_high; length = from_two_bytes length_low length_high }) agree)
 
 order_agrees : (phases others : Phases) (event : LinkEvent) → Agree phases others → IsInOrder phases event → IsInOrder others event
 order_agrees phases others (event.Opens conn) agree order = (order.0, sym (agree.same conn order.0) ∙ order.1)
@@ -114,16 +115,16 @@ le_to m n le = grind (arith, nat_tests)
 
 pub in_step_from : (took : ℕ) (phases : Phases) (taken : List ℕ) → is_in_step took phases true taken ≡ true → InStep took phases taken
 in_step_from took phases taken is =
-    let first = both_true (nat_le took (length taken)) (is_empty (read_from fresh (last_bytes took taken)).part && same_phases 4096 (read_from fresh (last_bytes took taken)).state phases) is in
-    let second = both_true (is_empty (read_from fresh (last_bytes took taken)).part) (same_phases 4096 (read_from fresh (last_bytes took taken)).state phases) first.1 in record {
+    let first = both_true (nat_le took (length taken)) (is_empty (read_from fresh (last_bytes took taken)).part && same_phases CONNECTIONS (read_from fresh (last_bytes took taken)).state phases) is in
+    let second = both_true (is_empty (read_from fresh (last_bytes took taken)).part) (same_phases CONNECTIONS (read_from fresh (last_bytes took taken)).state phases) first.1 in record {
       within = le_from took (length taken) first.0;
       between = empty_list (read_from fresh (last_bytes took taken)).part second.0;
-      agree = record { same = same_phases_to 4096 (read_from fresh (last_bytes took taken)).state phases second.1 };
+      agree = record { same = same_phases_to CONNECTIONS (read_from fresh (last_bytes took taken)).state phases second.1 };
     }
 
 pub in_step_to : (took : ℕ) (phases : Phases) (taken : List ℕ) → InStep took phases taken → is_in_step took phases true taken ≡ true
 in_step_to took phases taken step =
-    rw (le_to took (length taken) step.within, step.between) (same_phases_from 4096 (read_from fresh (last_bytes took taken)).state phases step.agree.same)
+    rw (le_to took (length taken) step.within, step.between) (same_phases_from CONNECTIONS (read_from fresh (last_bytes took taken)).state phases step.agree.same)
 
 -- a link that takes no more is in step with as many bytes as it has counted
 stopped_to : (took : ℕ) (phases : Phases) (taken : List ℕ) → took ≤ length taken → is_in_step took phases false taken ≡ true

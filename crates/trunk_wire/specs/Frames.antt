@@ -6,10 +6,22 @@ use Rattle.links.specs.declared.journal.LinkEvent.{LinkEvent}
 use Rattle.links.specs.declared.journal.LinkEvent.TheVariants as event
 use Rattle.trunk_wire.specs.declared.header.Header.{Header}
 use Rattle.trunk_wire.specs.declared.header.TheConstants.{OPEN, BYTES, CLOSE, SETTLE}
+use Rattle.links.specs.declared.connection_table.TheConstants.{CONNECTIONS}
+
+-- the lower and the higher byte of a number of two bytes
+abbrev pub low_byte : ℕ → ℕ
+low_byte n = n % 256
+
+abbrev pub high_byte : ℕ → ℕ
+high_byte n = n / 256 % 256
+
+-- a number fits two bytes
+abbrev pub FitsTwoBytes : ℕ → Type 0
+FitsTwoBytes n = n < 2 ^ 16
 
 -- a number as two bytes, and two bytes as a number; the lower byte comes first
 abbrev pub two_bytes : ℕ → List ℕ
-two_bytes n = n % 256 ∷ n / 256 % 256 ∷ []
+two_bytes n = low_byte n ∷ high_byte n ∷ []
 
 abbrev pub from_two_bytes : ℕ → ℕ → ℕ
 from_two_bytes low high = low + 256 * high
@@ -24,11 +36,11 @@ header_of kind conn_low conn_high length_low length_high =
 abbrev pub frame : ℕ → ℕ → List ℕ → List ℕ
 frame kind conn payload = header_bytes (record { kind = kind; conn = conn; length = length payload }) ++ payload
 
--- bytes are one frame of a connection below 4096
+-- bytes are one frame of a connection below CONNECTIONS
 pub record IsFrame (kind conn : ℕ) (payload bytes : List ℕ) : Type 0 where
   pub is : bytes ≡ frame kind conn payload
-  pub below : conn < 4096
-  pub few : length payload < 2 ^ 16
+  pub below : conn < CONNECTIONS
+  pub few : FitsTwoBytes (length payload)
 
 -- on the way in, the frame of an event. The connection of a settle has no meaning. Ends has no frame: no byte is left there
 abbrev pub IsFrameOf : LinkEvent → List ℕ → Type 0

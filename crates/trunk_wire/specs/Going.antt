@@ -8,6 +8,7 @@ use Rattle.trunk_wire.specs.Calls.{Reads, Writes, count_after, IsRefused}
 use Rattle.trunk_wire.specs.Frames.{AreFramesOf, piece_frame, frames}
 use Rattle.trunk_wire.specs.Grammar.{Part, front}
 use Rattle.trunk_wire.specs.declared.refusal.Refusal.{Refusal}
+use Rattle.links.specs.declared.connection_table.TheConstants.{CONNECTIONS}
 
 -- events in order, one after another
 abbrev pub AreInOrder : Phases → List LinkEvent → Type 0
@@ -57,9 +58,9 @@ pub record Output : Type 0 where
   pub wrote : ℕ
   pub gives : Bool
 
--- a piece that a frame holds: 1 to 65,535 bytes for a connection below 4096, and all of them
+-- a piece that a frame holds: 1 to 65,535 bytes for a connection below CONNECTIONS, and all of them
 pub record IsFramed (piece : Piece) : Type 0 where
-  pub below : piece.conn < 4096
+  pub below : piece.conn < CONNECTIONS
   pub some : 0 < length piece.bytes
   pub few : length piece.bytes < 2 ^ 16
   pub whole : piece.gone ≡ false

@@ -7,6 +7,7 @@ use Rattle.links.specs.declared.journal.LinkEvent.TheVariants as event
 use Rattle.trunk_wire.specs.Frames.{header_of}
 use Rattle.trunk_wire.specs.declared.header.Header.{Header}
 use Rattle.trunk_wire.specs.declared.header.TheConstants.{OPEN, BYTES, CLOSE, SETTLE}
+use Rattle.links.specs.declared.connection_table.TheConstants.{CONNECTIONS}
 
 -- the kind is one of the four
 abbrev pub is_known : Header → Bool
@@ -28,7 +29,7 @@ is_not_open phases header = (header.kind == BYTES || header.kind == CLOSE) && no
 abbrev pub header_refusal : Phases → Header → Option ℕ
 header_refusal phases header =
     if not (is_known header) then Some 1
-    else if not (nat_lt header.conn 4096) then Some 2
+    else if not (nat_lt header.conn CONNECTIONS) then Some 2
     else if is_extra header then Some 6
     else if is_reopened phases header then Some 3
     else if is_not_open phases header then Some 4

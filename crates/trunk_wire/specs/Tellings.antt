@@ -9,6 +9,7 @@ use Rattle.trunk_wire.specs.Grammar.{event_at}
 use Rattle.trunk_wire.specs.Parts.{last_bytes}
 use Rattle.trunk_wire.specs.declared.refusal.Refusal.{Refusal}
 use Rattle.trunk_wire.specs.Pieces.{read_from, events, fresh, written, pieces}
+use Rattle.links.specs.declared.connection_table.TheConstants.{CONNECTIONS}
 
 abbrev pub same_phase : Phase → Phase → Bool
 same_phase Unopened Unopened = true
@@ -30,7 +31,7 @@ is_empty (byte ∷ bytes) = false
 -- start is always in step.
 abbrev pub is_in_step : ℕ → Phases → Bool → List ℕ → Bool
 is_in_step took phases takes taken = nat_le took (length taken)
-    && (if takes then is_empty (read_from fresh (last_bytes took taken)).part && same_phases 4096 (read_from fresh (last_bytes took taken)).state phases else true)
+    && (if takes then is_empty (read_from fresh (last_bytes took taken)).part && same_phases CONNECTIONS (read_from fresh (last_bytes took taken)).state phases else true)
 
 -- the events of the last bytes taken, as many as were counted
 abbrev pub told_events : Option Stream → ℕ → Phases → Bool → Option (List LinkEvent)

@@ -65,14 +65,14 @@ fn is_extra(header: Header) -> bool
 }
 
 fn is_reopened(table: &ConnectionTable, header: Header) -> bool
-    requires { header.conn < 4096 }
+    requires { header.conn < CONNECTIONS }
     ensures { result ≡ is_reopened (phases_in table.now) header }
 {
     header.kind == OPEN && !table.is_unopened(header.conn)
 }
 
 fn is_not_open(table: &ConnectionTable, header: Header) -> bool
-    requires { header.conn < 4096 }
+    requires { header.conn < CONNECTIONS }
     ensures { result ≡ is_not_open (phases_in table.now) header }
 {
     (header.kind == BYTES || header.kind == CLOSE) && !table.is_open(header.conn)

@@ -6,7 +6,7 @@ use links::{ConnectionTable, Given, Link, LinkEvent, LinkFault};
 use rx_io::{Sink, Source};
 use std::alloc::Global;
 
-/// A link over a source and a sink. It gives to every connection below 4096 at all times, and never answers `Gone`. It takes
+/// A link over a source and a sink. It gives to every connection below `CONNECTIONS` at all times, and never answers `Gone`. It takes
 /// no byte behind the frame that it answers.
 #[derive(Drop)]
 pub struct TrunkLink<S, K> {

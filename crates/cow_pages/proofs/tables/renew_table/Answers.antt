@@ -2,12 +2,13 @@ use Rattle.std.proofs.Common.{◌≡◌, ◌+◌, ◌-◌, take, drop, subst, ar
 use Rattle.cow_pages.specs.Pool.{Recounts}
 use Rattle.cow_pages.proofs.Renewals.{renewed_on, same_part, renewed_all, recounts_on}
 use Rattle.cow_pages.proofs.tables.renew_table.Goals as goal
+use Rattle.cow_pages.specs.declared.tables.TheConstants.{BLOCK}
 
 pub blocks-2-preserved : goal.blocks-2-preserved
 blocks-2-preserved c =
     let start = c.blocks-2.start in
-    let wide : start + 16 - start ≡ 16 = omega arith in
-    let e : take 16 (drop start c.blocks-2.table) ≡ take 16 (drop start c.args.live.now) = subst (λ n. take n (drop start c.blocks-2.table) ≡ take n (drop start c.args.live.now)) wide (c.is_same.ensures c.if-not-is_same.false) in
+    let wide : start + BLOCK - start ≡ BLOCK = omega arith in
+    let e : take BLOCK (drop start c.blocks-2.table) ≡ take BLOCK (drop start c.args.live.now) = subst (λ n. take n (drop start c.blocks-2.table) ≡ take n (drop start c.args.live.now)) wide (c.is_same.ensures c.if-not-is_same.false) in
     record {
       renewed = renewed_on _ _ _ _ _ _ c.blocks-2.invariant.renewed (omega arith) (same_part _ _ _ _ e);
       counts = c.blocks-2.invariant.counts;

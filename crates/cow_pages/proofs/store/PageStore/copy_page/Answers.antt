@@ -3,6 +3,7 @@ use Rattle.std.proofs.lemmas.List.{get_or_read}
 use Rattle.cow_pages.specs.Writes.{is_shared}
 use Rattle.cow_pages.proofs.Copying.{free_there, moved_sound, moved_owns, moved_apart}
 use Rattle.cow_pages.proofs.store.PageStore.copy_page.Goals as goal
+use Rattle.cow_pages.specs.declared.frame_copy.TheConstants.{PAGE}
 
 pub unreachable-requires : goal.unreachable-requires
 unreachable-requires c =
@@ -16,20 +17,20 @@ copy_frame-requires-clause-apart c =
     let less : c.args.page < c.self.inside.pages = subst (λ s. c.args.page < s.pages) (sym c.self.view_is) c.requires.inside in
     let inside : c.args.page < length c.self.inside.live.items = omega (arith, c.self.invariant.live_table.size) in
     let number = get_or_read c.self.inside.live.items c.args.page c.index-shared.result.now inside c.index-shared.ensures 0 in
-    moved_apart _ _ _ (c.index-shared.result.now * 4096) (c.in-Some.fresh * 4096) _ _ _ _ _ _ _ c.args.page c.in-Some.fresh c.self.invariant less c.in-Some.ensures.items (omega (arith, number)) (omega arith)
+    moved_apart _ _ _ (c.index-shared.result.now * PAGE) (c.in-Some.fresh * PAGE) _ _ _ _ _ _ _ c.args.page c.in-Some.fresh c.self.invariant less c.in-Some.ensures.items (omega (arith, number)) (omega arith)
 
 pub invariant_of-self : goal.invariant_of-self
 invariant_of-self c =
     let less : c.args.page < c.self.inside.pages = subst (λ s. c.args.page < s.pages) (sym c.self.view_is) c.requires.inside in
     let inside : c.args.page < length c.self.inside.live.items = omega (arith, c.self.invariant.live_table.size) in
     let number = get_or_read c.self.inside.live.items c.args.page c.index-shared.result.now inside c.index-shared.ensures 0 in
-    let from = c.index-shared.result.now * 4096 in
-    moved_sound _ _ _ _ 4096 from (c.in-Some.fresh * 4096) _ _ _ _ _ _ _ _ _ _ _ _ c.in-Some.fresh c.self.invariant c.self.view_is c.requires.inside c.requires.shared c.in-Some.ensures.items c.copy_frame.ensures c.as_mut_slice.ensures.value (omega (arith, number)) (omega arith) (omega arith) c.self.inside.pool.ok.0 c.pop.ensures.capacity
+    let from = c.index-shared.result.now * PAGE in
+    moved_sound _ _ _ _ PAGE from (c.in-Some.fresh * PAGE) _ _ _ _ _ _ _ _ _ _ _ _ c.in-Some.fresh c.self.invariant c.self.view_is c.requires.inside c.requires.shared c.in-Some.ensures.items c.copy_frame.ensures c.as_mut_slice.ensures.value (omega (arith, number)) (omega arith) (omega arith) c.self.inside.pool.ok.0 c.pop.ensures.capacity
 
 pub returns-clause-owns : goal.returns-clause-owns
 returns-clause-owns c =
     let less : c.args.page < c.self.inside.pages = subst (λ s. c.args.page < s.pages) (sym c.self.view_is) c.requires.inside in
     let inside : c.args.page < length c.self.inside.live.items = omega (arith, c.self.invariant.live_table.size) in
     let number = get_or_read c.self.inside.live.items c.args.page c.index-shared.result.now inside c.index-shared.ensures 0 in
-    let from = c.index-shared.result.now * 4096 in
-    moved_owns _ _ _ _ 4096 from (c.in-Some.fresh * 4096) _ _ _ _ _ _ _ _ _ _ _ c.in-Some.fresh c.self.invariant c.self.view_is c.requires.inside c.requires.shared c.in-Some.ensures.items c.copy_frame.ensures c.as_mut_slice.ensures.value (omega (arith, number)) (omega arith) (omega arith) c.self.inside.pool.ok.0
+    let from = c.index-shared.result.now * PAGE in
+    moved_owns _ _ _ _ PAGE from (c.in-Some.fresh * PAGE) _ _ _ _ _ _ _ _ _ _ _ c.in-Some.fresh c.self.invariant c.self.view_is c.requires.inside c.requires.shared c.in-Some.ensures.items c.copy_frame.ensures c.as_mut_slice.ensures.value (omega (arith, number)) (omega arith) (omega arith) c.self.inside.pool.ok.0

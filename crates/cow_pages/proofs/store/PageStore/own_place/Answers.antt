@@ -5,10 +5,11 @@ use Rattle.cow_pages.specs.Writes.{is_shared}
 use Rattle.cow_pages.proofs.Stores.{shared-is, count_read}
 use Rattle.cow_pages.proofs.Copying.{stay_owns}
 use Rattle.cow_pages.proofs.store.PageStore.own_place.Goals as goal
+use Rattle.cow_pages.specs.declared.frame_copy.TheConstants.{PAGE}
 
 pub returns-then-index-eq0-clause-owns : goal.returns-then-index-eq0-clause-owns
 returns-then-index-eq0-clause-owns c =
-    let page = c.args.at / 4096 in
+    let page = c.args.at / PAGE in
     let near : page < c.self.inside.pages = subst (λ s. page < s.pages) (sym c.self.view_is) (omega (arith, c.requires)) in
     let inside : page < length c.self.inside.live.items = omega (arith, near, c.self.invariant.live_table.size) in
     let number = get_or_read c.self.inside.live.items page c.index-frame.result.now inside c.index-frame.ensures 0 in
@@ -18,7 +19,7 @@ returns-then-index-eq0-clause-owns c =
 
 pub copy_page-fresh-requires-clause-shared : goal.copy_page-fresh-requires-clause-shared
 copy_page-fresh-requires-clause-shared c =
-    let page = c.args.at / 4096 in
+    let page = c.args.at / PAGE in
     let near : page < c.self.inside.pages = subst (λ s. page < s.pages) (sym c.self.view_is) (omega (arith, c.requires)) in
     let inside : page < length c.self.inside.live.items = omega (arith, near, c.self.invariant.live_table.size) in
     let number = get_or_read c.self.inside.live.items page c.index-frame.result.now inside c.index-frame.ensures 0 in

@@ -5,6 +5,7 @@ use Rattle.trunk_wire.specs.TrunkLinks.{intake_of}
 use Rattle.trunk_wire.proofs.GiveLemmas.{give_told}
 use Rattle.trunk_wire.proofs.GoingLemmas.{give_wrote}
 use Rattle.trunk_wire.proofs.trunk_link.TrunkLinkLink.give.Goals as goal
+use Rattle.links.specs.declared.connection_table.TheConstants.{CONNECTIONS}
 
 pub returns-clause-told : goal.returns-clause-told
 returns-clause-told g c =
@@ -17,5 +18,5 @@ returns-clause-went g c = record {
   sink = c.write_frame-answer.ensures.fixed;
   taken = takes_same c.args.self.now.takes (intake_of g.S.Source.told c.args.self.now) refl;
   given = rw c.requires.may
-      (give_wrote _ _ c.args.conn c.args.bytes.now c.write_frame-answer.result (ltb-true c.args.conn 4096 c.requires.connected) c.requires.some c.requires.few c.is_ok-self.ensures.value c.write_frame-answer.ensures.frame);
+      (give_wrote _ _ c.args.conn c.args.bytes.now c.write_frame-answer.result (ltb-true c.args.conn CONNECTIONS c.requires.connected) c.requires.some c.requires.few c.is_ok-self.ensures.value c.write_frame-answer.ensures.frame);
 }
