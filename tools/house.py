@@ -254,7 +254,7 @@ class Count:
         by_clauses = max(self.functions, key=lambda it: len(it.clauses))
         longest = max((max(it.clauses), it) for it in self.functions if it.clauses)
         arguments = max(self.functions, key=lambda it: it.arguments)
-        definition = max(self.definitions, key=lambda it: it.arguments)
+        definition = max(self.definitions, key=lambda it: it.arguments, default=None)
         yield "crates", len(self.names)
         yield "functions", len(self.functions)
         yield "clauses of all functions", sum(len(it.clauses) for it in self.functions)
@@ -264,7 +264,7 @@ class Count:
         yield "longest clause, characters", shown(longest[0], longest[1])
         yield "characters of all clauses", sum(sum(it.clauses) for it in self.functions)
         yield "arguments of a function, most", shown(arguments.arguments, arguments)
-        yield "arguments of a definition, most", shown(definition.arguments, definition)
+        yield "arguments of a definition, most", shown(definition.arguments, definition) if definition else "no definition"
         yield "lines of bodies", sum(it.lines for it in self.functions)
         yield "lines of code with clauses", self.code
         yield "lines of definitions (`specs`)", self.specs

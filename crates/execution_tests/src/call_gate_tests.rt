@@ -1,13 +1,14 @@
 // Calls of a guest: what the registers make, which of them may touch their buffer, and the connections that it may send to.
 ghost use Rattle.std.specs.Prelude.{◌≡◌, ◌%◌, ◌==◌};
 
+use crate::rows::{TEXT_AND_DATA, read_numbers, space_of};
 use block_book::Book;
-use call_gate::{Call, ConnSet, check_call, read_call};
-use elf_image::read_image;
+use call_gate::{ConnSet, check_call, read_call};
 use guest_space::{AccessRule, AllMapped, GuestSpace};
-use run_history::{Cause, Regs};
+use run_history::Regs;
 use rx_io::{Bytes, Item};
 use std::alloc::{AllocError, Global};
+use std::process::Abort;
 use std::test::Fail;
 
 // A rule that forbids odd addresses.
@@ -23,46 +24,28 @@ impl AccessRule for EvenAlone {
     }
 }
 
-// An executable with eight bytes that may be read and executed at 0x10000, and behind them eight that may be read and
-// written; byte by byte from the System V ABI's "ELF Header" and "Program Header".
-#[rattlefmt::skip]
-static FILE: [u8; 128] = [
-    0x7f, 0x45, 0x4c, 0x46, 1, 1, 1, 0, 0, 0, 0, 0, 0, 0, 0, 0, // e_ident
-    2, 0, 243, 0, 1, 0, 0, 0, // e_type, e_machine, e_version
-    0, 0, 1, 0, 52, 0, 0, 0, 0, 0, 0, 0, 0, 0, 0, 0, // e_entry, e_phoff, e_shoff, e_flags
-    52, 0, 32, 0, 2, 0, 0, 0, 0, 0, 0, 0, // e_ehsize, e_phentsize, e_phnum, and no sections
-    1, 0, 0, 0, 116, 0, 0, 0, 0, 0, 1, 0, 0, 0, 1, 0, // PT_LOAD, p_offset, p_vaddr, p_paddr
-    8, 0, 0, 0, 8, 0, 0, 0, 5, 0, 0, 0, 1, 0, 0, 0, // p_filesz, p_memsz, p_flags, p_align
-    1, 0, 0, 0, 124, 0, 0, 0, 8, 0, 1, 0, 8, 0, 1, 0, // PT_LOAD, p_offset, p_vaddr, p_paddr
-    4, 0, 0, 0, 8, 0, 0, 0, 6, 0, 0, 0, 1, 0, 0, 0, // p_filesz, p_memsz, p_flags, p_align
-    0x13, 0x05, 0x10, 0x00, 0x73, 0x00, 0x00, 0x00,
-    0xa1, 0xb2, 0xc3, 0xd4,
-];
-
-// The call, and whether its buffer may be touched with no rule and with `EvenAlone`.
-type Outcome = (Result<Call, Cause>, bool, bool);
-
-// What x17, x10, x11 and x12 make.
-#[rattlefmt::skip]
-static CALLS: [([u32; 4], Outcome); 17] = [
-    ([1, 0x10008, 8, 0], (Ok(Call::Recv { at: 0x10008, len: 8 }), true, true)),
-    ([1, 0x10000, 4, 0], (Ok(Call::Recv { at: 0x10000, len: 4 }), false, false)), // text
-    ([1, 0x10009, 1, 0], (Ok(Call::Recv { at: 0x10009, len: 1 }), true, false)),
-    ([1, 0x10009, 0, 0], (Ok(Call::Recv { at: 0x10009, len: 0 }), true, true)),
-    ([1, 0xffff_ffff, 2, 0], (Ok(Call::Recv { at: 0xffff_ffff, len: 2 }), false, false)),
-    ([2, 7, 0x10000, 16], (Ok(Call::Send { conn: 7, at: 0x10000, len: 16 }), true, true)),
-    ([2, 7, 0x10007, 9], (Ok(Call::Send { conn: 7, at: 0x10007, len: 9 }), true, false)),
-    ([2, 7, 0x10007, 10], (Ok(Call::Send { conn: 7, at: 0x10007, len: 10 }), false, false)),
-    ([2, 8, 1, 4], (Ok(Call::Send { conn: 8, at: 1, len: 4 }), true, true)), // a connection that isn't open
-    ([2, 7, 1, 65536], (Ok(Call::Send { conn: 7, at: 1, len: 65536 }), true, true)),
-    ([2, 7, 1, 65535], (Ok(Call::Send { conn: 7, at: 1, len: 65535 }), false, false)),
-    ([3, 24, 0, 0], (Ok(Call::Malloc { size: 24 }), true, true)),
-    ([4, 1, 0, 0], (Ok(Call::Free { at: 1 }), true, true)),
-    ([5, 3, 0, 0], (Ok(Call::Exit { code: 3 }), true, true)),
-    ([6, 9, 0, 0], (Ok(Call::Assert { code: 9 }), true, true)),
-    ([0, 0, 0, 0], (Err(Cause::BadCall), false, false)),
-    ([7, 0, 0, 0], (Err(Cause::BadCall), false, false)),
-];
+// What x17, x10, x11 and x12 make, and whether its buffer may be touched with no rule and with `EvenAlone`. The text is at 0x10000, and the
+// data at 0x10008. Connection 8 isn't open. The registers are in hexadecimal
+// digits, the numbers of the call in decimal ones.
+const CALLS: &str = "\
+1 10008 8 > Ok(Recv { at: 65544, len: 8 }) true true
+1 10000 4 > Ok(Recv { at: 65536, len: 4 }) false false
+1 10009 1 > Ok(Recv { at: 65545, len: 1 }) true false
+1 10009 0 > Ok(Recv { at: 65545, len: 0 }) true true
+1 ffffffff 2 > Ok(Recv { at: 4294967295, len: 2 }) false false
+2 7 10000 10 > Ok(Send { conn: 7, at: 65536, len: 16 }) true true
+2 7 10007 9 > Ok(Send { conn: 7, at: 65543, len: 9 }) true false
+2 7 10007 a > Ok(Send { conn: 7, at: 65543, len: 10 }) false false
+2 8 1 4 > Ok(Send { conn: 8, at: 1, len: 4 }) true true
+2 7 1 10000 > Ok(Send { conn: 7, at: 1, len: 65536 }) true true
+2 7 1 ffff > Ok(Send { conn: 7, at: 1, len: 65535 }) false false
+3 18 > Ok(Malloc { size: 24 }) true true
+4 1 > Ok(Free { at: 1 }) true true
+5 3 > Ok(Exit { code: 3 }) true true
+6 9 > Ok(Assert { code: 9 }) true true
+0 > Err(BadCall) false false
+7 > Err(BadCall) false false
+";
 
 // The connections once an open of 7, 8 and 4096, a close of 8 and a message of 9 were taken.
 fn some_connections(alloc: Global) -> Result<ConnSet, AllocError> {
@@ -74,47 +57,72 @@ fn some_connections(alloc: Global) -> Result<ConnSet, AllocError> {
     Ok(connections)
 }
 
-// What the registers make, by these x17, x10, x11 and x12.
-fn outcome(
+// What the registers of a row make, as words.
+fn made(
+    alloc: Global,
     space: &GuestSpace,
     book: &Book,
     connections: &ConnSet,
-    [number, x10, x11, x12]: [u32; 4],
-) -> Outcome {
+    row: &str,
+) -> Result<String, Fail> {
+    let mut numbers = [0; 4];
+    read_numbers(row, &mut numbers)?;
     let mut x = [0; 32];
-    x[17] = number;
-    x[10] = x10;
-    x[11] = x11;
-    x[12] = x12;
-    match read_call(&Regs { pc: 0, x }) {
-        Ok(call) => {
-            let any = check_call(&call, space, book, &AllMapped, connections).is_ok();
-            let even = check_call(&call, space, book, &EvenAlone, connections).is_ok();
-            (Ok(call), any, even)
-        }
-        Err(cause) => (Err(cause), false, false),
+    [x[17], x[10], x[11], x[12]] = numbers;
+    let read = read_call(&Regs { pc: 0, x });
+    let (any, even) = match read {
+        Ok(call) => (
+            check_call(&call, space, book, &AllMapped, connections).is_ok(),
+            check_call(&call, space, book, &EvenAlone, connections).is_ok(),
+        ),
+        Err(_) => (false, false),
+    };
+    Ok(format!(in alloc; "{read:?} {any} {even}")?)
+}
+
+// What stays of the connections when one is added and one removed, in a copy.
+fn try_copy(rt: &impl Abort, alloc: Global, connections: &mut ConnSet) -> Result<(), Fail> {
+    connections.add(4095);
+    connections.remove(7);
+    let mut copy = ConnSet::make(alloc)?;
+    copy.copy_from(connections);
+    for (conn, is_open) in [
+        (7, false),
+        (8, false),
+        (9, false),
+        (4095, true),
+        (4096, false),
+    ] {
+        assert_eq!(rt; copy.has(conn), is_open, "{conn}");
     }
+    Ok(())
+}
+
+fn try_calls(
+    rt: &impl Abort,
+    alloc: Global,
+    space: &GuestSpace,
+    book: &Book,
+    connections: &ConnSet,
+) -> Result<(), Fail> {
+    for row in CALLS.lines() {
+        let (columns, wanted) = row.split_once(" > ").ok_or("no row")?;
+        let call = made(alloc, space, book, connections, columns)?;
+        assert_eq!(rt; call.as_str(), wanted, "{row}");
+    }
+    Ok(())
 }
 
 #[test]
 fn calls_are_read_and_checked(rt: HostRuntime) -> Result<(), Fail> {
-    let image = read_image(rt.alloc(), &FILE, 4 << 20)?;
-    let pages = image.window / 4096;
-    let space = GuestSpace::make(rt.alloc(), &image, 1, 2 * pages)?;
     let book = Book::make(rt.alloc(), 0x11000, 0x12000)?;
+    let connections = some_connections(rt.alloc())?;
+    let space = space_of(rt.alloc(), &TEXT_AND_DATA)?;
+    try_calls(&rt, rt.alloc(), &space, &book, &connections)
+}
+
+#[test]
+fn connections_are_copied(rt: HostRuntime) -> Result<(), Fail> {
     let mut connections = some_connections(rt.alloc())?;
-    for (words, want) in CALLS {
-        assert_eq!(rt;
-            outcome(&space, &book, &connections, words),
-            want,
-            "{words:?}"
-        );
-    }
-    connections.add(4095);
-    connections.remove(7);
-    let mut copy = ConnSet::make(rt.alloc())?;
-    copy.copy_from(&connections);
-    let open = [7, 8, 9, 4095, 4096].map(|conn| copy.has(conn));
-    assert_eq!(rt; open, [false, false, false, true, false]);
-    Ok(())
+    try_copy(&rt, rt.alloc(), &mut connections)
 }

@@ -1,20 +1,18 @@
-// A guest that asks for two blocks and frees the second one twice: what each environment answers. The words are by the formats
-// of the manual; the addresses are worked out from the heap, which is from 0x11000 up
-// to 0x3ff000, with its middle at 0x208000. And a guest that is restored, and does the same again.
-ghost use Rattle.std.specs.Prelude.{◌≡◌, ◌<◌, ◌≤◌, length, None, IfOk};
-ghost use Rattle.ckpt_ring.specs.Slots.{newest_slot, slot_numbers};
-ghost use Rattle.ckpt_ring.specs.Rings.{from_newest};
+// Guests by themselves. One asks for two blocks and frees the second one twice: what each environment answers. The other is restored, and
+// does the same again. The words are by the formats of the manual; the places and the counts are worked out from the texts and from the
+// heaps. The first one's is from 0x11000 up to 0x3ff000, with its middle at 0x208000, and the other's begins at 0x12000.
+ghost use Rattle.std.specs.Prelude.{◌≡◌, ◌<◌, ◌≤◌, length, true, None, IfOk};
+ghost use Rattle.std.specs.Bool.{OnTrue};
+ghost use Rattle.ckpt_ring.specs.Slots.{newest_slot};
 ghost use Rattle.run_history.specs.Machine.{Wants};
 ghost use Rattle.run_history.specs.Run.{does};
 ghost use Rattle.execution_tests.specs.Checkpoints.{HasRing, KeepsSaved};
 
 use alloc_env::Env;
-use block_book::Choice;
 use ckpt_ring::Ring;
 use elf_image::{Image, read_image};
-use guest_cpu::{Cpu, Event, Marks};
+use guest_cpu::{Cpu, Event};
 use guest_space::AllMapped;
-use run_history::Cause;
 use rx_io::{Bytes, Item, Steps};
 use std::alloc::Global;
 use std::marker::Brand;
@@ -41,90 +39,6 @@ static FILE: [u8; 120] = [
     0x73, 0x00, 0x00, 0x00, // ecall
     0x73, 0x00, 0x10, 0x00, // ebreak
 ];
-
-// The environment, the two answers, whether they are zeroed, and the cause at the second free or at what follows it.
-#[rattlefmt::skip]
-static ANSWERS: [(Env, u32, u32, bool, Cause); 6] = [
-    (Env::Plain, 0x11000, 0x11010, false, Cause::BadFree),
-    (Env::Pad, 0x11100, 0x11310, false, Cause::BadFree),
-    (Env::Zero, 0x11000, 0x11010, true, Cause::BadFree),
-    (Env::Isolate, 0x20_8000, 0x20_8010, false, Cause::BadFree),
-    (Env::Delay, 0x11000, 0x11010, false, Cause::AssertFailed(0)),
-    (Env::All, 0x20_8100, 0x20_8310, true, Cause::AssertFailed(0)),
-];
-
-// What comes next.
-#[derive(Clone, Copy, Debug, PartialEq, Eq)]
-enum Outcome {
-    Chooses(Choice),
-    Failed(Cause),
-    Other,
-}
-
-// The next event, within 100 instructions, of a guest that has done fewer than 1000.
-fn outcome_of<L: Ledger>(
-    rt: &impl Abort,
-    alloc: Global,
-    cpu: &mut Cpu<AllMapped>,
-    env: Env,
-    steps: &mut Steps<L>,
-) -> Result<Outcome, Fail>
-    requires { cpu.old.slots.live.ended ≡ None }
-    ensures { cpu.new.slots.live.ended ≡ None }
-{
-    assert!(rt; cpu.marks().steps < 1000);
-    match cpu.run_to_event(alloc, env, 100, steps)? {
-        Event::Chooses(choice) => Ok(Outcome::Chooses(choice)),
-        Event::Failed(cause) => Ok(Outcome::Failed(cause)),
-        Event::Asks | Event::Emits(_, _) => Ok(Outcome::Other),
-        Event::Exits(_) => panic!(rt; "no exit is there"),
-    }
-}
-
-// The two answers, and then the cause.
-fn try_environment<L: Ledger>(
-    rt: &impl Abort,
-    alloc: Global,
-    image: &Image,
-    (env, first, second, zeroed, cause): (Env, u32, u32, bool, Cause),
-    steps: &mut Steps<L>,
-) -> Result<(), Fail> {
-    let pages = image.window / 4096;
-    let mut cpu = Cpu::make(alloc, image, 1, 2 * pages, AllMapped)?;
-    let one = outcome_of(rt, alloc, &mut cpu, env, steps)?;
-    assert_eq!(rt;
-        one,
-        Outcome::Chooses(Choice { at: first, zeroed }),
-        "{env:?}"
-    );
-    let two = outcome_of(rt, alloc, &mut cpu, env, steps)?;
-    assert_eq!(rt;
-        two,
-        Outcome::Chooses(Choice { at: second, zeroed }),
-        "{env:?}"
-    );
-    let three = outcome_of(rt, alloc, &mut cpu, env, steps)?;
-    assert_eq!(rt; three, Outcome::Failed(cause), "{env:?}");
-    Ok(())
-}
-
-fn try_all<L: Ledger>(rt: &impl Abort, alloc: Global, blank: Blank) -> Result<(), Fail>
-    requires name { blank.name ≡ L.name }
-    requires parts { blank.parts ≡ L.parts }
-    requires some { 0 < blank.parts }
-{
-    let image = read_image(alloc, &FILE, 4 << 20)?;
-    let mut steps = Steps::<L>::start(blank);
-    for row in ANSWERS {
-        try_environment(rt, alloc, &image, row, &mut steps)?;
-    }
-    Ok(())
-}
-
-#[test]
-fn each_environment_answers_a_guest(rt: HostRuntime) -> Result<(), Fail> {
-    try_all::<Brand>(&rt, rt.alloc(), Blank::new(1))
-}
 
 // An executable of text at 0x10000 and of 20 bytes at 0x11000. Of each message of four bytes it sends back which word stood in
 // the segment, on the stack and in a block before, and puts the new word there. It frees the block where the word is odd.
@@ -175,14 +89,113 @@ static STORES: [u8; 256] = [
     0x6f, 0xf0, 0xdf, 0xf7, // j receive
 ];
 
-// What the guest does with the words 2 and 3 behind its first checkpoint, worked by hand: the block stands at 0x12000.
-const DONE: &str = "Asks after 10 at 10010
-Chooses(Choice { at: 73728, zeroed: false }) after 18 at 10030
-Emits(0, Bytes { bytes: [0, 0, 0, 0, 0, 0, 0, 0, 0, 0, 0, 0] }) after 34 at 10070
-Asks after 39 at 10010
-Emits(0, Bytes { bytes: [2, 0, 0, 0, 2, 0, 0, 0, 2, 0, 0, 0] }) after 59 at 10070
-Asks after 69 at 10010
+// What is done with the checkpoints of a guest.
+#[derive(Clone, Copy)]
+enum Turn {
+    /// Nothing.
+    On,
+    /// It is saved.
+    Save,
+    /// It is restored from the checkpoint of an index.
+    To(u32),
+    /// The same, and the newer ones are dropped.
+    Back(u32),
+}
+
+// What is done with its checkpoints, the words that it takes then, one at each request, and what is seen up to the next request or
+// failure: each event with the program counter, and the counts of items, of instructions since the last one, of all instructions, of answers
+// of malloc, and of sends.
+type Row<'a> = (Turn, &'a [u32], &'a str);
+
+// From its start it does four instructions up to its first request, and six with the open behind that.
+const OPENED: &str = "\
+Asks at 10010 [0 4 4 0 0]
+Asks at 10010 [1 5 10 0 0]
 ";
+
+// The words 2 and 3 behind the open.
+const DONE: &str = "\
+Asks at 10010 [1 5 10 0 0]
+Chooses(Choice { at: 73728, zeroed: false }) at 10030 [2 7 18 1 0]
+Emits(0, Bytes { bytes: [0, 0, 0, 0, 0, 0, 0, 0, 0, 0, 0, 0] }) at 10070 [2 23 34 1 1]
+Asks at 10010 [2 28 39 1 1]
+Emits(0, Bytes { bytes: [2, 0, 0, 0, 2, 0, 0, 0, 2, 0, 0, 0] }) at 10070 [3 19 59 1 2]
+Asks at 10010 [3 29 69 1 2]
+";
+
+// The words 5 and 4 behind these. The block was freed, and stands at the same place with what it had.
+const LATER: &str = "\
+Asks at 10010 [3 29 69 1 2]
+Chooses(Choice { at: 73728, zeroed: false }) at 10030 [4 7 77 2 2]
+Emits(0, Bytes { bytes: [3, 0, 0, 0, 3, 0, 0, 0, 3, 0, 0, 0] }) at 10070 [4 23 93 2 3]
+Asks at 10010 [4 33 103 2 3]
+Chooses(Choice { at: 73728, zeroed: false }) at 10030 [5 7 111 3 3]
+Emits(0, Bytes { bytes: [5, 0, 0, 0, 5, 0, 0, 0, 5, 0, 0, 0] }) at 10070 [5 23 127 3 4]
+Asks at 10010 [5 28 132 3 4]
+";
+
+// The words 9 and 8 behind the open.
+const OTHER: &str = "\
+Asks at 10010 [1 5 10 0 0]
+Chooses(Choice { at: 73728, zeroed: false }) at 10030 [2 7 18 1 0]
+Emits(0, Bytes { bytes: [0, 0, 0, 0, 0, 0, 0, 0, 0, 0, 0, 0] }) at 10070 [2 23 34 1 1]
+Asks at 10010 [2 33 44 1 1]
+Chooses(Choice { at: 73728, zeroed: false }) at 10030 [3 7 52 2 1]
+Emits(0, Bytes { bytes: [9, 0, 0, 0, 9, 0, 0, 0, 9, 0, 0, 0] }) at 10070 [3 23 68 2 2]
+Asks at 10010 [3 28 73 2 2]
+";
+
+// The checkpoint behind the open.
+const ONCE: &str = "Asks at 10010 [1 5 10 0 0]\n";
+
+// What was done behind a checkpoint is done again: from the older one of two, from the newest, and behind other words. The older one is the
+// newest when the newer one was dropped, and is saved once more.
+static RESTORED: [Row<'static>; 9] = [
+    (Turn::On, &[0], OPENED),
+    (Turn::Save, &[2, 3], DONE),
+    (Turn::Save, &[5, 4], LATER),
+    (Turn::To(1), &[2, 3], DONE),
+    (Turn::On, &[5, 4], LATER),
+    (Turn::Back(1), &[], ONCE),
+    (Turn::Save, &[9, 8], OTHER),
+    (Turn::To(1), &[2, 3], DONE),
+    (Turn::To(0), &[2, 3], DONE),
+];
+
+// The environment, and what is seen of the guest that frees twice.
+#[rattlefmt::skip]
+static ANSWERS: [(Env, &str); 6] = [
+    (Env::Plain, "\
+Chooses(Choice { at: 69632, zeroed: false }) at 1000c [0 3 3 1 0]
+Chooses(Choice { at: 69648, zeroed: false }) at 10014 [0 5 5 2 0]
+Failed(BadFree) at 1001c [0 7 7 2 0]
+"),
+    (Env::Pad, "\
+Chooses(Choice { at: 69888, zeroed: false }) at 1000c [0 3 3 1 0]
+Chooses(Choice { at: 70416, zeroed: false }) at 10014 [0 5 5 2 0]
+Failed(BadFree) at 1001c [0 7 7 2 0]
+"),
+    (Env::Zero, "\
+Chooses(Choice { at: 69632, zeroed: true }) at 1000c [0 3 3 1 0]
+Chooses(Choice { at: 69648, zeroed: true }) at 10014 [0 5 5 2 0]
+Failed(BadFree) at 1001c [0 7 7 2 0]
+"),
+    (Env::Isolate, "\
+Chooses(Choice { at: 2129920, zeroed: false }) at 1000c [0 3 3 1 0]
+Chooses(Choice { at: 2129936, zeroed: false }) at 10014 [0 5 5 2 0]
+Failed(BadFree) at 1001c [0 7 7 2 0]
+"),
+    (Env::Delay, "\
+Chooses(Choice { at: 69632, zeroed: false }) at 1000c [0 3 3 1 0]
+Chooses(Choice { at: 69648, zeroed: false }) at 10014 [0 5 5 2 0]
+Failed(AssertFailed(0)) at 10020 [0 8 8 2 0]
+"),
+    (Env::All, "\
+Chooses(Choice { at: 2130176, zeroed: true }) at 1000c [0 3 3 1 0]
+Chooses(Choice { at: 2130704, zeroed: true }) at 10014 [0 5 5 2 0]
+Failed(AssertFailed(0)) at 10020 [0 8 8 2 0]
+"),
+];
 
 // A message of a connection, or its open where the word is 0.
 fn item_of(alloc: Global, word: u32) -> Result<Item, Fail>
@@ -197,51 +210,58 @@ fn item_of(alloc: Global, word: u32) -> Result<Item, Fail>
     })
 }
 
-// Notes an event, how many instructions are done and the program counter.
+// Notes an event.
 fn note(alloc: Global, event: &Event, cpu: &Cpu<AllMapped>, seen: &mut String) -> Result<(), Fail> {
-    let (done, pc) = (cpu.marks().steps, cpu.pc());
-    let line = format!(in alloc; "{event:?} after {done} at {pc:x}\n")?;
+    let (pc, marks) = (cpu.pc(), cpu.marks());
+    let line = format!(in alloc;
+        "{event:?} at {pc:x} [{} {} {} {} {}]\n",
+        marks.taken, marks.since, marks.steps, marks.choices, marks.sends
+    )?;
     seen.push_str(&line)?;
     Ok(())
 }
 
-// Runs to the next request, and notes each event.
-fn run_to_request<L: Ledger>(
+// Runs to the next request or failure, and notes each event. Whether it asks.
+fn run_to_stop<L: Ledger>(
     rt: &impl Abort,
     alloc: Global,
     cpu: &mut Cpu<AllMapped>,
     ring: &Ring,
+    env: Env,
     seen: &mut String,
     steps: &mut Steps<L>,
-) -> Result<(), Fail>
+) -> Result<bool, Fail>
     requires { HasRing cpu.old ring.now }
     ensures ring { HasRing cpu.new ring.now }
     ensures kept { KeepsSaved cpu.old cpu.new }
-    ensures asks { IfOk result (λ _. does None None cpu.new.slots.live.guest.machine ≡ Wants) }
+    ensures asks { IfOk result (λ asks. asks ≡ true → does None None cpu.new.slots.live.guest.machine ≡ Wants) }
 {
     for _ in 0..4 {
         assert!(rt; cpu.marks().steps < 1000);
-        let event = cpu.run_to_event(alloc, Env::Plain, 100, steps)?;
+        let event = cpu.run_to_event(alloc, env, 100, steps)?;
         match event {
             Event::Asks => {
                 note(alloc, &event, cpu, seen)?;
-                return Ok(());
+                return Ok(true);
             }
-            Event::Emits(_, _) | Event::Chooses(_) | Event::Failed(_) => {
+            Event::Failed(_) => {
                 note(alloc, &event, cpu, seen)?;
+                return Ok(false);
             }
+            Event::Emits(_, _) | Event::Chooses(_) => note(alloc, &event, cpu, seen)?,
             Event::Exits(_) => panic!(rt; "no exit is there"),
         }
     }
-    panic!(rt; "it doesn't ask")
+    panic!(rt; "it doesn't stop")
 }
 
-// Runs to the next request, takes these words and comes to the request behind them.
+// Runs to the next stop, and takes these words, each at a request.
 fn run_on<L: Ledger>(
     rt: &impl Abort,
     alloc: Global,
     cpu: &mut Cpu<AllMapped>,
     ring: &Ring,
+    env: Env,
     words: &[u32],
     steps: &mut Steps<L>,
 ) -> Result<String, Fail>
@@ -250,132 +270,132 @@ fn run_on<L: Ledger>(
     ensures kept { KeepsSaved cpu.old cpu.new }
 {
     let mut seen = String::new(alloc);
-    run_to_request(rt, alloc, cpu, ring, &mut seen, steps)?;
     for word in words {
         let item = item_of(alloc, *word)?;
-        assert!(rt; cpu.marks().steps < 1000);
+        let asks = run_to_stop(rt, alloc, cpu, ring, env, &mut seen, steps)?;
+        assert!(rt; asks && cpu.marks().steps < 1000);
         cpu.take_item(&item, steps);
-        run_to_request(rt, alloc, cpu, ring, &mut seen, steps)?;
     }
+    run_to_stop(rt, alloc, cpu, ring, env, &mut seen, steps)?;
     Ok(seen)
 }
 
-fn save(cpu: &mut Cpu<AllMapped>, ring: &mut Ring)
+// Does a turn where it may be that the guest stands on its newest checkpoint, and tells whether it does then.
+fn do_turn(
+    rt: &impl Abort,
+    cpu: &mut Cpu<AllMapped>,
+    ring: &mut Ring,
+    turn: Turn,
+    is_newest: bool,
+) -> bool
     requires ring { HasRing cpu.old ring.old }
-    requires base { cpu.old.slots.base ≡ newest_slot cpu.old.slots.saved }
+    requires base { OnTrue is_newest (cpu.old.slots.base ≡ newest_slot cpu.old.slots.saved) }
     ensures ring { HasRing cpu.new ring.new }
-    ensures base { cpu.new.slots.base ≡ newest_slot cpu.new.slots.saved }
+    ensures base { OnTrue result (cpu.new.slots.base ≡ newest_slot cpu.new.slots.saved) }
 {
-    ring.save(cpu);
+    match turn {
+        Turn::On => is_newest,
+        Turn::Save => {
+            assert!(rt; is_newest);
+            ring.save(cpu);
+            true
+        }
+        Turn::To(index) => {
+            assert!(rt; index < ring.len());
+            ring.restore(cpu, index);
+            false
+        }
+        Turn::Back(index) => {
+            assert!(rt; index < ring.len());
+            ring.restore(cpu, index);
+            ring.drop_newer(cpu, index);
+            true
+        }
+    }
 }
 
-fn restore(cpu: &mut Cpu<AllMapped>, ring: &Ring, index: u32)
-    requires ring { HasRing cpu.old ring.now }
-    requires within { index < length ring.now.standing }
-    ensures ring { HasRing cpu.new ring.now }
-    ensures base { cpu.new.slots.base ≡ from_newest (slot_numbers cpu.new.slots.saved) index }
-{
-    ring.restore(cpu, index);
-}
-
-fn drop_newer(cpu: &mut Cpu<AllMapped>, ring: &mut Ring, index: u32)
-    requires ring { HasRing cpu.old ring.old }
-    requires within { index < length ring.old.standing }
-    requires base { cpu.old.slots.base ≡ from_newest (slot_numbers cpu.old.slots.saved) index }
-    ensures ring { HasRing cpu.new ring.new }
-    ensures base { cpu.new.slots.base ≡ newest_slot cpu.new.slots.saved }
-{
-    ring.drop_newer(cpu, index);
-}
-
-// From the first checkpoint on two words are taken, a second one is saved there, and two more are. Gives what was seen of these.
-fn go_on<L: Ledger>(
+// Plays a row, and compares.
+fn play_row<L: Ledger>(
     rt: &impl Abort,
     alloc: Global,
     cpu: &mut Cpu<AllMapped>,
     ring: &mut Ring,
+    env: Env,
+    row: Row<'_>,
+    is_newest: bool,
     steps: &mut Steps<L>,
-) -> Result<String, Fail>
+) -> Result<bool, Fail>
     requires ring { HasRing cpu.old ring.old }
-    requires base { cpu.old.slots.base ≡ newest_slot cpu.old.slots.saved }
-    ensures { HasRing cpu.new ring.new }
+    requires base { OnTrue is_newest (cpu.old.slots.base ≡ newest_slot cpu.old.slots.saved) }
+    ensures ring { HasRing cpu.new ring.new }
+    ensures base { IfOk result (λ newest. OnTrue newest (cpu.new.slots.base ≡ newest_slot cpu.new.slots.saved)) }
 {
-    let seen = run_on(rt, alloc, cpu, ring, &[2, 3], steps)?;
-    assert_eq!(rt; seen.as_str(), DONE);
-    save(cpu, ring);
-    run_on(rt, alloc, cpu, ring, &[5, 4], steps)
+    let (turn, words, wanted) = row;
+    let is_newest = do_turn(rt, cpu, ring, turn, is_newest);
+    let seen = run_on(rt, alloc, cpu, ring, env, words, steps)?;
+    assert_eq!(rt; seen.as_str(), wanted);
+    Ok(is_newest)
 }
 
-// The checkpoint at an index has these marks and this program counter, and what was done behind it is done again.
-fn go_again<L: Ledger>(
+// Plays rows one after the other.
+fn play_rows<L: Ledger>(
     rt: &impl Abort,
     alloc: Global,
     cpu: &mut Cpu<AllMapped>,
-    ring: &Ring,
-    index: u32,
-    place: (Marks, u32),
+    ring: &mut Ring,
+    env: Env,
+    rows: &[Row<'_>],
     steps: &mut Steps<L>,
 ) -> Result<(), Fail>
-    requires { HasRing cpu.old ring.now }
-    ensures { HasRing cpu.new ring.now }
+    requires ring { HasRing cpu.old ring.old }
+    requires base { cpu.old.slots.base ≡ newest_slot cpu.old.slots.saved }
 {
-    assert!(rt; index < ring.len());
-    restore(cpu, ring, index);
-    assert!(rt; (cpu.marks(), cpu.pc()) == place);
-    let seen = run_on(rt, alloc, cpu, ring, &[2, 3], steps)?;
-    assert_eq!(rt; seen.as_str(), DONE);
+    let mut is_newest = true;
+    for row in rows {
+        is_newest = play_row(rt, alloc, cpu, ring, env, *row, is_newest, steps)?;
+    }
     Ok(())
 }
 
-// The newer one of two checkpoints is dropped, and the guest is saved as the newest where it stands on the older one.
-fn step_back(rt: &impl Abort, cpu: &mut Cpu<AllMapped>, ring: &mut Ring)
-    requires { HasRing cpu.old ring.old }
-    ensures { HasRing cpu.new ring.new }
-{
-    assert!(rt; ring.len() == 2);
-    restore(cpu, ring, 1);
-    drop_newer(cpu, ring, 1);
-    assert!(rt; ring.len() == 1);
-    save(cpu, ring);
-    assert!(rt; ring.len() == 2);
-}
-
-// Behind a checkpoint the same is done again: from the older one of two, and from the newest, also behind other words.
-fn try_restoring<L: Ledger>(
+// Plays rows to a guest with two checkpoints at most.
+fn play<L: Ledger>(
     rt: &impl Abort,
     alloc: Global,
-    cpu: &mut Cpu<AllMapped>,
-    ring: &mut Ring,
-    steps: &mut Steps<L>,
+    image: &Image,
+    env: Env,
+    rows: &[Row<'_>],
+    blank: Blank,
 ) -> Result<(), Fail>
-    requires ring { HasRing cpu.old ring.old }
-    requires base { cpu.old.slots.base ≡ newest_slot cpu.old.slots.saved }
-{
-    run_on(rt, alloc, cpu, ring, &[0], steps)?;
-    save(cpu, ring);
-    let place = (cpu.marks(), cpu.pc());
-    let later = go_on(rt, alloc, cpu, ring, steps)?;
-    go_again(rt, alloc, cpu, ring, 1, place, steps)?;
-    assert_eq!(rt; run_on(rt, alloc, cpu, ring, &[5, 4], steps)?, later);
-    step_back(rt, cpu, ring);
-    run_on(rt, alloc, cpu, ring, &[9, 8], steps)?;
-    go_again(rt, alloc, cpu, ring, 0, place, steps)
-}
-
-fn try_stores<L: Ledger>(rt: &impl Abort, alloc: Global, blank: Blank) -> Result<(), Fail>
     requires name { blank.name ≡ L.name }
     requires parts { blank.parts ≡ L.parts }
     requires some { 0 < blank.parts }
 {
-    let image = read_image(alloc, &STORES, 1 << 20)?;
     let pages = image.window / 4096;
-    let mut cpu = Cpu::make(alloc, &image, 2, 3 * pages, AllMapped)?;
-    let mut ring = Ring::make(alloc, 2)?;
     let mut steps = Steps::<L>::start(blank);
-    try_restoring(rt, alloc, &mut cpu, &mut ring, &mut steps)
+    let mut ring = Ring::make(alloc, 2)?;
+    let mut cpu = Cpu::make(alloc, image, 2, 3 * pages, AllMapped)?;
+    play_rows(rt, alloc, &mut cpu, &mut ring, env, rows, &mut steps)
+}
+
+#[test]
+fn each_environment_answers_a_guest(rt: HostRuntime) -> Result<(), Fail> {
+    let image = read_image(rt.alloc(), &FILE, 4 << 20)?;
+    for (env, wanted) in ANSWERS {
+        let row = (Turn::On, [].as_slice(), wanted);
+        play::<Brand>(&rt, rt.alloc(), &image, env, &[row], Blank::new(1))?;
+    }
+    Ok(())
 }
 
 #[test]
 fn a_restored_guest_does_the_same_again(rt: HostRuntime) -> Result<(), Fail> {
-    try_stores::<Brand>(&rt, rt.alloc(), Blank::new(1))
+    let image = read_image(rt.alloc(), &STORES, 1 << 20)?;
+    play::<Brand>(
+        &rt,
+        rt.alloc(),
+        &image,
+        Env::Plain,
+        &RESTORED,
+        Blank::new(1),
+    )
 }

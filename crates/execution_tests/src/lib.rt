@@ -8,4 +8,6 @@ mod guest_cpu_tests;
 #[cfg(test)]
 mod guest_space_tests;
 #[cfg(test)]
+mod rows;
+#[cfg(test)]
 mod rv_exec_tests;

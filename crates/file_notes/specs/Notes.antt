@@ -1,13 +1,14 @@
 -- What notes in two files have.
-use Rattle.std.specs.Prelude.{List, Option}
+use Rattle.std.specs.Prelude.{ℕ, List, Option, Some}
 use Rattle.block_book.specs.declared.choice.Choice.{Choice}
 use Rattle.session_notes.specs.declared.episode.Episode.{Episode}
+use Rattle.session_notes.specs.Noting.{Shown}
 use Rattle.rx_io.specs.Named.{Contents}
 use Rattle.rx_io.specs.declared.files.Files.{Ghosts}
 use Rattle.run_report.specs.declared.form.Form.{Form}
 use Rattle.file_notes.specs.declared.file_notes.FileNotes.{FileNotes}
 use Rattle.file_notes.specs.Names.{Names, names_in}
-use Rattle.file_notes.specs.Left.{Left}
+use Rattle.file_notes.specs.Left.{Left, is_whole}
 use Rattle.file_notes.specs.Past.{before_of}
 use Rattle.file_notes.specs.Standing.{Stands}
 
@@ -31,6 +32,14 @@ module _ {F : Type 0} {g : Ghosts F} where
   -- what a call that failed left
   abbrev pub left_of : FileNotes F g → Left
   left_of notes = notes.past.was.left
+
+  -- what the notes show, by how their files count faults
+  abbrev pub shown_of : (F → ℕ) → FileNotes F g → Shown
+  shown_of faults notes = record {
+    told = record { choices = Some (choices_of notes); episodes = Some (episodes_of notes) };
+    faults = faults notes.files;
+    works = is_whole (left_of notes);
+  }
 
   -- what the files told when the notes were made
   abbrev pub told_before : FileNotes F g → Option Contents

@@ -73,22 +73,15 @@ impl<'n, F: Files> FileNotes<'n, F> {
 }
 
 impl<'n, F: Files> Notes for FileNotes<'n, F> {
-    ghost use Rattle.std.specs.Prelude.{◌≡◌, ◌<◌, ◌∷◌, [], length, IfOk, Some, Option};
-    ghost use Rattle.rx_io.specs.Faults.{HasCause};
+    ghost use Rattle.std.specs.Prelude.{◌≡◌, ◌<◌, length, Option};
     ghost use Rattle.rx_io.specs.Named.{Contents};
-    ghost use Rattle.session_notes.specs.Noting.{IsNoted};
+    ghost use Rattle.session_notes.specs.Noting.{ChoicesShow, EpisodeShows};
     ghost use Rattle.run_report.specs.declared.form.Form.{Form};
     ghost use Rattle.file_notes.specs.Names.{Names};
-    ghost use Rattle.file_notes.specs.Left.{InRecord, InReport, Leaves, is_whole};
-    ghost use Rattle.file_notes.specs.Notes.{files_of, choices_of, episodes_of, left_of, notes_fixed};
+    ghost use Rattle.file_notes.specs.Left.{InRecord, InReport, Leaves};
+    ghost use Rattle.file_notes.specs.Notes.{left_of, shown_of, notes_fixed};
 
-    ghost told_choices = { λ n. Some (choices_of n) };
-
-    ghost told_episodes = { λ n. Some (episodes_of n) };
-
-    ghost faults = { λ n. F.faults (files_of n) };
-
-    ghost works = { λ n. is_whole (left_of n) };
+    ghost shown = { shown_of F.faults };
 
     ghost Fixed = { F.Fixed × (Names × (Form × Option Contents)) };
 
@@ -97,11 +90,8 @@ impl<'n, F: Files> Notes for FileNotes<'n, F> {
     /// Adds their lines to the record. After an `Err` of it or of an earlier call no later call adds anything.
     fn choices(&mut self, list: &[Choice]) -> Result<(), IoFault>
         requires { 0 < length list.now }
-        ensures noted { IsNoted (Some (choices_of self.old)) (Some (choices_of self.new)) list.now result }
-        ensures episodes { Some (episodes_of self.new) ≡ Some (episodes_of self.old) }
-        ensures works { IfOk result (λ _. is_whole (left_of self.new) ≡ is_whole (left_of self.old)) }
+        ensures shows { ChoicesShow (shown_of F.faults self.old) (shown_of F.faults self.new) list.now result }
         ensures fixed { notes_fixed self.new ≡ notes_fixed self.old }
-        ensures cause { HasCause (F.faults (files_of self.old)) (F.faults (files_of self.new)) result }
         ensures left { Leaves (InRecord list.now) (left_of self.old) (left_of self.new) result }
     {
         if !self.is_open() {
@@ -129,11 +119,8 @@ impl<'n, F: Files> Notes for FileNotes<'n, F> {
 
     /// Adds its text to the report. After an `Err` of it or of an earlier call no later call adds anything.
     fn episode(&mut self, e: &Episode) -> Result<(), IoFault>
-        ensures noted { IsNoted (Some (episodes_of self.old)) (Some (episodes_of self.new)) (e.now ∷ []) result }
-        ensures choices { Some (choices_of self.new) ≡ Some (choices_of self.old) }
-        ensures works { IfOk result (λ _. is_whole (left_of self.new) ≡ is_whole (left_of self.old)) }
+        ensures shows { EpisodeShows (shown_of F.faults self.old) (shown_of F.faults self.new) e.now result }
         ensures fixed { notes_fixed self.new ≡ notes_fixed self.old }
-        ensures cause { HasCause (F.faults (files_of self.old)) (F.faults (files_of self.new)) result }
         ensures left { Leaves (InReport e.now) (left_of self.old) (left_of self.new) result }
     {
         if !self.is_open() {

@@ -1,5 +1,5 @@
 -- What is heard of an event that was taken.
-use Rattle.std.proofs.Common.{◌≡◌, ℕ, ◌+◌, ◌<◌, ◌≤◌, false, List, [], ◌∷◌, ◌++◌, Option, Some, None, length, refl, sym, ◌∙◌, ap, subst, arith, append-nil, length-append, inr}
+use Rattle.std.proofs.Common.{◌≡◌, ℕ, ◌+◌, ◌<◌, ◌≤◌, false, List, [], ◌∷◌, ◌++◌, Some, None, length, refl, sym, ◌∙◌, ap, subst, arith, append-nil, length-append, inr}
 use Rattle.std.specs.Prelude.{Result, Ok, Err}
 use Rattle.std.proofs.lemmas.Option.{none-some, same_Some}
 use Rattle.links.specs.declared.journal.Entry.{Entry}
@@ -7,7 +7,8 @@ use Rattle.links.specs.declared.journal.Entry.TheVariants as entry
 use Rattle.links.specs.declared.journal.LinkEvent.{LinkEvent}
 use Rattle.links.specs.declared.journal.LinkEvent.TheVariants as event
 use Rattle.rx_io.specs.Sends.{Send}
-use Rattle.links.specs.Links.{Phases, IsInOrder, phases_after, Told, Coming, events_in}
+use Rattle.links.specs.Links.{Phases, IsInOrder, phases_after, events_in}
+use Rattle.links.specs.Seen.{Seen}
 use Rattle.item_log.specs.Heard.{items_of}
 use Rattle.item_log.specs.Log.{Log, logged, Fits}
 use Rattle.reply_ledger.specs.Ledger.{Ledger}
@@ -20,7 +21,7 @@ use Rattle.link_gate.specs.declared.heard.Heard.{Heard}
 use Rattle.link_gate.specs.declared.heard.Heard.TheVariants as heard
 use Rattle.link_gate.specs.declared.heard.HearFault.{HearFault}
 use Rattle.link_gate.specs.declared.heard.HearFault.TheVariants as fault
-use Rattle.link_gate.specs.Calls.{Takes, HearsBy}
+use Rattle.link_gate.specs.Calls.{Takes, HearsBy, MayHear}
 use Rattle.link_gate.specs.Taking.{IsNew, entered, TakesIn, TakesOrEnds}
 use Rattle.link_gate.proofs.Phasing.{phases_behind, unopened_by, open_by}
 use Rattle.link_gate.proofs.Refusing.{IsEvent, events_behind, events_ended, items_ended, is_heeded, keeps_items, heeded_with, heeded_without, limit_events, too_long, limit_items}
@@ -33,6 +34,9 @@ pub record Stood (bounds : Bounds) (entries : List Entry) (sends : List Send) (l
   pub items : KeepsItems bounds entries log
   pub replies : KeepsReplies bounds entries None sends ledger
   pub is_at : KeepsPhases entries phases
+
+pub stood_of : {log : Log} {ledger : Ledger} {seen : Seen} {events most : ℕ} (may : MayHear log ledger seen events most) → Stood may.bounds may.entries may.sends log ledger seen.phases events most
+stood_of may = record { limit = may.limit; counted = may.counted; items = may.items; replies = may.replies; is_at = may.is_at }
 
 -- which connections were opened and closed, by the phases
 was_unopened : (bounds : Bounds) (entries : List Entry) (phases : Phases) (conn : ℕ) → heeded bounds (events_in entries) ≡ events_in entries → KeepsPhases entries phases → IsInOrder phases (event.Opens conn)
@@ -116,38 +120,38 @@ heard_with bounds entries sends event log new ledger later phases before most on
     }
 
 -- by the answer
-hears_event : (bounds : Bounds) (entries : List Entry) (sends : List Send) (event : LinkEvent) (log new : Log) (ledger later : Ledger) (phases after : Phases) (before now most : ℕ) (coming : Option Coming) (old told : Told) (result : Result Heard HearFault) → IsEvent event
-    → Stood bounds entries sends log ledger phases before most → IsInOrder phases event → ((conn : ℕ) → after conn ≡ phases_after event phases conn) → Takes old told event → TakesIn event log new ledger later before now most result
-    → HearsBy bounds entries sends new later after now coming old told result
-hears_event bounds entries sends event log new ledger later phases after before now most coming old told (Ok answer) one stood order enters takes did = (
+hears_event : (bounds : Bounds) (entries : List Entry) (sends : List Send) (event : LinkEvent) (log new : Log) (ledger later : Ledger) (seen shown : Seen) (before now most : ℕ) (result : Result Heard HearFault) → IsEvent event
+    → Stood bounds entries sends log ledger seen.phases before most → IsInOrder seen.phases event → ((conn : ℕ) → shown.phases conn ≡ phases_after event seen.phases conn) → Takes seen.told shown.told event → TakesIn event log new ledger later before now most result
+    → HearsBy bounds entries sends new later now seen shown result
+hears_event bounds entries sends event log new ledger later seen shown before now most (Ok answer) one stood order enters takes did = (
   event,
   did.0,
   takes,
-  heard_with bounds entries sends event log new ledger later phases before most one stood order did.1 did.2 did.3 did.5,
-  phases_with entries event phases after one stood.is_at order enters,
+  heard_with bounds entries sends event log new ledger later seen.phases before most one stood order did.1 did.2 did.3 did.5,
+  phases_with entries event seen.phases shown.phases one stood.is_at order enters,
   omega (arith, did.4, stood.counted, count_with entries event one),
 )
-hears_event bounds entries sends event log new ledger later phases after before now most coming old told (Err (fault.Refused kind offset)) one stood order enters takes did = absurd did.0
-hears_event bounds entries sends event log new ledger later phases after before now most coming old told (Err fault.ReadFault) one stood order enters takes did = absurd did.0
-hears_event bounds entries sends event log new ledger later phases after before now most coming old told (Err fault.LimitEvents) one stood order enters takes did =
+hears_event bounds entries sends event log new ledger later seen shown before now most (Err (fault.Refused kind offset)) one stood order enters takes did = absurd did.0
+hears_event bounds entries sends event log new ledger later seen shown before now most (Err fault.ReadFault) one stood order enters takes did = absurd did.0
+hears_event bounds entries sends event log new ledger later seen shown before now most (Err fault.LimitEvents) one stood order enters takes did =
     let many : bounds.max_events ≤ length (events_in entries) = omega (arith, did.0.0, stood.limit, stood.counted) in
-    (event, takes, unheeded_with bounds entries sends event unheeded.LimitEvents ledger later phases one stood.items.all_heeded (limit_events bounds (events_in entries) event many) stood.is_at order did.1 stood.replies)
-hears_event bounds entries sends event log new ledger later phases after before now most coming old told (Err (fault.TooLong conn)) one stood order enters takes did =
+    (event, takes, unheeded_with bounds entries sends event unheeded.LimitEvents ledger later seen.phases one stood.items.all_heeded (limit_events bounds (events_in entries) event many) stood.is_at order did.1 stood.replies)
+hears_event bounds entries sends event log new ledger later seen shown before now most (Err (fault.TooLong conn)) one stood order enters takes did =
     let few : length (events_in entries) < bounds.max_events = omega (arith, did.0.0, stood.limit, stood.counted) in
     let refused = too_long bounds (events_in entries) event log stood.items.shows few did.0.1 in
-    (event, takes, unheeded_with bounds entries sends event unheeded.TooLong ledger later phases one stood.items.all_heeded refused stood.is_at order did.1 stood.replies, did.0.2)
-hears_event bounds entries sends event log new ledger later phases after before now most coming old told (Err fault.LimitItems) one stood order enters takes did =
+    (event, takes, unheeded_with bounds entries sends event unheeded.TooLong ledger later seen.phases one stood.items.all_heeded refused stood.is_at order did.1 stood.replies, did.0.2)
+hears_event bounds entries sends event log new ledger later seen shown before now most (Err fault.LimitItems) one stood order enters takes did =
     let few : length (events_in entries) < bounds.max_events = omega (arith, did.0.0, stood.limit, stood.counted) in
     let refused = limit_items bounds (events_in entries) event log stood.items.shows stood.items.most few did.0.1 in
-    (event, takes, unheeded_with bounds entries sends event unheeded.LimitItems ledger later phases one stood.items.all_heeded refused stood.is_at order did.1 stood.replies)
-hears_event bounds entries sends event log new ledger later phases after before now most coming old told (Err fault.Memory) one stood order enters takes did =
+    (event, takes, unheeded_with bounds entries sends event unheeded.LimitItems ledger later seen.phases one stood.items.all_heeded refused stood.is_at order did.1 stood.replies)
+hears_event bounds entries sends event log new ledger later seen shown before now most (Err fault.Memory) one stood order enters takes did =
     inr (event, takes, is_heeded bounds entries event log one stood.items (omega (arith, did.0, stood.limit, stood.counted)) did.1)
 
 -- the end of the link
-hears_end : (bounds : Bounds) (entries : List Entry) (sends : List Send) (log new : Log) (ledger later : Ledger) (phases after : Phases) (before now most : ℕ) (coming : Option Coming) (old told : Told)
-    → Stood bounds entries sends log ledger phases before most → ((conn : ℕ) → after conn ≡ phases conn) → Takes old told event.Ends → new ≡ log → later ≡ ledger → now ≡ before
-    → HearsBy bounds entries sends new later after now coming old told (Ok heard.Ends)
-hears_end bounds entries sends log new ledger later phases after before now most coming old told stood enters takes same_log same_ledger same_count =
+hears_end : (bounds : Bounds) (entries : List Entry) (sends : List Send) (log new : Log) (ledger later : Ledger) (seen shown : Seen) (before now most : ℕ)
+    → Stood bounds entries sends log ledger seen.phases before most → ((conn : ℕ) → shown.phases conn ≡ seen.phases conn) → Takes seen.told shown.told event.Ends → new ≡ log → later ≡ ledger → now ≡ before
+    → HearsBy bounds entries sends new later now seen shown (Ok heard.Ends)
+hears_end bounds entries sends log new ledger later seen shown before now most stood enters takes same_log same_ledger same_count =
     let still : heeded bounds (events_in (entries ++ entry.Took event.Ends ∷ [])) ≡ heeded bounds (events_in entries) = ap (heeded bounds) (events_ended entries) in
     let none : items_in bounds (entries ++ entry.Took event.Ends ∷ []) ≡ items_in bounds entries ++ [] = ap (items_of bounds.framing) still ∙ sym (append-nil (items_in bounds entries)) in (
       event.Ends,
@@ -163,16 +167,16 @@ hears_end bounds entries sends log new ledger later phases after before now most
       same_count ∙ stood.counted ∙ ap length (sym (events_ended entries)),
     )
 
-pub hears_taken : (bounds : Bounds) (entries : List Entry) (sends : List Send) (event : LinkEvent) (log new : Log) (ledger later : Ledger) (phases after : Phases) (before now most : ℕ) (coming : Option Coming) (old told : Told) (result : Result Heard HearFault)
-    → Stood bounds entries sends log ledger phases before most → IsInOrder phases event → ((conn : ℕ) → after conn ≡ phases_after event phases conn) → Takes old told event → TakesOrEnds event log new ledger later before now most result
-    → HearsBy bounds entries sends new later after now coming old told result
-hears_taken bounds entries sends (event.Opens conn) log new ledger later phases after before now most coming old told result stood order enters takes did =
-    hears_event bounds entries sends (event.Opens conn) log new ledger later phases after before now most coming old told result refl stood order enters takes did
-hears_taken bounds entries sends (event.Piece conn bytes) log new ledger later phases after before now most coming old told result stood order enters takes did =
-    hears_event bounds entries sends (event.Piece conn bytes) log new ledger later phases after before now most coming old told result refl stood order enters takes did
-hears_taken bounds entries sends (event.Closes conn) log new ledger later phases after before now most coming old told result stood order enters takes did =
-    hears_event bounds entries sends (event.Closes conn) log new ledger later phases after before now most coming old told result refl stood order enters takes did
-hears_taken bounds entries sends event.Settles log new ledger later phases after before now most coming old told result stood order enters takes did =
-    hears_event bounds entries sends event.Settles log new ledger later phases after before now most coming old told result refl stood order enters takes did
-hears_taken bounds entries sends event.Ends log new ledger later phases after before now most coming old told result stood order enters takes did =
-    subst (HearsBy bounds entries sends new later after now coming old told) (sym did.0) (hears_end bounds entries sends log new ledger later phases after before now most coming old told stood enters takes did.1 did.2 did.3)
+pub hears_taken : (bounds : Bounds) (entries : List Entry) (sends : List Send) (event : LinkEvent) (log new : Log) (ledger later : Ledger) (seen shown : Seen) (before now most : ℕ) (result : Result Heard HearFault)
+    → Stood bounds entries sends log ledger seen.phases before most → IsInOrder seen.phases event → ((conn : ℕ) → shown.phases conn ≡ phases_after event seen.phases conn) → Takes seen.told shown.told event → TakesOrEnds event log new ledger later before now most result
+    → HearsBy bounds entries sends new later now seen shown result
+hears_taken bounds entries sends (event.Opens conn) log new ledger later seen shown before now most result stood order enters takes did =
+    hears_event bounds entries sends (event.Opens conn) log new ledger later seen shown before now most result refl stood order enters takes did
+hears_taken bounds entries sends (event.Piece conn bytes) log new ledger later seen shown before now most result stood order enters takes did =
+    hears_event bounds entries sends (event.Piece conn bytes) log new ledger later seen shown before now most result refl stood order enters takes did
+hears_taken bounds entries sends (event.Closes conn) log new ledger later seen shown before now most result stood order enters takes did =
+    hears_event bounds entries sends (event.Closes conn) log new ledger later seen shown before now most result refl stood order enters takes did
+hears_taken bounds entries sends event.Settles log new ledger later seen shown before now most result stood order enters takes did =
+    hears_event bounds entries sends event.Settles log new ledger later seen shown before now most result refl stood order enters takes did
+hears_taken bounds entries sends event.Ends log new ledger later seen shown before now most result stood order enters takes did =
+    subst (HearsBy bounds entries sends new later now seen shown) (sym did.0) (hears_end bounds entries sends log new ledger later seen shown before now most stood enters takes did.1 did.2 did.3)

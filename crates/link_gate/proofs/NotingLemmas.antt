@@ -7,6 +7,7 @@ use Rattle.links.specs.declared.journal.Given.TheVariants.{All, Gone}
 use Rattle.links.specs.declared.journal.LinkFault.{LinkFault}
 use Rattle.links.specs.declared.journal.LinkFault.TheVariants as cause
 use Rattle.links.specs.Links.{Counts, HasGiveCause, Gives, Told}
+use Rattle.links.specs.Seen.{Seen, GiveShows, but_given}
 use Rattle.rx_io.proofs.Composing.{rose_later}
 use Rattle.rx_io.specs.Sends.{sent_to}
 use Rattle.reply_ledger.specs.Ledger.{Passed, Ledger, connection_of, IsOpened, is_open, stamped, stamped_to, stamps_of, NotBefore, passed_connection, gone_connection, with_change, with_passed}
@@ -15,7 +16,7 @@ use Rattle.reply_ledger.proofs.ConnectionLemmas.{stamped_to-passed, stamped_to-c
 use Rattle.reply_ledger.proofs.PartLemmas.{come, room, room_passed, room_passed_some, room_gone, is_open-gone}
 use Rattle.link_gate.specs.declared.pass_fault.PassFault.{PassFault}
 use Rattle.link_gate.specs.declared.pass_fault.PassFault.TheVariants as fault
-use Rattle.link_gate.specs.Faults.{HasPassCause, AreStampedBy, HasSameSends}
+use Rattle.link_gate.specs.Passing.{HasPassCause, PassShows, AreStampedBy, HasSameSends}
 use Rattle.link_gate.specs.Noting.{IsWithin, IsNoted}
 use Rattle.link_gate.proofs.KeepLemmas.{known-changed, next_of}
 
@@ -129,13 +130,13 @@ pub record HasNoCause (before now : Counts) : Type 0 where
   pub gones : before.gones ≤ now.gones
   pub takes : now.takes ≡ before.takes
 
-pub no_cause : (counts : Counts) → HasNoCause counts counts
+no_cause : (counts : Counts) → HasNoCause counts counts
 no_cause counts = record { later = omega arith; gones = omega arith; takes = refl }
 
-pub no_cause_then : (before mid now : Counts) (given : Result Given LinkFault) → HasNoCause before mid → HasGiveCause mid now given → HasNoCause before now
+no_cause_then : (before mid now : Counts) (given : Result Given LinkFault) → HasNoCause before mid → HasGiveCause mid now given → HasNoCause before now
 no_cause_then before mid now given one other = record { later = omega (arith, one.later, other.later); gones = omega (arith, one.gones, other.later_gone); takes = other.takes ∙ one.takes }
 
-pub cause_done : (before now : Counts) → HasNoCause before now → HasPassCause {T = Unit {0}} before now (Ok tt)
+cause_done : (before now : Counts) → HasNoCause before now → HasPassCause {T = Unit {0}} before now (Ok tt)
 cause_done before now none = record { later = none.later; write_fault = (λ h. absurd (let no : ⊥ = cc in no)); gones = none.gones; takes = none.takes }
 
 -- a fault of writing is one of the link's
@@ -146,7 +147,7 @@ write_is stamp conn count old new (Err cause.Memory) stopped noted is = absurd (
 write_is stamp conn count old new (Err cause.ReadFault) stopped noted is = absurd (let no : ⊥ = cc (noted.1, is) in no)
 write_is stamp conn count old new (Err (cause.Refused kind offset)) stopped noted is = absurd (let no : ⊥ = cc (noted.1, is) in no)
 
-pub cause_stopped : (before mid now : Counts) (stamp conn count : ℕ) (old new : Ledger) (given : Result Given LinkFault) (stopped : PassFault) → HasNoCause before mid → HasGiveCause mid now given → IsNoted stamp conn count old new given (Err stopped)
+cause_stopped : (before mid now : Counts) (stamp conn count : ℕ) (old new : Ledger) (given : Result Given LinkFault) (stopped : PassFault) → HasNoCause before mid → HasGiveCause mid now given → IsNoted stamp conn count old new given (Err stopped)
     → HasPassCause {T = Unit {0}} before now (Err stopped)
 cause_stopped before mid now stamp conn count old new given stopped one other noted = record {
   later = omega (arith, one.later, other.later);
@@ -159,3 +160,35 @@ cause_stopped before mid now stamp conn count old new given stopped one other no
 pub noted_gives : (stamp conn count : ℕ) (old new : Ledger) (given : Result Given LinkFault) (done : Unit {0}) → IsNoted stamp conn count old new given (Ok done) → is_ok given ≡ true
 noted_gives stamp conn count old new (Ok given) done noted = refl
 noted_gives stamp conn count old new (Err why) done noted = absurd noted
+
+-- what a link shows while pieces are given to it, each whole or to a connection that was gone then
+pub record HasGiven (old new : Seen) : Type 0 where
+  pub cause : HasNoCause old.counts new.counts
+  pub gives : new.gives ≡ true
+  pub rest : new ≡ but_given old new
+
+pub given_none : {seen : Seen} → seen.gives ≡ true → HasGiven seen seen
+given_none gives = record { cause = no_cause _; gives = gives; rest = refl }
+
+pub given_then : {old mid new : Seen} {conn : ℕ} {bytes : List ℕ} {given : Result Given LinkFault} → HasGiven old mid → GiveShows mid new conn bytes given → is_ok given ≡ true → HasGiven old new
+given_then {old = old} {new = new} {given = given} one other well = record {
+  cause = no_cause_then _ _ _ given one.cause other.cause;
+  gives = other.gives ∙ well;
+  rest = other.rest ∙ ap (λ (seen : Seen). but_given seen new) one.rest;
+}
+
+-- so it is where all was passed, and behind a piece that failed or wasn't noted
+pub given_done : {old new : Seen} → HasGiven old new → PassShows {T = Unit {0}} old new (Ok tt)
+given_done has = record { cause = cause_done _ _ has.cause; gives = has.gives; rest = has.rest }
+
+pub given_stopped : {old mid new : Seen} {conn : ℕ} {bytes : List ℕ} (stamp count : ℕ) (ledger later : Ledger) (given : Result Given LinkFault) (stopped : PassFault) → HasGiven old mid → GiveShows mid new conn bytes given
+    → IsNoted stamp conn count ledger later given (Err stopped) → PassShows {T = Unit {0}} old new (Err stopped)
+given_stopped {new = new} {conn = conn} stamp count ledger later given stopped one other noted = record {
+  cause = cause_stopped _ _ _ stamp conn count ledger later given stopped one.cause other.cause noted;
+  gives = tt;
+  rest = other.rest ∙ ap (λ (seen : Seen). but_given seen new) one.rest;
+}
+
+-- a connection to which the link gave is given to still
+pub still_given : {mid new : Seen} {conn : ℕ} {bytes : List ℕ} {given : Result Given LinkFault} → GiveShows mid new conn bytes given → (other : ℕ) → new.gives_to other ≡ mid.gives_to other
+still_given shows other = ap (λ (seen : Seen). seen.gives_to other) shows.rest

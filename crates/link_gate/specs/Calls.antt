@@ -6,9 +6,10 @@ use Rattle.links.specs.declared.journal.LinkEvent.{LinkEvent}
 use Rattle.links.specs.declared.journal.LinkEvent.TheVariants as event
 use Rattle.rx_io.specs.Faults.{Rose}
 use Rattle.rx_io.specs.Sends.{Send}
-use Rattle.links.specs.Links.{Phases, Told, Tells, Coming, Comes, Refuses, Counts, events_in}
+use Rattle.links.specs.Links.{Told, Tells, Coming, Comes, Refuses, Counts, events_in}
+use Rattle.links.specs.Seen.{Seen}
 use Rattle.item_log.specs.Log.{Log, IsPieceOf}
-use Rattle.reply_ledger.specs.Ledger.{Ledger, stamped_to}
+use Rattle.reply_ledger.specs.Ledger.{Ledger, is_open, stamped_to}
 use Rattle.session_history.specs.Heeding.{Bounds, Unheeded}
 use Rattle.session_history.specs.Heeding as unheeded
 use Rattle.session_history.specs.Keeping.{KeepsReplies, KeepsItems, KeepsPhases}
@@ -31,21 +32,21 @@ abbrev pub Takes : Told → Told → LinkEvent → Type 0
 Takes old new event = Tells old new (entry.Took event ∷ [])
 
 -- What was heard, by the answer. An event that is refused was taken all the same; so was, perhaps, one for which memory ran out.
-abbrev pub HearsBy : Bounds → List Entry → List Send → Log → Ledger → Phases → ℕ → Option Coming → Told → Told → Result Heard HearFault → Type 0
-HearsBy bounds entries sends log ledger phases events coming old new (Ok answer) =
-    (event : LinkEvent) × IsShown event answer × Takes old new event × IsHeard bounds entries sends event log ledger
-    × KeepsPhases (entries ++ entry.Took event ∷ []) phases × (events ≡ length (events_in (entries ++ entry.Took event ∷ [])))
-HearsBy bounds entries sends log ledger phases events coming old new (Err (fault.Refused kind offset)) =
-    Tells old new [] × IfSome coming (λ next. next ≡ Refuses kind offset) × KeepsReplies bounds entries None sends ledger
-HearsBy bounds entries sends log ledger phases events coming old new (Err fault.ReadFault) = Tells old new [] × KeepsReplies bounds entries None sends ledger
-HearsBy bounds entries sends log ledger phases events coming old new (Err fault.LimitEvents) =
-    (event : LinkEvent) × Takes old new event × IsUnheeded bounds entries sends event unheeded.LimitEvents ledger
-HearsBy bounds entries sends log ledger phases events coming old new (Err (fault.TooLong conn)) =
-    (event : LinkEvent) × Takes old new event × IsUnheeded bounds entries sends event unheeded.TooLong ledger × IsPieceOf event conn
-HearsBy bounds entries sends log ledger phases events coming old new (Err fault.LimitItems) =
-    (event : LinkEvent) × Takes old new event × IsUnheeded bounds entries sends event unheeded.LimitItems ledger
-HearsBy bounds entries sends log ledger phases events coming old new (Err fault.Memory) =
-    Tells old new [] ⊎ ((event : LinkEvent) × Takes old new event × IsHeeded bounds entries event)
+abbrev pub HearsBy : Bounds → List Entry → List Send → Log → Ledger → ℕ → Seen → Seen → Result Heard HearFault → Type 0
+HearsBy bounds entries sends log ledger events old new (Ok answer) =
+    (event : LinkEvent) × IsShown event answer × Takes old.told new.told event × IsHeard bounds entries sends event log ledger
+    × KeepsPhases (entries ++ entry.Took event ∷ []) new.phases × (events ≡ length (events_in (entries ++ entry.Took event ∷ [])))
+HearsBy bounds entries sends log ledger events old new (Err (fault.Refused kind offset)) =
+    Tells old.told new.told [] × IfSome old.coming (λ next. next ≡ Refuses kind offset) × KeepsReplies bounds entries None sends ledger
+HearsBy bounds entries sends log ledger events old new (Err fault.ReadFault) = Tells old.told new.told [] × KeepsReplies bounds entries None sends ledger
+HearsBy bounds entries sends log ledger events old new (Err fault.LimitEvents) =
+    (event : LinkEvent) × Takes old.told new.told event × IsUnheeded bounds entries sends event unheeded.LimitEvents ledger
+HearsBy bounds entries sends log ledger events old new (Err (fault.TooLong conn)) =
+    (event : LinkEvent) × Takes old.told new.told event × IsUnheeded bounds entries sends event unheeded.TooLong ledger × IsPieceOf event conn
+HearsBy bounds entries sends log ledger events old new (Err fault.LimitItems) =
+    (event : LinkEvent) × Takes old.told new.told event × IsUnheeded bounds entries sends event unheeded.LimitItems ledger
+HearsBy bounds entries sends log ledger events old new (Err fault.Memory) =
+    Tells old.told new.told [] ⊎ ((event : LinkEvent) × Takes old.told new.told event × IsHeeded bounds entries event)
 
 -- What comes is told after an event as before, also after one that a session refuses, unless reading failed or memory ran out.
 abbrev pub ComesOn : Option Coming → Option Coming → Result Heard HearFault → Type 0
@@ -70,8 +71,8 @@ ComesLast coming (Ok heard.Ends) = IfSome coming (λ next. next ≡ Comes event.
 ComesLast coming (Err (fault.Refused kind offset)) = IfSome coming (λ next. next ≡ Refuses kind offset)
 ComesLast coming _ = Unit {0}
 
--- what a log, a ledger and a link's phases know of a journal
-pub record Knows (log : Log) (ledger : Ledger) (phases : Phases) (events most : ℕ) : Type 0 where
+-- Log, ledger, the count of events and a link's phases know one journal. Events may be taken from the link.
+pub record MayHear (log : Log) (ledger : Ledger) (seen : Seen) (events most : ℕ) : Type 0 where
   pub bounds : Bounds
   pub entries : List Entry
   pub sends : List Send
@@ -79,7 +80,8 @@ pub record Knows (log : Log) (ledger : Ledger) (phases : Phases) (events most : 
   pub counted : events ≡ length (events_in entries)
   pub items : KeepsItems bounds entries log
   pub replies : KeepsReplies bounds entries None sends ledger
-  pub is_at : KeepsPhases entries phases
+  pub is_at : KeepsPhases entries seen.phases
+  pub takes : seen.takes ≡ true
 
 -- no count falls, and ReadFault is answered only where that of failed takes rose
 pub record HasHearCause {T : Type 0} (before now : Counts) (result : Result T HearFault) : Type 0 where
@@ -101,3 +103,20 @@ abbrev pub Stays : Log → Log → Ledger → Ledger → ℕ → ℕ → Result 
 Stays old new ledger later before now (Ok answer) = Unit {0}
 Stays old new ledger later before now (Err fault.Memory) = later ≡ ledger
 Stays old new ledger later before now (Err fault) = (new ≡ old) × (later ≡ ledger) × (now ≡ before)
+
+-- what a link shows behind the call: it gives as before, and to each connection that the ledger has as open
+pub record HearShows (old new : Seen) (later : Ledger) (result : Result Heard HearFault) : Type 0 where
+  pub takes : TakesBehind old.told new.told new.takes result
+  pub last : ComesLast new.coming result
+  pub coming : ComesOn old.coming new.coming result
+  pub cause : HasHearCause old.counts new.counts result
+  pub gives : new.gives ≡ old.gives
+  pub connected : (conn : ℕ) → is_open later.connections conn ≡ true → new.gives_to conn ≡ true
+
+-- what becomes of log, ledger and count of events: nothing that was sent or passed changes, no item is given up, and no more events than may be
+-- are counted
+pub record KeepsHearing (old new : Log) (ledger later : Ledger) (before now most : ℕ) (result : Result Heard HearFault) : Type 0 where
+  pub replies : HasSameReplies ledger later
+  pub stays : Stays old new ledger later before now result
+  pub first : new.first ≡ old.first
+  pub events : now ≤ most

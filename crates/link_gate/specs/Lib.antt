@@ -1,4 +1,4 @@
 pub mod Calls
 pub mod Taking
-pub mod Faults
+pub mod Passing
 pub mod Noting

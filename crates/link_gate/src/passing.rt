@@ -1,13 +1,12 @@
 // Replies go out through a link, one piece after another.
-ghost use Rattle.std.specs.Prelude.{◌≡◌, ℕ, ◌+◌, ◌≤◌, List, length, true, None, IfOk};
+ghost use Rattle.std.specs.Prelude.{◌≡◌, ◌+◌, ◌≤◌, List, length, None};
 ghost use Rattle.rx_io.specs.Sends.{Send, sent_to};
-ghost use Rattle.reply_ledger.specs.Ledger.{is_open, IsOpened, NotBefore, stamps_of, stamped_to, passed_to};
+ghost use Rattle.reply_ledger.specs.Ledger.{IsOpened, NotBefore, stamps_of, stamped_to, passed_to};
 ghost use Rattle.session_history.specs.Heeding.{received};
 ghost use Rattle.session_history.specs.Owing.{Moment, journal};
 ghost use Rattle.session_history.specs.Lawful.{Rules};
-ghost use Rattle.session_history.specs.Keeping.{AreSendable};
 ghost use Rattle.session_history.specs.Giving.{IsReady, IsClosing, Passes, PassesRest};
-ghost use Rattle.link_gate.specs.Faults.{HasPassCause, AreStampedBy, HasSameSends};
+ghost use Rattle.link_gate.specs.Passing.{MayPass, KeepsPassing};
 ghost use Rattle.link_gate.specs.Noting.{IsWithin, IsNoted};
 
 use crate::PassFault;
@@ -27,21 +26,10 @@ pub fn pass_until<K: Link>(
     until: u64,
     stamp: u64,
 ) -> Result<(), PassFault>
-    requires survivor { replies.old.trial ≡ None }
-    requires stamped { AreStampedBy stamp replies.old }
-    requires sendable { AreSendable replies.old.kept }
-    requires gives { K.gives link.old ≡ true }
-    requires connected { (conn : ℕ) → is_open replies.old.connections conn ≡ true → K.gives_to link.old conn ≡ true }
+    requires { MayPass stamp (K.seen link.old) replies.old }
     ensures passes { (rules : Rules) (sends : List Send) (moment : Moment) → received rules.bounds (journal moment) ≡ stamp → IsReady rules sends moment until replies.old
-        → Passes rules sends moment until replies.new (K.told link.old) (K.told link.new) result }
-    ensures sends { HasSameSends replies.old replies.new }
-    ensures stamped { IfOk result (λ _. AreStampedBy stamp replies.new) }
-    ensures connected { (conn : ℕ) → is_open replies.new.connections conn ≡ true → K.gives_to link.new conn ≡ true }
-    ensures cause { HasPassCause (K.counts link.old) (K.counts link.new) result }
-    ensures phases { (other : ℕ) → K.phases link.new other ≡ K.phases link.old other }
-    ensures coming { K.coming link.new ≡ K.coming link.old }
-    ensures takes { K.takes link.new ≡ K.takes link.old }
-    ensures gives { IfOk result (λ _. K.gives link.new ≡ true) }
+        → Passes rules sends moment until replies.new (K.seen link.old).told (K.seen link.new).told result }
+    ensures keeps { KeepsPassing stamp (K.seen link.old) (K.seen link.new) replies.old replies.new result }
     ensures went { K.Went link.old link.new }
 {
     'pieces: while let Some((conn, bytes)) = replies.next_piece(until) {
@@ -67,23 +55,12 @@ pub fn pass_rest<K: Link>(
     conn: u16,
     stamp: u64,
 ) -> Result<(), PassFault>
-    requires survivor { replies.old.trial ≡ None }
+    requires may { MayPass stamp (K.seen link.old) replies.old }
     requires opened { IsOpened replies.old conn }
-    requires stamped { AreStampedBy stamp replies.old }
-    requires sendable { AreSendable replies.old.kept }
-    requires gives { K.gives link.old ≡ true }
-    requires connected { (other : ℕ) → is_open replies.old.connections other ≡ true → K.gives_to link.old other ≡ true }
     ensures passes { (rules : Rules) (sends : List Send) (moment : Moment) → received rules.bounds (journal moment) ≡ stamp → IsClosing rules sends moment conn replies.old
-        → PassesRest rules sends moment conn replies.new (K.told link.old) (K.told link.new) result }
-    ensures sends { HasSameSends replies.old replies.new }
-    ensures stamped { IfOk result (λ _. AreStampedBy stamp replies.new) }
+        → PassesRest rules sends moment conn replies.new (K.seen link.old).told (K.seen link.new).told result }
+    ensures keeps { KeepsPassing stamp (K.seen link.old) (K.seen link.new) replies.old replies.new result }
     ensures opened { IsOpened replies.new conn }
-    ensures connected { (other : ℕ) → is_open replies.new.connections other ≡ true → K.gives_to link.new other ≡ true }
-    ensures cause { HasPassCause (K.counts link.old) (K.counts link.new) result }
-    ensures phases { (other : ℕ) → K.phases link.new other ≡ K.phases link.old other }
-    ensures coming { K.coming link.new ≡ K.coming link.old }
-    ensures takes { K.takes link.new ≡ K.takes link.old }
-    ensures gives { IfOk result (λ _. K.gives link.new ≡ true) }
     ensures went { K.Went link.old link.new }
 {
     'pieces: while replies.is_open(conn) {

@@ -1,4 +1,5 @@
 pub mod Links
+pub mod Seen
 pub mod ConnectionTables
 pub mod LinkForms
 pub mod TableLaws

@@ -1,8 +1,13 @@
 -- The link in memory goes on.
 use Rattle.std.specs.Prelude.{◌++◌, []}
 use Rattle.std.proofs.Common.{append-nil, append_assoc, refl, sym, ap, ◌∙◌}
-use Rattle.links.specs.MemoryLinks.{MemoryWent}
+use Rattle.links.specs.MemoryLinks.{seen_in, MemoryWent}
+use Rattle.links.specs.Seen.{IsSound}
+use Rattle.links.specs.TableLaws.{open_gives, open_below}
 use Rattle.links.specs.declared.memory_link.MemoryLink.{MemoryLink}
+
+pub memory_sound : (link : MemoryLink) → IsSound (seen_in link)
+memory_sound link = record { gives_open = open_gives link.table; below = open_below link.table }
 
 pub memory_same : (link : MemoryLink) → MemoryWent link link
 memory_same link = record { played = refl; grew = ([], append-nil _) }

@@ -1,9 +1,10 @@
 -- The link in memory: a list of events that it plays, with the calls that are to fail and the gives that find their
 -- connection gone.
-use Rattle.std.specs.Prelude.{ℕ, ◌+◌, ◌≤◌, min, nat_lt, ◌==◌, Bool, true, false, List, [], ◌∷◌, ◌++◌, length, take, drop, Option, None, Some, Result, Ok, Err, IsOk, if◌then◌else◌, ◌≡◌}
+use Rattle.std.specs.Prelude.{ℕ, ◌+◌, ◌≤◌, min, nat_lt, ◌==◌, true, false, List, [], ◌∷◌, ◌++◌, length, take, drop, Option, None, Some, Result, Ok, Err, IsOk, if◌then◌else◌, ◌≡◌}
 use Rattle.links.specs.ConnectionTables.{phases_in, is_in_order}
-use Rattle.links.specs.LinkForms.{handed_by}
-use Rattle.links.specs.Links.{Phases, Coming, Comes, Refuses, Counts, Handed}
+use Rattle.links.specs.LinkForms.{told_by, handed_by, gives_below_4096}
+use Rattle.links.specs.Links.{Phases, Coming, Comes, Refuses, Counts}
+use Rattle.links.specs.Seen.{Seen}
 use Rattle.rx_io.specs.Prefix.{Prefix}
 use Rattle.rx_io.specs.Planned.{Plan, first_plan, fails_next, after_call, one_more}
 use Rattle.links.specs.declared.journal.Entry.{Entry}
@@ -86,9 +87,6 @@ taken_after length taken (Err fault) = taken
 abbrev pub after_next : Script → Result LinkEvent LinkFault → Script
 after_next script result = record (after_script_call script) { taken = taken_after (length script.events) script.taken result }
 
-abbrev pub no_faults : Counts
-no_faults = record { takes = 0; gives = 0; gones = 0 }
-
 -- `ReadFault` raises the count of failed takes, and nothing else raises a count
 abbrev pub counts_after_next : Counts → Result LinkEvent LinkFault → Counts
 counts_after_next counts (Err ReadFault) = record counts { takes = one_more counts.takes }
@@ -132,14 +130,18 @@ counts_in counts = record { takes = counts.takes; gives = counts.gives; gones = 
 abbrev pub link_counts : MemoryLink → Counts
 link_counts link = counts_in link.counts
 
-abbrev pub link_handed : MemoryLink → Option Handed
-link_handed link = handed_by link.handed
-
-abbrev pub link_takes : MemoryLink → Bool
-link_takes link = link.takes
-
-abbrev pub link_gives : MemoryLink → Bool
-link_gives link = link.gives
+-- what the link shows: it tells its whole journal, and gives to each connection below 4096 at all times
+abbrev pub seen_in : MemoryLink → Seen
+seen_in link = record {
+  told = told_by (link_journal link);
+  phases = link_phases link;
+  coming = Some (link_coming link);
+  handed = handed_by link.handed;
+  gives_to = gives_below_4096;
+  takes = link.takes;
+  gives = link.gives;
+  counts = link_counts link;
+}
 
 -- the events to play stay, and the journal grew at its end
 pub record MemoryWent (old new : MemoryLink) : Type 0 where

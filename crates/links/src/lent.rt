@@ -5,25 +5,9 @@ ghost use Rattle.std.proofs.Common.{◌∙◌};
 use crate::{Given, Link, LinkEvent, LinkFault};
 
 impl<T: Link> Link for &mut T {
-    ghost told = { λ s. T.told s.now };
+    ghost seen = { λ s. T.seen s.now };
 
-    ghost phases = { λ s. T.phases s.now };
-
-    ghost coming = { λ s. T.coming s.now };
-
-    ghost handed = { λ s. T.handed s.now };
-
-    ghost gives_to = { λ s. T.gives_to s.now };
-
-    ghost takes = { λ s. T.takes s.now };
-
-    ghost gives = { λ s. T.gives s.now };
-
-    ghost counts = { λ s. T.counts s.now };
-
-    ghost gives_open = { λ s. T.gives_open s.now };
-
-    ghost below = { λ s. T.below s.now };
+    ghost sound = { λ s. T.sound s.now };
 
     ghost Went = { λ old new. (new.ghost_name ≡ old.ghost_name) × T.Went old.now new.now };
 

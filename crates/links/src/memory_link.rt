@@ -165,9 +165,10 @@ fn note_given(
 }
 
 impl MemoryLink {
-    ghost use Rattle.std.specs.Prelude.{◌≡◌, ◌<◌, ◌^◌, [], ℕ, None, true, length};
-    ghost use Rattle.links.specs.Links.{IsFresh, Enters};
-    ghost use Rattle.links.specs.MemoryLinks.{first_script, link_script, link_journal, link_phases, link_counts, link_handed, link_takes, link_gives, no_faults, planned_next, planned_give, AnswersAs, after_next, after_script_call, after_taking, after_giving};
+    ghost use Rattle.std.specs.Prelude.{◌≡◌, [], length};
+    ghost use Rattle.links.specs.Links.{Enters};
+    ghost use Rattle.links.specs.Seen.{IsFreshLink, no_faults};
+    ghost use Rattle.links.specs.MemoryLinks.{first_script, seen_in, link_script, link_journal, link_phases, planned_next, planned_give, AnswersAs, after_next, after_script_call, after_taking, after_giving};
 
     /// Plays these events and then answers `Ends`. Calls of `next` and `give` are counted together from 1. The calls whose
     /// numbers are in `fails` answer `ReadFault` or `WriteFault`, and no byte goes out. The gives whose numbers are in
@@ -180,11 +181,8 @@ impl MemoryLink {
     ) -> MemoryLink
         ensures script { link_script result ≡ first_script events.items fails.items gones.items }
         ensures journal { link_journal result ≡ [] }
-        ensures phases { IsFresh (link_phases result) }
-        ensures handed { link_handed result ≡ None }
-        ensures counts { link_counts result ≡ no_faults }
-        ensures takes { link_takes result ≡ true }
-        ensures gives { link_gives result ≡ true }
+        ensures fresh { IsFreshLink (seen_in result) }
+        ensures counts { (seen_in result).counts ≡ no_faults }
     {
         MemoryLink {
             alloc,
@@ -259,32 +257,14 @@ impl MemoryLink {
 }
 
 impl Link for MemoryLink {
-    ghost use Rattle.std.specs.Prelude.{◌≡◌, ◌<◌, ◌^◌, ℕ, Some, true, length, is_ok};
-    ghost use Rattle.links.specs.LinkForms.{told_by, gives_below_4096};
-    ghost use Rattle.links.specs.Links.{Nexts, Enters, GoesBy, StillComes, StaysTold, HasTakeCause, GivesAtClose, Gives, TellsHanded, HasGiveCause};
-    ghost use Rattle.links.specs.MemoryLinks.{link_script, link_journal, link_phases, link_coming, link_counts, link_handed, link_takes, link_gives, planned_next, planned_give, AnswersAs, after_next, after_script_call, after_taking, after_giving, counts_after_next, counts_after_give, MemoryWent};
-    ghost use Rattle.links.specs.MemoryLaws.{memory_same, memory_on};
-    ghost use Rattle.links.specs.TableLaws.{open_gives, open_below};
+    ghost use Rattle.std.specs.Prelude.{◌≡◌, ◌<◌, ◌^◌, true, length};
+    ghost use Rattle.links.specs.Seen.{NextShows, GiveShows};
+    ghost use Rattle.links.specs.MemoryLinks.{seen_in, link_script, link_journal, link_phases, link_counts, planned_next, planned_give, AnswersAs, after_next, after_script_call, after_taking, after_giving, counts_after_next, counts_after_give, MemoryWent};
+    ghost use Rattle.links.specs.MemoryLaws.{memory_sound, memory_same, memory_on};
 
-    ghost told = { λ link. told_by (link_journal link) };
+    ghost seen = { seen_in };
 
-    ghost phases = { link_phases };
-
-    ghost coming = { λ link. Some (link_coming link) };
-
-    ghost handed = { link_handed };
-
-    ghost gives_to = { λ link. gives_below_4096 };
-
-    ghost takes = { link_takes };
-
-    ghost gives = { link_gives };
-
-    ghost counts = { link_counts };
-
-    ghost gives_open = { λ link. open_gives link.table };
-
-    ghost below = { λ link. open_below link.table };
+    ghost sound = { memory_sound };
 
     ghost Went = { MemoryWent };
 
@@ -295,17 +275,8 @@ impl Link for MemoryLink {
     /// Takes the next event of the list, or `Ends` behind its last. An event that isn't in order for its connection, or whose
     /// connection is 4096 or above, is refused by kind 4 with its place in the list, counted from 0. `Ends` isn't gone past.
     fn next(&mut self) -> Result<LinkEvent, LinkFault>
-        requires { link_takes self.old ≡ true }
-        ensures told { Nexts (told_by (link_journal self.old)) (told_by (link_journal self.new)) result }
-        ensures order { Enters (link_phases self.old) (link_phases self.new) result }
-        ensures grammar { GoesBy (Some (link_coming self.old)) result }
-        ensures last { StillComes (Some (link_coming self.new)) result }
-        ensures coming { StaysTold (Some (link_coming self.old)) (Some (link_coming self.new)) result }
-        ensures cause { HasTakeCause (link_counts self.old) (link_counts self.new) result }
-        ensures closing { GivesAtClose gives_below_4096 result }
-        ensures handed { link_handed self.new ≡ link_handed self.old }
-        ensures takes { link_takes self.new ≡ is_ok result }
-        ensures gives { link_gives self.new ≡ link_gives self.old }
+        requires { (seen_in self.old).takes ≡ true }
+        ensures shows { NextShows (seen_in self.old) (seen_in self.new) result }
         ensures went { MemoryWent self.old self.new }
         ensures answer { AnswersAs (planned_next (link_phases self.old) (link_script self.old)) result }
         ensures script { link_script self.new ≡ after_next (link_script self.old) result }
@@ -320,18 +291,11 @@ impl Link for MemoryLink {
 
     /// Gives a piece, as the call's number has it.
     fn give(&mut self, conn: u16, bytes: &[u8]) -> Result<Given, LinkFault>
-        requires may { link_gives self.old ≡ true }
-        requires connected { gives_below_4096 conn ≡ true }
+        requires may { (seen_in self.old).gives ≡ true }
+        requires connected { (seen_in self.old).gives_to conn ≡ true }
         requires some { 0 < length bytes.now }
         requires few { length bytes.now < 2 ^ 16 }
-        ensures told { Gives (told_by (link_journal self.old)) (told_by (link_journal self.new)) conn bytes.now result }
-        ensures handed { TellsHanded (told_by (link_journal self.new)) (link_handed self.new) conn bytes.now }
-        ensures cause { HasGiveCause (link_counts self.old) (link_counts self.new) result }
-        ensures phases { (other : ℕ) → link_phases self.new other ≡ link_phases self.old other }
-        ensures gives_to { (other : ℕ) → gives_below_4096 other ≡ gives_below_4096 other }
-        ensures coming { Some (link_coming self.new) ≡ Some (link_coming self.old) }
-        ensures takes { link_takes self.new ≡ link_takes self.old }
-        ensures gives { link_gives self.new ≡ is_ok result }
+        ensures shows { GiveShows (seen_in self.old) (seen_in self.new) conn bytes.now result }
         ensures went { MemoryWent self.old self.new }
         ensures answer { AnswersAs (planned_give (length bytes.now) (link_script self.old)) result }
         ensures script { link_script self.new ≡ after_script_call (link_script self.old) }

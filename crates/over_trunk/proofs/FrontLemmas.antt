@@ -17,7 +17,7 @@ use Rattle.trunk_wire.specs.Calls.{Writes, WritesBy}
 use Rattle.trunk_wire.specs.Frames.{piece_frame, frames}
 use Rattle.trunk_wire.specs.Going.{Output, WroteFrames, GivesOn}
 use Rattle.trunk_wire.specs.Tellings.{told_pieces, told_nothing}
-use Rattle.trunk_wire.specs.TrunkLinks.{TrunkWent, told_of, trunk_gives, output_of}
+use Rattle.trunk_wire.specs.TrunkLinks.{TrunkWent, told_of, seen_of, output_of}
 use Rattle.trunk_wire.specs.declared.trunk_link.TrunkLink.{TrunkLink}
 use Rattle.over_trunk.specs.Trunk.{WritesWhole}
 use Rattle.over_trunk.proofs.WriteLemmas.{Short}
@@ -68,10 +68,10 @@ broken_front out mid later list before sends last none short wrote still grew gi
     subst (WritesFront out.told later) (sym are)
     (front_more out.told mid.told later before last (sends_written out.told mid.told before list given (writes_whole out mid list none short wrote still grew)) gave)
 
-module _ {S K F G : Type 0} (source_fixed : S → F) (source_told : S → Option Stream) (sink_fixed : K → G) (sink_told : K → Option (List ℕ)) where
+module _ {S K F G : Type 0} (source_fixed : S → F) (source_told : S → Option Stream) (source_faults : S → ℕ) (sink_fixed : K → G) (sink_told : K → Option (List ℕ)) (sink_faults : K → ℕ) where
   pub broken_off : (began later : TrunkLink S K) (sends : List Send) → began.wrote ≡ 0 → began.gives ≡ true → ((sink : K) → Short (sink_told sink))
       → told_of source_told sink_told began ≡ told_nothing (source_told began.source) (sink_told began.sink)
-      → BreaksOff (told_of source_told sink_told) trunk_gives (TrunkWent source_fixed source_told sink_fixed sink_told) (λ old new conn bytes. WritesFirst (sink_told old.sink) (sink_told new.sink) (piece_frame conn bytes)) began later sends
+      → BreaksOff (seen_of source_told source_faults sink_told sink_faults) (TrunkWent source_fixed source_told sink_fixed sink_told) (λ old new conn bytes. WritesFirst (sink_told old.sink) (sink_told new.sink) (piece_frame conn bytes)) began later sends
       → WritesFront (sink_told began.sink) (sink_told later.sink) sends
   broken_off began later sends none gives short start broke =
       let wrote : WroteFrames (output_of sink_told began) (output_of sink_told broke.mid) = subst (λ b. GivesOn b (output_of sink_told began) (output_of sink_told broke.mid)) gives broke.went.given in

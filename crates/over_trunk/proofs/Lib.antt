@@ -1,3 +1,4 @@
+pub mod Shown
 pub mod ReadLemmas
 pub mod WriteLemmas
 pub mod PayloadLemmas

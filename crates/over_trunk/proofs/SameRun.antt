@@ -2,7 +2,8 @@
 use Rattle.std.proofs.Common.{◌≡◌, ◌⊎◌, inl, inr, ℕ, ◌≤◌, Bool, true, List, [], ◌∷◌, ◌++◌, length, Option, Some, None, arith, append_assoc, append-nil, refl, sym, ap, ◌∙◌, subst}
 use Rattle.std.proofs.lemmas.Bool.{true≢false}
 use Rattle.std.proofs.lemmas.Option.{none-some, same_Some}
-use Rattle.links.specs.Links.{Told, Coming, events_in, HasEnded}
+use Rattle.links.specs.Links.{Unopened, Coming, events_in, HasEnded}
+use Rattle.links.specs.Seen.{Seen, no_faults}
 use Rattle.rx_io.specs.Prefix.{Prefix}
 use Rattle.rx_io.specs.declared.bytes.Item.{Item}
 use Rattle.links.specs.declared.journal.Entry.{Entry}
@@ -37,8 +38,18 @@ on_more items others choices first last steps front ran =
     let more : run (items ++ front.0) (choices ++ []) first steps ≡ Some last = run_more items front.0 choices [] first last steps ran in
     subst (λ (cs : List Choice). run others cs first steps ≡ Some last) (append-nil choices) (subst (λ (is : List Item). run is (choices ++ []) first steps ≡ Some last) front.1 more)
 
-abbrev untold : Told
-untold = record { events = None; pieces = None; journal = None }
+-- what a link shows that tells of nothing but of what comes
+abbrev untold : Option Coming → Seen
+untold coming = record {
+  told = record { events = None; pieces = None; journal = None };
+  phases = λ conn. Unopened;
+  coming = coming;
+  handed = None;
+  gives_to = λ conn. true;
+  takes = true;
+  gives = true;
+  counts = no_faults;
+}
 
 module _ (rules : Rules) (image : Image) (session : Session) (at_end : Bool) (recording : Recorded) (entries : List Entry) (account : IsAccount rules image session at_end)
     (has : HasSession rules session recording) (asked : AreAsked image recording entries) (near : Prefix (events_in (journal_of session)) (events_in entries) ⊎ Prefix (events_in entries) (events_in (journal_of session))) where
@@ -50,15 +61,15 @@ module _ (rules : Rules) (image : Image) (session : Session) (at_end : Bool) (re
   brought_not before was front =
       let these = items_in (bounds_of recording) before in
       let own : BringsFirst (bounds_of recording) these before = record { more = []; first = sym (append-nil these); all = λ ended. refl } in
-      let here = begins image these recording before was.replay was.asks.is own in
+      let here = begins was.asks.is own in
       let items : Prefix (items_in rules.bounds (journal_of session)) (items_of recording.frame (events_in before)) =
-      subst (λ framing. Prefix (items_of framing (heeded rules.bounds (events_in (journal_of session)))) (items_of recording.frame (events_in before))) has.frame (items_grow recording.frame _ _ front) in
+      subst (λ framing. Prefix (items_of framing (heeded rules.bounds (events_in (journal_of session)))) (items_of recording.frame (events_in before))) has.frame (items_grow recording.frame _ front) in
       let all : Prefix (items_in rules.bounds (journal_of session)) these =
       subst (λ (events : List LinkEvent). Prefix (items_in rules.bounds (journal_of session)) (items_of recording.frame events)) (sym was.asks.heeds) items in
       let there = on_more (items_in rules.bounds (journal_of session)) these recording.choices (start image) session.survivor.now.state recording.steps all of_run.ran.ran in
-      let on = goes_on these recording.choices (start image) was.replay.state session.survivor.now.state was.replay.steps recording.steps here there was.asks.shorter in
+      let on = goes_on here there was.asks.shorter in
       let none : length these ≤ was.replay.state.machine.taken = omega (arith, was.asks.taken) in
-      starved_not these recording.choices was.replay.state on.later was.asks.asks none on.goes
+      starved_not these recording.choices was.replay.state was.asks.asks none on.goes
 
   -- so the session heeded what comes next there
   next_heeded : (before : List Entry) (next : LinkEvent) (rest all : List LinkEvent) → WasAsked image recording before → Prefix (heeded rules.bounds (events_in (journal_of session))) all
@@ -95,9 +106,9 @@ module _ (rules : Rules) (image : Image) (session : Session) (at_end : Bool) (re
       → (HasEnded entries → Prefix (events_in (journal_of session)) (events_in entries)) → ⊥
   mismatch_not replay coming step is ends all =
       let stream = of near in
-      let over_a_link : HasReplayed image recording untold untold coming true (answer.Mismatch step) 0 replay.steps =
+      let over_a_link : HasReplayed image recording (untold coming) (untold coming) (answer.Mismatch step) 0 replay.steps =
       record { entries = entries; replay = replay; tells = record { events = tt; pieces = tt; journal = tt }; asked = asked; is = is; ends = ends; failed = λ no. absurd (true≢false no); counted = omega arith } in
-      (session_is_replayed rules image session at_end stream.0 recording untold untold coming true (answer.Mismatch step) 0 replay.steps over_a_link account has stream.1).0
+      (session_is_replayed rules image session at_end stream.0 recording (untold coming) (untold coming) (answer.Mismatch step) 0 replay.steps over_a_link account has stream.1).0
     where
       of : Prefix (events_in (journal_of session)) (events_in entries) ⊎ Prefix (events_in entries) (events_in (journal_of session)) → (events : List LinkEvent) × HadOneStream events (journal_of session) entries
       of (inl front) = (events_in entries, record { session_took = front; replay_took = ([], append-nil (events_in entries)); all = λ ended. refl })
@@ -118,8 +129,8 @@ module _ (rules : Rules) (image : Image) (session : Session) (at_end : Bool) (re
         | inr front ↦ two_of_one _ _ (events_in (journal_of session)) (front_on _ (events_in entries) (events_in (journal_of session)) here front) there
       ] in
       elim heeds [
-        | inl front ↦ inl (subst (λ framing. Prefix (items_in (bounds_of recording) entries) (items_of framing (heeded rules.bounds (events_in (journal_of session))))) has.frame (items_grow recording.frame _ _ front))
-        | inr front ↦ inr (subst (λ framing. Prefix (items_of framing (heeded rules.bounds (events_in (journal_of session)))) (items_in (bounds_of recording) entries)) has.frame (items_grow recording.frame _ _ front))
+        | inl front ↦ inl (subst (λ framing. Prefix (items_in (bounds_of recording) entries) (items_of framing (heeded rules.bounds (events_in (journal_of session))))) has.frame (items_grow recording.frame _ front))
+        | inr front ↦ inr (subst (λ framing. Prefix (items_of framing (heeded rules.bounds (events_in (journal_of session)))) (items_in (bounds_of recording) entries)) has.frame (items_grow recording.frame _ front))
       ]
 
   -- at Finished the replay stands where the session's run does

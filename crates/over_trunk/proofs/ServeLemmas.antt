@@ -19,7 +19,8 @@ use Rattle.session_notes.specs.Noting.{Noted}
 use Rattle.trials.specs.Episodes.{episode_of}
 use Rattle.session_history.specs.Heeding.{Bounds}
 use Rattle.session_history.specs.Lawful.{Rules}
-use Rattle.session_state.specs.Serving.{StaysKnown, TakesAtEnd, BreaksAt}
+use Rattle.links.specs.Seen.{Seen}
+use Rattle.session_state.specs.Serving.{StaysKnown, TakesAtEnd, BreaksAt, LinkAnswers}
 use Rattle.trunk_wire.specs.Calls.{count_after}
 use Rattle.trunk_wire.specs.Frames.{frames}
 use Rattle.trunk_wire.specs.Going.{AreInOrder, phases_behind, Intake, IsTail, TookFrames, TakesOn, Output, WroteFrames, GivesOn}
@@ -146,18 +147,45 @@ breaks_trunk old new out later events pieces answer.Memory no_part whole (inl kn
 breaks_trunk old new out later events pieces answer.Memory no_part whole (inr gives) = inr (whole gives)
 breaks_trunk old new out later events pieces _ no_part whole once = tt
 
+-- what a link shows that has taken so much and given so much
+abbrev pub shows_by : Intake → Output → Seen → Seen
+shows_by new later rest = record rest {
+  told = trunk_told (told_events new.told new.took new.phases new.takes) (told_pieces later.told later.wrote later.gives);
+  phases = new.phases;
+  coming = upcoming new;
+  takes = new.takes;
+  gives = later.gives;
+}
+
+-- a trunk of which nothing was taken, and to which nothing was written
+pub record StartsTrunk (began : Told) (old : Intake) (out : Output) : Type 0 where
+  pub phases : IsFresh old.phases
+  pub took : old.took ≡ 0
+  pub wrote : out.wrote ≡ 0
+  pub takes : old.takes ≡ true
+  pub gives : out.gives ≡ true
+  pub told : began ≡ told_nothing old.told out.told
+
+-- it goes on by taking frames and writing frames, over a source and a sink that are countable
+pub record WentTrunk (old new : Intake) (out later : Output) : Type 0 where
+  pub countable : Countable new.told
+  pub short : Short later.told
+  pub taken : TakesOn old.takes old new
+  pub given : GivesOn out.gives out later
+
 -- a session over a link that was made
-pub serves : (rules : Rules) (keeping : Keeping) (image : Image) (old new : Intake) (out later : Output) (began : Told) (end : Answer) (noted_before noted_now : Noted) (recorded : ℕ) (tail : List Choice) (taken steps first last counted : ℕ) → IsFresh old.phases → old.took ≡ 0 → out.wrote ≡ 0
-    → old.takes ≡ true → out.gives ≡ true → Countable new.told → Short later.told → began ≡ told_nothing old.told out.told → TakesOn old.takes old new → GivesOn out.gives out later
-    → TakesAtEnd new.takes end → (IsEnd end → later.gives ≡ true) → (IsEnd end → StaysKnown (upcoming old) (upcoming new)) → BreaksAt (upcoming old) (upcoming new) later.gives end
-    → (recovered : HasRecovered rules image keeping began (trunk_told (told_events new.told new.took new.phases new.takes) (told_pieces later.told later.wrote later.gives)) (upcoming new) new.takes end noted_before noted_now recorded tail taken steps first last) → last ≡ first + counted
+pub serves : (rules : Rules) (keeping : Keeping) (image : Image) {old new : Intake} {out later : Output} (before rest : Seen) {began : Told} (end : Answer) {noted_before noted_now : Noted} {recorded : ℕ} {tail : List Choice} {taken steps first last : ℕ} (counted : ℕ)
+    → StartsTrunk began old out → WentTrunk old new out later → LinkAnswers (shows_by old out before) (shows_by new later rest) end
+    → HasRecovered rules image keeping began (shows_by new later rest) end noted_before noted_now recorded tail taken steps first last → last ≡ first + counted
     → ServesTrunk rules keeping image old.told new.told out.told later.told end noted_before noted_now recorded tail taken steps counted
-serves rules keeping image old new out later began end noted_before noted_now recorded tail taken steps first last counted is_fresh none nothing takes gives few short start taken_on given_on still gives_still known once recovered count =
+serves rules keeping image {old = old} {new = new} {out = out} {later = later} before rest end {noted_before = noted_before} {noted_now = noted_now} {recorded = recorded} {tail = tail} counted starts went answers recovered count =
     let served = recovered.served in
-    let went : TookFrames old new = subst (λ b. TakesOn b old new) takes taken_on in
-    let wrote : WroteFrames out later = subst (λ b. GivesOn b out later) gives given_on in
-    let events = subst (λ (told : Told). Grew told.events (told_events new.told new.took new.phases new.takes) (events_in (journal_of served.session))) start served.tells.events in
-    let pieces = subst (λ (told : Told). Grew told.pieces (told_pieces later.told later.wrote later.gives) (pieces_in (journal_of served.session))) start served.tells.pieces in record {
+    let took : TookFrames old new = subst (λ b. TakesOn b old new) starts.takes went.taken in
+    let wrote : WroteFrames out later = subst (λ b. GivesOn b out later) starts.gives went.given in
+    let list = events_in (journal_of served.session) in
+    let given = pieces_in (journal_of served.session) in
+    let events = subst (λ (told : Told). Grew told.events (told_events new.told new.took new.phases new.takes) list) starts.told served.tells.events in
+    let pieces = subst (λ (told : Told). Grew told.pieces (told_pieces later.told later.wrote later.gives) given) starts.told served.tells.pieces in record {
       session = served.session;
       at_end = served.at_end;
       coming = upcoming new;
@@ -176,14 +204,14 @@ serves rules keeping image old new out later began end noted_before noted_now re
       notes = subst (λ (cs : List Choice). HasNoted noted_before noted_now end cs (map episode_of recovered.recoveries ++ recovered.last) recorded tail) (sym served.choices_are) recovered.notes;
       taken_is = served.taken_is;
       steps_are = served.steps_are;
-      took = takes_trunk old new (events_in (journal_of served.session)) (WasAsked rules served.session) served.asked is_fresh none few went events;
-      stops = stops_trunk rules served.session old new (events_in (journal_of served.session)) end is_fresh none takes few went events still known served.ends;
-      wrote = writes_trunk out later (pieces_in (journal_of served.session)) nothing short wrote pieces;
-      wrote_whole = λ is. writes_whole out later (pieces_in (journal_of served.session)) nothing short wrote (gives_still is) pieces;
-      breaks = breaks_trunk old new out later (events_in (journal_of served.session)) (pieces_in (journal_of served.session)) end
-          (takes_no_part old new (events_in (journal_of served.session)) is_fresh none takes few went events)
-          (λ is. writes_whole out later (pieces_in (journal_of served.session)) nothing short wrote is pieces) once;
-      carried = carries rules.bounds out later (journal_of served.session) nothing short wrote pieces;
+      took = takes_trunk old new list (WasAsked rules served.session) served.asked starts.phases starts.took went.countable took events;
+      stops = stops_trunk rules served.session old new list end starts.phases starts.took starts.takes went.countable took events answers.takes answers.known served.ends;
+      wrote = writes_trunk out later given starts.wrote went.short wrote pieces;
+      wrote_whole = λ is. writes_whole out later given starts.wrote went.short wrote (answers.gives is) pieces;
+      breaks = breaks_trunk old new out later list given end
+          (takes_no_part old new list starts.phases starts.took starts.takes went.countable took events)
+          (λ is. writes_whole out later given starts.wrote went.short wrote is pieces) answers.once;
+      carried = carries rules.bounds out later (journal_of served.session) starts.wrote went.short wrote pieces;
     }
 
 -- no other answer has an account

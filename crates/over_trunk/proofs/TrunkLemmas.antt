@@ -1,9 +1,10 @@
 -- What a replay over a trunk leaves, by what it leaves over a link.
-use Rattle.std.proofs.Common.{◌≡◌, ◌+◌, ℕ, Bool, true, List, [], take, Option, None, Some, option_map, refl, subst, inl, inr, arith}
+use Rattle.std.proofs.Common.{◌≡◌, ◌+◌, ℕ, true, List, [], take, Option, None, Some, option_map, refl, sym, ◌∙◌, subst, inl, inr, arith}
 use Rattle.std.proofs.lemmas.List.{take_all}
 use Rattle.std.specs.Prelude.{IsSome}
 use Rattle.block_book.specs.declared.choice.Choice.{Choice}
-use Rattle.links.specs.Links.{IsFresh, Told, Coming, Grew, events_in, pieces_in}
+use Rattle.links.specs.Links.{IsFresh, Told, Coming, Handed, Counts, Grew, events_in, pieces_in}
+use Rattle.links.specs.Seen.{Seen}
 use Rattle.rx_io.specs.Outside.{Stream}
 use Rattle.links.specs.declared.journal.Entry.{Entry}
 use Rattle.elf_image.specs.declared.image.Image.{Image}
@@ -15,8 +16,9 @@ use Rattle.session_history.specs.Heeding.{items_in}
 use Rattle.schedule_file.specs.declared.recorded.Recorded.{Recorded}
 use Rattle.replay.specs.Replaying.{Replay, IsReplay, IsAsking, EndsBy, HasReplayedBy, LeavesLink, bounds_of}
 use Rattle.trunk_wire.specs.Going.{Intake, TookFrames, TakesOn, Output, WroteFrames, GivesOn}
-use Rattle.trunk_wire.specs.Tellings.{told_events, told_pieces, trunk_told, told_nothing}
+use Rattle.trunk_wire.specs.Tellings.{told_events, told_pieces, told_nothing}
 use Rattle.over_trunk.specs.Trunk.{WritesWhole, BreaksTrunk, TakesNoPart}
+use Rattle.over_trunk.proofs.Shown.{shown}
 use Rattle.over_trunk.proofs.ReadLemmas.{Countable}
 use Rattle.over_trunk.proofs.WriteLemmas.{Short}
 use Rattle.over_trunk.proofs.StopLemmas.{HasTaken, took_whole, took_refused, drained}
@@ -42,30 +44,30 @@ module _ (image : Image) (recording : Recorded) (entries : List Entry) (replay :
   whole_run coming _ is ends = tt
 
   -- what was written, by the answer
-  writes_by : (coming : Option Coming) (sink later : Option (List ℕ)) (before now : Option Coming) (takes gives : Bool) (end : Answer) → EndsBy image recording entries coming replay end → LeavesLink before now takes gives end
-      → WritesFront sink later replay.state.sends → (gives ≡ true → WritesWhole sink later (pieces_in entries)) → WritesReplay sink later replay.state.sends end
-  writes_by coming sink later before now takes gives answer.Finished ends leaves front whole = sends_written sink later replay.state.sends (pieces_in entries) ends.3 (whole leaves.1)
-  writes_by coming sink later before now takes gives (answer.Mismatch step) ends leaves front whole = sends_written sink later replay.state.sends (pieces_in entries) ends.2 (whole leaves.1)
-  writes_by coming sink later before now takes gives (answer.InputRefused kind offset) ends leaves front whole = sends_written sink later replay.state.sends (pieces_in entries) ends.0.given (whole leaves.1)
-  writes_by coming sink later before now takes gives (answer.MessageTooLong conn) ends leaves front whole = sends_written sink later replay.state.sends (pieces_in entries) ends.1 (whole leaves.1)
-  writes_by coming sink later before now takes gives answer.LimitItems ends leaves front whole = sends_written sink later replay.state.sends (pieces_in entries) ends.1 (whole leaves.1)
-  writes_by coming sink later before now takes gives answer.LimitEvents ends leaves front whole = sends_written sink later replay.state.sends (pieces_in entries) ends.1 (whole leaves.1)
-  writes_by coming sink later before now takes gives answer.ReadFault ends leaves front whole = sends_written sink later replay.state.sends (pieces_in entries) ends.given (whole leaves)
-  writes_by coming sink later before now takes gives answer.WriteFault ends leaves front whole = front
-  writes_by coming sink later before now takes gives answer.Memory ends leaves front whole = front
-  writes_by coming sink later before now takes gives _ ends leaves front whole = absurd ends
+  writes_by : (coming : Option Coming) (sink later : Option (List ℕ)) (before now : Seen) (end : Answer) → EndsBy image recording entries coming replay end → LeavesLink before now end
+      → WritesFront sink later replay.state.sends → (now.gives ≡ true → WritesWhole sink later (pieces_in entries)) → WritesReplay sink later replay.state.sends end
+  writes_by coming sink later before now answer.Finished ends leaves front whole = sends_written sink later replay.state.sends (pieces_in entries) ends.3 (whole leaves.1)
+  writes_by coming sink later before now (answer.Mismatch step) ends leaves front whole = sends_written sink later replay.state.sends (pieces_in entries) ends.2 (whole leaves.1)
+  writes_by coming sink later before now (answer.InputRefused kind offset) ends leaves front whole = sends_written sink later replay.state.sends (pieces_in entries) ends.0.given (whole leaves.1)
+  writes_by coming sink later before now (answer.MessageTooLong conn) ends leaves front whole = sends_written sink later replay.state.sends (pieces_in entries) ends.1 (whole leaves.1)
+  writes_by coming sink later before now answer.LimitItems ends leaves front whole = sends_written sink later replay.state.sends (pieces_in entries) ends.1 (whole leaves.1)
+  writes_by coming sink later before now answer.LimitEvents ends leaves front whole = sends_written sink later replay.state.sends (pieces_in entries) ends.1 (whole leaves.1)
+  writes_by coming sink later before now answer.ReadFault ends leaves front whole = sends_written sink later replay.state.sends (pieces_in entries) ends.given (whole leaves)
+  writes_by coming sink later before now answer.WriteFault ends leaves front whole = front
+  writes_by coming sink later before now answer.Memory ends leaves front whole = front
+  writes_by coming sink later before now _ ends leaves front whole = absurd ends
 
 -- what was taken, by the answer
-took_by : (image : Image) (recording : Recorded) (entries : List Entry) (replay : Replay) (new : Intake) (before : Stream) (first : Option Coming) (gives : Bool) (end : Answer) → Countable new.told → HasTaken new before (events_in entries)
-    → LeavesLink first (upcoming new) new.takes gives end → ((IsSome first → IsSome (upcoming new)) → IsSome (upcoming new)) → EndsBy image recording entries (upcoming new) replay end → TookReplay (Some before) new.told entries end
-took_by image recording entries replay new before first gives (answer.Mismatch step) few taken leaves known ends =
+took_by : (image : Image) (recording : Recorded) (entries : List Entry) (replay : Replay) (new : Intake) (output : Output) (handed : Option Handed) (counts : Counts) (before : Stream) (first : Seen) (end : Answer) → Countable new.told → HasTaken new before (events_in entries)
+    → LeavesLink first (shown new output handed counts) end → ((IsSome first.coming → IsSome (upcoming new)) → IsSome (upcoming new)) → EndsBy image recording entries (upcoming new) replay end → TookReplay (Some before) new.told entries end
+took_by image recording entries replay new output handed counts before first (answer.Mismatch step) few taken leaves known ends =
     (took_whole new before (events_in entries) taken leaves.0, λ ended. drained new.told new.took new.phases new.takes new.refused leaves.0 (ends.3 ended))
-took_by image recording entries replay new before first gives (answer.InputRefused kind offset) few taken leaves known ends =
+took_by image recording entries replay new output handed counts before first (answer.InputRefused kind offset) few taken leaves known ends =
     took_refused new before (events_in entries) kind offset few taken leaves.0 (known leaves.2) ends.1
-took_by image recording entries replay new before first gives answer.ReadFault few taken leaves known ends = tt
-took_by image recording entries replay new before first gives answer.WriteFault few taken leaves known ends = took_whole new before (events_in entries) taken leaves
-took_by image recording entries replay new before first gives answer.Memory few taken leaves known ends = tt
-took_by image recording entries replay new before first gives _ few taken leaves known ends = took_whole new before (events_in entries) taken leaves.0
+took_by image recording entries replay new output handed counts before first answer.ReadFault few taken leaves known ends = tt
+took_by image recording entries replay new output handed counts before first answer.WriteFault few taken leaves known ends = took_whole new before (events_in entries) taken leaves
+took_by image recording entries replay new output handed counts before first answer.Memory few taken leaves known ends = tt
+took_by image recording entries replay new output handed counts before first _ few taken leaves known ends = took_whole new before (events_in entries) taken leaves.0
 
 module _ (image : Image) (recording : Recorded) (entries : List Entry) (replay : Replay) (old new : Intake) (fresh : IsFresh old.phases) (none : old.took ≡ 0) (few : Countable new.told) (went : TookFrames old new)
     (grew : Grew (option_map (λ _. []) old.told) (told_events new.told new.took new.phases new.takes) (events_in entries)) where
@@ -76,31 +78,31 @@ module _ (image : Image) (recording : Recorded) (entries : List Entry) (replay :
       by None is grew = untold
       by (Some before) is grew = told before is (has_taken old new before (events_in entries) is fresh none few went grew)
 
-  takes_replay : (gives : Bool) (end : Answer) → old.takes ≡ true → LeavesLink (upcoming old) (upcoming new) new.takes gives end → EndsBy image recording entries (upcoming new) replay end
+  takes_replay : (out later : Output) (handed handed_later : Option Handed) (counts counts_later : Counts) (end : Answer) → old.takes ≡ true → LeavesLink (shown old out handed counts) (shown new later handed_later counts_later) end → EndsBy image recording entries (upcoming new) replay end
       → TakesReplay old.told new.told entries end
-  takes_replay gives end takes leaves ends =
+  takes_replay out later handed handed_later counts counts_later end takes leaves ends =
       by_told (λ source. TakesReplay source new.told entries end) tt
-      (λ before is taken. took_by image recording entries replay new before (upcoming old) gives end few taken leaves (λ known. known_still old before (upcoming new) is takes (stays_known (upcoming old) (upcoming new) known)) ends)
+      (λ before is taken. took_by image recording entries replay new later handed_later counts_later before (shown old out handed counts) end few taken leaves (λ known. known_still old before (upcoming new) is takes (stays_known (upcoming old) (upcoming new) known)) ends)
 
   no_part : new.takes ≡ true → TakesNoPart old.told new.told (events_in entries)
   no_part still = by_told (λ source. TakesNoPart source new.told (events_in entries)) tt (λ before is taken. inl (took_whole new before (events_in entries) taken still))
 
-  breaks_by : (coming first now : Option Coming) (gives : Bool) (sink later : Option (List ℕ)) (end : Answer) → EndsBy image recording entries coming replay end → LeavesLink first now new.takes gives end
-      → (gives ≡ true → WritesWhole sink later (pieces_in entries)) → BreaksTrunk old.told new.told sink later (events_in entries) (pieces_in entries) end
-  breaks_by coming first now gives sink later answer.WriteFault ends leaves whole = no_part leaves
-  breaks_by coming first now gives sink later answer.ReadFault ends leaves whole = whole leaves
-  breaks_by coming first now gives sink later answer.FileFault ends leaves whole = absurd ends
-  breaks_by coming first now gives sink later answer.Memory ends (inl takes) whole = inl (no_part takes)
-  breaks_by coming first now gives sink later answer.Memory ends (inr gave) whole = inr (whole gave)
-  breaks_by coming first now gives sink later _ ends leaves whole = tt
+  breaks_by : (coming : Option Coming) (first now : Seen) (sink later : Option (List ℕ)) (end : Answer) → now.takes ≡ new.takes → EndsBy image recording entries coming replay end → LeavesLink first now end
+      → (now.gives ≡ true → WritesWhole sink later (pieces_in entries)) → BreaksTrunk old.told new.told sink later (events_in entries) (pieces_in entries) end
+  breaks_by coming first now sink later answer.WriteFault same ends leaves whole = no_part (sym same ∙ leaves)
+  breaks_by coming first now sink later answer.ReadFault same ends leaves whole = whole leaves
+  breaks_by coming first now sink later answer.FileFault same ends leaves whole = absurd ends
+  breaks_by coming first now sink later answer.Memory same ends (inl takes) whole = inl (no_part (sym same ∙ takes))
+  breaks_by coming first now sink later answer.Memory same ends (inr gave) whole = inr (whole gave)
+  breaks_by coming first now sink later _ same ends leaves whole = tt
 
 -- a replay over a link that was made
-pub replays : (image : Image) (recording : Recorded) (old new : Intake) (out later : Output) (began : Told) (end : Answer) (before after counted : ℕ) → IsFresh old.phases → old.took ≡ 0 → out.wrote ≡ 0
-    → old.takes ≡ true → out.gives ≡ true → Countable new.told → Short later.told → began ≡ told_nothing old.told out.told → TakesOn old.takes old new → GivesOn out.gives out later
-    → LeavesLink (upcoming old) (upcoming new) new.takes later.gives end
-    → HasReplayedBy image recording began (trunk_told (told_events new.told new.took new.phases new.takes) (told_pieces later.told later.wrote later.gives)) (upcoming new) new.takes later.gives (WritesFront out.told later.told) end before after
+pub replays : (image : Image) (recording : Recorded) (old new : Intake) (out later : Output) (handed handed_later : Option Handed) (counts counts_later : Counts) (end : Answer) (before after counted : ℕ) → IsFresh old.phases → old.took ≡ 0 → out.wrote ≡ 0
+    → old.takes ≡ true → out.gives ≡ true → Countable new.told → Short later.told → (shown old out handed counts).told ≡ told_nothing old.told out.told → TakesOn old.takes old new → GivesOn out.gives out later
+    → LeavesLink (shown old out handed counts) (shown new later handed_later counts_later) end
+    → HasReplayedBy image recording (shown old out handed counts) (shown new later handed_later counts_later) (WritesFront out.told later.told) end before after
     → after ≡ before + counted → ReplaysTrunk image recording old.told new.told out.told later.told end counted
-replays image recording old new out later began end before after counted is_fresh none nothing takes gives few short start taken_on given_on leaves has count =
+replays image recording old new out later handed handed_later counts counts_later end before after counted is_fresh none nothing takes gives few short start taken_on given_on leaves has count =
     let replayed = has.replayed in
     let went : TookFrames old new = subst (λ b. TakesOn b old new) takes taken_on in
     let wrote : WroteFrames out later = subst (λ b. GivesOn b out later) gives given_on in
@@ -119,8 +121,8 @@ replays image recording old new out later began end before after counted is_fres
       whole = whole_run image recording replayed.entries replayed.replay (upcoming new) end replayed.is replayed.ends;
       all_counted = let all = replayed.counted in omega (arith, all, count);
       took = takes_trunk old new (events_in replayed.entries) (IsAsking image recording replayed.entries replayed.replay) replayed.failed is_fresh none few went events;
-      takes = takes_replay image recording replayed.entries replayed.replay old new is_fresh none few went events later.gives end takes leaves replayed.ends;
+      takes = takes_replay image recording replayed.entries replayed.replay old new is_fresh none few went events out later handed handed_later counts counts_later end takes leaves replayed.ends;
       wrote = part;
-      writes = writes_by image recording replayed.entries replayed.replay (upcoming new) out.told later.told (upcoming old) (upcoming new) new.takes later.gives end replayed.ends leaves front whole;
-      breaks = breaks_by image recording replayed.entries replayed.replay old new is_fresh none few went events (upcoming new) (upcoming old) (upcoming new) later.gives out.told later.told end replayed.ends leaves whole;
+      writes = writes_by image recording replayed.entries replayed.replay (upcoming new) out.told later.told (shown old out handed counts) (shown new later handed_later counts_later) end replayed.ends leaves front whole;
+      breaks = breaks_by image recording replayed.entries replayed.replay old new is_fresh none few went events (upcoming new) (shown old out handed counts) (shown new later handed_later counts_later) out.told later.told end refl replayed.ends leaves whole;
     }

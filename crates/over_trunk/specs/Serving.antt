@@ -1,7 +1,7 @@
 -- What a session leaves that served a trunk.
 use Rattle.std.specs.Prelude.{◌≡◌, ◌≢◌, ℕ, ◌+◌, ◌-◌, List, [], ◌++◌, map, Bool, true, Option}
 use Rattle.block_book.specs.declared.choice.Choice.{Choice}
-use Rattle.links.specs.Links.{Coming, events_in, pieces_in}
+use Rattle.links.specs.Links.{Coming, Counts, events_in, pieces_in}
 use Rattle.rx_io.specs.Outside.{Stream}
 use Rattle.elf_image.specs.declared.image.Image.{Image}
 use Rattle.run_history.specs.declared.answer.Answer.{Answer}
@@ -27,6 +27,10 @@ IsOfSession answer.WriteFault = Unit {0}
 IsOfSession answer.FileFault = Unit {0}
 IsOfSession answer.Memory = Unit {0}
 IsOfSession end = IsEnd end
+
+-- how often a source and a sink have failed, as a link over both counts it
+abbrev pub trunk_counts : ℕ → ℕ → Counts
+trunk_counts source sink = record { takes = source; gives = sink; gones = 0 }
 
 -- What a session leaves that served a trunk over a source and a sink: one account of it, told by survivors of which each later one
 -- was adopted behind a failure from a checkpoint that stood there, what stands behind its answer, what its notes tell, and its counts: all instructions were counted, those of

@@ -1,8 +1,8 @@
 // A record is replayed over a trunk of many connections.
 ghost use Rattle.std.specs.Prelude.{◌≡◌, ℕ, ◌+◌, ◌*◌, ◌<◌, ◌≤◌, ◌^◌};
-ghost use Rattle.rx_io.specs.Faults.{Rose};
-ghost use Rattle.run_history.specs.declared.answer.Answer.TheVariants as answer;
+ghost use Rattle.session_history.specs.Answering.{HasAnswerCause};
 ghost use Rattle.over_trunk.specs.Replaying.{ReplaysTrunk};
+ghost use Rattle.over_trunk.specs.Serving.{trunk_counts};
 
 use crate::frame_giver::FrameGiver;
 use elf_image::Image;
@@ -29,12 +29,8 @@ pub fn replay_trunk<S: Source, K: Sink, L: Ledger>(
     requires short { recorded.now.steps < 2 ^ 63 }
     ensures replayed { (counted : ℕ) → steps.new ≡ steps.old + counted → ReplaysTrunk image.now recorded.now (S.told input.old) (S.told input.new) (K.told output.old) (K.told output.new) result counted }
     ensures counted_more { steps.old ≤ steps.new }
-    ensures input { S.fixed input.new ≡ S.fixed input.old }
-    ensures output { K.fixed output.new ≡ K.fixed output.old }
-    ensures input_later { S.faults input.old ≤ S.faults input.new }
-    ensures output_later { K.faults output.old ≤ K.faults output.new }
-    ensures read_fault { result ≡ answer.ReadFault → Rose (S.faults input.old) (S.faults input.new) }
-    ensures write_fault { result ≡ answer.WriteFault → Rose (K.faults output.old) (K.faults output.new) }
+    ensures cause { HasAnswerCause (trunk_counts (S.faults input.old) (K.faults output.old)) (trunk_counts (S.faults input.new) (K.faults output.new)) result }
+    ensures outside { (S.fixed input.new ≡ S.fixed input.old) × (K.fixed output.new ≡ K.fixed output.old) }
 {
     let mut link = TrunkLink::make(alloc, &mut *input, &mut *output);
     replay_by(alloc, image, recorded, &FrameGiver, &mut link, steps)

@@ -1,13 +1,11 @@
 // A session over a trunk of many connections.
 ghost use Rattle.std.specs.Prelude.{◌≡◌, ℕ, ◌+◌, ◌≤◌};
-ghost use Rattle.rx_io.specs.Faults.{Rose};
 ghost use Rattle.elf_image.specs.declared.image.Image.{Image};
-ghost use Rattle.run_history.specs.declared.answer.Answer.TheVariants as answer;
-ghost use Rattle.session_notes.specs.Noting.{noted};
-ghost use Rattle.session_state.specs.Options.{rules_of, keeping_for};
-ghost use Rattle.session_state.specs.Serving.{IsReadyToServe, HasNoteCause, UnlessNoteFault};
+ghost use Rattle.session_state.specs.Options.{keeping_for};
+ghost use Rattle.session_state.specs.Serving.{IsReadyToServe, NotesAnswer, rules_by};
+ghost use Rattle.session_history.specs.Answering.{HasAnswerCause};
 ghost use Rattle.session_state.specs.Sessions.{IsBegun};
-ghost use Rattle.over_trunk.specs.Serving.{IsOfSession, ServesTrunk};
+ghost use Rattle.over_trunk.specs.Serving.{IsOfSession, ServesTrunk, trunk_counts};
 
 use guest_space::AccessRule;
 use run_history::Answer;
@@ -32,17 +30,11 @@ pub fn serve_trunk<R: AccessRule, S: Source, K: Sink, N: Notes, L: Ledger>(
 ) -> Answer
     requires begun { IsReadyToServe session.old }
     ensures served { (image : Image) → IsBegun image session.old.options session.old.cpu.rule session.old
-        → (counted : ℕ) → steps.new ≡ steps.old + counted → ServesTrunk (rules_of session.old.options (R.rule session.old.cpu.rule)) (keeping_for session.old.options) image (S.told input.old) (S.told input.new) (K.told output.old) (K.told output.new) result (noted (N.told_choices notes.old) (N.told_episodes notes.old)) (noted (N.told_choices notes.new) (N.told_episodes notes.new)) session.new.recorded session.new.choices session.new.taken session.new.steps counted }
+        → (counted : ℕ) → steps.new ≡ steps.old + counted → ServesTrunk (rules_by R.rule session.old) (keeping_for session.old.options) image (S.told input.old) (S.told input.new) (K.told output.old) (K.told output.new) result (N.shown notes.old).told (N.shown notes.new).told session.new.recorded session.new.choices session.new.taken session.new.steps counted }
     ensures only { IsOfSession result }
-    ensures input { S.fixed input.new ≡ S.fixed input.old }
-    ensures output { K.fixed output.new ≡ K.fixed output.old }
-    ensures input_later { S.faults input.old ≤ S.faults input.new }
-    ensures output_later { K.faults output.old ≤ K.faults output.new }
-    ensures read_fault { result ≡ answer.ReadFault → Rose (S.faults input.old) (S.faults input.new) }
-    ensures write_fault { result ≡ answer.WriteFault → Rose (K.faults output.old) (K.faults output.new) }
-    ensures noted { HasNoteCause (N.faults notes.old) (N.faults notes.new) result }
-    ensures works { UnlessNoteFault result (N.works notes.new ≡ N.works notes.old) }
-    ensures notes { N.fixed notes.new ≡ N.fixed notes.old }
+    ensures cause { HasAnswerCause (trunk_counts (S.faults input.old) (K.faults output.old)) (trunk_counts (S.faults input.new) (K.faults output.new)) result }
+    ensures notes { NotesAnswer (N.shown notes.old) (N.shown notes.new) result }
+    ensures outside { (S.fixed input.new ≡ S.fixed input.old) × (K.fixed output.new ≡ K.fixed output.old) × (N.fixed notes.new ≡ N.fixed notes.old) }
     ensures counted_at_least { steps.old + session.new.steps ≤ steps.new }
 {
     let mut link = TrunkLink::make(alloc, &mut *input, &mut *output);

@@ -17,41 +17,30 @@ fn words_of(alloc: Global, line: &str) -> Result<Vec<String>, Fail> {
     Ok(words)
 }
 
-// The words of a line are read as it says. Our own check has to agree.
-fn is_read(rt: &impl Abort, alloc: Global, line: &str, expected: &str) -> Result<(), Fail> {
+// What comes of the words of a line: the command, on which our own check has to agree, or what a person is told.
+fn answer_to(rt: &impl Abort, alloc: Global, line: &str, is_told: bool) -> Result<String, Fail> {
     let words = words_of(alloc, line)?;
+    if is_told {
+        return Ok(complaint(alloc, words.as_slice())?);
+    }
     let command = read_command(alloc, words.as_slice())?;
     assert!(rt; is_command(words.as_slice()) == command.is_some(), "{line}");
-    let shown = format!(in alloc; "{command:?}")?;
-    assert!(rt; shown.as_str() == expected, "{line}");
-    Ok(())
+    Ok(format!(in alloc; "{command:?}")?)
 }
 
-// Each line of a table is read as it says behind its arrow.
-fn are_read(rt: &impl Abort, alloc: Global, table: &str) -> Result<(), Fail> {
+// Each line of a table behind this front has the answer that stands behind its arrow, or the usual one.
+fn are_answered(
+    rt: &impl Abort,
+    alloc: Global,
+    (front, usual): (&str, &str),
+    table: &str,
+    is_told: bool,
+) -> Result<(), Fail> {
     for row in table.lines() {
-        let (line, expected) = row.split_once(" => ").ok_or("no arrow")?;
-        is_read(rt, alloc, line, expected)?;
-    }
-    Ok(())
-}
-
-// Each line of a table is refused behind this front.
-fn are_refused(rt: &impl Abort, alloc: Global, front: &str, table: &str) -> Result<(), Fail> {
-    for end in table.lines() {
+        let (end, expected) = row.split_once(" => ").unwrap_or((row, usual));
         let line = format!(in alloc; "{front}{end}")?;
-        is_read(rt, alloc, line.as_str(), "None")?;
-    }
-    Ok(())
-}
-
-// Each line of a table is told what stands behind its arrow.
-fn are_told(rt: &impl Abort, alloc: Global, table: &str) -> Result<(), Fail> {
-    for row in table.lines() {
-        let (line, expected) = row.split_once(" => ").ok_or("no arrow")?;
-        let words = words_of(alloc, line)?;
-        let told = complaint(alloc, words.as_slice())?;
-        assert!(rt; told.as_str() == expected, "{line}");
+        let answer = answer_to(rt, alloc, line.as_str(), is_told)?;
+        assert_eq!(rt; answer.as_str(), expected, "{row}");
     }
     Ok(())
 }
@@ -175,17 +164,6 @@ const REFUSED: &str = "\n \n\
     replay p -r\n\
     replay p \n";
 
-#[test]
-fn words_are_read(rt: HostRuntime) -> Result<(), Fail> {
-    let alloc = rt.alloc();
-    are_read(&rt, alloc, ACCEPTED)?;
-    for line in ORDERS.lines() {
-        is_read(&rt, alloc, line, SHORTEST)?;
-    }
-    are_refused(&rt, alloc, "run p --record r --report t ", REFUSED_ENDS)?;
-    are_refused(&rt, alloc, "", REFUSED)
-}
-
 const COMPLAINTS: &str = " => word 1: the command is missing, run or asm or replay\n\
     serve p => word 1: the command is run or asm or replay, not serve\n\
     run p --ring 08 --record r --report t => word 4: --ring is 1 to 16, not 08\n\
@@ -224,15 +202,32 @@ const RUN_USAGE: &str = "run PROGRAM and in any place, each once:
 ";
 
 #[test]
-fn a_person_is_told(rt: HostRuntime) -> Result<(), Fail> {
-    let alloc = rt.alloc();
-    are_told(&rt, alloc, COMPLAINTS)?;
-    let run = usage(alloc, "run")?;
-    assert!(rt; run.as_str() == RUN_USAGE);
-    let asm = usage(alloc, "asm")?;
-    assert!(rt; asm.as_str() == "asm SOURCE OUT\n");
-    let all = usage(alloc, "serve")?;
-    let others = all.as_str().strip_prefix(RUN_USAGE).ok_or("no run")?;
-    assert!(rt; others == "asm SOURCE OUT\nreplay PROGRAM RECORD\n");
+fn words_are_read_and_a_person_is_told(rt: HostRuntime) -> Result<(), Fail> {
+    for (usual, table) in [
+        (("", "no arrow"), ACCEPTED),
+        (("", SHORTEST), ORDERS),
+        (("run p --record r --report t ", "None"), REFUSED_ENDS),
+        (("", "None"), REFUSED),
+    ] {
+        are_answered(&rt, rt.alloc(), usual, table, false)?;
+    }
+    are_answered(&rt, rt.alloc(), ("", "no arrow"), COMPLAINTS, true)
+}
+
+#[test]
+fn usage_is_told(rt: HostRuntime) -> Result<(), Fail> {
+    for (command, first, rest) in [
+        ("run", RUN_USAGE, ""),
+        ("asm", "", "asm SOURCE OUT\n"),
+        (
+            "serve",
+            RUN_USAGE,
+            "asm SOURCE OUT\nreplay PROGRAM RECORD\n",
+        ),
+    ] {
+        let told = usage(rt.alloc(), command)?;
+        let expected = format!(in rt.alloc(); "{first}{rest}")?;
+        assert_eq!(rt; told.as_str(), expected.as_str(), "{command}");
+    }
     Ok(())
 }

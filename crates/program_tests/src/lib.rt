@@ -4,10 +4,8 @@
 #[cfg(test)]
 mod command_line_tests;
 #[cfg(test)]
-mod files_tests;
+mod order_tests;
 #[cfg(test)]
-mod replaying_tests;
+mod playing;
 #[cfg(test)]
 mod rx_serve_tests;
-#[cfg(test)]
-mod rx_tests;

@@ -14,7 +14,7 @@ pub mod Chains
 pub mod Flags
 pub mod RingLemmas
 pub mod Forces
-pub mod Walked
+pub mod Survived
 pub mod WatchLemmas
 pub mod Recoveries
 pub mod TrimLemmas

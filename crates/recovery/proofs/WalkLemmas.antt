@@ -1,7 +1,7 @@
 -- A walk goes on from chance to chance.
-use Rattle.std.proofs.Common.{◌≡◌, ℕ, zero, suc, ◌+◌, ◌-◌, ◌*◌, ◌/◌, ◌<◌, ◌≤◌, Bool, true, false, List, [], ◌∷◌, ◌++◌, length, take, Some, refl, sym, ◌∙◌, ap, subst, arith, append-nil, append_assoc, length-append, add-one}
+use Rattle.std.proofs.Common.{◌≡◌, ℕ, zero, suc, ◌+◌, ◌-◌, ◌≤◌, Bool, true, false, cond, List, [], ◌∷◌, ◌++◌, length, take, Some, None, refl, sym, ◌∙◌, ap, subst, arith, append-nil, append_assoc, add-one}
 use Rattle.std.specs.Prelude.{slice_get, map, sum, MatchBool}
-use Rattle.std.proofs.lemmas.List.{length-map, take_all}
+use Rattle.std.proofs.lemmas.List.{take_all}
 use Rattle.std.proofs.lemmas.List.Sums.{sum_by-append}
 use Rattle.std.proofs.lemmas.Option.{same_Some, none-some}
 use Rattle.alloc_env.specs.declared.env.Env.{Env}
@@ -14,11 +14,13 @@ use Rattle.run_history.specs.Served.{Path}
 use Rattle.guest_cpu.specs.Cpus.{CpuState}
 use Rattle.session_notes.specs.declared.episode.Try.{Try}
 use Rattle.session_notes.specs.Survival.{survives}
-use Rattle.trials.specs.Tables.{Chance, Trial, try_of, chances_at, environments, table, IsRight, WalksOver}
+use Rattle.trials.specs.Tables.{Chance, Trial, try_of, chances_at, environments, table, IsRight, WalksOver, survivor_in}
 use Rattle.recovery.specs.Sessions.{Failure, items_of, pieces_of, IsUnder, FailedAt, CanTry}
-use Rattle.recovery.specs.Trying.{KeepsLedger, KeepsSaved, steps_of, StandsOn, HasAdopted, LeavesBy, HasWalked}
+use Rattle.recovery.specs.Trying.{KeepsLedger, KeepsSaved, steps_of, HasWalked}
 use Rattle.recovery.specs.Walking.{AreTried, FailedOne, FailedSome, AdoptedOne, AdoptedLast, HasSameBytes}
+use Rattle.recovery.specs.declared.walking.Adopted.{Adopted}
 use Rattle.recovery.proofs.Starting.{failed_still}
+use Rattle.recovery.proofs.Adopting.{adopted_survives}
 
 -- lists, part by part
 map-append : {X Y : Type 0} (f : X → Y) (xs ys : List X) → map f (xs ++ ys) ≡ map f xs ++ map f ys
@@ -28,7 +30,7 @@ map-append f (x ∷ xs) ys = ap (λ l. f x ∷ l) (map-append f xs ys)
 sum-append : (xs ys : List ℕ) → sum (xs ++ ys) ≡ sum xs + sum ys
 sum-append xs ys = sum_by-append (λ x. x) xs ys
 
-steps_of-more : (trials : List Trial) (trial : Trial) → steps_of (trials ++ trial ∷ []) ≡ steps_of trials + (trial.path.steps - trial.chance.checkpoint.steps)
+pub steps_of-more : (trials : List Trial) (trial : Trial) → steps_of (trials ++ trial ∷ []) ≡ steps_of trials + (trial.path.steps - trial.chance.checkpoint.steps)
 steps_of-more trials trial =
     let f : Trial → ℕ = λ (t : Trial). t.path.steps - t.chance.checkpoint.steps in
     let parts : sum (map f (trials ++ trial ∷ [])) ≡ sum (map f trials) + sum (map f (trial ∷ [])) = ap sum (map-append f trials (trial ∷ [])) ∙ sum-append (map f trials) (map f (trial ∷ [])) in
@@ -52,10 +54,6 @@ table-append : (xs ys : List Path) → table (xs ++ ys) ≡ table xs ++ table ys
 table-append [] ys = refl
 table-append (x ∷ xs) ys = ap (λ l. chances_at x environments ++ l) (table-append xs ys) ∙ sym (append_assoc (chances_at x environments) (table xs) (table ys))
 
-length-table : (ring : List Path) → length (table ring) ≡ 5 * length ring
-length-table [] = omega arith
-length-table (newest ∷ older) = let ih = length-table older in omega (arith, ih, length-append (chances_at newest environments) (table older))
-
 -- chances that were tried, and more
 tried-append : (failure : Failure) (point : ℕ) (chances more : List Chance) (trials others : List Trial) → AreTried failure point chances trials → AreTried failure point more others → AreTried failure point (chances ++ more) (trials ++ others)
 tried-append failure point [] more [] others are also = also
@@ -63,17 +61,11 @@ tried-append failure point [] more (trial ∷ trials) others are also = absurd a
 tried-append failure point (chance ∷ chances) more [] others are also = absurd are
 tried-append failure point (chance ∷ chances) more (trial ∷ trials) others are also = (are.0, are.1, are.2, tried-append failure point chances more trials others are.3 also)
 
-tried-length : (failure : Failure) (point : ℕ) (chances : List Chance) (trials : List Trial) → AreTried failure point chances trials → length trials ≡ length chances
-tried-length failure point [] [] are = refl
-tried-length failure point [] (trial ∷ trials) are = absurd are
-tried-length failure point (chance ∷ chances) [] are = absurd are
-tried-length failure point (chance ∷ chances) (trial ∷ trials) are = let ih = tried-length failure point chances trials are.3 in omega (arith, ih)
+by_test : {b : Bool} (P Q : Type 0) → b ≡ false → Q → MatchBool b P Q
+by_test P Q is q = subst (λ (c : Bool). MatchBool c P Q) (sym is) q
 
-by_test : (b : Bool) (P Q : Type 0) → b ≡ false → Q → MatchBool b P Q
-by_test b P Q is q = subst (λ (c : Bool). MatchBool c P Q) (sym is) q
-
-by_other : (b : Bool) (P Q : Type 0) → b ≡ true → P → MatchBool b P Q
-by_other b P Q is p = subst (λ (c : Bool). MatchBool c P Q) (sym is) p
+by_other : {b : Bool} (P Q : Type 0) → b ≡ true → P → MatchBool b P Q
+by_other P Q is p = subst (λ (c : Bool). MatchBool c P Q) (sym is) p
 
 abbrev Walks : Failure → ℕ → List Chance → List Trial → Type 0
 Walks failure point chances trials = WalksOver failure.rules.limits (items_of failure) failure.plan (pieces_of failure) point chances trials
@@ -84,24 +76,38 @@ tried_walks failure point [] [] are = tt
 tried_walks failure point [] (trial ∷ trials) are = are
 tried_walks failure point (chance ∷ chances) [] are = are
 tried_walks failure point (chance ∷ chances) (trial ∷ trials) are =
-    (are.0, are.1, by_test (survives trial.result) (trials ≡ []) (Walks failure point chances trials) are.2 (tried_walks failure point chances trials are.3))
+    (are.0, are.1, by_test (trials ≡ []) (Walks failure point chances trials) are.2 (tried_walks failure point chances trials are.3))
 
 -- those before one that survived
-found_walks : (failure : Failure) (point : ℕ) (front more : List Chance) (chance : Chance) (trials : List Trial) (last : Trial) → AreTried failure point front trials → last.chance ≡ chance
+found_walks : (failure : Failure) {point : ℕ} (front more : List Chance) {chance : Chance} (trials : List Trial) {last : Trial} → AreTried failure point front trials → last.chance ≡ chance
     → IsRight failure.rules.limits (items_of failure) failure.plan (pieces_of failure) point last → survives last.result ≡ true → Walks failure point (front ++ chance ∷ more) (trials ++ last ∷ [])
-found_walks failure point [] more chance [] last are is right survived = (is, right, by_other (survives last.result) ([] ≡ []) (Walks failure point more []) survived refl)
-found_walks failure point [] more chance (trial ∷ trials) last are is right survived = absurd are
-found_walks failure point (first ∷ front) more chance [] last are is right survived = absurd are
-found_walks failure point (first ∷ front) more chance (trial ∷ trials) last are is right survived =
-    (are.0, are.1, by_test (survives trial.result) (trials ++ last ∷ [] ≡ []) (Walks failure point (front ++ chance ∷ more) (trials ++ last ∷ [])) are.2 (found_walks failure point front more chance trials last are.3 is right survived))
+found_walks failure {point = point} [] more [] are is right survived = (is, right, by_other ([] ≡ []) (Walks failure point more []) survived refl)
+found_walks failure [] more (trial ∷ trials) are is right survived = absurd are
+found_walks failure (first ∷ front) more [] are is right survived = absurd are
+found_walks failure {point = point} (first ∷ front) more {chance = chance} (trial ∷ trials) {last = last} are is right survived =
+    (are.0, are.1, by_test (trials ++ last ∷ [] ≡ []) (Walks failure point (front ++ chance ∷ more) (trials ++ last ∷ [])) are.2 (found_walks failure front more trials are.3 is right survived))
+
+-- of some that failed none survived, and of one more that did this one
+tried_none : (failure : Failure) (point : ℕ) (chances : List Chance) (trials : List Trial) → AreTried failure point chances trials → survivor_in trials ≡ None
+tried_none failure point [] [] are = refl
+tried_none failure point [] (trial ∷ trials) are = absurd are
+tried_none failure point (chance ∷ chances) [] are = absurd are
+tried_none failure point (chance ∷ chances) (trial ∷ trials) are = ap (λ (b : Bool). cond b (Some trial) (survivor_in trials)) are.2 ∙ tried_none failure point chances trials are.3
+
+tried_then : (failure : Failure) (point : ℕ) (chances : List Chance) (trials : List Trial) {last : Trial} → AreTried failure point chances trials → survives last.result ≡ true → survivor_in (trials ++ last ∷ []) ≡ Some last
+tried_then failure point [] [] {last = last} are survived = ap (λ (b : Bool). cond b (Some last) None) survived
+tried_then failure point [] (trial ∷ trials) are survived = absurd are
+tried_then failure point (chance ∷ chances) [] are survived = absurd are
+tried_then failure point (chance ∷ chances) (trial ∷ trials) {last = last} are survived =
+    ap (λ (b : Bool). cond b (Some trial) (survivor_in (trials ++ last ∷ []))) are.2 ∙ tried_then failure point chances trials are.3 survived
 
 -- none were tried yet, and one more was
-pub failed_none : (failure : Failure) (point : ℕ) (noted : List Try) (before : ℕ) → FailedSome failure point [] noted noted before before
-failed_none failure point noted before = record { trials = []; tried = tt; tries_are = sym (append-nil noted); counted = omega arith }
+pub failed_none : {failure : Failure} {point : ℕ} {noted : List Try} {before : ℕ} → FailedSome failure point [] noted noted before before
+failed_none {noted = noted} = record { trials = []; tried = tt; tries_are = sym (append-nil noted); counted = omega arith }
 
-failed_more : (failure : Failure) (point : ℕ) (chances : List Chance) (chance : Chance) (noted mid new : List Try) (before between after : ℕ) → FailedSome failure point chances noted mid before between → FailedOne failure point chance mid new between after
+failed_more : {failure : Failure} {point : ℕ} {chances : List Chance} {chance : Chance} {noted mid new : List Try} {before between after : ℕ} → FailedSome failure point chances noted mid before between → FailedOne failure point chance mid new between after
     → FailedSome failure point (chances ++ chance ∷ []) noted new before after
-failed_more failure point chances chance noted mid new before between after some one = record {
+failed_more {failure = failure} {point = point} {chances = chances} {chance = chance} {noted = noted} some one = record {
   trials = some.trials ++ one.trial ∷ [];
   tried = tried-append failure point chances (chance ∷ []) some.trials (one.trial ∷ []) some.tried (one.made.chance_is, one.made.right, one.failed, tt);
   tries_are = one.made.tries_are
@@ -110,18 +116,18 @@ failed_more failure point chances chance noted mid new before between after some
 }
 
 -- the chances of a checkpoint in one environment more
-pub failed_env : (failure : Failure) (point : ℕ) (checkpoint : Path) (place : ℕ) (env : Env) (noted mid new : List Try) (before between after : ℕ) → slice_get environments place ≡ Some env
+pub failed_env : {failure : Failure} {point : ℕ} {checkpoint : Path} (place : ℕ) {env : Env} {noted mid new : List Try} {before between after : ℕ} → slice_get environments place ≡ Some env
     → FailedSome failure point (chances_at checkpoint (take place environments)) noted mid before between → FailedOne failure point (record { checkpoint = checkpoint; env = env }) mid new between after
     → FailedSome failure point (chances_at checkpoint (take (place + 1) environments)) noted new before after
-failed_env failure point checkpoint place env noted mid new before between after is some one =
+failed_env {failure = failure} {point = point} {checkpoint = checkpoint} place {env = env} {noted = noted} {new = new} {before = before} {after = after} is some one =
     subst (λ (all : List Chance). FailedSome failure point all noted new before after)
     (sym (ap (chances_at checkpoint) (take_more environments place env is) ∙ map-append (λ (e : Env). record { checkpoint = checkpoint; env = e }) (take place environments) (env ∷ [])))
-    (failed_more failure point (chances_at checkpoint (take place environments)) (record { checkpoint = checkpoint; env = env }) noted mid new before between after some one)
+    (failed_more some one)
 
 -- and of one checkpoint more
-pub failed_checkpoint : (failure : Failure) (point index : ℕ) (checkpoint : Path) (noted mid new : List Try) (before between after : ℕ) → slice_get failure.ring index ≡ Some checkpoint → FailedSome failure point (table (take index failure.ring)) noted mid before between
+pub failed_checkpoint : {failure : Failure} {point : ℕ} (index : ℕ) {checkpoint : Path} {noted mid new : List Try} {before between after : ℕ} → slice_get failure.ring index ≡ Some checkpoint → FailedSome failure point (table (take index failure.ring)) noted mid before between
     → FailedSome failure point (chances_at checkpoint environments) mid new between after → FailedSome failure point (table (take (index + 1) failure.ring)) noted new before after
-failed_checkpoint failure point index checkpoint noted mid new before between after is some others =
+failed_checkpoint {failure = failure} {point = point} index {checkpoint = checkpoint} {noted = noted} {new = new} {before = before} {after = after} is some others =
     subst (λ (all : List Chance). FailedSome failure point all noted new before after)
     (sym (ap table (take_more failure.ring index checkpoint is) ∙ (table-append (take index failure.ring) (checkpoint ∷ []) ∙ ap (λ (all : List Chance). table (take index failure.ring) ++ all) (append-nil (chances_at checkpoint environments)))))
     (record {
@@ -138,10 +144,10 @@ failed_checkpoint failure point index checkpoint noted mid new before between af
 
 module _ {R : Type 0} where
   -- behind those that failed one was adopted
-  pub adopted_env : (failure : Failure) (point : ℕ) (checkpoint : Path) (place : ℕ) (env : Env) (cpu : CpuState R) (choices : List Choice) (ledger : Ledger) (noted mid new : List Try) (before between after : ℕ) → slice_get environments place ≡ Some env
-      → FailedSome failure point (chances_at checkpoint (take place environments)) noted mid before between → AdoptedOne failure point (record { checkpoint = checkpoint; env = env }) cpu choices ledger mid new between after
-      → AdoptedLast failure point checkpoint cpu choices ledger noted new before after
-  adopted_env failure point checkpoint place env cpu choices ledger noted mid new before between after is some one = record {
+  pub adopted_env : {failure : Failure} {point : ℕ} {checkpoint : Path} (place : ℕ) {env : Env} {adopted : Adopted} {cpu : CpuState R} {choices : List Choice} {ledger : Ledger} {noted mid new : List Try} {before between after : ℕ} → slice_get environments place ≡ Some env
+      → FailedSome failure point (chances_at checkpoint (take place environments)) noted mid before between → AdoptedOne failure point (record { checkpoint = checkpoint; env = env }) adopted cpu choices ledger mid new between after
+      → AdoptedLast failure point checkpoint adopted cpu choices ledger noted new before after
+  adopted_env place {env = env} {noted = noted} is some one = record {
     trials = some.trials;
     place = place;
     env = env;
@@ -153,56 +159,26 @@ module _ {R : Type 0} where
     tries_are = one.made.tries_are
         ∙ (ap (λ (all : List Try). all ++ try_of one.trial ∷ []) some.tries_are ∙ (append_assoc noted (map try_of some.trials) (try_of one.trial ∷ []) ∙ ap (λ (all : List Try). noted ++ all) (sym (map-append try_of some.trials (one.trial ∷ [])))));
     counted = let more = steps_of-more some.trials one.trial in omega (arith, more, some.counted, one.made.counted);
-    adopted = one.adopted;
+    adopts = one.adopts;
   }
 
-  -- what a walk leaves where its last trial was adopted
-  leaves_found : (failure : Failure) (trials : List Trial) (last : Trial) (number : ℕ) (cpu : CpuState R) (choices : List Choice) (old new : Ledger) → survives last.result ≡ true → HasAdopted failure number last cpu choices new
-      → LeavesBy failure (trials ++ last ∷ []) number cpu choices old new
-  leaves_found failure [] last number cpu choices old new survived adopted = by_other (survives last.result) (HasAdopted failure number last cpu choices new) (new ≡ discarded old) survived adopted
-  leaves_found failure (first ∷ []) last number cpu choices old new survived adopted = by_other (survives last.result) (HasAdopted failure number last cpu choices new) (new ≡ discarded old) survived adopted
-  leaves_found failure (first ∷ second ∷ trials) last number cpu choices old new survived adopted = leaves_found failure (second ∷ trials) last number cpu choices old new survived adopted
-
-  -- and where none survived
-  leaves_none : (failure : Failure) (point : ℕ) (chances : List Chance) (trials : List Trial) (number : ℕ) (cpu : CpuState R) (choices : List Choice) (old new : Ledger) → AreTried failure point chances trials → new ≡ discarded old
-      → LeavesBy failure trials number cpu choices old new
-  leaves_none failure point [] [] number cpu choices old new are is = is
-  leaves_none failure point (chance ∷ chances) [] number cpu choices old new are is = absurd are
-  leaves_none failure point [] (trial ∷ trials) number cpu choices old new are is = absurd are
-  leaves_none failure point (chance ∷ chances) (last ∷ []) number cpu choices old new are is = by_test (survives last.result) (HasAdopted failure number last cpu choices new) (new ≡ discarded old) are.2 is
-  leaves_none failure point (chance ∷ []) (first ∷ (second ∷ trials)) number cpu choices old new are is = absurd are.3
-  leaves_none failure point (chance ∷ (next ∷ chances)) (first ∷ (second ∷ trials)) number cpu choices old new are is = leaves_none failure point (next ∷ chances) (second ∷ trials) number cpu choices old new are.3 is
-
   -- a walk over the whole table
-  pub walked_none : (failure : Failure) (point : ℕ) (cpu : CpuState R) (choices : List Choice) (old new : Ledger) (before after : ℕ) (tries : List Try) → FailedSome failure point (table failure.ring) [] tries before after → new ≡ discarded old
-      → HasWalked failure point cpu choices old new before after tries
-  walked_none failure point cpu choices old new before after tries some is = record {
+  pub walked_none : {failure : Failure} {point : ℕ} {cpu : CpuState R} {choices : List Choice} {old new : Ledger} {before after : ℕ} {tries : List Try} → FailedSome failure point (table failure.ring) [] tries before after → new ≡ discarded old
+      → HasWalked failure point cpu choices old new before after tries None
+  walked_none {failure = failure} {point = point} some is = record {
     trials = some.trials;
     tries_are = some.tries_are;
     walks = tried_walks failure point (table failure.ring) some.trials some.tried;
-    leaves = leaves_none failure point (table failure.ring) some.trials (length some.trials) cpu choices old new some.tried is;
+    leaves = (tried_none failure point (table failure.ring) some.trials some.tried, is);
     counted = some.counted;
   }
 
--- five chances for each checkpoint
-by_five : (index place count : ℕ) → count ≡ 5 * index + place + 1 → place < 5 → index ≡ (count - 1) / 5
-by_five index place count is few = omega (arith, is, few)
-
-place_few : (xs : List Env) (place : ℕ) (env : Env) → slice_get xs place ≡ Some env → place < length xs
-place_few [] place env is = absurd (none-some env is)
-place_few (x ∷ xs) zero env is = omega arith
-place_few (x ∷ xs) (suc place) env is = let ih = place_few xs place env is in omega (arith, ih)
-
-length-take_at : {X : Type 0} (xs : List X) (n : ℕ) (x : X) → slice_get xs n ≡ Some x → length (take n xs) ≡ n
-length-take_at [] n x is = absurd (none-some x is)
-length-take_at (y ∷ ys) zero x is = refl
-length-take_at (y ∷ ys) (suc n) x is = let ih = length-take_at ys n x is in omega (arith, ih)
-
 module _ {R : Type 0} where
   -- a walk up to a trial that was adopted
-  pub walked_found : (failure : Failure) (point index : ℕ) (checkpoint : Path) (cpu : CpuState R) (choices : List Choice) (old new : Ledger) (before between after : ℕ) (mid tries : List Try) → slice_get failure.ring index ≡ Some checkpoint → StandsOn cpu index
-      → FailedSome failure point (table (take index failure.ring)) [] mid before between → AdoptedLast failure point checkpoint cpu choices new mid tries between after → HasWalked failure point cpu choices old new before after tries
-  walked_found failure point index checkpoint cpu choices old new before between after mid tries is base some a =
+  pub walked_found : {failure : Failure} {point : ℕ} (index : ℕ) {checkpoint : Path} {adopted : Adopted} {cpu : CpuState R} {choices : List Choice} {old new : Ledger} {before between after : ℕ} {mid tries : List Try} → slice_get failure.ring index ≡ Some checkpoint
+      → FailedSome failure point (table (take index failure.ring)) [] mid before between → AdoptedLast failure point checkpoint adopted cpu choices new mid tries between after
+      → HasWalked failure point cpu choices old new before after tries (Some adopted)
+  walked_found {failure = failure} {point = point} index {checkpoint = checkpoint} {adopted = adopted} is some a =
       let chance : Chance = record { checkpoint = checkpoint; env = a.env } in
       let early : List Chance = table (take index failure.ring) in
       let here : List Chance = chances_at checkpoint (take a.place environments) in
@@ -218,35 +194,15 @@ module _ {R : Type 0} where
       ∙ sym (append_assoc (table (take index failure.ring)) (chances_at checkpoint (take a.place environments)) (record { checkpoint = checkpoint; env = a.env } ∷ (chances_at checkpoint envs.0 ++ table ring.0))))))) in
       let trials : List Trial = some.trials ++ a.trials in
       let tried = tried-append failure point early here some.trials a.trials some.tried a.tried in
-      let count : length ((some.trials ++ a.trials) ++ a.last ∷ []) ≡ 5 * index + a.place + 1 =
-      let one = tried-length failure point (table (take index failure.ring)) some.trials some.tried in
-      let other = tried-length failure point (chances_at checkpoint (take a.place environments)) a.trials a.tried in
-      let both = length-append some.trials a.trials in
-      let all = length-append (some.trials ++ a.trials) (a.last ∷ []) in
-      let long = length-table (take index failure.ring) in
-      let front = length-take_at failure.ring index checkpoint is in
-      let wide = length-map {A = Env} {B = Chance} (take a.place environments) (λ (e : Env). record { checkpoint = checkpoint; env = e }) in
-      let narrow = length-take_at environments a.place a.env a.env_is in
-      omega (arith, one, other, both, all, long, front, wide, narrow) in
-      let adopted : HasAdopted failure (length ((some.trials ++ a.trials) ++ a.last ∷ [])) a.last cpu choices new = record {
-        index = index;
-        by_number = by_five index a.place (length ((some.trials ++ a.trials) ++ a.last ∷ [])) count (place_few environments a.place a.env a.env_is);
-        checkpoint_is = is ∙ ap (λ (c : Chance). Some c.checkpoint) (sym a.chance_is);
-        stands_on = base;
-        stands = a.adopted.stands;
-        wrote = a.adopted.wrote;
-        chose = a.adopted.chose;
-        goes = a.adopted.goes;
-        replies = a.adopted.replies;
-      } in
+      let survived = adopted_survives adopted.index adopted.env a.last.result a.adopts.adopted_is in
       record {
         trials = (some.trials ++ a.trials) ++ a.last ∷ [];
         tries_are = a.tries_are
             ∙ (ap (λ (l : List Try). l ++ map try_of (a.trials ++ a.last ∷ [])) some.tries_are
             ∙ (sym (map-append try_of some.trials (a.trials ++ a.last ∷ [])) ∙ ap (map try_of) (sym (append_assoc some.trials a.trials (a.last ∷ [])))));
         walks = subst (λ (all : List Chance). Walks failure point all ((some.trials ++ a.trials) ++ a.last ∷ [])) (sym split)
-            (found_walks failure point (early ++ here) later chance trials a.last tried a.chance_is a.right a.adopted.survived);
-        leaves = leaves_found failure (some.trials ++ a.trials) a.last (length ((some.trials ++ a.trials) ++ a.last ∷ [])) cpu choices old new a.adopted.survived adopted;
+            (found_walks failure (early ++ here) later trials tried a.chance_is a.right survived);
+        leaves = (a.last, tried_then failure point (early ++ here) trials tried survived, a.adopts);
         counted = let parts = ap steps_of (append_assoc some.trials a.trials (a.last ∷ [])) ∙ steps-append some.trials (a.trials ++ a.last ∷ []) in omega (arith, parts, some.counted, a.counted);
       }
     where
@@ -269,25 +225,25 @@ module _ {R : Type 0} where
     pub least : before ≤ after
 
   -- trials can be made from there still
-  pub can_still_try : (permits : R → Heap → ℕ → ℕ → Bool) (budget point : ℕ) (log : Log) (began now : CpuState R) (old new : Ledger) → KeepsSaved began now → KeepsLedger old new → CanTry budget (permits began.rule) point began log old
+  pub can_still_try : (permits : R → Heap → ℕ → ℕ → Bool) {budget point : ℕ} {log : Log} {began now : CpuState R} {old new : Ledger} → KeepsSaved began now → KeepsLedger old new → CanTry budget (permits began.rule) point began log old
       → CanTry budget (permits now.rule) point now log new
-  can_still_try permits budget point log began now old new saved same w = record {
+  can_still_try permits {budget = budget} {point = point} {log = log} {began = began} {now = now} {old = old} {new = new} saved same w = record {
     failure = w.failure;
     under = subst (λ (rule : R). IsUnder w.failure budget (permits rule)) (sym saved.rule) w.under;
     failed = failed_still point w.failure began now log old new saved same w.failed;
   }
 
-  pub same_saved : (cpu : CpuState R) → KeepsSaved cpu cpu
-  same_saved cpu = record { rule = refl; base = refl; saved = refl; count = refl; pages = refl; frames = refl }
+  pub same_saved : {cpu : CpuState R} → KeepsSaved cpu cpu
+  same_saved = record { rule = refl; base = refl; saved = refl; count = refl; pages = refl; frames = refl }
 
 -- what was passed stays over the parts of a walk
-pub same_bytes_on : (old mid new : Ledger) → KeepsLedger old mid → HasSameBytes mid new → HasSameBytes old new
-same_bytes_on old mid new same h = record { no_trial = h.no_trial; first = h.first ∙ ap (λ (l : Ledger). l.first) same; connections = h.connections ∙ ap (λ (l : Ledger). l.connections) same }
+pub same_bytes_on : {old mid new : Ledger} → KeepsLedger old mid → HasSameBytes mid new → HasSameBytes old new
+same_bytes_on same h = record { no_trial = h.no_trial; first = h.first ∙ ap (λ (l : Ledger). l.first) same; connections = h.connections ∙ ap (λ (l : Ledger). l.connections) same }
 
-pub same_bytes_discarded : (old new : Ledger) → new ≡ discarded old → HasSameBytes old new
-same_bytes_discarded old new is = record { no_trial = ap (λ (l : Ledger). l.trial) is; first = ap (λ (l : Ledger). l.first) is; connections = ap (λ (l : Ledger). l.connections) is }
+pub same_bytes_discarded : {old new : Ledger} → new ≡ discarded old → HasSameBytes old new
+same_bytes_discarded is = record { no_trial = ap (λ (l : Ledger). l.trial) is; first = ap (λ (l : Ledger). l.first) is; connections = ap (λ (l : Ledger). l.connections) is }
 
 -- a walk past the last checkpoint has tried the whole table
-pub failed_all : (failure : Failure) (point index : ℕ) (noted new : List Try) (before after : ℕ) → length failure.ring ≤ index → FailedSome failure point (table (take index failure.ring)) noted new before after
+pub failed_all : {failure : Failure} {point index : ℕ} {noted new : List Try} {before after : ℕ} → length failure.ring ≤ index → FailedSome failure point (table (take index failure.ring)) noted new before after
     → FailedSome failure point (table failure.ring) noted new before after
-failed_all failure point index noted new before after past some = subst (λ (all : List Path). FailedSome failure point (table all) noted new before after) (take_all index failure.ring past) some
+failed_all {failure = failure} {point = point} {index = index} {noted = noted} {new = new} {before = before} {after = after} past some = subst (λ (all : List Path). FailedSome failure point (table all) noted new before after) (take_all index failure.ring past) some

@@ -1,5 +1,5 @@
 -- What a recovery makes of a session whose program failed.
-use Rattle.std.specs.Prelude.{◌≡◌, ◌⊎◌, ℕ, ◌+◌, ◌-◌, ◌<◌, ◌≤◌, Bool, List, [], ◌++◌, length, take, drop, Option, None, Some, Result, Ok, Err, option_and_then, slice_get}
+use Rattle.std.specs.Prelude.{◌≡◌, ◌⊎◌, ℕ, ◌+◌, ◌-◌, ◌<◌, ◌≤◌, Bool, List, [], ◌++◌, length, take, drop, Option, None, Some, Result, Ok, Err, slice_get}
 use Rattle.std.specs.declared.alloc.AllocError.{AllocError}
 use Rattle.block_book.specs.declared.choice.Choice.{Choice}
 use Rattle.block_book.specs.Heap.{Heap}
@@ -13,28 +13,17 @@ use Rattle.run_history.specs.Served.{Path, FailsBy, AsksFor}
 use Rattle.guest_cpu.specs.Cpus.{CpuState}
 use Rattle.guest_cpu.specs.Serving.{standing_of}
 use Rattle.session_history.specs.Keeping.{KeepsReplies}
-use Rattle.alloc_env.specs.declared.env.Env.{Env}
-use Rattle.session_notes.specs.declared.episode.Tried.{Tried}
-use Rattle.session_notes.specs.declared.episode.Tried.TheVariants as tried
 use Rattle.session_notes.specs.declared.episode.Try.{Try}
 use Rattle.trials.specs.Tables.{Trial, survivor_in}
 use Rattle.trials.specs.Episodes.{Recovery, episode_of, IsRecovery, adopted_by}
 use Rattle.recovery.specs.Sessions.{CanGoOn, Failure, IsUnder, FailedAt, taken_in}
 use Rattle.recovery.specs.Trying.{steps_of}
+use Rattle.recovery.specs.Walking.{HasSameBytes}
 use Rattle.recovery.specs.Watching.{TellsTable}
-use Rattle.recovery.specs.declared.recovering.Adopted.{Adopted}
+use Rattle.recovery.specs.declared.walking.Adopted.{Adopted}
+use Rattle.recovery.specs.declared.walking.FailureSite.{FailureSite}
 use Rattle.recovery.specs.declared.recovering.Recovered.{Recovered}
 use Rattle.recovery.specs.Rings.{KeepsRing, AreBehind, IsInForce}
-
--- what is adopted of a trial in an environment that had this result: nothing unless it survived
-abbrev pub adopted_of : Env → Tried → Option Adopted
-adopted_of env tried.Asks = Some (record { env = env; code = None })
-adopted_of env (tried.Exits code) = Some (record { env = env; code = Some code })
-adopted_of env _ = None
-
--- of some trials the last one is adopted, if it survived
-abbrev pub adopted_in : List Try → Option Adopted
-adopted_in tries = option_and_then (λ (last : Try). adopted_of last.env last.tried) (slice_get tries (length tries - 1))
 
 -- a failure, its walk and the survivor that failed, as a recovery
 abbrev pub recovery_of : Failure → Path → Cause → List Trial → Recovery
@@ -43,21 +32,21 @@ recovery_of failure begun cause trials = record { survivor = record { plan = fai
 module _ {R : Type 0} where
   -- A session whose survivor failed so: its checkpoints are those of the failure. Of the survivor's answers of malloc it has those behind the
   -- first ones, which are recorded, and all of which were used before the oldest checkpoint.
-  pub record HasToRecover (point : ℕ) (cause : Cause) (pc : ℕ) (failure : Failure) (cpu : CpuState R) (checkpoints : Checkpoints) (recorded : ℕ) (choices : List Choice) (log : Log) (ledger : Ledger) : Type 0 where
-    pub failed : FailedAt point failure cpu log ledger
+  pub record HasToRecover (site : FailureSite) (failure : Failure) (cpu : CpuState R) (checkpoints : Checkpoints) (recorded : ℕ) (choices : List Choice) (log : Log) (ledger : Ledger) : Type 0 where
+    pub failed : FailedAt site.point failure cpu log ledger
     pub ring : KeepsRing failure.rules failure.image failure.entries failure.plan failure.failed failure.ring cpu checkpoints log ledger
     pub chose : choices ≡ drop recorded failure.failed.choices
     pub early : AreBehind recorded failure.ring
-    pub fails : FailsBy failure.rules.limits failure.plan failure.failed cause
-    pub pc_is : failure.failed.state.machine.pc ≡ pc
+    pub fails : FailsBy failure.rules.limits failure.plan failure.failed site.cause
+    pub pc_is : failure.failed.state.machine.pc ≡ site.pc
 
-  pub record CanRecover (budget : ℕ) (permits : Heap → ℕ → ℕ → Bool) (point : ℕ) (cause : Cause) (pc : ℕ) (cpu : CpuState R) (checkpoints : Checkpoints) (recorded : ℕ) (choices : List Choice) (log : Log) (ledger : Ledger) : Type 0 where
+  pub record CanRecover (budget : ℕ) (permits : Heap → ℕ → ℕ → Bool) (site : FailureSite) (cpu : CpuState R) (checkpoints : Checkpoints) (recorded : ℕ) (choices : List Choice) (log : Log) (ledger : Ledger) : Type 0 where
     pub failure : Failure
     pub under : IsUnder failure budget permits
-    pub has : HasToRecover point cause pc failure cpu checkpoints recorded choices log ledger
+    pub has : HasToRecover site failure cpu checkpoints recorded choices log ledger
 
-  -- The session goes on as a trial: the guest stands there, the checkpoints are those up to its own, and what is known of the survivor is
-  -- known of it. It stands at its request for the item that the run that failed never took, or has ended itself.
+  -- The session goes on as a trial: the guest stands there, the checkpoints are those up to the one at this index, its own, and what is known of
+  -- the survivor is known of it. It stands at its request for the item that the run that failed never took, or has ended itself.
   pub record HasAdoptedRun (failure : Failure) (recovery : Recovery) (trial : Trial) (adopted : Adopted) (cpu : CpuState R) (checkpoints : Checkpoints) (recorded : ℕ) (choices : List Choice) (log : Log) (ledger : Ledger) : Type 0 where
     pub env_is : adopted.env ≡ trial.chance.env
     pub code_is : adopted.code ≡ trial.path.state.ended
@@ -66,9 +55,8 @@ module _ {R : Type 0} where
     pub chose : choices ≡ drop recorded trial.path.choices
     pub low : recorded ≤ length trial.path.choices
     pub front : take recorded trial.path.choices ≡ take recorded failure.failed.choices
-    pub index : ℕ
-    pub from : slice_get failure.ring index ≡ Some trial.chance.checkpoint
-    pub ring : KeepsRing failure.rules failure.image failure.entries (adopted_by recovery trial).plan trial.path (drop index failure.ring) cpu checkpoints log ledger
+    pub from : slice_get failure.ring adopted.index ≡ Some trial.chance.checkpoint
+    pub ring : KeepsRing failure.rules failure.image failure.entries (adopted_by recovery trial).plan trial.path (drop adopted.index failure.ring) cpu checkpoints log ledger
     pub in_force : IsInForce (adopted_by recovery trial).plan failure.failed.state.machine.taken adopted.env (failure.failed.state.machine.taken + 4)
     pub replies : KeepsReplies failure.rules.bounds failure.entries None trial.path.state.sends ledger
     pub goes : CanGoOn failure.rules failure.entries trial.path
@@ -110,15 +98,20 @@ module _ {R : Type 0} where
   AdoptsBy index recorded own old new before after chose choices (Err fault) = (new ≡ old) × (after ≡ before) × (choices ≡ chose)
 
 module _ {R : Type 0} where
-  -- Of the saved slots all stand behind a walk of which nothing was adopted; and behind an adoption those up to one of them.
+  -- Of the saved slots all stand behind a walk of which nothing was adopted; and behind an adoption those up to its own.
   abbrev pub KeepsSlots : Option Adopted → CpuState R → CpuState R → Type 0
   KeepsSlots None old new = new.slots.saved ≡ old.slots.saved
-  KeepsSlots (Some adopted) old new = (index : ℕ) × (index < length old.slots.saved) × (new.slots.saved ≡ without_newer index old.slots.saved)
+  KeepsSlots (Some adopted) old new = (adopted.index < length old.slots.saved) × (new.slots.saved ≡ without_newer adopted.index old.slots.saved)
 
--- after want of memory the checkpoints and the answers of malloc are as they were
-abbrev pub KeepsAtFault : Checkpoints → Checkpoints → List Choice → List Choice → Result Recovered AllocError → Type 0
-KeepsAtFault before after chose choices (Ok recovered) = Unit {0}
-KeepsAtFault before after chose choices (Err fault) = (after ≡ before) × (choices ≡ chose)
+  -- what a recovery leaves whatever the failure was: saved slots by what was adopted, and what was passed
+  pub record LeavesSession (adopted : Option Adopted) (old new : CpuState R) (before after : Ledger) : Type 0 where
+    pub slots : KeepsSlots adopted old new
+    pub bytes : HasSameBytes before after
+
+  -- by the answer: after want of memory the checkpoints and the answers of malloc are as they were
+  abbrev pub LeavesRest : CpuState R → CpuState R → Checkpoints → Checkpoints → List Choice → List Choice → Ledger → Ledger → Result Recovered AllocError → Type 0
+  LeavesRest old new before after chose choices ledger later (Ok recovered) = LeavesSession recovered.adopted old new ledger later
+  LeavesRest old new before after chose choices ledger later (Err fault) = (after ≡ before) × (choices ≡ chose)
 
 -- by the answer: a watch that tells its tables tells one more, that of the failure; after want of memory it may, or tells what it told
 abbrev pub WatchedBy : {X : Type 0} → Failure → ℕ → Option (List (List Try)) → Option (List (List Try)) → Result X AllocError → Type 0

@@ -12,7 +12,7 @@ use Rattle.reply_ledger.specs.Ledger.{Ledger}
 use Rattle.ckpt_ring.specs.declared.checkpoint.Checkpoint.{Checkpoint}
 use Rattle.ckpt_ring.specs.Slots.{newest_slot}
 use Rattle.ckpt_ring.specs.Rings.{Checkpoints, checkpoints_of, from_newest, saved_in_ring}
-use Rattle.run_history.specs.Served.{Override, env_at, Path}
+use Rattle.run_history.specs.Served.{Override, env_at, Path, origin, AsksFor}
 use Rattle.guest_cpu.specs.Cpus.{CpuState}
 use Rattle.guest_cpu.specs.Serving.{standing_of}
 use Rattle.guest_runs.specs.Writing.{Writes}
@@ -20,7 +20,7 @@ use Rattle.session_history.specs.Heeding.{heeded, items_in}
 use Rattle.session_history.specs.Opened.{opens}
 use Rattle.session_history.specs.Lawful.{Rules}
 use Rattle.trials.specs.Chains.{AreCheckpoints, AreChained}
-use Rattle.recovery.specs.Sessions.{AreKept, taken_in}
+use Rattle.recovery.specs.Sessions.{AreKept, CanGoOn, taken_in}
 
 -- what a ring and the slots of its guest have in common: both have the same checkpoints, at least one, and the guest stands on the newest
 pub record IsRingOf {R : Type 0} (cpu : CpuState R) (checkpoints : Checkpoints) : Type 0 where
@@ -28,6 +28,27 @@ pub record IsRingOf {R : Type 0} (cpu : CpuState R) (checkpoints : Checkpoints) 
   pub standing : checkpoints.standing ≡ checkpoints_of taken_in cpu.slots.saved
   pub capacity : checkpoints.capacity ≤ cpu.slots.count
   pub base : cpu.slots.base ≡ newest_slot cpu.slots.saved
+
+-- a guest without checkpoints, and an empty ring with no more room than it has slots
+pub record HasNoCheckpoint {R : Type 0} (cpu : CpuState R) (checkpoints : Checkpoints) : Type 0 where
+  pub saved : cpu.slots.saved ≡ []
+  pub base : cpu.slots.base ≡ None
+  pub empty : checkpoints.standing ≡ []
+  pub capacity : checkpoints.capacity ≤ cpu.slots.count
+
+-- a guest at the start of a program, beside a log and a ledger that have given up nothing
+pub record IsAtStart {R : Type 0} (image : Image) (cpu : CpuState R) (log : Log) (ledger : Ledger) : Type 0 where
+  pub live : cpu.slots.live ≡ standing_of (origin image)
+  pub window : cpu.base ≡ images.base image
+  pub items : log.first ≡ 0
+  pub sends : ledger.first ≡ 0
+
+-- a save leaves a guest's live state, its rule and its window, and the room of its ring
+pub record KeepsGuest {R : Type 0} (old new : CpuState R) (before after : Checkpoints) : Type 0 where
+  pub live : new.slots.live ≡ old.slots.live
+  pub rule : new.rule ≡ old.rule
+  pub base : new.base ≡ old.base
+  pub capacity : after.capacity ≡ before.capacity
 
 -- The checkpoints of a session's ring as runs, from the newest to the oldest, beside its guest, its log and its ledger. The guest's window is
 -- that of the image, and its flags of pages say which of them the run wrote since the newest checkpoint.
@@ -43,6 +64,15 @@ pub record KeepsRing {R : Type 0} (rules : Rules) (image : Image) (entries : Lis
   pub base : cpu.slots.base ≡ newest_slot cpu.slots.saved
   pub window : cpu.base ≡ images.base image
   pub wrote : IfSome (slice_get ring 0) (λ newest. Writes rules.limits (items_in rules.bounds entries) cpu.base newest (replicate cpu.slots.pages false) now cpu.written)
+
+-- A session's ring beside a guest at its request for an item, with so many taken: a trial could begin there.
+pub record CanSave {R : Type 0} (rules : Rules) (image : Image) (entries : List Entry) (plan : List Override) (now : Path) (paths : List Path) (cpu : CpuState R) (checkpoints : Checkpoints) (log : Log) (ledger : Ledger) (taken : ℕ) : Type 0 where
+  pub ring : KeepsRing rules image entries plan now paths cpu checkpoints log ledger
+  pub live : cpu.slots.live ≡ standing_of now
+  pub asks : AsksFor rules.limits plan now taken
+  pub goes : CanGoOn rules entries now
+  pub items : log.first ≤ taken
+  pub sends : ledger.first ≤ length now.state.sends
 
 -- at each of some checkpoints so many answers of malloc were used, or more
 abbrev pub AreBehind : ℕ → List Path → Type 0

@@ -1,23 +1,26 @@
 -- What a trial, and a walk over the table, make of a session whose program failed.
-use Rattle.std.specs.Prelude.{◌≡◌, ℕ, ◌+◌, ◌-◌, ◌/◌, List, [], ◌∷◌, ◌++◌, length, map, sum, drop, replicate, false, None, Some, slice_get, MatchBool, Result, Ok, Err}
+use Rattle.std.specs.Prelude.{◌≡◌, ℕ, ◌+◌, ◌-◌, ◌≤◌, List, ◌++◌, map, sum, drop, replicate, false, Option, None, Some, IsSomeAnd, MatchBool, Result, Ok, Err}
 use Rattle.std.specs.declared.alloc.AllocError.{AllocError}
 use Rattle.alloc_env.specs.declared.env.Env.{Env}
 use Rattle.block_book.specs.declared.choice.Choice.{Choice}
 use Rattle.reply_ledger.specs.Ledger.{Ledger}
 use Rattle.reply_ledger.specs.Trials.{discarded}
-use Rattle.ckpt_ring.specs.Slots.{slot_numbers}
+use Rattle.ckpt_ring.specs.Slots.{Saved, slot_numbers}
 use Rattle.ckpt_ring.specs.Rings.{from_newest}
 use Rattle.run_history.specs.Served.{Path}
+use Rattle.guest_cpu.specs.Standing.{Standing}
 use Rattle.guest_cpu.specs.Cpus.{CpuState}
 use Rattle.guest_cpu.specs.Serving.{standing_of}
 use Rattle.guest_runs.specs.Writing.{Writes}
 use Rattle.session_history.specs.Keeping.{KeepsReplies}
 use Rattle.session_notes.specs.declared.episode.Tried.{Tried}
+use Rattle.session_notes.specs.declared.episode.Tried.TheVariants as tried
 use Rattle.session_notes.specs.declared.episode.Try.{Try}
 use Rattle.session_notes.specs.Survival.{survives}
 use Rattle.trials.specs.Trials.{plan_of_trial, IsTrial}
-use Rattle.trials.specs.Tables.{Trial, try_of, table, WalksOver}
+use Rattle.trials.specs.Tables.{Trial, try_of, chance_at, table, WalksOver, survivor_in}
 use Rattle.recovery.specs.Sessions.{CanGoOn, Failure, items_of, pieces_of}
+use Rattle.recovery.specs.declared.walking.Adopted.{Adopted}
 
 -- no call of a walk changes anything of a ledger but its trial
 abbrev pub KeepsLedger : Ledger → Ledger → Type 0
@@ -26,6 +29,12 @@ KeepsLedger old new = discarded new ≡ discarded old
 -- how many instructions trials did, each from its checkpoint
 abbrev pub steps_of : List Trial → ℕ
 steps_of trials = sum (map (λ trial. trial.path.steps - trial.chance.checkpoint.steps) trials)
+
+-- what is adopted of a trial from the checkpoint at an index, in an environment, that had this result: nothing unless it survived
+abbrev pub adopted_of : ℕ → Env → Tried → Option Adopted
+adopted_of index env tried.Asks = Some (record { index = index; env = env; code = None })
+adopted_of index env (tried.Exits code) = Some (record { index = index; env = env; code = Some code })
+adopted_of index env _ = None
 
 module _ {R : Type 0} where
   -- nor what is saved of a guest, nor its rule
@@ -57,33 +66,38 @@ module _ {R : Type 0} where
     pub goes : CanGoOn failure.rules failure.entries path
     pub sent : MatchBool (survives result) (ledger.trial ≡ Some (drop ledger.first path.state.sends)) (ledger.trial ≡ None)
 
+  -- the instructions of a trial from a saved checkpoint were counted
+  pub record CountsTrial (saved : Option (Saved Standing)) (cpu : CpuState R) (before after : ℕ) : Type 0 where
+    pub counted : IsSomeAnd saved (λ one. after + one.state.steps ≡ before + cpu.slots.live.steps)
+    pub least : before ≤ after
+
   -- by the answer: after want of memory only what stays is known
   abbrev pub TriesBy : Failure → ℕ → Path → Env → CpuState R → List Choice → Ledger → Result Tried AllocError → Type 0
   TriesBy failure point checkpoint env cpu choices ledger (Ok result) = HasTried failure point checkpoint env cpu choices ledger result
   TriesBy failure point checkpoint env cpu choices ledger (Err fault) = Unit {0}
 
-  -- the run that a walk leaves as the survivor: that of the last trial, from the checkpoint of this index; the ledger has its sends
-  pub record HasAdopted (failure : Failure) (number : ℕ) (trial : Trial) (cpu : CpuState R) (choices : List Choice) (ledger : Ledger) : Type 0 where
-    pub index : ℕ
-    pub by_number : index ≡ (number - 1) / 5
-    pub checkpoint_is : slice_get failure.ring index ≡ Some trial.chance.checkpoint
-    pub stands_on : StandsOn cpu index
+  -- A trial is adopted, as the survivor: that of the chance at this index and in this environment, which ended itself with this code, if it did. The
+  -- guest stands where it has come, on its checkpoint, with the pages marked that it wrote since then; these are its answers of malloc since then; and
+  -- the ledger has its sends.
+  pub record IsAdopted (failure : Failure) (trial : Trial) (adopted : Adopted) (cpu : CpuState R) (choices : List Choice) (ledger : Ledger) : Type 0 where
+    pub chance_is : chance_at failure.ring adopted.index adopted.env ≡ Some trial.chance
+    pub adopted_is : adopted_of adopted.index adopted.env trial.result ≡ Some adopted
+    pub stands_on : StandsOn cpu adopted.index
     pub stands : cpu.slots.live ≡ standing_of trial.path
     pub wrote : Writes failure.rules.limits (items_of failure) cpu.base trial.chance.checkpoint (replicate cpu.slots.pages false) trial.path cpu.written
     pub chose : trial.path.choices ≡ trial.chance.checkpoint.choices ++ choices
     pub goes : CanGoOn failure.rules failure.entries trial.path
     pub replies : KeepsReplies failure.rules.bounds failure.entries None trial.path.state.sends ledger
 
-  -- what is left behind a walk: its last trial is adopted, or no trial survived and the ledger is as it was
-  abbrev pub LeavesBy : Failure → List Trial → ℕ → CpuState R → List Choice → Ledger → Ledger → Type 0
-  LeavesBy failure [] number cpu choices old new = new ≡ discarded old
-  LeavesBy failure (last ∷ []) number cpu choices old new = MatchBool (survives last.result) (HasAdopted failure number last cpu choices new) (new ≡ discarded old)
-  LeavesBy failure (first ∷ (second ∷ trials)) number cpu choices old new = LeavesBy failure (second ∷ trials) number cpu choices old new
+  -- what is left behind a walk: of its trials the one that survived is adopted; or none survived, and the ledger is as it was
+  abbrev pub LeavesBy : Failure → List Trial → CpuState R → List Choice → Ledger → Ledger → Option Adopted → Type 0
+  LeavesBy failure trials cpu choices old new None = (survivor_in trials ≡ None) × (new ≡ discarded old)
+  LeavesBy failure trials cpu choices old new (Some adopted) = (trial : Trial) × (survivor_in trials ≡ Some trial) × IsAdopted failure trial adopted cpu choices new
 
   -- A walk over the whole table of a ring, or up to the first trial that survives.
-  pub record HasWalked (failure : Failure) (point : ℕ) (cpu : CpuState R) (choices : List Choice) (old new : Ledger) (before now : ℕ) (tries : List Try) : Type 0 where
+  pub record HasWalked (failure : Failure) (point : ℕ) (cpu : CpuState R) (choices : List Choice) (old new : Ledger) (before now : ℕ) (tries : List Try) (adopted : Option Adopted) : Type 0 where
     pub trials : List Trial
     pub tries_are : tries ≡ map try_of trials
     pub walks : WalksOver failure.rules.limits (items_of failure) failure.plan (pieces_of failure) point (table failure.ring) trials
-    pub leaves : LeavesBy failure trials (length trials) cpu choices old new
+    pub leaves : LeavesBy failure trials cpu choices old new adopted
     pub counted : now ≡ before + steps_of trials

@@ -1,5 +1,5 @@
 -- A walk on its way over the table of trials.
-use Rattle.std.specs.Prelude.{◌≡◌, ℕ, ◌+◌, ◌-◌, List, [], ◌∷◌, ◌++◌, map, take, replicate, Bool, true, false, None, Some, slice_get, Result, Ok, Err}
+use Rattle.std.specs.Prelude.{◌≡◌, ℕ, ◌+◌, ◌-◌, List, [], ◌∷◌, ◌++◌, map, take, false, Option, None, Some, slice_get, Result, Ok, Err}
 use Rattle.std.specs.declared.alloc.AllocError.{AllocError}
 use Rattle.alloc_env.specs.declared.env.Env.{Env}
 use Rattle.block_book.specs.declared.choice.Choice.{Choice}
@@ -7,16 +7,15 @@ use Rattle.reply_ledger.specs.Ledger.{Ledger}
 use Rattle.reply_ledger.specs.Trials.{discarded}
 use Rattle.run_history.specs.Served.{Path}
 use Rattle.guest_cpu.specs.Cpus.{CpuState}
-use Rattle.guest_cpu.specs.Serving.{standing_of}
-use Rattle.guest_runs.specs.Writing.{Writes}
-use Rattle.session_history.specs.Keeping.{KeepsReplies}
 use Rattle.session_notes.specs.declared.episode.Try.{Try}
 use Rattle.session_notes.specs.declared.episode.Episode.{Episode}
-use Rattle.run_history.specs.declared.answer.Cause.{Cause}
 use Rattle.session_notes.specs.Survival.{survives}
 use Rattle.trials.specs.Tables.{Chance, Trial, try_of, chances_at, environments, IsRight}
-use Rattle.recovery.specs.Sessions.{CanGoOn, Failure, items_of, pieces_of}
-use Rattle.recovery.specs.Trying.{KeepsLedger, steps_of, StandsOn, HasWalked}
+use Rattle.recovery.specs.declared.walking.Adopted.{Adopted}
+use Rattle.recovery.specs.declared.walking.Walked.{Walked}
+use Rattle.recovery.specs.declared.walking.FailureSite.{FailureSite}
+use Rattle.recovery.specs.Sessions.{Failure, items_of, pieces_of}
+use Rattle.recovery.specs.Trying.{KeepsLedger, steps_of, IsAdopted, HasWalked}
 
 -- a chance was tried, with this trial, and noted
 pub record IsMade (failure : Failure) (point : ℕ) (chance : Chance) (trial : Trial) (old new : List Try) (before after : ℕ) : Type 0 where
@@ -53,10 +52,10 @@ pub record HasSameBytes (old new : Ledger) : Type 0 where
   pub connections : new.connections ≡ old.connections
 
 -- an episode tells of a failure, and of the walk
-pub record IsEpisode (point : ℕ) (cause : Cause) (pc : ℕ) (episode : Episode) : Type 0 where
-  pub point_is : episode.point ≡ point
-  pub cause_is : episode.cause ≡ cause
-  pub pc_is : episode.pc ≡ pc
+pub record IsEpisode (site : FailureSite) (episode : Episode) : Type 0 where
+  pub point_is : episode.point ≡ site.point
+  pub cause_is : episode.cause ≡ site.cause
+  pub pc_is : episode.pc ≡ site.pc
 
 -- by the answer of a walk
 abbrev pub StaysBy : {X : Type 0} → Ledger → Ledger → Result X AllocError → Type 0
@@ -69,34 +68,25 @@ LeavesNoTrial old new (Ok done) = new ≡ discarded old
 LeavesNoTrial old new (Err fault) = KeepsLedger old new
 
 -- by the answer of a part of it, that a trial was adopted or that none survived
-abbrev pub LedgerBy : Ledger → Ledger → Result Bool AllocError → Type 0
-LedgerBy old new (Ok true) = HasSameBytes old new
-LedgerBy old new (Ok false) = KeepsLedger old new
+abbrev pub LedgerBy : Ledger → Ledger → Result (Option Adopted) AllocError → Type 0
+LedgerBy old new (Ok (Some adopted)) = HasSameBytes old new
+LedgerBy old new (Ok None) = KeepsLedger old new
 LedgerBy old new (Err fault) = KeepsLedger old new
 
 module _ {R : Type 0} where
-  -- a trial is the survivor
-  pub record IsAdopted (failure : Failure) (trial : Trial) (cpu : CpuState R) (choices : List Choice) (ledger : Ledger) : Type 0 where
-    pub survived : survives trial.result ≡ true
-    pub stands : cpu.slots.live ≡ standing_of trial.path
-    pub wrote : Writes failure.rules.limits (items_of failure) cpu.base trial.chance.checkpoint (replicate cpu.slots.pages false) trial.path cpu.written
-    pub chose : trial.path.choices ≡ trial.chance.checkpoint.choices ++ choices
-    pub goes : CanGoOn failure.rules failure.entries trial.path
-    pub replies : KeepsReplies failure.rules.bounds failure.entries None trial.path.state.sends ledger
-
   -- one was tried, and adopted
-  pub record AdoptedOne (failure : Failure) (point : ℕ) (chance : Chance) (cpu : CpuState R) (choices : List Choice) (ledger : Ledger) (old new : List Try) (before after : ℕ) : Type 0 where
+  pub record AdoptedOne (failure : Failure) (point : ℕ) (chance : Chance) (adopted : Adopted) (cpu : CpuState R) (choices : List Choice) (ledger : Ledger) (old new : List Try) (before after : ℕ) : Type 0 where
     pub trial : Trial
     pub made : IsMade failure point chance trial old new before after
-    pub adopted : IsAdopted failure trial cpu choices ledger
+    pub adopts : IsAdopted failure trial adopted cpu choices ledger
 
-  abbrev pub OneBy : Failure → ℕ → Chance → CpuState R → List Choice → Ledger → List Try → List Try → ℕ → ℕ → Result Bool AllocError → Type 0
-  OneBy failure point chance cpu choices ledger old new before after (Ok true) = AdoptedOne failure point chance cpu choices ledger old new before after
-  OneBy failure point chance cpu choices ledger old new before after (Ok false) = FailedOne failure point chance old new before after
+  abbrev pub OneBy : Failure → ℕ → Chance → CpuState R → List Choice → Ledger → List Try → List Try → ℕ → ℕ → Result (Option Adopted) AllocError → Type 0
+  OneBy failure point chance cpu choices ledger old new before after (Ok (Some adopted)) = AdoptedOne failure point chance adopted cpu choices ledger old new before after
+  OneBy failure point chance cpu choices ledger old new before after (Ok None) = FailedOne failure point chance old new before after
   OneBy failure point chance cpu choices ledger old new before after (Err fault) = Unit {0}
 
   -- some were tried, and the last of them was adopted: that of this environment
-  pub record AdoptedLast (failure : Failure) (point : ℕ) (checkpoint : Path) (cpu : CpuState R) (choices : List Choice) (ledger : Ledger) (old new : List Try) (before after : ℕ) : Type 0 where
+  pub record AdoptedLast (failure : Failure) (point : ℕ) (checkpoint : Path) (adopted : Adopted) (cpu : CpuState R) (choices : List Choice) (ledger : Ledger) (old new : List Try) (before after : ℕ) : Type 0 where
     pub trials : List Trial
     pub place : ℕ
     pub env : Env
@@ -107,20 +97,14 @@ module _ {R : Type 0} where
     pub right : IsRight failure.rules.limits (items_of failure) failure.plan (pieces_of failure) point last
     pub tries_are : new ≡ old ++ map try_of (trials ++ last ∷ [])
     pub counted : after ≡ before + steps_of (trials ++ last ∷ [])
-    pub adopted : IsAdopted failure last cpu choices ledger
+    pub adopts : IsAdopted failure last adopted cpu choices ledger
 
-  abbrev pub AllBy : Failure → ℕ → Path → CpuState R → List Choice → Ledger → List Try → List Try → ℕ → ℕ → Result Bool AllocError → Type 0
-  AllBy failure point checkpoint cpu choices ledger old new before after (Ok true) = AdoptedLast failure point checkpoint cpu choices ledger old new before after
-  AllBy failure point checkpoint cpu choices ledger old new before after (Ok false) = FailedSome failure point (chances_at checkpoint environments) old new before after
+  abbrev pub AllBy : Failure → ℕ → Path → CpuState R → List Choice → Ledger → List Try → List Try → ℕ → ℕ → Result (Option Adopted) AllocError → Type 0
+  AllBy failure point checkpoint cpu choices ledger old new before after (Ok (Some adopted)) = AdoptedLast failure point checkpoint adopted cpu choices ledger old new before after
+  AllBy failure point checkpoint cpu choices ledger old new before after (Ok None) = FailedSome failure point (chances_at checkpoint environments) old new before after
   AllBy failure point checkpoint cpu choices ledger old new before after (Err fault) = Unit {0}
 
-  -- where a trial was adopted, the guest stands on its checkpoint
-  abbrev pub StandsBy : CpuState R → ℕ → Result Bool AllocError → Type 0
-  StandsBy cpu index (Ok true) = StandsOn cpu index
-  StandsBy cpu index (Ok false) = Unit {0}
-  StandsBy cpu index (Err fault) = Unit {0}
-
   -- by the answer of a walk; after want of memory only what stays is known
-  abbrev pub WalksBy : Failure → ℕ → CpuState R → List Choice → Ledger → Ledger → ℕ → ℕ → Result Episode AllocError → Type 0
-  WalksBy failure point cpu choices old new before after (Ok episode) = HasWalked failure point cpu choices old new before after episode.tries
+  abbrev pub WalksBy : Failure → ℕ → CpuState R → List Choice → Ledger → Ledger → ℕ → ℕ → Result Walked AllocError → Type 0
+  WalksBy failure point cpu choices old new before after (Ok walked) = HasWalked failure point cpu choices old new before after walked.episode.tries walked.adopted
   WalksBy failure point cpu choices old new before after (Err fault) = Unit {0}

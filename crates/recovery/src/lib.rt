@@ -24,7 +24,7 @@ mod watching;
 
 pub use checkpoints::{begin_ring, checkpoint};
 pub use forgetting::forget;
-pub use recovering::{Adopted, Recovered, recover};
+pub use recovering::{Recovered, recover};
 pub use trying::attempt;
-pub use walking::walk;
+pub use walking::{Adopted, FailureSite, Walked, walk};
 pub use watching::{NoWatch, Watch};

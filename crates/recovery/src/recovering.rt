@@ -1,62 +1,31 @@
 // A recovery: what is tried after a failure, and the trial that is adopted.
-ghost use Rattle.std.specs.Prelude.{◌≡◌, ℕ, ◌++◌, ◌+◌, ◌-◌, ◌/◌, ◌<◌, ◌≤◌, length, take, IfOk};
+ghost use Rattle.std.specs.Prelude.{◌≡◌, ℕ, ◌++◌, ◌+◌, ◌-◌, ◌<◌, ◌≤◌, length, take, IfOk};
 ghost use Rattle.ckpt_ring.specs.Slots.{newest_slot, without_newer_slots};
 ghost use Rattle.ckpt_ring.specs.Rings.{checkpoints_of};
 ghost use Rattle.run_history.specs.Served.{Path};
 ghost use Rattle.recovery.specs.Sessions.{CanTry, Failure, FailedAt, IsUnder, taken_in};
 ghost use Rattle.recovery.specs.Trying.{KeepsSaved, StandsOn};
-ghost use Rattle.recovery.specs.Walking.{HasSameBytes, IsEpisode, StaysBy, WalksBy};
+ghost use Rattle.recovery.specs.Walking.{IsEpisode, StaysBy, WalksBy};
 ghost use Rattle.recovery.specs.Handling.{keeping_by};
-ghost use Rattle.recovery.specs.Recovering.{adopted_in, HasToRecover, CanRecover, RecoversBy, KeepsAtFault, KeepsSlots, AdoptsBy, WatchedBy};
+ghost use Rattle.recovery.specs.Recovering.{HasToRecover, CanRecover, RecoversBy, LeavesRest, AdoptsBy, WatchedBy};
 
-use crate::{Watch, walk};
-use alloc_env::Env;
+use crate::{Adopted, FailureSite, Walked, Watch, walk};
 use block_book::Choice;
 use ckpt_ring::Ring;
 use guest_cpu::Cpu;
 use guest_space::AccessRule;
 use item_log::ItemLog;
 use reply_ledger::Replies;
-use run_history::Cause;
 use rx_io::Steps;
-use session_notes::{Episode, Tried, Try};
+use session_notes::Episode;
 use std::alloc::{AllocError, Global};
 use std::sync::ledger::Ledger;
-
-/// What a session adopts of a trial that survived.
-#[derive(Clone, Copy, Debug)]
-pub struct Adopted {
-    /// The environment of the trial.
-    pub env: Env,
-    /// The code with which the trial ended itself, if it did.
-    pub code: Option<u32>,
-}
 
 /// A failure and what was tried after it, and what was adopted, if a trial survived.
 #[derive(Debug, Drop)]
 pub struct Recovered {
     pub episode: Episode,
     pub adopted: Option<Adopted>,
-}
-
-// What is adopted of some trials: the last one, if it survived.
-fn adopted_of(tries: &[Try]) -> Option<Adopted>
-    ensures { result ≡ adopted_in tries.now }
-{
-    let Some(last) = tries.last() else {
-        return None;
-    };
-    match last.tried {
-        Tried::Asks => Some(Adopted {
-            env: last.env,
-            code: None,
-        }),
-        Tried::Exits(code) => Some(Adopted {
-            env: last.env,
-            code: Some(code),
-        }),
-        _ => None,
-    }
 }
 
 // Some first answers of malloc, and others behind them.
@@ -99,52 +68,40 @@ fn adopt<R: AccessRule>(
     }
 }
 
-// The checkpoint of the last of so many trials, of which each checkpoint has five.
-fn index_of(ring: &Ring, number: usize) -> u32
-    requires { (number - 1) / 5 < length ring.now.standing }
-    ensures { result ≡ (number - 1) / 5 }
-{
-    let index = number.saturating_sub(1) / 5;
-    index.min(ring.len() as usize) as u32
-}
-
 // The watch looks at a failure, and then it is tried to come past it, by `walk`.
 fn walk_watched<R: AccessRule, W: Watch, L: Ledger>(
     alloc: Global,
     cpu: &mut Cpu<R>,
     ring: &Ring,
-    point: u64,
-    cause: Cause,
-    pc: u32,
+    site: FailureSite,
     budget: u32,
     items: &ItemLog,
     replies: &mut Replies,
     choices: &mut Vec<Choice>,
     watch: &mut W,
     steps: &mut Steps<L>,
-) -> Result<Episode, AllocError>
-    requires failed { CanTry budget (R.rule cpu.old.rule) point cpu.old items.now replies.old }
+) -> Result<Walked, AllocError>
+    requires failed { CanTry budget (R.rule cpu.old.rule) site.point cpu.old items.now replies.old }
     requires same { ring.now.standing ≡ checkpoints_of taken_in cpu.old.slots.saved }
-    ensures walks { (failure : Failure) → IsUnder failure budget (R.rule cpu.old.rule) → FailedAt point failure cpu.old items.now replies.old
-        → WalksBy failure point cpu.new choices.new.items replies.old replies.new (W.ran watch.new + steps.old) (W.ran watch.old + steps.new) result }
-    ensures watched { (failure : Failure) → IsUnder failure budget (R.rule cpu.old.rule) → FailedAt point failure cpu.old items.now replies.old
-        → WatchedBy failure point (W.tables watch.old) (W.tables watch.new) result }
-    ensures episode { IfOk result (IsEpisode point cause pc) }
+    ensures walks { (failure : Failure) → IsUnder failure budget (R.rule cpu.old.rule) → FailedAt site.point failure cpu.old items.now replies.old
+        → WalksBy failure site.point cpu.new choices.new.items replies.old replies.new (W.ran watch.new + steps.old) (W.ran watch.old + steps.new) result }
+    ensures watched { (failure : Failure) → IsUnder failure budget (R.rule cpu.old.rule) → FailedAt site.point failure cpu.old items.now replies.old
+        → WatchedBy failure site.point (W.tables watch.old) (W.tables watch.new) result }
+    ensures episode { IfOk result (λ walked. IsEpisode site walked.episode) }
     ensures saved { KeepsSaved cpu.old cpu.new }
     ensures ledger { StaysBy replies.old replies.new result }
     ensures least { W.ran watch.new + steps.old ≤ W.ran watch.old + steps.new }
 {
-    if let Err(e) = watch.failed(cpu, ring, point, budget, items, replies, steps) {
+    if let Err(e) = watch.failed(cpu, ring, site.point, budget, items, replies, steps) {
         return Err(e);
     }
     walk(
-        alloc, cpu, ring, point, cause, pc, budget, items, replies, choices, steps,
+        alloc, cpu, ring, site, budget, items, replies, choices, steps,
     )
 }
 
-/// Tries to come past a failure, by `walk`, and adopts the trial that survives, if one does. `point` says how many items the program
-/// had taken, `cause` and `pc` why and where it failed; the episode tells of that and of all trials. Of the program's answers of malloc the
-/// first `recorded` ones, none of which is behind the oldest checkpoint, aren't in `choices`.
+/// Tries to come past a failure, by `walk`, and adopts the trial that survives, if one does. The episode tells where and why the program
+/// failed, and of all trials. Of the program's answers of malloc the first `recorded` ones, none of which is behind the oldest checkpoint, aren't in `choices`.
 ///
 /// Where a trial is adopted, the guest stands where it has come, at its request for the item behind the failure, or at its end;
 /// `choices` are its answers of malloc behind the first `recorded` ones, its sends are the survivor's in `replies`, and of the checkpoints those stand
@@ -158,9 +115,7 @@ pub fn recover<R: AccessRule, W: Watch, L: Ledger>(
     alloc: Global,
     cpu: &mut Cpu<R>,
     ring: &mut Ring,
-    point: u64,
-    cause: Cause,
-    pc: u32,
+    site: FailureSite,
     budget: u32,
     items: &ItemLog,
     replies: &mut Replies,
@@ -169,41 +124,36 @@ pub fn recover<R: AccessRule, W: Watch, L: Ledger>(
     watch: &mut W,
     steps: &mut Steps<L>,
 ) -> Result<Recovered, AllocError>
-    requires can { CanRecover budget (R.rule cpu.old.rule) point cause pc cpu.old ring.old recorded choices.old.items items.now replies.old }
-    ensures recovers { (failure : Failure) (begun : Path) → IsUnder failure budget (R.rule cpu.old.rule) → HasToRecover point cause pc failure cpu.old ring.old recorded choices.old.items items.now replies.old
-        → RecoversBy failure begun cause cpu.new ring.old ring.new recorded choices.old.items choices.new.items items.now replies.old replies.new (W.ran watch.new + steps.old) (W.ran watch.old + steps.new) result }
-    ensures watched { (failure : Failure) → IsUnder failure budget (R.rule cpu.old.rule) → HasToRecover point cause pc failure cpu.old ring.old recorded choices.old.items items.now replies.old
-        → WatchedBy failure point (W.tables watch.old) (W.tables watch.new) result }
-    ensures fault { KeepsAtFault ring.old ring.new choices.old.items choices.new.items result }
+    requires can { CanRecover budget (R.rule cpu.old.rule) site cpu.old ring.old recorded choices.old.items items.now replies.old }
+    ensures recovers { (failure : Failure) (begun : Path) → IsUnder failure budget (R.rule cpu.old.rule) → HasToRecover site failure cpu.old ring.old recorded choices.old.items items.now replies.old
+        → RecoversBy failure begun site.cause cpu.new ring.old ring.new recorded choices.old.items choices.new.items items.now replies.old replies.new (W.ran watch.new + steps.old) (W.ran watch.old + steps.new) result }
+    ensures watched { (failure : Failure) → IsUnder failure budget (R.rule cpu.old.rule) → HasToRecover site failure cpu.old ring.old recorded choices.old.items items.now replies.old
+        → WatchedBy failure site.point (W.tables watch.old) (W.tables watch.new) result }
+    ensures rest { LeavesRest cpu.old cpu.new ring.old ring.new choices.old.items choices.new.items replies.old replies.new result }
     ensures keeping { (every : ℕ) → keeping_by ring.new.capacity every cpu.new.slots ≡ keeping_by ring.old.capacity every cpu.old.slots }
-    ensures slots { IfOk result (λ recovered. KeepsSlots recovered.adopted cpu.old cpu.new) }
     ensures rule { cpu.new.rule ≡ cpu.old.rule }
-    ensures ledger { IfOk result (λ _. HasSameBytes replies.old replies.new) }
     ensures least { W.ran watch.new + steps.old ≤ W.ran watch.old + steps.new }
 {
     let mut own = Vec::new(alloc);
     match walk_watched(
-        alloc, cpu, ring, point, cause, pc, budget, items, replies, &mut own, watch, steps,
+        alloc, cpu, ring, site, budget, items, replies, &mut own, watch, steps,
     ) {
-        Ok(episode) => {
-            let number = episode.tries.as_slice().len();
-            match adopted_of(episode.tries.as_slice()) {
-                None => Ok(Recovered {
-                    episode,
-                    adopted: None,
-                }),
-                Some(adopted) => {
-                    let index = index_of(ring, number);
-                    match adopt(alloc, cpu, ring, index, recorded, choices, own.as_slice()) {
-                        Ok(()) => Ok(Recovered {
-                            episode,
-                            adopted: Some(adopted),
-                        }),
-                        Err(e) => Err(e),
-                    }
+        Ok(walked) => match walked.adopted {
+            None => Ok(Recovered {
+                episode: walked.episode,
+                adopted: None,
+            }),
+            Some(adopted) => {
+                let index = adopted.index;
+                match adopt(alloc, cpu, ring, index, recorded, choices, own.as_slice()) {
+                    Ok(()) => Ok(Recovered {
+                        episode: walked.episode,
+                        adopted: Some(adopted),
+                    }),
+                    Err(e) => Err(e),
                 }
             }
-        }
+        },
         Err(e) => Err(e),
     }
 }

@@ -1,5 +1,5 @@
 // A trial: to go on from a checkpoint in an environment.
-ghost use Rattle.std.specs.Prelude.{◌≡◌, ℕ, ◌+◌, ◌<◌, ◌≤◌, length, Some, slice_get, IfOk, IsSomeAnd, MatchBool};
+ghost use Rattle.std.specs.Prelude.{◌≡◌, ℕ, ◌<◌, length, Some, slice_get, IfOk, IsSomeAnd, MatchBool};
 ghost use Rattle.item_log.specs.Log.{Log};
 ghost use Rattle.ckpt_ring.specs.Rings.{checkpoints_of, from_newest};
 ghost use Rattle.reply_ledger.specs.Trials.{discarded};
@@ -8,7 +8,7 @@ ghost use Rattle.alloc_env.specs.declared.env.Env.{Env};
 ghost use Rattle.run_history.specs.Served.{Path};
 ghost use Rattle.recovery.specs.Sessions.{CanTry, Failure, FailedAt, IsUnder, taken_in};
 ghost use Rattle.recovery.specs.Going.{IsTrying};
-ghost use Rattle.recovery.specs.Trying.{KeepsLedger, KeepsSaved, StandsOn, TriesBy};
+ghost use Rattle.recovery.specs.Trying.{KeepsLedger, KeepsSaved, StandsOn, CountsTrial, TriesBy};
 
 use crate::going::go_on;
 use alloc_env::Env;
@@ -89,8 +89,7 @@ pub fn attempt<R: AccessRule, L: Ledger>(
     ensures saved { KeepsSaved cpu.old cpu.new }
     ensures ledger { KeepsLedger replies.old replies.new }
     ensures stands { IfOk result (λ _. StandsOn cpu.new index) }
-    ensures counted { IsSomeAnd (from_newest cpu.old.slots.saved index) (λ one. steps.new + one.state.steps ≡ steps.old + cpu.new.slots.live.steps) }
-    ensures least { steps.old ≤ steps.new }
+    ensures counts { CountsTrial (from_newest cpu.old.slots.saved index) cpu.new steps.old steps.new }
 {
     begin(cpu, ring, index, replies, choices);
     match go_on(

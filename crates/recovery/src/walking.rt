@@ -4,8 +4,8 @@ ghost use Rattle.ckpt_ring.specs.Rings.{checkpoints_of};
 ghost use Rattle.run_history.specs.Served.{Path};
 ghost use Rattle.trials.specs.Tables.{environments};
 ghost use Rattle.recovery.specs.Sessions.{CanTry, Failure, FailedAt, IsUnder, taken_in};
-ghost use Rattle.recovery.specs.Trying.{KeepsSaved, HasWalked};
-ghost use Rattle.recovery.specs.Walking.{OneBy, AllBy, StandsBy, LedgerBy, StaysBy, IsEpisode, WalksBy};
+ghost use Rattle.recovery.specs.Trying.{KeepsSaved, HasWalked, adopted_of};
+ghost use Rattle.recovery.specs.Walking.{OneBy, AllBy, LedgerBy, StaysBy, IsEpisode, WalksBy};
 
 use crate::trying::attempt;
 use alloc_env::Env;
@@ -21,32 +21,69 @@ use session_notes::{Episode, Tried, Tries, Try};
 use std::alloc::{AllocError, Global};
 use std::sync::ledger::Ledger;
 
+/// Where and why a program failed.
+#[derive(Clone, Copy, Debug)]
+pub struct FailureSite {
+    /// How many items it had taken.
+    pub point: u64,
+    /// Why it failed.
+    pub cause: Cause,
+    /// The address of the instruction at which it failed.
+    pub pc: u32,
+}
+
+/// What is adopted of a trial that survived.
+#[derive(Clone, Copy, Debug)]
+pub struct Adopted {
+    /// The index of its checkpoint in the ring, where 0 is the newest one.
+    pub index: u32,
+    /// The environment of the trial.
+    pub env: Env,
+    /// The code with which the trial ended itself, if it did.
+    pub code: Option<u32>,
+}
+
+/// What a walk has tried, as the episode of a failure, and what it adopted, if a trial survived.
+#[derive(Debug, Drop)]
+pub struct Walked {
+    pub episode: Episode,
+    pub adopted: Option<Adopted>,
+}
+
 // The environments in which a program is tried, in their order.
 const ENVIRONMENTS: [Env; 5] = [Env::Pad, Env::Zero, Env::Isolate, Env::Delay, Env::All];
 
 // The environment at a place.
 fn environment(place: usize) -> Env
-    requires { place < 5 }
+    requires { place < length environments }
     ensures { slice_get environments place ≡ Some result }
 {
     ENVIRONMENTS[place]
 }
 
 // Notes a trial behind those before it.
-fn note(tries: &mut Vec<Try>, checkpoint: u64, env: Env, tried: Tried) -> Result<(), AllocError>
-    ensures { OnOk result (tries.new.items ≡ tries.old.items ++ record { checkpoint = checkpoint; env = env; tried = tried } ∷ []) }
+fn note(tries: &mut Vec<Try>, made: Try) -> Result<(), AllocError>
+    ensures { OnOk result (tries.new.items ≡ tries.old.items ++ made ∷ []) }
 {
-    match tries.push(Try {
-        checkpoint,
-        env,
-        tried,
-    }) {
+    match tries.push(made) {
         Ok(()) => Ok(()),
         Err(_) => Err(AllocError),
     }
 }
 
-// Tries a checkpoint in one environment, and adopts the trial where it survives. Whether it does.
+// What is adopted of a trial from the checkpoint at an index, in an environment, by its result.
+fn adopted_of(index: u32, env: Env, tried: Tried) -> Option<Adopted>
+    ensures { result ≡ adopted_of index env tried }
+{
+    let code = match tried {
+        Tried::Asks => None,
+        Tried::Exits(code) => Some(code),
+        _ => return None,
+    };
+    Some(Adopted { index, env, code })
+}
+
+// Tries a checkpoint in one environment, and adopts the trial where it survives.
 fn try_one<R: AccessRule, L: Ledger>(
     alloc: Global,
     cpu: &mut Cpu<R>,
@@ -60,7 +97,7 @@ fn try_one<R: AccessRule, L: Ledger>(
     choices: &mut Vec<Choice>,
     steps: &mut Steps<L>,
     tries: &mut Vec<Try>,
-) -> Result<bool, AllocError>
+) -> Result<Option<Adopted>, AllocError>
     requires failed { CanTry budget (R.rule cpu.old.rule) point cpu.old items.now replies.old }
     requires within { index < length ring.now.standing }
     requires same { ring.now.standing ≡ checkpoints_of taken_in cpu.old.slots.saved }
@@ -69,27 +106,35 @@ fn try_one<R: AccessRule, L: Ledger>(
     ensures saved { KeepsSaved cpu.old cpu.new }
     ensures ledger { LedgerBy replies.old replies.new result }
     ensures least { steps.old ≤ steps.new }
-    ensures stands { StandsBy cpu.new index result }
 {
     match attempt(
         alloc, cpu, ring, index, env, point, budget, items, replies, choices, steps,
     ) {
         Ok(tried) => {
             let checkpoint = ring.taken_at(index);
-            if let Err(e) = note(tries, checkpoint, env, tried) {
+            if let Err(e) = note(
+                tries,
+                Try {
+                    checkpoint,
+                    env,
+                    tried,
+                },
+            ) {
                 return Err(e);
             }
-            if !tried.survives() {
-                return Ok(false);
+            match adopted_of(index, env, tried) {
+                None => Ok(None),
+                Some(adopted) => {
+                    replies.adopt();
+                    Ok(Some(adopted))
+                }
             }
-            replies.adopt();
-            Ok(true)
         }
         Err(e) => Err(e),
     }
 }
 
-// Tries a checkpoint in each environment, up to the first in which the trial survives. Whether one does.
+// Tries a checkpoint in each environment, up to the first in which the trial survives, which is adopted.
 fn try_all<R: AccessRule, L: Ledger>(
     alloc: Global,
     cpu: &mut Cpu<R>,
@@ -102,7 +147,7 @@ fn try_all<R: AccessRule, L: Ledger>(
     choices: &mut Vec<Choice>,
     steps: &mut Steps<L>,
     tries: &mut Vec<Try>,
-) -> Result<bool, AllocError>
+) -> Result<Option<Adopted>, AllocError>
     requires failed { CanTry budget (R.rule cpu.old.rule) point cpu.old items.now replies.old }
     requires within { index < length ring.now.standing }
     requires same { ring.now.standing ≡ checkpoints_of taken_in cpu.old.slots.saved }
@@ -111,22 +156,21 @@ fn try_all<R: AccessRule, L: Ledger>(
     ensures saved { KeepsSaved cpu.old cpu.new }
     ensures ledger { LedgerBy replies.old replies.new result }
     ensures least { steps.old ≤ steps.new }
-    ensures stands { StandsBy cpu.new index result }
 {
     'environments: for place in 0..ENVIRONMENTS.len() {
         let env = environment(place);
         match try_one(
             alloc, cpu, ring, index, env, point, budget, items, replies, choices, steps, tries,
         ) {
-            Ok(false) => {}
-            Ok(true) => return Ok(true),
+            Ok(None) => {}
+            Ok(Some(adopted)) => return Ok(Some(adopted)),
             Err(e) => return Err(e),
         }
     }
-    Ok(false)
+    Ok(None)
 }
 
-// Tries all checkpoints, from the newest on, up to the first trial that survives.
+// Tries all checkpoints, from the newest on, up to the first trial that survives, which is adopted.
 fn try_ring<R: AccessRule, L: Ledger>(
     alloc: Global,
     cpu: &mut Cpu<R>,
@@ -138,12 +182,12 @@ fn try_ring<R: AccessRule, L: Ledger>(
     choices: &mut Vec<Choice>,
     steps: &mut Steps<L>,
     tries: &mut Vec<Try>,
-) -> Result<(), AllocError>
+) -> Result<Option<Adopted>, AllocError>
     requires failed { CanTry budget (R.rule cpu.old.rule) point cpu.old items.now replies.old }
     requires same { ring.now.standing ≡ checkpoints_of taken_in cpu.old.slots.saved }
     requires none { tries.old.items ≡ [] }
     ensures walks { (failure : Failure) → IsUnder failure budget (R.rule cpu.old.rule) → FailedAt point failure cpu.old items.now replies.old
-        → IfOk result (λ _. HasWalked failure point cpu.new choices.new.items replies.old replies.new steps.old steps.new tries.new.items) }
+        → IfOk result (λ adopted. HasWalked failure point cpu.new choices.new.items replies.old replies.new steps.old steps.new tries.new.items adopted) }
     ensures saved { KeepsSaved cpu.old cpu.new }
     ensures ledger { StaysBy replies.old replies.new result }
     ensures least { steps.old ≤ steps.new }
@@ -153,20 +197,19 @@ fn try_ring<R: AccessRule, L: Ledger>(
         match try_all(
             alloc, cpu, ring, index, point, budget, items, replies, choices, steps, tries,
         ) {
-            Ok(false) => {}
-            Ok(true) => return Ok(()),
+            Ok(None) => {}
+            Ok(Some(adopted)) => return Ok(Some(adopted)),
             Err(e) => return Err(e),
         }
     }
     replies.discard();
-    Ok(())
+    Ok(None)
 }
 
 /// Tries to come past a failure: goes on from each checkpoint of the ring, the newest first, in each of five environments, up to the
-/// first trial that survives, and adopts that one. `point` says how many items the program had taken, `cause` and `pc` why and where it
-/// failed; they stand in the episode, with all trials in their order.
+/// first trial that survives, and adopts that one. Where and why the program failed stands in the episode, with all trials in their order.
 ///
-/// Where the last trial of the episode survived, the guest stands where that trial has come, on its checkpoint; malloc's answers
+/// Where a trial was adopted, the guest stands where that trial has come, on its checkpoint; malloc's answers
 /// since the checkpoint stand in `choices`, and its sends are the survivor's in `replies`. The pages that the trial's run writes since
 /// then (`writes` of `guest_runs`) are those that the guest counts as written. Where none survived, the guest may stand
 /// anywhere. The checkpoints, the items, and what was passed stay as they are. `steps` counts the instructions of all trials.
@@ -178,33 +221,34 @@ pub fn walk<R: AccessRule, L: Ledger>(
     alloc: Global,
     cpu: &mut Cpu<R>,
     ring: &Ring,
-    point: u64,
-    cause: Cause,
-    pc: u32,
+    site: FailureSite,
     budget: u32,
     items: &ItemLog,
     replies: &mut Replies,
     choices: &mut Vec<Choice>,
     steps: &mut Steps<L>,
-) -> Result<Episode, AllocError>
-    requires failed { CanTry budget (R.rule cpu.old.rule) point cpu.old items.now replies.old }
+) -> Result<Walked, AllocError>
+    requires failed { CanTry budget (R.rule cpu.old.rule) site.point cpu.old items.now replies.old }
     requires same { ring.now.standing ≡ checkpoints_of taken_in cpu.old.slots.saved }
-    ensures walks { (failure : Failure) → IsUnder failure budget (R.rule cpu.old.rule) → FailedAt point failure cpu.old items.now replies.old
-        → WalksBy failure point cpu.new choices.new.items replies.old replies.new steps.old steps.new result }
-    ensures episode { IfOk result (IsEpisode point cause pc) }
+    ensures walks { (failure : Failure) → IsUnder failure budget (R.rule cpu.old.rule) → FailedAt site.point failure cpu.old items.now replies.old
+        → WalksBy failure site.point cpu.new choices.new.items replies.old replies.new steps.old steps.new result }
+    ensures episode { IfOk result (λ walked. IsEpisode site walked.episode) }
     ensures saved { KeepsSaved cpu.old cpu.new }
     ensures ledger { StaysBy replies.old replies.new result }
     ensures least { steps.old ≤ steps.new }
 {
     let mut tries = Vec::new(alloc);
     match try_ring(
-        alloc, cpu, ring, point, budget, items, replies, choices, steps, &mut tries,
+        alloc, cpu, ring, site.point, budget, items, replies, choices, steps, &mut tries,
     ) {
-        Ok(()) => Ok(Episode {
-            point,
-            cause,
-            pc,
-            tries: Tries::from_vec(tries),
+        Ok(adopted) => Ok(Walked {
+            episode: Episode {
+                point: site.point,
+                cause: site.cause,
+                pc: site.pc,
+                tries: Tries::from_vec(tries),
+            },
+            adopted,
         }),
         Err(e) => Err(e),
     }

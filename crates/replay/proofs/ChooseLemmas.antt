@@ -1,9 +1,10 @@
 -- An answer of malloc is used, or can't be.
-use Rattle.std.proofs.Common.{◌≡◌, inl, inr, ℕ, Bool, true, false, not, ◌&&◌, ◌||◌, cond, List, [], ◌∷◌, length, drop, map, filter, Option, Some, refl, sym, ◌∙◌, ap, subst, arith}
+use Rattle.std.proofs.Common.{◌≡◌, inl, inr, ℕ, Bool, true, false, not, ◌&&◌, ◌||◌, cond, List, [], ◌∷◌, length, drop, map, filter, Some, refl, sym, ◌∙◌, ap, subst, arith}
 use Rattle.std.specs.Prelude.{slice_get, nat_lt, ◌==◌}
 use Rattle.std.specs.List.{list_all}
-use Rattle.std.proofs.lemmas.Bool.{and_parts, ltb-false, eqb-false, true≢false}
-use Rattle.links.specs.Links.{Told, Phases, Coming}
+use Rattle.std.proofs.lemmas.Bool.{and_parts, ltb-false, eqb-false, both_ways}
+use Rattle.links.specs.Links.{Told}
+use Rattle.links.specs.Seen.{Seen}
 use Rattle.block_book.specs.declared.block.Block.{Block}
 use Rattle.block_book.specs.declared.choice.Choice.{Choice}
 use Rattle.block_book.specs.Answer.{live_blocks, is_allowed}
@@ -35,12 +36,12 @@ live_all (block ∷ blocks) bare =
     by false is ih = absurd (cc)
 
 -- an answer that can't be used, by the machine
-unusable_by : (allowed null room : Bool) (choice : Choice) (m : Machine) (size n : ℕ) → is_allowed m.heap_start m.heap_end m.blocks size choice ≡ allowed → choice.at == 0 ≡ null → nat_lt n most_blocks ≡ room → length m.blocks ≡ n
+unusable_by : (allowed null room : Bool) (choice : Choice) (m : Machine) (size : ℕ) {n : ℕ} → is_allowed m.heap_start m.heap_end m.blocks size choice ≡ allowed → choice.at == 0 ≡ null → nat_lt n most_blocks ≡ room → length m.blocks ≡ n
     → (allowed && (null || room)) ≡ false → IsUnusable m size (Some choice)
-unusable_by false null room choice m size n a z r same is = inl a
-unusable_by true true room choice m size n a z r same is = absurd (cc)
-unusable_by true false true choice m size n a z r same is = absurd (cc)
-unusable_by true false false choice m size n a z r same is = inr (eqb-false choice.at 0 z, omega (arith, ltb-false n most_blocks r, same))
+unusable_by false null room choice m size a z r same is = inl a
+unusable_by true true room choice m size a z r same is = absurd (cc)
+unusable_by true false true choice m size a z r same is = absurd (cc)
+unusable_by true false false choice m size {n = n} a z r same is = inr (eqb-false choice.at 0 z, omega (arith, ltb-false n most_blocks r, same))
 
 -- C allows an answer by the heap exactly where it does by the machine
 allowed_same : (guest : Guest) (size : ℕ) (choice : Choice) → IsLaidOut guest
@@ -50,7 +51,7 @@ allowed_same guest size choice laid_out = λ i. is_allowed (laid_out.start i) (l
 pub unusable : (s : Standing) (choice : Choice) → IsLaidOut s.guest → is_bare s.guest.heap ≡ true → is_usable s choice ≡ false → IsUnusable s.guest.machine (register s.guest.machine 10) (Some choice)
 unusable s choice laid_out bare is =
     unusable_by (is_allowed s.guest.heap.start s.guest.heap.end (live_blocks s.guest.heap.blocks) (register s.guest.machine 10) choice) (choice.at == 0) (nat_lt (length s.guest.heap.blocks) most_blocks)
-    choice s.guest.machine (register s.guest.machine 10) (length s.guest.heap.blocks) (allowed_same s.guest (register s.guest.machine 10) choice laid_out) refl refl
+    choice s.guest.machine (register s.guest.machine 10) (allowed_same s.guest (register s.guest.machine 10) choice laid_out) refl refl
     (ap length laid_out.live ∙ live_all s.guest.heap.blocks bare) is
 
 pub usable_allowed : (s : Standing) (choice : Choice) → IsLaidOut s.guest → is_usable s choice ≡ true → is_allowed s.guest.machine.heap_start s.guest.machine.heap_end s.guest.machine.blocks (register s.guest.machine 10) choice ≡ true
@@ -58,11 +59,11 @@ usable_allowed s choice laid_out is =
     allowed_same s.guest (register s.guest.machine 10) choice laid_out
     ∙ (and_parts (is_allowed s.guest.heap.start s.guest.heap.end (live_blocks s.guest.heap.blocks) (register s.guest.machine 10) choice) ((choice.at == 0) || nat_lt (length s.guest.heap.blocks) most_blocks) is).0
 
-module _ (image : Image) (recording : Recorded) (began now : Told) (phases : Phases) (stage : Stage) where
+module _ {image : Image} {recording : Recorded} {began : Told} {seen : Seen} {stage : Stage} where
   -- a replay that has no answer to use ends there
-  pub no_choice : (coming : Option Coming) → IsWanting image recording began now phases stage → IsUnusable stage.live.guest.machine (register stage.live.guest.machine 10) (slice_get recording.choices stage.live.guest.machine.allocations)
-      → IsWholeEnd image recording began now coming true stage (answer.Mismatch stage.live.steps)
-  no_choice coming wanting none =
+  pub no_choice : seen.takes ≡ true → IsWanting image recording began seen stage → IsUnusable stage.live.guest.machine (register stage.live.guest.machine 10) (slice_get recording.choices stage.live.guest.machine.allocations)
+      → IsWholeEnd image recording began seen stage (answer.Mismatch stage.live.steps)
+  no_choice still wanting none =
       let playing = wanting.between.playing in
       record {
         entries = playing.entries;
@@ -71,15 +72,14 @@ module _ (image : Image) (recording : Recorded) (began now : Told) (phases : Pha
         asked = playing.base.asked;
         is = playing.base.is;
         ends = (refl, Unanswered (register stage.live.guest.machine 10) wanting.shorter wanting.between.lives wanting.wants none, playing.given, λ ended. absurd (playing.base.goes_on ended));
-        failed = λ no. absurd (true≢false no);
-        given = λ _. playing.given;
-        last = λ no. absurd (true≢false no);
+        failed = λ no. absurd (both_ways seen.takes no still);
+        given = playing.given;
       }
 
   -- one that has goes on
-  pub with_choice : (later : Standing) (choice : Choice) → IsWanting image recording began now phases stage → IsLaidOut stage.live.guest → slice_get recording.choices stage.live.guest.machine.allocations ≡ Some choice
-      → is_usable stage.live choice ≡ true → later ≡ chosen_standing choice stage.live → is_bare later.guest.heap ≡ true → IsBetween image recording began now phases (record stage { live = later })
-  with_choice later choice wanting laid_out here usable is bare =
+  pub with_choice : {later : Standing} {choice : Choice} → IsWanting image recording began seen stage → IsLaidOut stage.live.guest → slice_get recording.choices stage.live.guest.machine.allocations ≡ Some choice
+      → is_usable stage.live choice ≡ true → later ≡ chosen_standing choice stage.live → is_bare later.guest.heap ≡ true → IsBetween image recording began seen (record stage { live = later })
+  with_choice {later = later} {choice = choice} wanting laid_out here usable is bare =
       let playing = wanting.between.playing in
       let keeps = allocated_keeps (register stage.live.guest.machine 10) choice stage.live.guest.machine in
       let taken : later.guest.machine.taken ≡ stage.live.guest.machine.taken = ap (λ (s : Standing). s.guest.machine.taken) is ∙ keeps.taken in
@@ -92,7 +92,7 @@ module _ (image : Image) (recording : Recorded) (began now : Told) (phases : Pha
             tells = playing.base.tells;
             asked = playing.base.asked;
             is = subst (λ (s : Standing). IsReplay image recording playing.entries (replay_of playing.sends s)) (sym is)
-                (replay_chooses image recording playing.entries playing.sends stage.live (register stage.live.guest.machine 10) choice wanting.between.lives wanting.shorter wanting.wants here
+                (replay_chooses stage.live wanting.between.lives wanting.shorter wanting.wants here
                 (usable_allowed stage.live choice laid_out usable) playing.base.is);
             items = playing.base.items;
             goes_on = playing.base.goes_on;
@@ -102,12 +102,12 @@ module _ (image : Image) (recording : Recorded) (began now : Told) (phases : Pha
             gone = playing.base.gone;
             places = playing.base.places;
             taken = omega (arith, playing.base.taken, taken);
-            connected = subst (λ (n : ℕ). AreOpenThen phases (drop n (items_in (bounds_of recording) playing.entries)) later.guest.machine.connections) (sym taken)
-                (subst (λ (connections : List Bool). AreOpenThen phases (drop stage.live.guest.machine.taken (items_in (bounds_of recording) playing.entries)) connections) (sym connections) playing.base.connected);
+            connected = subst (λ (n : ℕ). AreOpenThen seen.phases (drop n (items_in (bounds_of recording) playing.entries)) later.guest.machine.connections) (sym taken)
+                (subst (λ (connections : List Bool). AreOpenThen seen.phases (drop stage.live.guest.machine.taken (items_in (bounds_of recording) playing.entries)) connections) (sym connections) playing.base.connected);
             bare = bare;
           };
           given = playing.given;
         };
-        opened = subst (AreOpen phases) (sym connections) wanting.between.opened;
+        opened = subst (AreOpen seen.phases) (sym connections) wanting.between.opened;
         lives = ap (λ (s : Standing). s.ended) is ∙ wanting.between.lives;
       }

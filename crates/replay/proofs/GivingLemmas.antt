@@ -1,20 +1,20 @@
 -- A send of the guest is given to its connection.
-use Rattle.std.proofs.Common.{◌≡◌, ℕ, ◌<◌, Bool, true, false, List, [], ◌∷◌, ◌++◌, length, take, drop, set, Option, refl, sym, ◌∙◌, ap, subst, arith, length-set}
+use Rattle.std.proofs.Common.{◌≡◌, ℕ, ◌<◌, Bool, true, false, List, [], ◌∷◌, ◌++◌, length, take, drop, set, refl, sym, ◌∙◌, ap, subst, arith, length-set}
 use Rattle.std.specs.Prelude.{Err, slice_set, ◌==◌, ◌&&◌, ◌||◌}
-use Rattle.std.proofs.lemmas.Bool.{eqb-true, eqb-false, true≢false}
+use Rattle.std.proofs.lemmas.Bool.{eqb-true, eqb-false, both_ways}
 use Rattle.std.proofs.lemmas.Option.{unwrap_or-slice_get}
 use Rattle.std.proofs.lemmas.List.{get_or-set_same, get_or-set_other, take-append-drop}
 use Rattle.links.specs.declared.journal.Entry.{Entry}
 use Rattle.links.specs.declared.journal.Entry.TheVariants as entry
 use Rattle.links.specs.declared.journal.LinkFault.{LinkFault}
 use Rattle.links.specs.declared.journal.LinkFault.TheVariants as fault
-use Rattle.links.specs.Links.{Told, Tells, Phases, Coming, Gives, cut_entries, pieces_in}
+use Rattle.links.specs.Links.{Told, Tells, Phases, Gives, cut_entries, pieces_in}
+use Rattle.links.specs.Seen.{Seen}
 use Rattle.rx_io.specs.Prefix.{Prefix}
 use Rattle.rx_io.specs.Sends.{Send}
 use Rattle.elf_image.specs.declared.image.Image.{Image}
 use Rattle.item_log.specs.Log as logs
 use Rattle.run_history.specs.declared.answer.Answer.{Answer}
-use Rattle.run_history.specs.declared.answer.Answer.TheVariants as answer
 use Rattle.session_history.specs.Heeding.{heeded, items_in}
 use Rattle.session_history.specs.Keeping.{phase_after}
 use Rattle.session_history.proofs.Heeding.{events_in-gave, items_in-gave}
@@ -23,14 +23,13 @@ use Rattle.replay.specs.Giving.{found_gone, piece_of, AreGiven, AreGivenInPart, 
 use Rattle.replay.specs.Giving as giving
 use Rattle.replay.specs.Replaying.{IsReplay, AreAsked, EndsBy, bounds_of}
 use Rattle.replay.specs.Hearing.{answer_of}
-use Rattle.replay.specs.Playing.{Stage, has, AreOpenThen, IsBase, IsBetween, IsSending, IsEnd, replay_of}
+use Rattle.replay.specs.Playing.{Stage, has, AreOpen, AreOpenThen, IsBase, IsBetween, IsSending, IsEnd, replay_of}
 use Rattle.replay.proofs.ReplayLemmas.{replay_same}
 use Rattle.replay.proofs.JournalLemmas.{asked_gave, tells_on, tells_still, last_taken-gave, pieces_in-gave, found_gone-more}
-use Rattle.replay.proofs.OpenLemmas.{open_as, then_as}
 
 -- a set with one more connection
-has_more : (connections : List Bool) (conn other : ℕ) → conn < length connections → has (slice_set connections conn true) other ≡ (has connections other || ((conn == other) && true))
-has_more connections conn other low = by (conn == other) refl
+has_more : (connections : List Bool) {conn : ℕ} (other : ℕ) → conn < length connections → has (slice_set connections conn true) other ≡ (has connections other || ((conn == other) && true))
+has_more connections {conn = conn} other low = by (conn == other) refl
   where
     or_true : (b : Bool) → (b || true) ≡ true
     or_true true = refl
@@ -56,18 +55,18 @@ no_more true here = refl
 no_more false true = refl
 no_more false false = refl
 
-module _ (image : Image) (recording : Recorded) (began now later : Told) (phases after : Phases) (entries : List Entry) where
+module _ (image : Image) (recording : Recorded) (began : Told) (seen later : Seen) (entries : List Entry) where
   -- a piece is one more entry
-  base_gave : (sends : List Send) (stage : Stage) (conn : ℕ) (bytes : List ℕ) (gone : Bool) (connections : List Bool) → IsBase image recording began now phases entries sends stage → Tells now later (entry.Gave conn bytes gone ∷ [])
-      → ((other : ℕ) → after other ≡ phases other) → ((other : ℕ) → has connections other ≡ (has stage.gone other || ((conn == other) && gone))) → length connections ≡ 4096
-      → IsBase image recording began later after (entries ++ entry.Gave conn bytes gone ∷ []) sends (record stage { gone = connections })
-  base_gave sends stage conn bytes gone connections base tells same with_it places =
+  base_gave : {sends : List Send} {stage : Stage} {conn : ℕ} {bytes : List ℕ} {gone : Bool} {connections : List Bool} → IsBase image recording began seen entries sends stage → Tells seen.told later.told (entry.Gave conn bytes gone ∷ [])
+      → later.phases ≡ seen.phases → ((other : ℕ) → has connections other ≡ (has stage.gone other || ((conn == other) && gone))) → length connections ≡ 4096
+      → IsBase image recording began later (entries ++ entry.Gave conn bytes gone ∷ []) sends (record stage { gone = connections })
+  base_gave {stage = stage} {conn = conn} {bytes = bytes} {gone = gone} base tells same with_it places =
       let events = events_in-gave entries conn bytes gone in
       let items = items_in-gave (bounds_of recording) entries conn bytes gone in
       record {
-        tells = tells_on began now later entries (entry.Gave conn bytes gone ∷ []) base.tells tells;
-        asked = asked_gave image recording entries conn bytes gone base.asked;
-        is = replay_same image recording entries (entries ++ entry.Gave conn bytes gone ∷ []) (replay_of sends stage.live) items base.is;
+        tells = tells_on base.tells tells;
+        asked = asked_gave conn bytes gone base.asked;
+        is = replay_same items base.is;
         items = record {
           all_heeded = ap (heeded (bounds_of recording)) events ∙ base.items.all_heeded ∙ sym events;
           shows = subst (λ events. logs.Shows recording.frame events stage.log) (sym events) base.items.shows;
@@ -76,19 +75,19 @@ module _ (image : Image) (recording : Recorded) (began now later : Told) (phases
         goes_on = λ ended. base.goes_on (sym (last_taken-gave entries conn bytes gone) ∙ ended);
         first = base.first;
         events = base.events ∙ ap length (sym events);
-        phases_are = λ other. same other ∙ base.phases_are other ∙ ap (phase_after other) (sym events);
+        phases_are = λ other. ap (λ (phases : Phases). phases other) same ∙ base.phases_are other ∙ ap (phase_after other) (sym events);
         gone = λ other. with_it other ∙ ap (λ (b : Bool). b || ((conn == other) && gone)) (base.gone other) ∙ sym (found_gone-more other (pieces_in entries) conn bytes gone)
             ∙ ap (found_gone other) (sym (pieces_in-gave entries conn bytes gone));
         places = places;
         taken = omega (arith, base.taken, ap length items);
-        connected = subst (λ items. AreOpenThen after (drop stage.live.guest.machine.taken items) stage.live.guest.machine.connections) (sym items)
-            (then_as phases after (drop stage.live.guest.machine.taken (items_in (bounds_of recording) entries)) stage.live.guest.machine.connections same base.connected);
+        connected = subst (λ items. AreOpenThen later.phases (drop stage.live.guest.machine.taken items) stage.live.guest.machine.connections) (sym items)
+            (subst (λ (phases : Phases). AreOpenThen phases (drop stage.live.guest.machine.taken (items_in (bounds_of recording) entries)) stage.live.guest.machine.connections) (sym same) base.connected);
         bare = base.bare;
       }
 
-module _ (image : Image) (recording : Recorded) (began now : Told) (phases : Phases) (conn : ℕ) (bytes : List ℕ) (stage : Stage) (sending : IsSending image recording began now phases conn bytes stage) where
+module _ {image : Image} {recording : Recorded} {began : Told} {seen : Seen} {conn : ℕ} {bytes : List ℕ} {stage : Stage} (sending : IsSending image recording began seen conn bytes stage) where
   -- nothing is given to a connection that was found gone
-  pub sends_none : has stage.gone conn ≡ true → IsBetween image recording began now phases stage
+  pub sends_none : has stage.gone conn ≡ true → IsBetween image recording began seen stage
   sends_none is = record {
     playing = record {
       entries = sending.entries;
@@ -101,64 +100,64 @@ module _ (image : Image) (recording : Recorded) (began now : Told) (phases : Pha
   }
 
   -- a whole piece is given
-  pub sends_whole : (later : Told) (after : Phases) → has stage.gone conn ≡ false → Tells now later (entry.Gave conn bytes false ∷ []) → ((other : ℕ) → after other ≡ phases other)
-      → IsBetween image recording began later after stage
-  sends_whole later after is tells same = record {
+  pub sends_whole : {later : Seen} → has stage.gone conn ≡ false → Tells seen.told later.told (entry.Gave conn bytes false ∷ []) → later.phases ≡ seen.phases
+      → IsBetween image recording began later stage
+  sends_whole {later = later} is tells same = record {
     playing = record {
       entries = sending.entries ++ entry.Gave conn bytes false ∷ [];
       sends = sending.sends ++ record { conn = conn; bytes = bytes; taken = sending.stamp } ∷ [];
-      base = base_gave image recording began now later phases after sending.entries (sending.sends ++ record { conn = conn; bytes = bytes; taken = sending.stamp } ∷ []) stage conn bytes false stage.gone sending.base tells same
+      base = base_gave image recording began seen later sending.entries sending.base tells same
           (λ other. no_more (has stage.gone other) (conn == other)) sending.base.places;
       given = subst (AreGiven (sending.sends ++ record { conn = conn; bytes = bytes; taken = sending.stamp } ∷ [])) (sym (pieces_in-gave sending.entries conn bytes false))
           (giving.Whole sending.sends (pieces_in sending.entries) (record { conn = conn; bytes = bytes; taken = sending.stamp }) sending.given (sym (sending.base.gone conn) ∙ is));
     };
-    opened = open_as phases after stage.live.guest.machine.connections same sending.opened;
+    opened = subst (λ (phases : Phases). AreOpen phases stage.live.guest.machine.connections) (sym same) sending.opened;
     lives = sending.lives;
   }
 
   -- some first bytes of it went out, and its connection was found gone
-  pub sends_cut : (later : Told) (after : Phases) (count : ℕ) → conn < 4096 → has stage.gone conn ≡ false → Tells now later (entry.Gave conn (take count bytes) true ∷ []) → ((other : ℕ) → after other ≡ phases other)
-      → IsBetween image recording began later after (record stage { gone = slice_set stage.gone conn true })
-  sends_cut later after count low is tells same = record {
+  pub sends_cut : {later : Seen} (count : ℕ) → conn < 4096 → has stage.gone conn ≡ false → Tells seen.told later.told (entry.Gave conn (take count bytes) true ∷ []) → later.phases ≡ seen.phases
+      → IsBetween image recording began later (record stage { gone = slice_set stage.gone conn true })
+  sends_cut {later = later} count low is tells same = record {
     playing = record {
       entries = sending.entries ++ entry.Gave conn (take count bytes) true ∷ [];
       sends = sending.sends ++ record { conn = conn; bytes = bytes; taken = sending.stamp } ∷ [];
-      base = base_gave image recording began now later phases after sending.entries (sending.sends ++ record { conn = conn; bytes = bytes; taken = sending.stamp } ∷ []) stage conn (take count bytes) true (slice_set stage.gone conn true)
-          sending.base tells same (λ other. has_more stage.gone conn other (omega (arith, low, sending.base.places))) (length-set stage.gone conn true ∙ sending.base.places);
+      base = base_gave image recording began seen later sending.entries
+          sending.base tells same (λ other. has_more stage.gone other (omega (arith, low, sending.base.places))) (length-set stage.gone conn true ∙ sending.base.places);
       given = subst (AreGiven (sending.sends ++ record { conn = conn; bytes = bytes; taken = sending.stamp } ∷ [])) (sym (pieces_in-gave sending.entries conn (take count bytes) true))
           (giving.Cut sending.sends (pieces_in sending.entries) (record { conn = conn; bytes = bytes; taken = sending.stamp }) (take count bytes) sending.given (sym (sending.base.gone conn) ∙ is)
           (drop count bytes, take-append-drop count bytes));
     };
-    opened = open_as phases after stage.live.guest.machine.connections same sending.opened;
+    opened = subst (λ (phases : Phases). AreOpen phases stage.live.guest.machine.connections) (sym same) sending.opened;
     lives = sending.lives;
   }
 
   -- the journal where giving breaks off
-  cut_parts : (later : Told) (front : List ℕ) → has stage.gone conn ≡ false → Prefix front bytes → Tells now later (cut_entries conn front)
-      → (entries : List Entry) × Tells began later entries × IsReplay image recording entries (replay_of (sending.sends ++ record { conn = conn; bytes = bytes; taken = sending.stamp } ∷ []) stage.live)
+  cut_parts : (later : Seen) (front : List ℕ) → has stage.gone conn ≡ false → Prefix front bytes → Tells seen.told later.told (cut_entries conn front)
+      → (entries : List Entry) × Tells began later.told entries × IsReplay image recording entries (replay_of (sending.sends ++ record { conn = conn; bytes = bytes; taken = sending.stamp } ∷ []) stage.live)
       × AreAsked image recording entries × AreGivenInPart (sending.sends ++ record { conn = conn; bytes = bytes; taken = sending.stamp } ∷ []) (pieces_in entries)
   cut_parts later [] is front tells = (
     sending.entries,
-    tells_still began now later sending.entries sending.base.tells tells,
+    tells_still sending.base.tells tells,
     sending.base.is,
     sending.base.asked,
     giving.Unbegun sending.sends (pieces_in sending.entries) (record { conn = conn; bytes = bytes; taken = sending.stamp }) sending.given,
   )
   cut_parts later (byte ∷ more) is front tells = (
     sending.entries ++ entry.Gave conn (byte ∷ more) false ∷ [],
-    tells_on began now later sending.entries (entry.Gave conn (byte ∷ more) false ∷ []) sending.base.tells tells,
-    replay_same image recording sending.entries (sending.entries ++ entry.Gave conn (byte ∷ more) false ∷ []) (replay_of (sending.sends ++ record { conn = conn; bytes = bytes; taken = sending.stamp } ∷ []) stage.live)
+    tells_on sending.base.tells tells,
+    replay_same
         (items_in-gave (bounds_of recording) sending.entries conn (byte ∷ more) false) sending.base.is,
-    asked_gave image recording sending.entries conn (byte ∷ more) false sending.base.asked,
+    asked_gave conn (byte ∷ more) false sending.base.asked,
     subst (AreGivenInPart (sending.sends ++ record { conn = conn; bytes = bytes; taken = sending.stamp } ∷ [])) (sym (pieces_in-gave sending.entries conn (byte ∷ more) false))
         (giving.Begun sending.sends (pieces_in sending.entries) (record { conn = conn; bytes = bytes; taken = sending.stamp }) (byte ∷ more) sending.given (sym (sending.base.gone conn) ∙ is) front),
   )
 
   -- giving failed, or memory ran out
-  broken : (later : Told) (coming : Option Coming) (front : List ℕ) (end : Answer) (Gave : ℕ → List ℕ → Type 0) → has stage.gone conn ≡ false → Prefix front bytes → Tells now later (cut_entries conn front) → Gave conn bytes
-      → ((sends : List Send) (entries : List Entry) → AreGivenInPart sends (pieces_in entries) → EndsBy image recording entries coming (replay_of sends stage.live) end)
-      → IsEnd image recording began later coming true false (IsLastSend began now Gave) stage end
-  broken later coming front end Gave is whole tells gave ends =
+  broken : {later : Seen} (front : List ℕ) {end : Answer} (Gave : ℕ → List ℕ → Type 0) → later.takes ≡ true → later.gives ≡ false → has stage.gone conn ≡ false → Prefix front bytes → Tells seen.told later.told (cut_entries conn front) → Gave conn bytes
+      → ((sends : List Send) (entries : List Entry) → AreGivenInPart sends (pieces_in entries) → EndsBy image recording entries later.coming (replay_of sends stage.live) end)
+      → IsEnd image recording began later (IsLastSend began seen.told Gave) stage end
+  broken {later = later} front Gave take give is whole tells gave ends =
       let parts = cut_parts later front is whole tells in
       record {
         entries = parts.0;
@@ -167,8 +166,8 @@ module _ (image : Image) (recording : Recorded) (began now : Told) (phases : Pha
         asked = parts.3;
         is = parts.2;
         ends = ends (sending.sends ++ record { conn = conn; bytes = bytes; taken = sending.stamp } ∷ []) parts.0 parts.4;
-        failed = λ no. absurd (true≢false no);
-        given = λ no. absurd (true≢false (sym no));
+        failed = λ no. absurd (both_ways later.takes no take);
+        given = λ yes. absurd (both_ways later.gives give yes);
         last = λ _. record {
           before = sending.sends;
           last = record { conn = conn; bytes = bytes; taken = sending.stamp };
@@ -180,16 +179,9 @@ module _ (image : Image) (recording : Recorded) (began now : Told) (phases : Pha
         };
       }
 
-  pub sends_broken : (later : Told) (coming : Option Coming) (why : LinkFault) (Gave : ℕ → List ℕ → Type 0) → has stage.gone conn ≡ false → Gives now later conn bytes (Err why) → Gave conn bytes
-      → IsEnd image recording began later coming true false (IsLastSend began now Gave) stage (answer_of why)
-  sends_broken later coming (fault.Refused kind offset) Gave is gives gave = absurd gives
-  sends_broken later coming fault.ReadFault Gave is gives gave = absurd gives
-  sends_broken later coming fault.WriteFault Gave is gives gave = broken later coming gives.0 answer.WriteFault Gave is gives.1 gives.2 gave (λ sends entries part. part)
-  sends_broken later coming fault.Memory Gave is gives gave = broken later coming gives.0 answer.Memory Gave is gives.1 gives.2 gave (λ sends entries part. part)
-
--- the same of a link, by what it takes and gives still
-pub broken_end : (image : Image) (recording : Recorded) (began now : Told) (coming : Option Coming) (takes gives : Bool) (Last : List Send → Type 0) (stage : Stage) (end : Answer) → takes ≡ true → gives ≡ false
-    → IsEnd image recording began now coming true false Last stage end → IsEnd image recording began now coming takes gives Last stage end
-broken_end image recording began now coming takes gives Last stage end take give is =
-    subst (λ (t : Bool). IsEnd image recording began now coming t gives Last stage end) (sym take)
-    (subst (λ (b : Bool). IsEnd image recording began now coming true b Last stage end) (sym give) is)
+  pub sends_broken : {later : Seen} (why : LinkFault) (Gave : ℕ → List ℕ → Type 0) → later.takes ≡ true → later.gives ≡ false → has stage.gone conn ≡ false → Gives seen.told later.told conn bytes (Err why) → Gave conn bytes
+      → IsEnd image recording began later (IsLastSend began seen.told Gave) stage (answer_of why)
+  sends_broken (fault.Refused kind offset) Gave take give is gives gave = absurd gives
+  sends_broken fault.ReadFault Gave take give is gives gave = absurd gives
+  sends_broken fault.WriteFault Gave take give is gives gave = broken gives.0 Gave take give is gives.1 gives.2 gave (λ sends entries part. part)
+  sends_broken fault.Memory Gave take give is gives gave = broken gives.0 Gave take give is gives.1 gives.2 gave (λ sends entries part. part)

@@ -3,7 +3,7 @@ use Rattle.std.proofs.Common.{◌≡◌, ℕ, zero, suc, ◌+◌, ◌<◌, ◌�
 use Rattle.std.specs.Prelude.{Result, Ok, Err, slice_get, unwrap_or, ◌==◌, if◌then◌else◌}
 use Rattle.std.proofs.Math.Seq.{drop-append_seam}
 use Rattle.std.proofs.Math.ListN.{drop_of_length-le}
-use Rattle.std.proofs.lemmas.Bool.{eqb-true, eqb-false, eq-eqb, both_ways, true≢false}
+use Rattle.std.proofs.lemmas.Bool.{eqb-true, eqb-false, eq-eqb, both_ways}
 use Rattle.std.proofs.lemmas.Option.{same_Some}
 use Rattle.rx_io.specs.declared.bytes.Item.{Item}
 use Rattle.links.specs.declared.journal.Entry.{Entry}
@@ -12,7 +12,8 @@ use Rattle.links.specs.declared.journal.LinkEvent.{LinkEvent}
 use Rattle.links.specs.declared.journal.LinkEvent.TheVariants as event
 use Rattle.links.specs.declared.journal.LinkFault.{LinkFault}
 use Rattle.links.specs.declared.journal.LinkFault.TheVariants as fault
-use Rattle.links.specs.Links.{Told, Tells, Phases, Coming, Open, Closed, IsInOrder, phases_after, GoesBy, StillComes, events_in, pieces_in}
+use Rattle.links.specs.Links.{Told, Tells, Phases, Open, Closed, IsInOrder, phases_after, StillComes, events_in, pieces_in}
+use Rattle.links.specs.Seen.{Seen, NextShows}
 use Rattle.elf_image.specs.declared.image.Image.{Image}
 use Rattle.msg_frame.specs.declared.framing.Framing.{Framing}
 use Rattle.msg_frame.specs.Messages.{Parts, cut}
@@ -26,7 +27,6 @@ use Rattle.run_history.specs.declared.answer.Answer.TheVariants as answer
 use Rattle.run_history.specs.Call.{connections_after}
 use Rattle.run_history.proofs.Connections.{closed_may, others_may}
 use Rattle.session_history.specs.Heeding.{Bounds, Unheeded, refusal, heeded, items_in, received}
-use Rattle.session_history.specs.Heeding as unheeded
 use Rattle.session_history.specs.Keeping.{KeepsItems, phase_after}
 use Rattle.session_history.specs.Ends.{IsLastRefused}
 use Rattle.link_gate.proofs.Phasing.{phases_behind}
@@ -44,15 +44,15 @@ use Rattle.replay.proofs.JournalLemmas.{asked_took, tells_on, tells_still, last_
 use Rattle.replay.proofs.OpenLemmas.{messages_open, item_opens, stays_then}
 
 -- items with messages change no connection
-messages_after : (conn : ℕ) (messages : List (List ℕ)) (connections : List Bool) (k : ℕ) (item : Item) → slice_get (map (message_item conn) messages) k ≡ Some item → connections_after item connections ≡ connections
-messages_after conn [] connections k item here = absurd (cc)
-messages_after conn (bytes ∷ messages) connections zero item here =
+messages_after : (conn : ℕ) (messages : List (List ℕ)) {connections : List Bool} (k : ℕ) (item : Item) → slice_get (map (message_item conn) messages) k ≡ Some item → connections_after item connections ≡ connections
+messages_after conn [] k item here = absurd (cc)
+messages_after conn (bytes ∷ messages) {connections = connections} zero item here =
     subst (λ (i : Item). connections_after i connections ≡ connections) (same_Some (message_item conn bytes) item here) refl
-messages_after conn (bytes ∷ messages) connections (suc k) item here = messages_after conn messages connections k item here
+messages_after conn (bytes ∷ messages) (suc k) item here = messages_after conn messages k item here
 
 -- an event of the journal isn't Ends
-not_end : (found : LinkEvent) → IsEvent found → found ≡ event.Ends → ⊥
-not_end found one is = let never : [] ≡ event.Ends ∷ [] = subst IsEvent is one in absurd (cc)
+not_end : {found : LinkEvent} → IsEvent found → found ≡ event.Ends → ⊥
+not_end one is = let never : [] ≡ event.Ends ∷ [] = subst IsEvent is one in absurd (cc)
 
 module _ (phases after : Phases) (connections : List Bool) where
   -- where each open connection is open still
@@ -61,7 +61,7 @@ module _ (phases after : Phases) (connections : List Bool) where
 
   opens_event : (place : ℕ) → AreOpen phases connections → ((conn : ℕ) → after conn ≡ phases_after (event.Opens place) phases conn) → AreOpen after (connections_after (bare_item OPENED place) connections)
   opens_event place opened enters =
-      item_opens after (bare_item OPENED place) connections
+      item_opens (bare_item OPENED place) connections
       (opened_after (event.Opens place) opened enters (λ conn was. stays (conn == place) conn was))
       (λ _. enters place ∙ ap (λ (b : Bool). if b then Open else phases place) (eq-eqb place place refl))
     where
@@ -84,7 +84,7 @@ module _ (phases after : Phases) (connections : List Bool) where
   parts_event conn rests None opened = opened
   parts_event conn rests (Some parts) opened =
       stays_then after (map (message_item conn) parts.messages) connections
-      (messages_open after (map (message_item conn) parts.messages) connections (messages_after conn parts.messages connections) opened)
+      (messages_open (map (message_item conn) parts.messages) (messages_after conn parts.messages) opened)
 
   brought_event : (framing : Framing) (rests : List (Option (List ℕ))) (event : LinkEvent) → AreOpen phases connections → ((conn : ℕ) → after conn ≡ phases_after event phases conn)
       → AreOpenThen after (items_by (brought framing rests event)) connections
@@ -102,20 +102,20 @@ module _ (phases after : Phases) (connections : List Bool) where
       subst (λ (b : Bool). AreOpenThen after (items_by (cond b (brought framing rests event) None)) connections) (sym order) (brought_event framing rests event opened enters)
 
 -- one more event brings its items
-brings_more : (bounds : Bounds) (entries : List Entry) (event : LinkEvent) (log : Log) → IsEvent event → KeepsItems bounds entries log → refusal bounds (events_in entries) event ≡ None
+brings_more : {bounds : Bounds} {entries : List Entry} {event : LinkEvent} {log : Log} → IsEvent event → KeepsItems bounds entries log → refusal bounds (events_in entries) event ≡ None
     → items_in bounds (entries ++ entry.Took event ∷ []) ≡ items_in bounds entries ++ items_by (hear bounds.framing log.rests event)
-brings_more bounds entries event log one keeps fine =
+brings_more {bounds = bounds} {entries = entries} {event = event} {log = log} one keeps fine =
     ap (items_of bounds.framing) (heeded_with bounds entries event one keeps.all_heeded fine)
     ∙ items_behind bounds.framing (events_in entries) event log keeps.shows
     ∙ ap (λ events. items_of bounds.framing events ++ items_by (hear bounds.framing log.rests event)) (sym keeps.all_heeded)
 
-no_end : (last : LinkEvent) → IsEvent last → Some last ≡ Some event.Ends → ⊥
-no_end last one is =
+no_end : {last : LinkEvent} → IsEvent last → Some last ≡ Some event.Ends → ⊥
+no_end {last = last} one is =
     let same : last ≡ event.Ends = same_Some last event.Ends is in
     let none : [] ≡ last ∷ [] = ap (λ (e : LinkEvent). events_in (entry.Took e ∷ [])) (sym same) ∙ one in
     absurd (cc)
 
-module _ (image : Image) (recording : Recorded) (began now later : Told) (phases after : Phases) (stage : Stage) (waiting : IsWaiting image recording began now phases stage) (none_left : logs.received stage.log ≤ stage.live.guest.machine.taken) where
+module _ {image : Image} {recording : Recorded} {began : Told} {seen : Seen} {stage : Stage} (waiting : IsWaiting image recording began seen stage) (none_left : logs.received stage.log ≤ stage.live.guest.machine.taken) where
   -- all that was received is taken
   all_taken : stage.live.guest.machine.taken ≡ received (bounds_of recording) waiting.playing.entries
   all_taken =
@@ -135,209 +135,200 @@ module _ (image : Image) (recording : Recorded) (began now later : Told) (phases
   }
 
   took : (event : LinkEvent) → AreAsked image recording (waiting.playing.entries ++ entry.Took event ∷ [])
-  took event = asked_took image recording waiting.playing.entries event (record { replay = replay_of waiting.playing.sends stage.live; asks = asking }) waiting.playing.base.asked
+  took event = asked_took event (record { replay = replay_of waiting.playing.sends stage.live; asks = asking }) waiting.playing.base.asked
 
   -- each connection that may be sent to is open
-  opened_now : AreOpen phases stage.live.guest.machine.connections
+  opened_now : AreOpen seen.phases stage.live.guest.machine.connections
   opened_now =
       let none : drop stage.live.guest.machine.taken (items_in (bounds_of recording) waiting.playing.entries) ≡ [] =
       drop_of_length-le (items_in (bounds_of recording) waiting.playing.entries) {i = stage.live.guest.machine.taken} (omega (arith, all_taken)) in
-      subst (λ items. AreOpenThen phases items stage.live.guest.machine.connections) none waiting.playing.base.connected
+      subst (λ items. AreOpenThen seen.phases items stage.live.guest.machine.connections) none waiting.playing.base.connected
 
   given_still : (event : LinkEvent) → AreGiven waiting.playing.sends (pieces_in (waiting.playing.entries ++ entry.Took event ∷ []))
   given_still event = subst (AreGiven waiting.playing.sends) (sym (pieces_in-took waiting.playing.entries event)) waiting.playing.given
 
-  in_order_now : (event : LinkEvent) → IsInOrder phases event → in_order stage.log.rests event ≡ true
-  in_order_now event order = in_order_shown recording.frame (events_in waiting.playing.entries) stage.log phases event waiting.playing.base.items.shows waiting.playing.base.phases_are order
+  in_order_now : (event : LinkEvent) → IsInOrder seen.phases event → in_order stage.log.rests event ≡ true
+  in_order_now event order = in_order_shown recording.frame (events_in waiting.playing.entries) stage.log seen.phases event waiting.playing.base.items.shows waiting.playing.base.phases_are order
 
+  -- an event is refused
+  refused_last : {event : LinkEvent} {cause : Unheeded} → IsEvent event → refusal (bounds_of recording) (events_in waiting.playing.entries) event ≡ Some cause → IsLastRefused (bounds_of recording) (waiting.playing.entries ++ entry.Took event ∷ []) cause
+  refused_last {event = event} one refused = record { before = waiting.playing.entries; event = event; last = refl; no_end = not_end one; refused = refused }
+
+  refused_replay : {event : LinkEvent} {cause : Unheeded} → IsEvent event → refusal (bounds_of recording) (events_in waiting.playing.entries) event ≡ Some cause
+      → IsReplay image recording (waiting.playing.entries ++ entry.Took event ∷ []) (replay_of waiting.playing.sends stage.live)
+  refused_replay {event = event} {cause = cause} one refused =
+      replay_same
+      (ap (items_of recording.frame) (heeded_without (bounds_of recording) waiting.playing.entries event cause one waiting.playing.base.items.all_heeded refused)) waiting.playing.base.is
+
+  tells_took : {told : Told} {event : LinkEvent} → Tells seen.told told (entry.Took event ∷ []) → Tells began told (waiting.playing.entries ++ entry.Took event ∷ [])
+  tells_took {told = told} {event = event} tells = tells_on waiting.playing.base.tells tells
+
+module _ {image : Image} {recording : Recorded} {began : Told} {seen : Seen} {later : Seen} {stage : Stage} (waiting : IsWaiting image recording began seen stage) (none_left : logs.received stage.log ≤ stage.live.guest.machine.taken) where
   -- an event is logged
-  logs_event : (event : LinkEvent) (new : Log) → IsEvent event → IsInOrder phases event → ((conn : ℕ) → after conn ≡ phases_after event phases conn) → Tells now later (entry.Took event ∷ []) → stage.events < 2 ^ 32 → logged stage.log event ≡ Some new
-      → Fits stage.log.max_items (logged stage.log event) → IsWaiting image recording began later after (record stage { log = new; events = stage.events + 1 })
-  logs_event event new one order enters tells few is fits =
+  logs_event : {event : LinkEvent} {new : Log} → IsEvent event → NextShows seen later (Ok event) → stage.events < 2 ^ 32 → logged stage.log event ≡ Some new
+      → Fits stage.log.max_items (logged stage.log event) → IsWaiting image recording began later (record stage { log = new; events = stage.events + 1 })
+  logs_event {event = event} {new = new} one next few is fits =
       let entries = waiting.playing.entries in
       let base = waiting.playing.base in
       let bounds = bounds_of recording in
       let heeds = is_heeded bounds entries event stage.log one base.items (omega (arith, few, base.events)) fits in
       let more = items_by (hear recording.frame stage.log.rests event) in
-      let brings : items_in bounds (entries ++ entry.Took event ∷ []) ≡ items_in bounds entries ++ more = brings_more bounds entries event stage.log one base.items heeds.allowed in
+      let brings : items_in bounds (entries ++ entry.Took event ∷ []) ≡ items_in bounds entries ++ more = brings_more one base.items heeds.allowed in
       let events : events_in (entries ++ entry.Took event ∷ []) ≡ events_in entries ++ event ∷ [] = events_behind entries event one in
       let count : length (events_in (entries ++ entry.Took event ∷ [])) ≡ length (events_in entries) + 1 = ap length events ∙ length-append (events_in entries) (event ∷ []) in
       let items_count : length (items_in bounds (entries ++ entry.Took event ∷ [])) ≡ length (items_in bounds entries) + length more = ap length brings ∙ length-append (items_in bounds entries) more in
       let left : drop stage.live.guest.machine.taken (items_in bounds (entries ++ entry.Took event ∷ [])) ≡ more =
-      ap (drop stage.live.guest.machine.taken) brings ∙ ap (λ (n : ℕ). drop n (items_in bounds entries ++ more)) all_taken ∙ drop-append_seam (items_in bounds entries) more in
+      ap (drop stage.live.guest.machine.taken) brings ∙ ap (λ (n : ℕ). drop n (items_in bounds entries ++ more)) (all_taken waiting none_left) ∙ drop-append_seam (items_in bounds entries) more in
       record {
         playing = record {
           entries = entries ++ entry.Took event ∷ [];
           sends = waiting.playing.sends;
           base = record {
-            tells = tells_on began now later entries (entry.Took event ∷ []) base.tells tells;
-            asked = took event;
-            is = replay_more image recording entries (entries ++ entry.Took event ∷ []) more (replay_of waiting.playing.sends stage.live) brings base.is;
+            tells = tells_on base.tells next.told;
+            asked = took waiting none_left event;
+            is = replay_more more brings base.is;
             items = keeps_items bounds entries event stage.log new one base.items heeds.allowed is;
-            goes_on = λ ended. no_end event one (sym (last_taken-took entries event) ∙ ended);
+            goes_on = λ ended. no_end one (sym (last_taken-took entries) ∙ ended);
             first = (logged_keeps stage.log new event is).0 ∙ base.first;
             events = omega (arith, base.events, count);
-            phases_are = λ conn. enters conn ∙ phases_behind phases (events_in entries) event base.phases_are order conn ∙ ap (phase_after conn) (sym events);
+            phases_are = λ conn. next.order.1 conn ∙ phases_behind seen.phases (events_in entries) event base.phases_are next.order.0 conn ∙ ap (phase_after conn) (sym events);
             gone = λ conn. base.gone conn ∙ ap (found_gone conn) (sym (pieces_in-took entries event));
             places = base.places;
             taken = omega (arith, base.taken, items_count);
-            connected = subst (λ items. AreOpenThen after items stage.live.guest.machine.connections) (sym left)
-                (event_open phases after stage.live.guest.machine.connections recording.frame stage.log.rests event (in_order_now event order) opened_now enters);
+            connected = subst (λ items. AreOpenThen later.phases items stage.live.guest.machine.connections) (sym left)
+                (event_open seen.phases later.phases stage.live.guest.machine.connections recording.frame stage.log.rests event (in_order_now waiting none_left event next.order.0) (opened_now waiting none_left) next.order.1);
             bare = base.bare;
           };
-          given = given_still event;
+          given = given_still waiting none_left event;
         };
         lives = waiting.lives;
         shorter = waiting.shorter;
         asks = waiting.asks;
       }
 
-  -- an event is refused
-  refused_last : (event : LinkEvent) (cause : Unheeded) → IsEvent event → refusal (bounds_of recording) (events_in waiting.playing.entries) event ≡ Some cause → IsLastRefused (bounds_of recording) (waiting.playing.entries ++ entry.Took event ∷ []) cause
-  refused_last event cause one refused = record { before = waiting.playing.entries; event = event; last = refl; no_end = not_end event one; refused = refused }
-
-  refused_replay : (event : LinkEvent) (cause : Unheeded) → IsEvent event → refusal (bounds_of recording) (events_in waiting.playing.entries) event ≡ Some cause
-      → IsReplay image recording (waiting.playing.entries ++ entry.Took event ∷ []) (replay_of waiting.playing.sends stage.live)
-  refused_replay event cause one refused =
-      replay_same image recording waiting.playing.entries (waiting.playing.entries ++ entry.Took event ∷ []) (replay_of waiting.playing.sends stage.live)
-      (ap (items_of recording.frame) (heeded_without (bounds_of recording) waiting.playing.entries event cause one waiting.playing.base.items.all_heeded refused)) waiting.playing.base.is
-
-  tells_took : (event : LinkEvent) → Tells now later (entry.Took event ∷ []) → Tells began later (waiting.playing.entries ++ entry.Took event ∷ [])
-  tells_took event tells = tells_on began now later waiting.playing.entries (entry.Took event ∷ []) waiting.playing.base.tells tells
-
   -- an event comes in, by the answer
-  notes_event : (coming : Option Coming) (event : LinkEvent) (new : Stage) (result : Result (Unit {0}) Answer) → IsEvent event → IsInOrder phases event → ((conn : ℕ) → after conn ≡ phases_after event phases conn)
-      → Tells now later (entry.Took event ∷ []) → LogsEvent event stage new result → WaitsBy image recording began later after coming true new result
-  notes_event coming event new (Ok done) one order enters tells did =
-      subst (IsWaiting image recording began later after) (sym did.3) (logs_event event new.log one order enters tells did.0 did.1 did.2)
-  notes_event coming event new (Err answer.LimitEvents) one order enters tells did =
+  notes_event : {event : LinkEvent} (new : Stage) (result : Result (Unit {0}) Answer) → IsEvent event → NextShows seen later (Ok event) → LogsEvent event stage new result → WaitsBy image recording began later new result
+  notes_event new (Ok done) one next did =
+      subst (IsWaiting image recording began later) (sym did.3) (logs_event one next did.0 did.1 did.2)
+  notes_event {event = event} new (Err answer.LimitEvents) one next did =
       let refused = limit_events (bounds_of recording) (events_in waiting.playing.entries) event (omega (arith, did.0, waiting.playing.base.events)) in
-      subst (λ (s : Stage). IsWholeEnd image recording began later coming true s answer.LimitEvents) (sym did.1) (record {
+      subst (λ (s : Stage). IsWholeEnd image recording began later s answer.LimitEvents) (sym did.1) (record {
         entries = waiting.playing.entries ++ entry.Took event ∷ [];
         sends = waiting.playing.sends;
-        tells = tells_took event tells;
-        asked = took event;
-        is = refused_replay event unheeded.LimitEvents one refused;
-        ends = (refused_last event unheeded.LimitEvents one refused, given_still event);
-        failed = λ no. absurd (true≢false no);
-        given = λ _. given_still event;
-        last = λ no. absurd (true≢false no);
+        tells = tells_took waiting none_left next.told;
+        asked = took waiting none_left event;
+        is = refused_replay waiting none_left one refused;
+        ends = (refused_last waiting none_left one refused, given_still waiting none_left event);
+        failed = λ no. absurd (both_ways later.takes no next.takes);
+        given = given_still waiting none_left event;
       })
-  notes_event coming event new (Err (answer.MessageTooLong conn)) one order enters tells did =
+  notes_event {event = event} new (Err (answer.MessageTooLong conn)) one next did =
       let refused = too_long (bounds_of recording) (events_in waiting.playing.entries) event stage.log waiting.playing.base.items.shows (omega (arith, did.0, waiting.playing.base.events)) did.1 in
-      subst (λ (s : Stage). IsWholeEnd image recording began later coming true s (answer.MessageTooLong conn)) (sym did.3) (record {
+      subst (λ (s : Stage). IsWholeEnd image recording began later s (answer.MessageTooLong conn)) (sym did.3) (record {
         entries = waiting.playing.entries ++ entry.Took event ∷ [];
         sends = waiting.playing.sends;
-        tells = tells_took event tells;
-        asked = took event;
-        is = refused_replay event unheeded.TooLong one refused;
-        ends = (record { refused = record { before = waiting.playing.entries; event = event; last = refl; no_end = not_end event one; refused = refused }; piece = did.2 }, given_still event);
-        failed = λ no. absurd (true≢false no);
-        given = λ _. given_still event;
-        last = λ no. absurd (true≢false no);
+        tells = tells_took waiting none_left next.told;
+        asked = took waiting none_left event;
+        is = refused_replay waiting none_left one refused;
+        ends = (record { refused = record { before = waiting.playing.entries; event = event; last = refl; no_end = not_end one; refused = refused }; piece = did.2 }, given_still waiting none_left event);
+        failed = λ no. absurd (both_ways later.takes no next.takes);
+        given = given_still waiting none_left event;
       })
-  notes_event coming event new (Err answer.LimitItems) one order enters tells did =
+  notes_event {event = event} new (Err answer.LimitItems) one next did =
       let refused = limit_items (bounds_of recording) (events_in waiting.playing.entries) event stage.log waiting.playing.base.items.shows waiting.playing.base.items.most (omega (arith, did.0, waiting.playing.base.events)) did.1 in
-      subst (λ (s : Stage). IsWholeEnd image recording began later coming true s answer.LimitItems) (sym did.2) (record {
+      subst (λ (s : Stage). IsWholeEnd image recording began later s answer.LimitItems) (sym did.2) (record {
         entries = waiting.playing.entries ++ entry.Took event ∷ [];
         sends = waiting.playing.sends;
-        tells = tells_took event tells;
-        asked = took event;
-        is = refused_replay event unheeded.LimitItems one refused;
-        ends = (refused_last event unheeded.LimitItems one refused, given_still event);
-        failed = λ no. absurd (true≢false no);
-        given = λ _. given_still event;
-        last = λ no. absurd (true≢false no);
+        tells = tells_took waiting none_left next.told;
+        asked = took waiting none_left event;
+        is = refused_replay waiting none_left one refused;
+        ends = (refused_last waiting none_left one refused, given_still waiting none_left event);
+        failed = λ no. absurd (both_ways later.takes no next.takes);
+        given = given_still waiting none_left event;
       })
-  notes_event coming event new (Err answer.Memory) one order enters tells did =
+  notes_event {event = event} new (Err answer.Memory) one next did =
       let heeds = is_heeded (bounds_of recording) waiting.playing.entries event stage.log one waiting.playing.base.items (omega (arith, did.0, waiting.playing.base.events)) did.1 in
-      subst (λ (s : Stage). IsWholeEnd image recording began later coming true s answer.Memory) (sym did.2) (record {
+      subst (λ (s : Stage). IsWholeEnd image recording began later s answer.Memory) (sym did.2) (record {
         entries = waiting.playing.entries ++ entry.Took event ∷ [];
         sends = waiting.playing.sends;
-        tells = tells_took event tells;
-        asked = took event;
-        is = replay_more image recording waiting.playing.entries (waiting.playing.entries ++ entry.Took event ∷ []) heeds.more (replay_of waiting.playing.sends stage.live) heeds.brings waiting.playing.base.is;
-        ends = giving.All waiting.playing.sends (pieces_in (waiting.playing.entries ++ entry.Took event ∷ [])) (given_still event);
-        failed = λ no. absurd (true≢false no);
-        given = λ _. given_still event;
-        last = λ no. absurd (true≢false no);
+        tells = tells_took waiting none_left next.told;
+        asked = took waiting none_left event;
+        is = replay_more heeds.more heeds.brings waiting.playing.base.is;
+        ends = giving.All waiting.playing.sends (pieces_in (waiting.playing.entries ++ entry.Took event ∷ [])) (given_still waiting none_left event);
+        failed = λ no. absurd (both_ways later.takes no next.takes);
+        given = given_still waiting none_left event;
       })
-  notes_event coming event new (Err answer.Finished) one order enters tells did = absurd did
-  notes_event coming event new (Err (answer.Exited code)) one order enters tells did = absurd did
-  notes_event coming event new (Err answer.BadWords) one order enters tells did = absurd did
-  notes_event coming event new (Err (answer.ElfRefused number)) one order enters tells did = absurd did
-  notes_event coming event new (Err (answer.AsmRefused kind line)) one order enters tells did = absurd did
-  notes_event coming event new (Err (answer.RecordRefused line)) one order enters tells did = absurd did
-  notes_event coming event new (Err (answer.CountsRefused line)) one order enters tells did = absurd did
-  notes_event coming event new (Err (answer.Short conn)) one order enters tells did = absurd did
-  notes_event coming event new (Err (answer.Mismatch step)) one order enters tells did = absurd did
-  notes_event coming event new (Err answer.TooLarge) one order enters tells did = absurd did
-  notes_event coming event new (Err (answer.InputRefused kind offset)) one order enters tells did = absurd did
-  notes_event coming event new (Err (answer.GaveUp point cause)) one order enters tells did = absurd did
-  notes_event coming event new (Err answer.ReadFault) one order enters tells did = absurd did
-  notes_event coming event new (Err answer.WriteFault) one order enters tells did = absurd did
-  notes_event coming event new (Err answer.FileFault) one order enters tells did = absurd did
+  notes_event new (Err answer.Finished) one next did = absurd did
+  notes_event new (Err (answer.Exited code)) one next did = absurd did
+  notes_event new (Err answer.BadWords) one next did = absurd did
+  notes_event new (Err (answer.ElfRefused number)) one next did = absurd did
+  notes_event new (Err (answer.AsmRefused kind line)) one next did = absurd did
+  notes_event new (Err (answer.RecordRefused line)) one next did = absurd did
+  notes_event new (Err (answer.CountsRefused line)) one next did = absurd did
+  notes_event new (Err (answer.Short conn)) one next did = absurd did
+  notes_event new (Err (answer.Mismatch step)) one next did = absurd did
+  notes_event new (Err answer.TooLarge) one next did = absurd did
+  notes_event new (Err (answer.InputRefused kind offset)) one next did = absurd did
+  notes_event new (Err (answer.GaveUp point cause)) one next did = absurd did
+  notes_event new (Err answer.ReadFault) one next did = absurd did
+  notes_event new (Err answer.WriteFault) one next did = absurd did
+  notes_event new (Err answer.FileFault) one next did = absurd did
 
   -- the link has ended
-  ends_link : (coming : Option Coming) → Tells now later (entry.Took event.Ends ∷ []) → StillComes coming (Ok event.Ends) → IsWholeEnd image recording began later coming true stage (answer.Mismatch stage.live.steps)
-  ends_link coming tells last =
+  ends_link : later.takes ≡ true → Tells seen.told later.told (entry.Took event.Ends ∷ []) → StillComes later.coming (Ok event.Ends) → IsWholeEnd image recording began later stage (answer.Mismatch stage.live.steps)
+  ends_link still tells last =
       let entries = waiting.playing.entries in
-      let still : items_in (bounds_of recording) (entries ++ entry.Took event.Ends ∷ []) ≡ items_in (bounds_of recording) entries = ap (λ events. items_of recording.frame (heeded (bounds_of recording) events)) (events_ended entries) in
+      let same : items_in (bounds_of recording) (entries ++ entry.Took event.Ends ∷ []) ≡ items_in (bounds_of recording) entries = ap (λ events. items_of recording.frame (heeded (bounds_of recording) events)) (events_ended entries) in
       record {
         entries = entries ++ entry.Took event.Ends ∷ [];
         sends = waiting.playing.sends;
-        tells = tells_took event.Ends tells;
-        asked = took event.Ends;
-        is = replay_same image recording entries (entries ++ entry.Took event.Ends ∷ []) (replay_of waiting.playing.sends stage.live) still waiting.playing.base.is;
-        ends = (refl, Starved waiting.shorter waiting.lives waiting.asks (all_taken ∙ ap length (sym still)) (last_taken-took entries event.Ends), given_still event.Ends, λ _. last);
-        failed = λ no. absurd (true≢false no);
-        given = λ _. given_still event.Ends;
-        last = λ no. absurd (true≢false no);
+        tells = tells_took waiting none_left tells;
+        asked = took waiting none_left event.Ends;
+        is = replay_same same waiting.playing.base.is;
+        ends = (refl, Starved waiting.shorter waiting.lives waiting.asks (all_taken waiting none_left ∙ ap length (sym same)) (last_taken-took entries), given_still waiting none_left event.Ends, λ _. last);
+        failed = λ no. absurd (both_ways later.takes no still);
+        given = given_still waiting none_left event.Ends;
       }
 
-  pub heeds_event : (coming : Option Coming) (event : LinkEvent) (new : Stage) (result : Result (Unit {0}) Answer) → IsInOrder phases event → ((conn : ℕ) → after conn ≡ phases_after event phases conn)
-      → Tells now later (entry.Took event ∷ []) → StillComes coming (Ok event) → HeedsEvent event stage new result → WaitsBy image recording began later after coming true new result
-  heeds_event coming (event.Opens conn) new result order enters tells last did = notes_event coming (event.Opens conn) new result refl order enters tells did
-  heeds_event coming (event.Piece conn bytes) new result order enters tells last did = notes_event coming (event.Piece conn bytes) new result refl order enters tells did
-  heeds_event coming (event.Closes conn) new result order enters tells last did = notes_event coming (event.Closes conn) new result refl order enters tells did
-  heeds_event coming event.Settles new result order enters tells last did = notes_event coming event.Settles new result refl order enters tells did
-  heeds_event coming event.Ends new result order enters tells last did =
-      subst (WaitsBy image recording began later after coming true new) (sym did.0)
-      (subst (λ (s : Stage). IsWholeEnd image recording began later coming true s (answer.Mismatch stage.live.steps)) (sym did.1) (ends_link coming tells last))
+  pub heeds_event : (event : LinkEvent) (new : Stage) (result : Result (Unit {0}) Answer) → NextShows seen later (Ok event) → HeedsEvent event stage new result → WaitsBy image recording began later new result
+  heeds_event (event.Opens conn) new result next did = notes_event new result refl next did
+  heeds_event (event.Piece conn bytes) new result next did = notes_event new result refl next did
+  heeds_event (event.Closes conn) new result next did = notes_event new result refl next did
+  heeds_event event.Settles new result next did = notes_event new result refl next did
+  heeds_event event.Ends new result next did =
+      subst (WaitsBy image recording began later new) (sym did.0)
+      (subst (λ (s : Stage). IsWholeEnd image recording began later s (answer.Mismatch stage.live.steps)) (sym did.1) (ends_link next.takes next.told next.last))
 
   -- no event was taken
-  pub takes_none : (coming before : Option Coming) (takes : Bool) (why : LinkFault) → Tells now later [] → GoesBy before (Err why) → StillComes coming (Err why) → IsWholeEnd image recording began later coming takes stage (answer_of why)
-  takes_none coming before takes (fault.Refused kind offset) tells goes last = record {
+  pub takes_none : (why : LinkFault) → NextShows seen later (Err why) → IsWholeEnd image recording began later stage (answer_of why)
+  takes_none (fault.Refused kind offset) next = record {
     entries = waiting.playing.entries;
     sends = waiting.playing.sends;
-    tells = tells_still began now later waiting.playing.entries waiting.playing.base.tells tells;
+    tells = tells_still waiting.playing.base.tells next.told;
     asked = waiting.playing.base.asked;
     is = waiting.playing.base.is;
-    ends = (asking, last);
-    failed = λ _. asking;
-    given = λ _. waiting.playing.given;
-    last = λ no. absurd (true≢false no);
+    ends = (asking waiting none_left, next.last);
+    failed = λ _. asking waiting none_left;
+    given = waiting.playing.given;
   }
-  takes_none coming before takes fault.ReadFault tells goes last = record {
+  takes_none fault.ReadFault next = record {
     entries = waiting.playing.entries;
     sends = waiting.playing.sends;
-    tells = tells_still began now later waiting.playing.entries waiting.playing.base.tells tells;
+    tells = tells_still waiting.playing.base.tells next.told;
     asked = waiting.playing.base.asked;
     is = waiting.playing.base.is;
-    ends = asking;
-    failed = λ _. asking;
-    given = λ _. waiting.playing.given;
-    last = λ no. absurd (true≢false no);
+    ends = asking waiting none_left;
+    failed = λ _. asking waiting none_left;
+    given = waiting.playing.given;
   }
-  takes_none coming before takes fault.WriteFault tells goes last = absurd goes
-  takes_none coming before takes fault.Memory tells goes last = record {
+  takes_none fault.WriteFault next = absurd next.grammar
+  takes_none fault.Memory next = record {
     entries = waiting.playing.entries;
     sends = waiting.playing.sends;
-    tells = tells_still began now later waiting.playing.entries waiting.playing.base.tells tells;
+    tells = tells_still waiting.playing.base.tells next.told;
     asked = waiting.playing.base.asked;
     is = waiting.playing.base.is;
     ends = giving.All waiting.playing.sends (pieces_in waiting.playing.entries) waiting.playing.given;
-    failed = λ _. asking;
-    given = λ _. waiting.playing.given;
-    last = λ no. absurd (true≢false no);
+    failed = λ _. asking waiting none_left;
+    given = waiting.playing.given;
   }

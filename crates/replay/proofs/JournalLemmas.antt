@@ -13,36 +13,36 @@ use Rattle.replay.specs.Giving.{found_gone, piece_of}
 use Rattle.replay.specs.Replaying.{WasAsked, AreAsked}
 
 -- a place in a journal with one more entry is the last one, or stood there before
-last_split : (xs : List Entry) (x : Entry) (before : List Entry) (y : Entry) (after : List Entry) → xs ++ x ∷ [] ≡ before ++ y ∷ after
+last_split : (xs : List Entry) {x : Entry} (before : List Entry) {y : Entry} (after : List Entry) → xs ++ x ∷ [] ≡ before ++ y ∷ after
     → ((before ≡ xs) × (y ≡ x)) ⊎ ((more : List Entry) × (xs ≡ before ++ y ∷ more))
-last_split [] x [] y after same = inl (refl, cc)
-last_split [] x (b ∷ []) y after same = let no : [] ≡ y ∷ after = ap (drop 1) same in absurd (cc)
-last_split [] x (b ∷ (b' ∷ before)) y after same = let no : [] ≡ b' ∷ (before ++ y ∷ after) = ap (drop 1) same in absurd (cc)
-last_split (a ∷ xs) x [] y after same = let here : a ≡ y = cc in inr (xs, ap (λ v. v ∷ xs) here)
-last_split (a ∷ xs) x (b ∷ before) y after same =
+last_split [] [] after same = inl (refl, cc)
+last_split [] (b ∷ []) {y = y} after same = let no : [] ≡ y ∷ after = ap (drop 1) same in absurd (cc)
+last_split [] (b ∷ (b' ∷ before)) {y = y} after same = let no : [] ≡ b' ∷ (before ++ y ∷ after) = ap (drop 1) same in absurd (cc)
+last_split (a ∷ xs) [] {y = y} after same = let here : a ≡ y = cc in inr (xs, ap (λ v. v ∷ xs) here)
+last_split (a ∷ xs) (b ∷ before) {y = y} after same =
     let here : a ≡ b = cc in
-    elim (last_split xs x before y after (ap (drop 1) same)) [
+    elim (last_split xs before after (ap (drop 1) same)) [
       | inl found ↦ inl (ap (λ l. b ∷ l) found.0 ∙ ap (λ v. v ∷ xs) (sym here), found.1)
       | inr found ↦ inr (found.0, ap (λ l. a ∷ l) found.1 ∙ ap (λ v. v ∷ (before ++ y ∷ found.0)) here)
     ]
 
 -- no event was taken from an empty journal
-pub asked_none : (image : Image) (recording : Recorded) → AreAsked image recording []
-asked_none image recording [] after event same = absurd (cc)
-asked_none image recording (b ∷ before) after event same = absurd (cc)
+pub asked_none : {image : Image} {recording : Recorded} → AreAsked image recording []
+asked_none [] after event same = absurd (cc)
+asked_none (b ∷ before) after event same = absurd (cc)
 
 -- a piece takes none
-pub asked_gave : (image : Image) (recording : Recorded) (entries : List Entry) (conn : ℕ) (bytes : List ℕ) (gone : Bool) → AreAsked image recording entries → AreAsked image recording (entries ++ entry.Gave conn bytes gone ∷ [])
-asked_gave image recording entries conn bytes gone asked before after event same =
-    elim (last_split entries (entry.Gave conn bytes gone) before (entry.Took event) after same) [
+pub asked_gave : {image : Image} {recording : Recorded} {entries : List Entry} (conn : ℕ) (bytes : List ℕ) (gone : Bool) → AreAsked image recording entries → AreAsked image recording (entries ++ entry.Gave conn bytes gone ∷ [])
+asked_gave {entries = entries} conn bytes gone asked before after event same =
+    elim (last_split entries before after same) [
       | inl found ↦ let no : entry.Took event ≡ entry.Gave conn bytes gone = found.1 in absurd (cc)
       | inr found ↦ asked before found.0 event found.1
     ]
 
 -- an event that was asked for is taken
-pub asked_took : (image : Image) (recording : Recorded) (entries : List Entry) (event : LinkEvent) → WasAsked image recording entries → AreAsked image recording entries → AreAsked image recording (entries ++ entry.Took event ∷ [])
-asked_took image recording entries event was asked before after other same =
-    elim (last_split entries (entry.Took event) before (entry.Took other) after same) [
+pub asked_took : {image : Image} {recording : Recorded} {entries : List Entry} (event : LinkEvent) → WasAsked image recording entries → AreAsked image recording entries → AreAsked image recording (entries ++ entry.Took event ∷ [])
+asked_took {image = image} {recording = recording} {entries = entries} event was asked before after other same =
+    elim (last_split entries before after same) [
       | inl found ↦ subst (WasAsked image recording) (sym found.0) was
       | inr found ↦ asked before found.0 other found.1
     ]
@@ -55,29 +55,29 @@ grew_on (Some a) (Some b) None xs ys first second = absurd second
 grew_on (Some a) (Some b) (Some c) xs ys first second = second ∙ ap (λ l. l ++ ys) first ∙ append_assoc a xs ys
 
 -- what a link told grew twice
-pub tells_on : (a b c : Told) (xs ys : List Entry) → Tells a b xs → Tells b c ys → Tells a c (xs ++ ys)
-tells_on a b c xs ys first second = record {
+pub tells_on : {a b c : Told} {xs ys : List Entry} → Tells a b xs → Tells b c ys → Tells a c (xs ++ ys)
+tells_on {a = a} {b = b} {c = c} {xs = xs} {ys = ys} first second = record {
   events = subst (Grew a.events c.events) (sym (events_in-append xs ys)) (grew_on a.events b.events c.events (events_in xs) (events_in ys) first.events second.events);
   pieces = subst (Grew a.pieces c.pieces) (sym (pieces_in-append xs ys)) (grew_on a.pieces b.pieces c.pieces (pieces_in xs) (pieces_in ys) first.pieces second.pieces);
   journal = grew_on a.journal b.journal c.journal xs ys first.journal second.journal;
 }
 
-pub tells_still : (a b c : Told) (xs : List Entry) → Tells a b xs → Tells b c [] → Tells a c xs
-tells_still a b c xs first second = subst (Tells a c) (append-nil xs) (tells_on a b c xs [] first second)
+pub tells_still : {a b c : Told} {xs : List Entry} → Tells a b xs → Tells b c [] → Tells a c xs
+tells_still {a = a} {c = c} {xs = xs} first second = subst (Tells a c) (append-nil xs) (tells_on first second)
 
 -- a link that told nothing more
 grew_same : {T : Type 0} (a : Option (List T)) → Grew a a []
 grew_same None = tt
 grew_same (Some a) = sym (append-nil a)
 
-pub tells_same : (told : Told) → Tells told told []
-tells_same told = record { events = grew_same told.events; pieces = grew_same told.pieces; journal = grew_same told.journal }
+pub tells_same : {told : Told} → Tells told told []
+tells_same {told = told} = record { events = grew_same told.events; pieces = grew_same told.pieces; journal = grew_same told.journal }
 
 -- what was taken last
-pub last_taken-took : (entries : List Entry) (event : LinkEvent) → last_taken (entries ++ entry.Took event ∷ []) ≡ Some event
-last_taken-took [] event = refl
-last_taken-took (entry.Gave conn bytes gone ∷ entries) event = last_taken-took entries event
-last_taken-took (entry.Took first ∷ entries) event = ap (λ (found : Option LinkEvent). Some (unwrap_or found first)) (last_taken-took entries event)
+pub last_taken-took : (entries : List Entry) {event : LinkEvent} → last_taken (entries ++ entry.Took event ∷ []) ≡ Some event
+last_taken-took [] = refl
+last_taken-took (entry.Gave conn bytes gone ∷ entries) = last_taken-took entries
+last_taken-took (entry.Took first ∷ entries) = ap (λ (found : Option LinkEvent). Some (unwrap_or found first)) (last_taken-took entries)
 
 pub last_taken-gave : (entries : List Entry) (conn : ℕ) (bytes : List ℕ) (gone : Bool) → last_taken (entries ++ entry.Gave conn bytes gone ∷ []) ≡ last_taken entries
 last_taken-gave [] conn bytes gone = refl

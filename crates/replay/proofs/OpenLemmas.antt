@@ -9,18 +9,6 @@ use Rattle.run_history.specs.Call.{connections_after}
 use Rattle.run_history.proofs.Connections.{within_after}
 use Rattle.replay.specs.Playing.{AreOpen, StayOpen, AreOpenThen}
 
--- the same phases
-pub open_as : (old new : Phases) (connections : List Bool) → ((conn : ℕ) → new conn ≡ old conn) → AreOpen old connections → AreOpen new connections
-open_as old new connections same opened conn here = same conn ∙ opened conn here
-
-pub stay_as : (old new : Phases) (items : List Item) (connections : List Bool) → ((conn : ℕ) → new conn ≡ old conn) → StayOpen old items connections → StayOpen new items connections
-stay_as old new [] connections same opened = open_as old new connections same opened
-stay_as old new (item ∷ items) connections same opened = (open_as old new connections same opened.0, stay_as old new items (connections_after item connections) same opened.1)
-
-pub then_as : (old new : Phases) (items : List Item) (connections : List Bool) → ((conn : ℕ) → new conn ≡ old conn) → AreOpenThen old items connections → AreOpenThen new items connections
-then_as old new [] connections same opened = open_as old new connections same opened
-then_as old new (item ∷ items) connections same opened = stay_as old new items (connections_after item connections) same opened
-
 -- what stays open is open behind the first item
 pub stays_then : (phases : Phases) (items : List Item) (connections : List Bool) → StayOpen phases items connections → AreOpenThen phases items connections
 stays_then phases [] connections opened = opened
@@ -31,22 +19,22 @@ stays_now phases [] connections opened = opened
 stays_now phases (item ∷ items) connections opened = opened.0
 
 -- the items behind the one of a number
-pub drop_one : (items : List Item) (n : ℕ) (item : Item) → slice_get items n ≡ Some item → drop n items ≡ item ∷ drop (n + 1) items
-drop_one items n item here =
+pub drop_one : (items : List Item) (n : ℕ) {item : Item} → slice_get items n ≡ Some item → drop n items ≡ item ∷ drop (n + 1) items
+drop_one items n {item = item} here =
     drop-cons items n item (slice_get_within items n item here)
     ∙ ap (λ (first : Item). first ∷ drop (suc n) items) (get_or_from_slice_get items n item item here)
     ∙ ap (λ (k : ℕ). item ∷ drop k items) (sym (add-one n))
 
 -- a guest takes the item of a number
-pub takes_open : (phases : Phases) (items : List Item) (n : ℕ) (item : Item) (connections : List Bool) → slice_get items n ≡ Some item → AreOpenThen phases (drop n items) connections → StayOpen phases (drop (n + 1) items) (connections_after item connections)
-takes_open phases items n item connections here opened = subst (λ (rest : List Item). AreOpenThen phases rest connections) (drop_one items n item here) opened
+pub takes_open : (phases : Phases) (items : List Item) (n : ℕ) {item : Item} (connections : List Bool) → slice_get items n ≡ Some item → AreOpenThen phases (drop n items) connections → StayOpen phases (drop (n + 1) items) (connections_after item connections)
+takes_open phases items n connections here opened = subst (λ (rest : List Item). AreOpenThen phases rest connections) (drop_one items n here) opened
 
 -- items that neither open nor close a connection
-pub messages_open : (phases : Phases) (items : List Item) (connections : List Bool) → ((k : ℕ) (item : Item) → slice_get items k ≡ Some item → connections_after item connections ≡ connections) → AreOpen phases connections → StayOpen phases items connections
-messages_open phases [] connections each opened = opened
-messages_open phases (item ∷ items) connections each opened =
-    (opened, subst (StayOpen phases items) (sym (each 0 item refl)) (messages_open phases items connections (λ k other here. each (suc k) other here) opened))
+pub messages_open : {phases : Phases} (items : List Item) {connections : List Bool} → ((k : ℕ) (item : Item) → slice_get items k ≡ Some item → connections_after item connections ≡ connections) → AreOpen phases connections → StayOpen phases items connections
+messages_open [] each opened = opened
+messages_open {phases = phases} (item ∷ items) each opened =
+    (opened, subst (StayOpen phases items) (sym (each 0 item refl)) (messages_open items (λ k other here. each (suc k) other here) opened))
 
 -- an item that opens its connection, and one that closes it
-pub item_opens : (phases : Phases) (item : Item) (connections : List Bool) → AreOpen phases connections → (item.kind ≡ 1 → phases item.conn ≡ Open) → AreOpen phases (connections_after item connections)
-item_opens phases item connections opened opens = (within_after (λ conn. phases conn ≡ Open) item connections (record { each = opened }) opens).each
+pub item_opens : {phases : Phases} (item : Item) (connections : List Bool) → AreOpen phases connections → (item.kind ≡ 1 → phases item.conn ≡ Open) → AreOpen phases (connections_after item connections)
+item_opens {phases = phases} item connections opened opens = (within_after (λ conn. phases conn ≡ Open) item connections (record { each = opened }) opens).each

@@ -10,7 +10,8 @@ use Rattle.links.specs.declared.journal.Entry.TheVariants as entry
 use Rattle.links.specs.declared.journal.LinkEvent.{LinkEvent}
 use Rattle.links.specs.declared.journal.LinkEvent.TheVariants as event
 use Rattle.links.specs.declared.journal.LinkEvent.TheVariants.{Ends}
-use Rattle.links.specs.Links.{Told, Coming, events_in, pieces_in}
+use Rattle.links.specs.Links.{Coming, events_in, pieces_in}
+use Rattle.links.specs.Seen.{Seen}
 use Rattle.block_book.specs.declared.choice.Choice.{Choice}
 use Rattle.block_book.specs.Answer.{is_allowed, insert_live}
 use Rattle.block_book.specs.Heap.{most_blocks}
@@ -25,7 +26,6 @@ use Rattle.run_history.specs.Run.{does, effect, after, next, run}
 use Rattle.run_history.proofs.Repeats.{repeated_add}
 use Rattle.run_history.proofs.Runs.{Later, does_more, next_parts, run_from, run_more, run_one}
 use Rattle.session_history.specs.Heeding.{Bounds, Unheeded, refusal, heeded_behind, heeded, items_in, AreHeeded}
-use Rattle.session_history.specs.Heeding as unheeded
 use Rattle.session_history.specs.Ends.{IsLastRefused}
 use Rattle.session_history.proofs.Heeding.{events_in-append}
 use Rattle.schedule_file.specs.declared.recorded.Recorded.{Recorded}
@@ -43,9 +43,9 @@ first_step step (suc count) x y some ran =
     option_and_then_some (λ z. repeated step count z) (step x) y split (λ z here rest. (z, here))
 
 -- a replay is the beginning of the run that a record tells of
-pub begins : (image : Image) (items : List Item) (recording : Recorded) (entries : List Entry) (replay : Replay) → IsReplay image recording entries replay → BringsFirst (bounds_of recording) items entries
+pub begins : {image : Image} {items : List Item} {recording : Recorded} {entries : List Entry} {replay : Replay} → IsReplay image recording entries replay → BringsFirst (bounds_of recording) items entries
     → run items recording.choices (start image) replay.steps ≡ Some replay.state
-begins image items recording entries replay is brings =
+begins {image = image} {recording = recording} {entries = entries} {replay = replay} is brings =
     let front = items_in (bounds_of recording) entries in
     let used = take replay.used recording.choices in
     let ran : run (front ++ brings.more) (used ++ drop replay.used recording.choices) (start image) replay.steps ≡ Some replay.state =
@@ -55,12 +55,12 @@ begins image items recording entries replay is brings =
     subst (λ (all : List Item). run all recording.choices (start image) replay.steps ≡ Some replay.state) (sym brings.first) whole
 
 -- it used so many answers of malloc
-used_so_many : (image : Image) (recording : Recorded) (entries : List Entry) (replay : Replay) → IsReplay image recording entries replay → replay.state.machine.allocations ≡ replay.used
-used_so_many image recording entries replay is = is.ran.used ∙ length-take-le replay.used recording.choices is.used
+used_so_many : {image : Image} {recording : Recorded} {entries : List Entry} {replay : Replay} → IsReplay image recording entries replay → replay.state.machine.allocations ≡ replay.used
+used_so_many {recording = recording} {replay = replay} is = is.ran.used ∙ length-take-le replay.used recording.choices is.used
 
 -- at the record's end it stands where that run ended
-stands_alike : (items : List Item) (choices : List Choice) (first here last : State) (steps count : ℕ) → run items choices first steps ≡ Some here → run items choices first count ≡ Some last → steps ≡ count → here ≡ last
-stands_alike items choices first here last steps count ran whole same =
+stands_alike : (items : List Item) (choices : List Choice) (first : State) {here last : State} {steps count : ℕ} → run items choices first steps ≡ Some here → run items choices first count ≡ Some last → steps ≡ count → here ≡ last
+stands_alike items choices first {here = here} {last = last} ran whole same =
     same_Some here last (sym ran ∙ ap (λ (n : ℕ). run items choices first n) same ∙ whole)
 
 -- before it, the run goes on by an instruction
@@ -70,8 +70,8 @@ pub record GoesOn (items : List Item) (choices : List Choice) (first here : Stat
   pub lives : here.ended ≡ None
   pub ran : run items choices first (steps + 1) ≡ Some later
 
-pub goes_on : (items : List Item) (choices : List Choice) (first here last : State) (steps count : ℕ) → run items choices first steps ≡ Some here → run items choices first count ≡ Some last → steps < count → GoesOn items choices first here steps
-goes_on items choices first here last steps count ran whole short =
+pub goes_on : {items : List Item} {choices : List Choice} {first here last : State} {steps count : ℕ} → run items choices first steps ≡ Some here → run items choices first count ≡ Some last → steps < count → GoesOn items choices first here steps
+goes_on {items = items} {choices = choices} {first = first} {here = here} {last = last} {steps = steps} {count = count} ran whole short =
     let rest = count - steps in
     let parts : count ≡ steps + rest = omega (arith, short) in
     let some : 0 < rest = omega (arith, short) in
@@ -86,16 +86,16 @@ ended_not None is some = cc
 ended_not (Some code) is some = cc
 
 -- nor does one that fails
-failed_not : (items : List Item) (choices : List Choice) (here later : State) (cause : Cause) → does None None here.machine ≡ Fails cause → after here (effect items choices here.machine) ≡ Some later → ⊥
-failed_not items choices here later cause fails goes =
+failed_not : (items : List Item) (choices : List Choice) (here : State) {later : State} {cause : Cause} → does None None here.machine ≡ Fails cause → after here (effect items choices here.machine) ≡ Some later → ⊥
+failed_not items choices here {later = later} {cause = cause} fails goes =
     let still : effect items choices here.machine ≡ Fails cause =
     does_more here.machine None (slice_get items here.machine.taken) None (slice_get choices here.machine.allocations) (Fails cause) (Later _) (Later _) fails
     (record { no_item = (λ e. cc); no_choice = (λ size e. cc) }) in
     none-some later (ap (after here) (sym still) ∙ goes)
 
 -- nor does one that asks for an item behind the last one
-pub starved_not : (items : List Item) (choices : List Choice) (here later : State) → does None None here.machine ≡ Wants → length items ≤ here.machine.taken → after here (effect items choices here.machine) ≡ Some later → ⊥
-starved_not items choices here later wants none goes =
+pub starved_not : (items : List Item) (choices : List Choice) (here : State) {later : State} → does None None here.machine ≡ Wants → length items ≤ here.machine.taken → after here (effect items choices here.machine) ≡ Some later → ⊥
+starved_not items choices here {later = later} wants none goes =
     let still : effect items choices here.machine ≡ Wants =
     wants_takes here.machine wants (slice_get items here.machine.taken) (slice_get choices here.machine.allocations) ∙ ap (takes here.machine) (slice_get_past items here.machine.taken none) in
     none-some later (ap (after here) (sym still) ∙ goes)
@@ -110,107 +110,107 @@ length-insert_live new (block ∷ blocks) = of (nat_lt new.0 block.0) (length-in
     of false more = omega (arith, more)
 
 -- behind a malloc that was answered with a block one more is live
-one_more_live : (here later : State) (size : ℕ) (choice : Choice) → choice.at ≢ 0 → Some (record here { machine = allocated size choice here.machine }) ≡ Some later → length later.machine.blocks ≡ length here.machine.blocks + 1
+one_more_live : (here : State) {later : State} (size : ℕ) (choice : Choice) → choice.at ≢ 0 → Some (record here { machine = allocated size choice here.machine }) ≡ Some later → length later.machine.blocks ≡ length here.machine.blocks + 1
 unfolding allocated
-one_more_live here later size choice some goes =
+one_more_live here {later = later} size choice some goes =
     let new : List (ℕ × ℕ) = insert_live (choice.at, size) here.machine.blocks in
     sym (ap (λ (s : State). length s.machine.blocks) (same_Some _ later goes))
     ∙ ap (λ (b : Bool). length (cond b here.machine.blocks new)) (ne_eqb choice.at 0 some)
     ∙ length-insert_live (choice.at, size) here.machine.blocks
 
 -- nor does one whose malloc has no answer that can be used, where there is room behind it
-unusable_not : (here later : State) (size : ℕ) (choice : Option Choice) → IsUnusable here.machine size choice → length later.machine.blocks ≤ most_blocks → after here (chooses size here.machine choice) ≡ Some later → ⊥
-unusable_not here later size None unusable room goes = none-some later goes
-unusable_not here later size (Some choice) (inl refused) room goes =
+unusable_not : (here : State) {later : State} (size : ℕ) (choice : Option Choice) → IsUnusable here.machine size choice → length later.machine.blocks ≤ most_blocks → after here (chooses size here.machine choice) ≡ Some later → ⊥
+unusable_not here {later = later} size None unusable room goes = none-some later goes
+unusable_not here {later = later} size (Some choice) (inl refused) room goes =
     none-some later (ap (λ (b : Bool). after here (cond b (Goes (allocated size choice here.machine)) (Chooses size))) (sym refused) ∙ goes)
-unusable_not here later size (Some choice) (inr full) room goes =
+unusable_not here {later = later} size (Some choice) (inr full) room goes =
     elim (cases_Bool (is_allowed here.machine.heap_start here.machine.heap_end here.machine.blocks size choice)) [
       | inl may ↦
           let went : Some (record here { machine = allocated size choice here.machine }) ≡ Some later =
           ap (λ (b : Bool). after here (cond b (Goes (allocated size choice here.machine)) (Chooses size))) (sym may) ∙ goes in
-          let more = one_more_live here later size choice full.0 went in
+          let more = one_more_live here size choice full.0 went in
           absurd (omega (arith, full.1, room, more))
       | inr not_may ↦ absurd (none-some later (ap (λ (b : Bool). after here (cond b (Goes (allocated size choice here.machine)) (Chooses size))) (sym not_may) ∙ goes))
     ]
 
-unanswered_not : (items : List Item) (choices : List Choice) (here later : State) (size used : ℕ) → does None None here.machine ≡ Chooses size → here.machine.allocations ≡ used → IsUnusable here.machine size (slice_get choices used)
+unanswered_not : (items : List Item) (choices : List Choice) (here : State) {later : State} {size used : ℕ} → does None None here.machine ≡ Chooses size → here.machine.allocations ≡ used → IsUnusable here.machine size (slice_get choices used)
     → length later.machine.blocks ≤ most_blocks → after here (effect items choices here.machine) ≡ Some later → ⊥
-unanswered_not items choices here later size used wants same unusable room goes =
-    let sizes : Chooses (register here.machine 10) ≡ Chooses size = sym (asked_size here.machine size wants) ∙ wants in
+unanswered_not items choices here {size = size} {used = used} wants same unusable room goes =
+    let sizes : Chooses (register here.machine 10) ≡ Chooses size = sym (asked_size here.machine wants) ∙ wants in
     let sized : register here.machine 10 ≡ size = cc in
     let still : effect items choices here.machine ≡ chooses size here.machine (slice_get choices used) =
-    wants_chooses here.machine size wants (slice_get items here.machine.taken) (slice_get choices here.machine.allocations)
+    wants_chooses here.machine wants (slice_get items here.machine.taken) (slice_get choices here.machine.allocations)
     ∙ ap (λ (n : ℕ). chooses n here.machine (slice_get choices here.machine.allocations)) sized
     ∙ ap (λ (n : ℕ). chooses size here.machine (slice_get choices n)) same in
-    unusable_not here later size (slice_get choices used) unusable room (ap (after here) (sym still) ∙ goes)
+    unusable_not here size (slice_get choices used) unusable room (ap (after here) (sym still) ∙ goes)
 
 -- no more items come than these, where the link has ended
-none_left : (items front more : List Item) (taken : ℕ) → items ≡ front ++ more → more ≡ [] → taken ≡ length front → length items ≤ taken
-none_left items front more taken first all count =
+none_left : {items : List Item} (front : List Item) {more : List Item} {taken : ℕ} → items ≡ front ++ more → more ≡ [] → taken ≡ length front → length items ≤ taken
+none_left {items = items} front first all count =
     let same : length items ≡ length front = ap length (first ∙ ap (λ (rest : List Item). front ++ rest) all ∙ append-nil front) in
     omega (arith, same, count)
 
 -- so it doesn't differ
-differs_not : (image : Image) (items : List Item) (state : State) (recording : Recorded) (entries : List Entry) (replay : Replay) → IsReplay image recording entries replay → IsRecordOf image items state recording
+differs_not : {image : Image} {items : List Item} {state : State} {recording : Recorded} {entries : List Entry} {replay : Replay} → IsReplay image recording entries replay → IsRecordOf image items state recording
     → BringsFirst (bounds_of recording) items entries → Differs recording entries replay → ⊥
-differs_not image items state recording entries replay is of_run brings differs = by_case differs
+differs_not {image = image} {items = items} {state = state} {recording = recording} {entries = entries} {replay = replay} is of_run brings differs = by_case differs
   where
     here : run items recording.choices (start image) replay.steps ≡ Some replay.state
-    here = begins image items recording entries replay is brings
+    here = begins is brings
 
     on : replay.steps < recording.steps → GoesOn items recording.choices (start image) replay.state replay.steps
-    on short = goes_on items recording.choices (start image) replay.state state replay.steps recording.steps here of_run.ran.ran short
+    on short = goes_on here of_run.ran.ran short
 
     ends : replay.steps ≡ recording.steps → replay.state ≡ state
-    ends same = stands_alike items recording.choices (start image) replay.state state replay.steps recording.steps here of_run.ran.ran same
+    ends same = stands_alike items recording.choices (start image) here of_run.ran.ran same
 
     by_case : Differs recording entries replay → ⊥
     by_case (Ended short ended) = ended_not replay.state.ended (on short).lives ended
-    by_case (Failed cause short lives fails) = failed_not items recording.choices replay.state (on short).later cause fails (on short).goes
+    by_case (Failed cause short lives fails) = failed_not items recording.choices replay.state fails (on short).goes
     by_case (Unanswered size short lives wants unusable) =
         let low : replay.steps + 1 ≤ recording.steps = omega (arith, short) in
-        unanswered_not items recording.choices replay.state (on short).later size replay.used wants (used_so_many image recording entries replay is) unusable
+        unanswered_not items recording.choices replay.state wants (used_so_many is) unusable
         (of_run.room (replay.steps + 1) (on short).later low (on short).ran) (on short).goes
     by_case (Starved short lives wants taken ended) =
-        starved_not items recording.choices replay.state (on short).later wants
-        (none_left items (items_in (bounds_of recording) entries) brings.more replay.state.machine.taken brings.first (brings.all ended) taken) (on short).goes
+        starved_not items recording.choices replay.state wants
+        (none_left (items_in (bounds_of recording) entries) brings.first (brings.all ended) taken) (on short).goes
     by_case (Unused same few) =
-        let all : replay.used ≡ length recording.choices = sym (used_so_many image recording entries replay is) ∙ ap (λ (s : State). s.machine.allocations) (ends same) ∙ of_run.ran.used in
+        let all : replay.used ≡ length recording.choices = sym (used_so_many is) ∙ ap (λ (s : State). s.machine.allocations) (ends same) ∙ of_run.ran.used in
         omega (arith, all, few)
     by_case (Untaken same differ) = differ (ap (λ (s : State). s.machine.taken) (ends same) ∙ of_run.taken)
 
 -- the first law
-pub record_is_replayed : (image : Image) (items : List Item) (state : State) (recording : Recorded) (began now : Told) (coming : Option Coming) (takes : Bool) (step before after : ℕ)
-    (replayed : HasReplayed image recording began now coming takes (answer.Mismatch step) before after)
+pub record_is_replayed : (image : Image) (items : List Item) (state : State) (recording : Recorded) (began now : Seen) (step before after : ℕ)
+    (replayed : HasReplayed image recording began now (answer.Mismatch step) before after)
     → IsRecordOf image items state recording → BringsFirst (bounds_of recording) items replayed.entries → ⊥
-record_is_replayed image items state recording began now coming takes step before after replayed of_run brings =
-    differs_not image items state recording replayed.entries replayed.replay replayed.is of_run brings replayed.ends.1
+record_is_replayed image items state recording began now step before after replayed of_run brings =
+    differs_not replayed.is of_run brings replayed.ends.1
 
 -- at its end it has given the sends of the recorded run
-pub finished_gives : (image : Image) (items : List Item) (state : State) (recording : Recorded) (entries : List Entry) (replay : Replay) (coming : Option Coming) → IsReplay image recording entries replay → IsRecordOf image items state recording
+pub finished_gives : {image : Image} {items : List Item} {state : State} {recording : Recorded} {entries : List Entry} {replay : Replay} (coming : Option Coming) → IsReplay image recording entries replay → IsRecordOf image items state recording
     → BringsFirst (bounds_of recording) items entries → (end : Answer) → end ≡ answer.Finished → EndsBy image recording entries coming replay end → (replay.state ≡ state) × AreGiven state.sends (pieces_in entries)
-finished_gives image items state recording entries replay coming is of_run brings end finished ends =
+finished_gives {image = image} {items = items} {state = state} {recording = recording} {entries = entries} {replay = replay} coming is of_run brings end finished ends =
     let here = subst (EndsBy image recording entries coming replay) finished ends in
-    let same : replay.state ≡ state = stands_alike items recording.choices (start image) replay.state state replay.steps recording.steps (begins image items recording entries replay is brings) of_run.ran.ran here.0 in
+    let same : replay.state ≡ state = stands_alike items recording.choices (start image) (begins is brings) of_run.ran.ran here.0 in
     (same, subst (λ (s : State). AreGiven s.sends (pieces_in entries)) same here.3)
 
 -- the second law
-pub replay_gives_sends : (image : Image) (items : List Item) (state : State) (recording : Recorded) (began now : Told) (coming : Option Coming) (takes : Bool) (before after : ℕ)
-    (replayed : HasReplayed image recording began now coming takes answer.Finished before after)
+pub replay_gives_sends : (image : Image) (items : List Item) (state : State) (recording : Recorded) (began now : Seen) (before after : ℕ)
+    (replayed : HasReplayed image recording began now answer.Finished before after)
     → IsRecordOf image items state recording → BringsFirst (bounds_of recording) items replayed.entries → (replayed.replay.state ≡ state) × AreGiven state.sends (pieces_in replayed.entries)
-replay_gives_sends image items state recording began now coming takes before after replayed of_run brings =
-    finished_gives image items state recording replayed.entries replayed.replay coming replayed.is of_run brings answer.Finished refl replayed.ends
+replay_gives_sends image items state recording began now before after replayed of_run brings =
+    finished_gives now.coming replayed.is of_run brings answer.Finished refl replayed.ends
 
 -- an event that is refused isn't heeded, nor is any behind it
-refused_shorter : (bounds : Bounds) (before events : List LinkEvent) (event : LinkEvent) (cause : Unheeded) → refusal bounds (before ++ events) event ≡ Some cause → length (heeded_behind bounds before (events ++ event ∷ [])) ≤ length events
+refused_shorter : (bounds : Bounds) (before events : List LinkEvent) (event : LinkEvent) {cause : Unheeded} → refusal bounds (before ++ events) event ≡ Some cause → length (heeded_behind bounds before (events ++ event ∷ [])) ≤ length events
 unfolding heeded_behind
-refused_shorter bounds before [] event cause refused =
+refused_shorter bounds before [] event refused =
     let bad : is_none (refusal bounds before event) ≡ false = ap (λ (b : List LinkEvent). is_none (refusal bounds b event)) (sym (append-nil before)) ∙ ap (λ (r : Option Unheeded). is_none r) refused in
     let none : length (cond (is_none (refusal bounds before event)) (event ∷ []) []) ≡ 0 = ap (λ (b : Bool). length (cond b (event ∷ []) [])) bad in
     omega (arith, none)
-refused_shorter bounds before (first ∷ events) event cause refused =
+refused_shorter bounds before (first ∷ events) event refused =
     of (is_none (refusal bounds before first))
-    (refused_shorter bounds (before ++ first ∷ []) events event cause (ap (λ (b : List LinkEvent). refusal bounds b event) (append_assoc before (first ∷ []) events) ∙ refused))
+    (refused_shorter bounds (before ++ first ∷ []) events event (ap (λ (b : List LinkEvent). refusal bounds b event) (append_assoc before (first ∷ []) events) ∙ refused))
   where
     of : (b : Bool) → length (heeded_behind bounds (before ++ first ∷ []) (events ++ event ∷ [])) ≤ length events
         → length (cond b (first ∷ heeded_behind bounds (before ++ first ∷ []) (events ++ event ∷ [])) []) ≤ length (first ∷ events)
@@ -218,38 +218,38 @@ refused_shorter bounds before (first ∷ events) event cause refused =
     of false later = omega arith
 
 -- where every event is heeded, the last one isn't refused
-last_not : (bounds : Bounds) (entries before : List Entry) (event : LinkEvent) (cause : Unheeded) → entries ≡ before ++ entry.Took event ∷ [] → events_in (entry.Took event ∷ []) ≡ event ∷ [] → refusal bounds (events_in before) event ≡ Some cause
+last_not : (bounds : Bounds) {entries : List Entry} (before : List Entry) {event : LinkEvent} {cause : Unheeded} → entries ≡ before ++ entry.Took event ∷ [] → events_in (entry.Took event ∷ []) ≡ event ∷ [] → refusal bounds (events_in before) event ≡ Some cause
     → AreHeeded bounds entries → ⊥
-last_not bounds entries before event cause last counts refused heeds =
+last_not bounds {entries = entries} before {event = event} last counts refused heeds =
     let events : events_in entries ≡ events_in before ++ event ∷ [] =
     ap events_in last ∙ events_in-append before (entry.Took event ∷ []) ∙ ap (λ (more : List LinkEvent). events_in before ++ more) counts in
     let all : heeded bounds (events_in before ++ event ∷ []) ≡ events_in before ++ event ∷ [] = subst (λ (these : List LinkEvent). heeded bounds these ≡ these) events heeds in
-    omega (arith, refused_shorter bounds [] (events_in before) event cause refused, ap length all, length-append (events_in before) (event ∷ []))
+    omega (arith, refused_shorter bounds [] (events_in before) event refused, ap length all, length-append (events_in before) (event ∷ []))
 
-none_refused : (bounds : Bounds) (entries : List Entry) (cause : Unheeded) → IsLastRefused bounds entries cause → AreHeeded bounds entries → ⊥
-none_refused bounds entries cause last heeds = by_event last.event last.last last.no_end last.refused
+none_refused : {bounds : Bounds} {entries : List Entry} {cause : Unheeded} → IsLastRefused bounds entries cause → AreHeeded bounds entries → ⊥
+none_refused {bounds = bounds} {entries = entries} {cause = cause} last heeds = by_event last.event last.last last.no_end last.refused
   where
     by_event : (event : LinkEvent) → entries ≡ last.before ++ entry.Took event ∷ [] → event ≢ Ends → refusal bounds (events_in last.before) event ≡ Some cause → ⊥
-    by_event (event.Opens conn) split counts refused = last_not bounds entries last.before (event.Opens conn) cause split refl refused heeds
-    by_event (event.Piece conn bytes) split counts refused = last_not bounds entries last.before (event.Piece conn bytes) cause split refl refused heeds
-    by_event (event.Closes conn) split counts refused = last_not bounds entries last.before (event.Closes conn) cause split refl refused heeds
-    by_event event.Settles split counts refused = last_not bounds entries last.before event.Settles cause split refl refused heeds
+    by_event (event.Opens conn) split counts refused = last_not bounds last.before split refl refused heeds
+    by_event (event.Piece conn bytes) split counts refused = last_not bounds last.before split refl refused heeds
+    by_event (event.Closes conn) split counts refused = last_not bounds last.before split refl refused heeds
+    by_event event.Settles split counts refused = last_not bounds last.before split refl refused heeds
     by_event event.Ends split counts refused = absurd (counts refl)
 
 -- the third law
-pub only_faults : (image : Image) (items : List Item) (state : State) (recording : Recorded) (began now : Told) (coming : Option Coming) (takes : Bool) (end : Answer) (before after : ℕ)
-    (replayed : HasReplayed image recording began now coming takes end before after)
-    → IsRecordOf image items state recording → BringsFirst (bounds_of recording) items replayed.entries → IsNoMismatch recording replayed.entries coming end
-only_faults image items state recording began now coming takes end before after replayed of_run brings = by_answer end replayed.ends
+pub only_faults : (image : Image) (items : List Item) (state : State) (recording : Recorded) (began now : Seen) (end : Answer) (before after : ℕ)
+    (replayed : HasReplayed image recording began now end before after)
+    → IsRecordOf image items state recording → BringsFirst (bounds_of recording) items replayed.entries → IsNoMismatch recording replayed.entries now.coming end
+only_faults image items state recording began now end before after replayed of_run brings = by_answer end replayed.ends
   where
-    by_answer : (end : Answer) → EndsBy image recording replayed.entries coming replayed.replay end → IsNoMismatch recording replayed.entries coming end
+    by_answer : (end : Answer) → EndsBy image recording replayed.entries now.coming replayed.replay end → IsNoMismatch recording replayed.entries now.coming end
     by_answer answer.Finished ends = tt
     by_answer answer.ReadFault ends = tt
     by_answer answer.WriteFault ends = tt
     by_answer answer.Memory ends = tt
     by_answer (answer.InputRefused kind offset) ends = ends.1
-    by_answer (answer.MessageTooLong conn) ends = none_refused (bounds_of recording) replayed.entries unheeded.TooLong ends.0.refused
-    by_answer answer.LimitItems ends = none_refused (bounds_of recording) replayed.entries unheeded.LimitItems ends.0
-    by_answer answer.LimitEvents ends = none_refused (bounds_of recording) replayed.entries unheeded.LimitEvents ends.0
-    by_answer (answer.Mismatch step) ends = absurd (differs_not image items state recording replayed.entries replayed.replay replayed.is of_run brings ends.1)
+    by_answer (answer.MessageTooLong conn) ends = none_refused ends.0.refused
+    by_answer answer.LimitItems ends = none_refused ends.0
+    by_answer answer.LimitEvents ends = none_refused ends.0
+    by_answer (answer.Mismatch step) ends = absurd (differs_not replayed.is of_run brings ends.1)
     by_answer _ ends = absurd ends

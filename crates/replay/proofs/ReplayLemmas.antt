@@ -25,14 +25,14 @@ use Rattle.replay.specs.Playing.{state_of, replay_of}
 use Rattle.replay.proofs.RunLemmas.{Ran}
 
 -- a guest at its start is a replay of no instruction
-pub replay_start : (image : Image) (recording : Recorded) (entries : List Entry) → IsReplay image recording entries (replay_of [] (start_standing image))
+pub replay_start : {image : Image} {recording : Recorded} {entries : List Entry} → IsReplay image recording entries (replay_of [] (start_standing image))
 unfolding start start_machine
-replay_start image recording entries = record { ran = record { ran = refl; used = refl }; used = omega arith; steps = omega arith }
+replay_start = record { ran = record { ran = refl; used = refl }; used = omega arith; steps = omega arith }
 
 -- one that goes on is one still
-pub replay_ran : (image : Image) (recording : Recorded) (entries : List Entry) (sends : List Send) (old new : Standing) (before after : List Send → List Send) → Ran recording.steps old new before after
+pub replay_ran : {image : Image} {recording : Recorded} {entries : List Entry} {sends : List Send} {old new : Standing} (before after : List Send → List Send) → Ran recording.steps old new before after
     → IsReplay image recording entries (replay_of (before sends) old) → IsReplay image recording entries (replay_of (after sends) new)
-replay_ran image recording entries sends old new before after ran is =
+replay_ran {image = image} {recording = recording} {entries = entries} {sends = sends} {old = old} {new = new} before after ran is =
     let items = items_in (bounds_of recording) entries in
     let choices = take old.guest.machine.allocations recording.choices in
     let joined : run items choices (start image) (old.steps + ran.count) ≡ Some (state_of (after sends) new) =
@@ -49,9 +49,9 @@ replay_ran image recording entries sends old new before after ran is =
     }
 
 -- on a journal that brings more items too
-pub replay_more : (image : Image) (recording : Recorded) (entries later : List Entry) (more : List Item) (replay : Replay) → items_in (bounds_of recording) later ≡ items_in (bounds_of recording) entries ++ more
+pub replay_more : {image : Image} {recording : Recorded} {entries later : List Entry} (more : List Item) {replay : Replay} → items_in (bounds_of recording) later ≡ items_in (bounds_of recording) entries ++ more
     → IsReplay image recording entries replay → IsReplay image recording later replay
-replay_more image recording entries later more replay brings is =
+replay_more {image = image} {recording = recording} {entries = entries} more {replay = replay} brings is =
     let choices = take replay.used recording.choices in
     let ran : run (items_in (bounds_of recording) entries ++ more) (choices ++ []) (start image) replay.steps ≡ Some replay.state =
     run_more (items_in (bounds_of recording) entries) more choices [] (start image) replay.state replay.steps is.ran.ran in
@@ -66,9 +66,9 @@ replay_more image recording entries later more replay brings is =
     }
 
 -- a journal that brings the same items
-pub replay_same : (image : Image) (recording : Recorded) (entries later : List Entry) (replay : Replay) → items_in (bounds_of recording) later ≡ items_in (bounds_of recording) entries
+pub replay_same : {image : Image} {recording : Recorded} {entries later : List Entry} {replay : Replay} → items_in (bounds_of recording) later ≡ items_in (bounds_of recording) entries
     → IsReplay image recording entries replay → IsReplay image recording later replay
-replay_same image recording entries later replay same is = replay_more image recording entries later [] replay (same ∙ sym (append-nil (items_in (bounds_of recording) entries))) is
+replay_same {recording = recording} {entries = entries} same is = replay_more [] (same ∙ sym (append-nil (items_in (bounds_of recording) entries))) is
 
 -- an instruction that wants an item takes it
 pub wants_takes : (m : Machine) → does None None m ≡ Wants → (item : Option Item) (choice : Option Choice) → does item choice m ≡ takes m item
@@ -80,8 +80,8 @@ wants_takes m wants item choice = of_shape (does_shape m)
     of_shape (Picks is) = let no : Chooses (register m 10) ≡ Wants = sym (is None None) ∙ wants in absurd (cc)
 
 -- an instruction that wants an answer of malloc does with it what malloc does
-pub wants_chooses : (m : Machine) (size : ℕ) → does None None m ≡ Chooses size → (item : Option Item) (choice : Option Choice) → does item choice m ≡ chooses (register m 10) m choice
-wants_chooses m size wants item choice = of_shape (does_shape m)
+pub wants_chooses : (m : Machine) {size : ℕ} → does None None m ≡ Chooses size → (item : Option Item) (choice : Option Choice) → does item choice m ≡ chooses (register m 10) m choice
+wants_chooses m {size = size} wants item choice = of_shape (does_shape m)
   where
     of_shape : Shape m (λ item choice. does item choice m) → does item choice m ≡ chooses (register m 10) m choice
     of_shape (Same e alone is) = absurd (subst (Alone m) (sym (is None None) ∙ wants) alone)
@@ -89,14 +89,14 @@ wants_chooses m size wants item choice = of_shape (does_shape m)
     of_shape (Picks is) = is item choice
 
 -- and its block has the size that stands in x10
-pub asked_size : (m : Machine) (size : ℕ) → does None None m ≡ Chooses size → does None None m ≡ Chooses (register m 10)
-asked_size m size wants = wants_chooses m size wants None None
+pub asked_size : (m : Machine) {size : ℕ} → does None None m ≡ Chooses size → does None None m ≡ Chooses (register m 10)
+asked_size m wants = wants_chooses m wants None None
 
 -- a replay takes the item that is next
-pub replay_takes : (image : Image) (recording : Recorded) (entries : List Entry) (sends : List Send) (s : Standing) (item : Item) → s.ended ≡ None → s.steps < recording.steps → does None None s.guest.machine ≡ Wants
+pub replay_takes : {image : Image} {recording : Recorded} {entries : List Entry} {sends : List Send} (s : Standing) {item : Item} → s.ended ≡ None → s.steps < recording.steps → does None None s.guest.machine ≡ Wants
     → slice_get (items_in (bounds_of recording) entries) s.guest.machine.taken ≡ Some item
     → IsReplay image recording entries (replay_of sends s) → IsReplay image recording entries (replay_of sends (taken_standing item s))
-replay_takes image recording entries sends s item lives low wants here is =
+replay_takes {image = image} {recording = recording} {entries = entries} {sends = sends} s {item = item} lives low wants here is =
     let items = items_in (bounds_of recording) entries in
     let choices = take s.guest.machine.allocations recording.choices in
     let keeps = received_keeps item s.guest.machine in
@@ -114,27 +114,27 @@ replay_takes image recording entries sends s item lives low wants here is =
     }
 
 -- the first answers of a record, with one more
-take_more : (choices : List Choice) (n : ℕ) (choice : Choice) → slice_get choices n ≡ Some choice → take (n + 1) choices ≡ take n choices ++ choice ∷ []
-take_more choices n choice here =
+take_more : (choices : List Choice) (n : ℕ) {choice : Choice} → slice_get choices n ≡ Some choice → take (n + 1) choices ≡ take n choices ++ choice ∷ []
+take_more choices n {choice = choice} here =
     ap (λ (k : ℕ). take k choices) (add-one n)
     ∙ take-suc choices n choice (slice_get_within choices n choice here)
     ∙ ap (λ (c : Choice). take n choices ++ c ∷ []) (get_or_from_slice_get choices n choice choice here)
 
 -- a replay uses the answer of malloc that its record has next, where C allows it
-pub replay_chooses : (image : Image) (recording : Recorded) (entries : List Entry) (sends : List Send) (s : Standing) (size : ℕ) (choice : Choice) → s.ended ≡ None → s.steps < recording.steps
+pub replay_chooses : {image : Image} {recording : Recorded} {entries : List Entry} {sends : List Send} (s : Standing) {size : ℕ} {choice : Choice} → s.ended ≡ None → s.steps < recording.steps
     → does None None s.guest.machine ≡ Chooses size → slice_get recording.choices s.guest.machine.allocations ≡ Some choice
     → is_allowed s.guest.machine.heap_start s.guest.machine.heap_end s.guest.machine.blocks (register s.guest.machine 10) choice ≡ true
     → IsReplay image recording entries (replay_of sends s) → IsReplay image recording entries (replay_of sends (chosen_standing choice s))
-replay_chooses image recording entries sends s size choice lives low wants here allowed is =
+replay_chooses {image = image} {recording = recording} {entries = entries} {sends = sends} s {choice = choice} lives low wants here allowed is =
     let items = items_in (bounds_of recording) entries in
     let n = s.guest.machine.allocations in
     let front = take n recording.choices in
     let later : Machine = allocated (register s.guest.machine 10) choice s.guest.machine in
     let keeps = allocated_keeps (register s.guest.machine 10) choice s.guest.machine in
-    let longer : take later.allocations recording.choices ≡ front ++ choice ∷ [] = ap (λ (k : ℕ). take k recording.choices) keeps.allocations ∙ take_more recording.choices n choice here in
+    let longer : take later.allocations recording.choices ≡ front ++ choice ∷ [] = ap (λ (k : ℕ). take k recording.choices) keeps.allocations ∙ take_more recording.choices n here in
     let next_is : slice_get (front ++ choice ∷ []) n ≡ Some choice = element_behind front choice n (sym is.ran.used) in
     let acts : does (slice_get items s.guest.machine.taken) (slice_get (front ++ choice ∷ []) n) s.guest.machine ≡ Goes later =
-    wants_chooses s.guest.machine size wants (slice_get items s.guest.machine.taken) (slice_get (front ++ choice ∷ []) n)
+    wants_chooses s.guest.machine wants (slice_get items s.guest.machine.taken) (slice_get (front ++ choice ∷ []) n)
     ∙ ap (chooses (register s.guest.machine 10) s.guest.machine) next_is ∙ rw allowed refl in
     let one = run_one items (front ++ choice ∷ []) (start image) (state_of sends s) (state_of sends (chosen_standing choice s)) s.steps
     (run_chosen items front (choice ∷ []) (start image) (state_of sends s) s.steps is.ran.ran)

@@ -44,12 +44,12 @@ unfolding start start_machine
 begins_laid_out image = record { sound = begins_empty image; start = refl; end = refl; live = refl }
 
 -- each instruction of a served run keeps the layout, so all of them do
-laid_out_behind : (limits : Limits) (items : List Item) (plan : List Override) (first second : Path) (count : ℕ) → IsLaidOut (guest_of first) → serve limits items plan first count ≡ Some second → IsLaidOut (guest_of second)
-laid_out_behind limits items plan first second zero out ran = subst (λ (p : Path). IsLaidOut (guest_of p)) (same_Some first second ran) out
-laid_out_behind limits items plan first second (suc count) out ran =
+laid_out_behind : (limits : Limits) (items : List Item) (plan : List Override) (first : Path) {second : Path} (count : ℕ) → IsLaidOut (guest_of first) → serve limits items plan first count ≡ Some second → IsLaidOut (guest_of second)
+laid_out_behind limits items plan first {second = second} zero out ran = subst (λ (p : Path). IsLaidOut (guest_of p)) (same_Some first second ran) out
+laid_out_behind limits items plan first {second = second} (suc count) out ran =
     option_and_then_some (planned_next limits items plan) (serve limits items plan first count) second ran (λ mid before goes.
     let env = env_at plan mid.state.machine.taken in
-    laid_out_next limits items env mid second (laid_out_behind limits items plan first mid count out before) (serves_to limits items env mid second goes))
+    laid_out_next limits items env mid second (laid_out_behind limits items plan first count out before) (serves_to limits items env mid second goes))
 
 -- no more blocks are live than stand
 live_fewer : (blocks : List Block) → length (live_blocks blocks) ≤ length blocks
@@ -64,9 +64,9 @@ room_in : (path : Path) → IsLaidOut (guest_of path) → length path.state.mach
 room_in path out = omega (arith, ap length out.live, live_fewer path.heap.blocks, out.sound.few)
 
 -- a served run has room at any time
-pub served_has_room : (limits : Limits) (image : Image) (items : List Item) (plan : List Override) (path : Path) (count : ℕ) → serve limits items plan (origin image) count ≡ Some path → HasRoom image items path.choices count
+pub served_has_room : (limits : Limits) (image : Image) (items : List Item) (plan : List Override) {path : Path} {count : ℕ} → serve limits items plan (origin image) count ≡ Some path → HasRoom image items path.choices count
 unfolding start start_machine
-served_has_room limits image items plan path count ran earlier state low reached =
+served_has_room limits image items plan {path = path} {count = count} ran earlier state low reached =
     let rest = count - earlier in
     let parts : count ≡ earlier + rest = omega (arith, low) in
     let split = sym (repeated_add (planned_next limits items plan) (origin image) earlier rest) ∙ ap (λ (n : ℕ). serve limits items plan (origin image) n) (sym parts) ∙ ran in
@@ -76,7 +76,7 @@ served_has_room limits image items plan path count ran earlier state low reached
     let longer : run items path.choices (start image) earlier ≡ Some mid.state =
     subst (λ (all : List Choice). run items all (start image) earlier ≡ Some mid.state) (sym second.chose) (run_chosen items mid.choices second.others (start image) mid.state earlier first.ran) in
     let same : mid.state ≡ state = same_Some mid.state state (sym longer ∙ reached) in
-    subst (λ (s : State). length s.machine.blocks ≤ most_blocks) same (room_in mid (laid_out_behind limits items plan (origin image) mid earlier (begins_laid_out image) before)))
+    subst (λ (s : State). length s.machine.blocks ≤ most_blocks) same (room_in mid (laid_out_behind limits items plan (origin image) earlier (begins_laid_out image) before)))
 
 -- so what a session knows of its run is a record of it
 pub session_leaves_record : (rules : Rules) (image : Image) (session : Session) (at_end : Bool) (recording : Recorded) → IsAccount rules image session at_end → HasSession rules session recording
@@ -88,7 +88,7 @@ session_leaves_record rules image session at_end recording account has =
     let served = account.served in
     let follows = served_follows rules.limits items session.survivor.plan (origin image) now served.more refl served.ran in
     let counted : served.more ≡ now.steps = omega (arith, follows.counted) in
-    let room = served_has_room rules.limits image items session.survivor.plan now served.more served.ran in
+    let room = served_has_room rules.limits image items session.survivor.plan served.ran in
     record {
       ran = subst (λ (all : List Choice). Run image items all recording.steps now.state) (sym has.choices) (subst (λ (n : ℕ). Run image items now.choices n now.state) (sym has.steps) account.ran);
       taken = sym has.taken;

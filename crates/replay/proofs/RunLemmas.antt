@@ -35,8 +35,8 @@ same_sends sends = sends
 abbrev pub with_send : Send → List Send → List Send
 with_send send sends = sends ++ send ∷ []
 
-ran_same : (until : ℕ) (s : Standing) → Ran until s s same_sends same_sends
-ran_same until s = record {
+ran_same : {until : ℕ} {s : Standing} → Ran until s s same_sends same_sends
+ran_same = record {
   count = 0;
   ran = λ sends. refl;
   steps = omega arith;
@@ -48,8 +48,8 @@ ran_same until s = record {
 }
 
 -- one instruction more
-ran_step : (until : ℕ) (first old new : Standing) → Ran until first old same_sends same_sends → old.steps < until → IsStep old new → Ran until first new same_sends same_sends
-ran_step until first old new ran low step = record {
+ran_step : {until : ℕ} {first old new : Standing} → Ran until first old same_sends same_sends → old.steps < until → IsStep old new → Ran until first new same_sends same_sends
+ran_step {first = first} {old = old} {new = new} ran low step = record {
   count = ran.count + 1;
   ran = λ sends. run_one [] [] (state_of sends first) (state_of sends old) (state_of sends new) ran.count (ran.ran sends) (step.goes sends);
   steps = omega (arith, ran.steps, step.steps);
@@ -67,31 +67,31 @@ record IsQuiet (until : ℕ) (old new : Standing) : Type 0 where
   none : last.event ≡ None
   left : new ≡ last.standing
 
-quiet_parts : (until base : ℕ) (old new : Live) → quiet_next (recorded until) base old ≡ Some new → IsQuiet until old.standing new.standing
+quiet_parts : {until : ℕ} (base : ℕ) (old : Live) {new : Live} → quiet_next (recorded until) base old ≡ Some new → IsQuiet until old.standing new.standing
 unfolding quiet_next
-quiet_parts until base old new goes = option_and_then_some (quietly base old) (recorded until old.standing) new goes (λ t turns quiet. of_event t turns t.event refl quiet)
+quiet_parts {until = until} base old {new = new} goes = option_and_then_some (quietly base old) (recorded until old.standing) new goes (λ t turns quiet. of_event t turns t.event refl quiet)
   where
     of_event : (t : Turn Question) → recorded until old.standing ≡ Some t → (event : Option Question) → t.event ≡ event → unless_event event (live_after base old t) ≡ Some new → IsQuiet until old.standing new.standing
     of_event t turns None is quiet = record { last = t; turns = turns; none = is; left = sym (ap (λ (l : Live). l.standing) (same_Some _ new quiet)) }
     of_event t turns (Some event) is quiet = absurd (none-some new quiet)
 
-quiet_step : (until : ℕ) (old new : Standing) → old.ended ≡ None → IsQuiet until old new → IsStep old new × (old.steps < until)
-quiet_step until old new lives quiet =
-    let means = turn_means until old quiet.last lives quiet.turns in
+quiet_step : {until : ℕ} {old new : Standing} → old.ended ≡ None → IsQuiet until old new → IsStep old new × (old.steps < until)
+quiet_step {until = until} {old = old} lives quiet =
+    let means = turn_means until old lives quiet.turns in
     let same = subst (λ (e : Option Question). Means old e quiet.last.standing × IsWithin until old.steps e) quiet.none means in
     (subst (λ (s : Standing). IsStep old s) (sym quiet.left) same.0, same.1)
 
 -- so many quiet turns
-pub ran_quietly : (until base : ℕ) (count : ℕ) (old new : Live) → old.standing.ended ≡ None → repeated (quiet_next (recorded until) base) count old ≡ Some new
+pub ran_quietly : {until : ℕ} (base : ℕ) (count : ℕ) (old : Live) {new : Live} → old.standing.ended ≡ None → repeated (quiet_next (recorded until) base) count old ≡ Some new
     → Ran until old.standing new.standing same_sends same_sends × (new.standing.ended ≡ None)
-ran_quietly until base zero old new lives ran =
+ran_quietly {until = until} base zero old {new = new} lives ran =
     let same : old.standing ≡ new.standing = ap (λ (l : Live). l.standing) (same_Some old new ran) in
-    (subst (λ (s : Standing). Ran until old.standing s same_sends same_sends) same (ran_same until old.standing), ap (λ (s : Standing). s.ended) (sym same) ∙ lives)
-ran_quietly until base (suc count) old new lives ran =
+    (subst (λ (s : Standing). Ran until old.standing s same_sends same_sends) same (ran_same), ap (λ (s : Standing). s.ended) (sym same) ∙ lives)
+ran_quietly {until = until} base (suc count) old {new = new} lives ran =
     option_and_then_some (quiet_next (recorded until) base) (repeated (quiet_next (recorded until) base) count old) new ran (λ mid before goes.
-    let first = ran_quietly until base count old mid lives before in
-    let step = quiet_step until mid.standing new.standing first.1 (quiet_parts until base mid new goes) in
-    (ran_step until old.standing mid.standing new.standing first.0 step.1 step.0, step.0.ended ∙ first.1))
+    let first = ran_quietly base count old lives before in
+    let step = quiet_step first.1 (quiet_parts base mid goes) in
+    (ran_step first.0 step.1 step.0, step.0.ended ∙ first.1))
 
 -- What a question says of the run of a guest: by where it stood, and where it stands.
 abbrev pub ComesTo : ℕ → Standing → Question → Standing → Type 0
@@ -110,9 +110,9 @@ ComesBy until old (Ok question) new = ComesTo until old question new
 ComesBy until old (Err e) new = Ran until old new same_sends same_sends × (new.ended ≡ None)
 
 -- the last turn
-emits_last : (until : ℕ) (first old new : Standing) (conn : ℕ) (bytes : List ℕ) → Ran until first old same_sends same_sends → old.ended ≡ None → Means old (Some (question.Emits conn bytes)) new → old.steps < until
+emits_last : {until : ℕ} {first old new : Standing} {conn : ℕ} {bytes : List ℕ} → Ran until first old same_sends same_sends → old.ended ≡ None → Means old (Some (question.Emits conn bytes)) new → old.steps < until
     → ComesTo until first (question.Emits conn bytes) new
-emits_last until first old new conn bytes ran lives means low = (
+emits_last {first = first} {old = old} {new = new} {conn = conn} {bytes = bytes} ran lives means low = (
   record {
     count = ran.count + 1;
     ran = λ sends. run_one [] [] (state_of sends first) (state_of sends old) (state_of (with_send (record { conn = conn; bytes = bytes; taken = first.guest.machine.taken }) sends) new) ran.count (ran.ran sends)
@@ -129,8 +129,8 @@ emits_last until first old new conn bytes ran lives means low = (
   omega (arith, ran.steps, means.3),
 )
 
-exits_last : (until : ℕ) (first old new : Standing) (code : ℕ) → Ran until first old same_sends same_sends → Means old (Some (question.Exits code)) new → old.steps < until → ComesTo until first (question.Exits code) new
-exits_last until first old new code ran means low = (
+exits_last : {until : ℕ} {first old new : Standing} {code : ℕ} → Ran until first old same_sends same_sends → Means old (Some (question.Exits code)) new → old.steps < until → ComesTo until first (question.Exits code) new
+exits_last {first = first} {old = old} {new = new} ran means low = (
   record {
     count = ran.count + 1;
     ran = λ sends. run_one [] [] (state_of sends first) (state_of sends old) (state_of sends new) ran.count (ran.ran sends) (means.0 sends);
@@ -144,24 +144,24 @@ exits_last until first old new code ran means low = (
   means.3,
 )
 
-last_by : (until : ℕ) (first old new : Standing) (question : Question) → Ran until first old same_sends same_sends → old.ended ≡ None → Means old (Some question) new → IsWithin until old.steps (Some question)
+last_by : {until : ℕ} {first old : Standing} (new : Standing) (question : Question) → Ran until first old same_sends same_sends → old.ended ≡ None → Means old (Some question) new → IsWithin until old.steps (Some question)
     → ComesTo until first question new
-last_by until first old new question.Reached ran lives means low =
+last_by {until = until} {first = first} new question.Reached ran lives means low =
     subst (λ (s : Standing). ComesTo until first question.Reached s) (sym means) (ran, low, lives)
-last_by until first old new question.Asks ran lives means low =
+last_by {until = until} {first = first} new question.Asks ran lives means low =
     subst (λ (s : Standing). ComesTo until first question.Asks s) (sym means.0) (ran, low, lives, means.1)
-last_by until first old new (question.Emits conn bytes) ran lives means low = emits_last until first old new conn bytes ran lives means low
-last_by until first old new (question.Wants size) ran lives means low =
+last_by new (question.Emits conn bytes) ran lives means low = emits_last ran lives means low
+last_by {until = until} {first = first} new (question.Wants size) ran lives means low =
     subst (λ (s : Standing). ComesTo until first (question.Wants size) s) (sym means.0) (ran, low, lives, means.1)
-last_by until first old new (question.Exits code) ran lives means low = exits_last until first old new code ran means low
-last_by until first old new (question.Failed cause) ran lives means low =
+last_by new (question.Exits code) ran lives means low = exits_last ran means low
+last_by {until = until} {first = first} new (question.Failed cause) ran lives means low =
     subst (λ (s : Standing). ComesTo until first (question.Failed cause) s) (sym means.0) (ran, low, lives, means.1)
 
 pub comes_by : (until base : ℕ) (old new : Live) (result : Result Question AllocError) → old.standing.ended ≡ None → RunsBy question.Emits (recorded until) base old result new → ComesBy until old.standing result new.standing
 comes_by until base old new (Ok question) lives runs =
-    let quiet = ran_quietly until base runs.count old runs.before lives runs.quiet in
-    let means = turn_means until runs.before.standing runs.last quiet.1 runs.turns in
+    let quiet = ran_quietly base runs.count old lives runs.quiet in
+    let means = turn_means until runs.before.standing quiet.1 runs.turns in
     let here = subst (λ (e : Option Question). Means runs.before.standing e runs.last.standing × IsWithin until runs.before.standing.steps e) runs.is_event means in
     let left : new.standing ≡ runs.last.standing = ap (λ (l : Live). l.standing) runs.left in
-    last_by until old.standing runs.before.standing new.standing question quiet.0 quiet.1 (subst (λ (s : Standing). Means runs.before.standing (Some question) s) (sym left) here.0) here.1
-comes_by until base old new (Err e) lives runs = ran_quietly until base runs.count old new lives runs.quiet
+    last_by new.standing question quiet.0 quiet.1 (subst (λ (s : Standing). Means runs.before.standing (Some question) s) (sym left) here.0) here.1
+comes_by until base old new (Err e) lives runs = ran_quietly base runs.count old lives runs.quiet

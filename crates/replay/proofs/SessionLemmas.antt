@@ -1,16 +1,17 @@
 -- A session's record is replayed over the session's stream.
-use Rattle.std.proofs.Common.{◌≡◌, inl, inr, ℕ, ◌≤◌, Bool, List, [], ◌∷◌, ◌++◌, length, Option, refl, sym, ◌∙◌, ap, subst, arith, append-nil, append_assoc, length-append}
+use Rattle.std.proofs.Common.{◌≡◌, inl, inr, ℕ, ◌≤◌, Bool, List, [], ◌∷◌, ◌++◌, length, refl, sym, ◌∙◌, ap, subst, arith, append-nil, append_assoc, length-append}
 use Rattle.rx_io.specs.Prefix.{Prefix}
 use Rattle.rx_io.specs.declared.bytes.Item.{Item}
 use Rattle.links.specs.declared.journal.Entry.{Entry}
 use Rattle.links.specs.declared.journal.LinkEvent.{LinkEvent}
 use Rattle.links.specs.declared.journal.LinkEvent.TheVariants.{Ends}
-use Rattle.links.specs.Links.{Told, Coming, events_in, pieces_in, HasEnded}
+use Rattle.links.specs.Links.{events_in, pieces_in, HasEnded}
+use Rattle.links.specs.Seen.{Seen}
 use Rattle.item_log.specs.Heard.{items_of}
 use Rattle.elf_image.specs.declared.image.Image.{Image}
 use Rattle.run_history.specs.declared.answer.Answer.{Answer}
 use Rattle.run_history.specs.declared.answer.Answer.TheVariants as answer
-use Rattle.run_history.specs.Machine.{State, start}
+use Rattle.run_history.specs.Machine.{State}
 use Rattle.session_history.specs.Heeding.{Bounds, heeded, items_in}
 use Rattle.session_history.specs.Lawful.{Rules}
 use Rattle.session_history.specs.Account.{Session, journal_of, IsAccount}
@@ -28,15 +29,15 @@ nothing [] none = refl
 nothing (x ∷ xs) none = absurd (omega (arith, none))
 
 -- where a replay asked for an event, it hasn't all items of the recorded run
-asked_not : (image : Image) (items : List Item) (state : State) (recording : Recorded) (before : List Entry) → IsRecordOf image items state recording → WasAsked image recording before → items ≡ items_in (bounds_of recording) before → ⊥
-asked_not image items state recording before of_run was all =
+asked_not : {image : Image} {items : List Item} {state : State} {recording : Recorded} {before : List Entry} → IsRecordOf image items state recording → WasAsked image recording before → items ≡ items_in (bounds_of recording) before → ⊥
+asked_not {items = items} {recording = recording} {before = before} of_run was all =
     let bounds = bounds_of recording in
     let brings : BringsFirst bounds items before = record { more = []; first = all ∙ sym (append-nil (items_in bounds before)); all = λ ended. refl } in
     let replay = was.replay in
-    let here = begins image items recording before replay was.asks.is brings in
-    let on = goes_on items recording.choices (start image) replay.state state replay.steps recording.steps here of_run.ran.ran was.asks.shorter in
+    let here = begins was.asks.is brings in
+    let on = goes_on here of_run.ran.ran was.asks.shorter in
     let none : length items ≤ replay.state.machine.taken = omega (arith, ap length all, was.asks.taken) in
-    starved_not items recording.choices replay.state on.later was.asks.asks none on.goes
+    starved_not items recording.choices replay.state was.asks.asks none on.goes
 
 module _ (image : Image) (bounds : Bounds) (journal : List Entry) (events : List LinkEvent) (state : State) (recording : Recorded) (entries : List Entry)
     (asked : AreAsked image recording entries) (frame : recording.frame ≡ bounds.framing) (of_run : IsRecordOf image (items_in bounds journal) state recording) (stream : HadOneStream events journal entries) where
@@ -70,9 +71,9 @@ module _ (image : Image) (bounds : Bounds) (journal : List Entry) (events : List
   not_behind event mid longer =
       let front = heeded_first (bounds_of recording) [] (events_in entries) in
       let parts : events_in entries ≡ session_events ++ event ∷ (mid ++ front.0) = sym front.1 ∙ ap (λ es. es ++ front.0) longer ∙ append_assoc session_events (event ∷ mid) front.0 in
-      let took = took_behind entries session_events event (mid ++ front.0) parts in
+      let took = took_behind entries session_events (mid ++ front.0) parts in
       let was = asked took.before took.after event took.split in
-      asked_not image (items_in bounds journal) state recording took.before of_run was
+      asked_not of_run was
       (items_are ∙ ap (items_of recording.frame) (sym (was.asks.heeds ∙ took.events)))
 
   -- so the replay's are the first of the session's
@@ -94,7 +95,7 @@ module _ (image : Image) (bounds : Bounds) (journal : List Entry) (events : List
   pub stream_brings : BringsFirst (bounds_of recording) (items_in bounds journal) entries
   unfolding replay_events
   stream_brings =
-      let front = items_grow recording.frame replay_events session_events replay_first in
+      let front = items_grow recording.frame replay_events replay_first in
       record { more = front.0; first = items_are ∙ sym front.1; all = λ ended. none_more ended front.0 front.1 }
     where
       none_more : HasEnded entries → (more : List Item) → items_of recording.frame replay_events ++ more ≡ items_of recording.frame session_events → more ≡ []
@@ -110,21 +111,21 @@ module _ (image : Image) (bounds : Bounds) (journal : List Entry) (events : List
           let items : length (items_of recording.frame session_events) ≡ length (items_of recording.frame replay_events) = ap (λ es. length (items_of recording.frame es)) alike in
           nothing more (omega (arith, items, ap length same, length-append (items_of recording.frame replay_events) more))
 
-pub one_stream_brings : (image : Image) (bounds : Bounds) (journal : List Entry) (events : List LinkEvent) (state : State) (recording : Recorded) (began now : Told) (coming : Option Coming) (takes : Bool) (end : Answer) (before after : ℕ)
-    (replayed : HasReplayed image recording began now coming takes end before after)
+pub one_stream_brings : (image : Image) (bounds : Bounds) (journal : List Entry) (events : List LinkEvent) (state : State) (recording : Recorded) (began now : Seen) (end : Answer) (before after : ℕ)
+    (replayed : HasReplayed image recording began now end before after)
     → recording.frame ≡ bounds.framing → IsRecordOf image (items_in bounds journal) state recording → HadOneStream events journal replayed.entries → BringsFirst (bounds_of recording) (items_in bounds journal) replayed.entries
-one_stream_brings image bounds journal events state recording began now coming takes end before after replayed frame of_run stream =
+one_stream_brings image bounds journal events state recording began now end before after replayed frame of_run stream =
     stream_brings image bounds journal events state recording replayed.entries replayed.asked frame of_run stream
 
-pub session_is_replayed : (rules : Rules) (image : Image) (session : Session) (at_end : Bool) (events : List LinkEvent) (recording : Recorded) (began now : Told) (coming : Option Coming) (takes : Bool) (end : Answer) (before after : ℕ)
-    (replayed : HasReplayed image recording began now coming takes end before after)
+pub session_is_replayed : (rules : Rules) (image : Image) (session : Session) (at_end : Bool) (events : List LinkEvent) (recording : Recorded) (began now : Seen) (end : Answer) (before after : ℕ)
+    (replayed : HasReplayed image recording began now end before after)
     → IsAccount rules image session at_end → HasSession rules session recording → HadOneStream events (journal_of session) replayed.entries
-    → IsNoMismatch recording replayed.entries coming end × (end ≡ answer.Finished → AreGiven session.survivor.now.state.sends (pieces_in replayed.entries))
-session_is_replayed rules image session at_end events recording began now coming takes end before after replayed account has stream =
+    → IsNoMismatch recording replayed.entries now.coming end × (end ≡ answer.Finished → AreGiven session.survivor.now.state.sends (pieces_in replayed.entries))
+session_is_replayed rules image session at_end events recording began now end before after replayed account has stream =
     let items = items_in rules.bounds (journal_of session) in
     let state = session.survivor.now.state in
     let of_run = session_leaves_record rules image session at_end recording account has in
     let brings = stream_brings image rules.bounds (journal_of session) events state recording replayed.entries replayed.asked has.frame of_run stream in (
-      only_faults image items state recording began now coming takes end before after replayed of_run brings,
-      λ finished. (finished_gives image items state recording replayed.entries replayed.replay coming replayed.is of_run brings end finished replayed.ends).1,
+      only_faults image items state recording began now end before after replayed of_run brings,
+      λ finished. (finished_gives now.coming replayed.is of_run brings end finished replayed.ends).1,
     )

@@ -1,9 +1,10 @@
 -- A replay at its start, and at its end.
-use Rattle.std.proofs.Common.{◌≡◌, ℕ, ◌+◌, ◌^◌, false, List, [], length, drop, Option, refl, sym, ap, subst, arith, Bool, true}
+use Rattle.std.proofs.Common.{◌≡◌, ℕ, ◌+◌, ◌^◌, false, List, [], length, drop, refl, sym, ap, subst, arith, true}
 use Rattle.std.specs.Prelude.{Err}
 use Rattle.std.proofs.lemmas.Bool.{both_ways}
 use Rattle.std.proofs.lemmas.List.{length-replicate}
-use Rattle.links.specs.Links.{Told, Phases, Coming, Counts, IsFresh}
+use Rattle.links.specs.Links.{Phases, IsFresh}
+use Rattle.links.specs.Seen.{Seen}
 use Rattle.rx_io.specs.Sends.{Send}
 use Rattle.elf_image.specs.declared.image.Image.{Image}
 use Rattle.item_log.specs.Heard.{items_of, items_from}
@@ -12,6 +13,7 @@ use Rattle.item_log.specs.Log as logs
 use Rattle.run_history.specs.declared.answer.Answer.{Answer}
 use Rattle.run_history.specs.declared.answer.Answer.TheVariants as answer
 use Rattle.run_history.specs.Machine.{no_connections, start_machine}
+use Rattle.session_history.specs.Answering.{MayBegin}
 use Rattle.run_history.proofs.Connections.{no_connections_may}
 use Rattle.guest_cpu.specs.Standing.{Standing}
 use Rattle.guest_cpu.specs.Cpus.{start_standing}
@@ -20,8 +22,8 @@ use Rattle.schedule_file.specs.declared.recorded.Recorded.{Recorded}
 use Rattle.replay.specs.declared.player.Player.{Player}
 use Rattle.replay.specs.Giving.{IsLastSend, BreaksOff}
 use Rattle.replay.specs.Giving as giving
-use Rattle.replay.specs.Replaying.{HasReplayed, HasReplayedBy, HasAnswerCause, bounds_of}
-use Rattle.replay.specs.Playing.{Stage, stage_of, has, AreOpen, AreOpenThen, IsBetween, IsEnd, HasCause, replay_of}
+use Rattle.replay.specs.Replaying.{HasReplayedBy, LinkAnswers, bounds_of}
+use Rattle.replay.specs.Playing.{Stage, stage_of, has, AreOpen, AreOpenThen, IsBetween, IsEnd, LinkTurns, replay_of}
 use Rattle.replay.specs.Making.{IsMade}
 use Rattle.replay.proofs.ReplayLemmas.{replay_start}
 use Rattle.replay.proofs.JournalLemmas.{asked_none, tells_same}
@@ -46,17 +48,17 @@ all_places = length-replicate 4096 false
 abbrev start_stage : Image → Log → Stage
 start_stage image log = record { live = start_standing image; log = log; events = 0; gone = no_connections }
 
-starts : (image : Image) (recording : Recorded) (told : Told) (phases : Phases) (log : Log) → IsFresh phases → logs.Shows recording.frame [] log → log ≡ logs.empty_log recording.frame (2 ^ 20)
-    → IsBetween image recording told told phases (start_stage image log)
+starts : {image : Image} {recording : Recorded} {seen : Seen} {log : Log} → IsFresh seen.phases → logs.Shows recording.frame [] log → log ≡ logs.empty_log recording.frame (2 ^ 20)
+    → IsBetween image recording seen.told seen (start_stage image log)
 unfolding start_machine
-starts image recording told phases log fresh shows is = record {
+starts {recording = recording} {seen = seen} fresh shows is = record {
   playing = record {
     entries = [];
     sends = [];
     base = record {
-      tells = tells_same told;
-      asked = asked_none image recording;
-      is = replay_start image recording [];
+      tells = tells_same;
+      asked = asked_none;
+      is = replay_start;
       items = record { all_heeded = none_heeded (bounds_of recording); shows = shows; most = ap (λ (l : Log). l.max_items) is };
       goes_on = λ ended. cc;
       first = ap (λ (l : Log). l.first) is;
@@ -65,73 +67,67 @@ starts image recording told phases log fresh shows is = record {
       gone = no_connections_may;
       places = all_places;
       taken = omega arith;
-      connected = subst (λ items. AreOpenThen phases (drop 0 items) no_connections) (sym (none_received (bounds_of recording))) (none_open phases);
+      connected = subst (λ items. AreOpenThen seen.phases (drop 0 items) no_connections) (sym (none_received (bounds_of recording))) (none_open seen.phases);
       bare = refl;
     };
     given = giving.Nothing;
   };
-  opened = none_open phases;
+  opened = none_open seen.phases;
   lives = refl;
 }
 
-pub starts_between : (image : Image) (recording : Recorded) (told : Told) (phases : Phases) (player : Player) → IsFresh phases → IsMade image recording.frame player → IsBetween image recording told told phases (stage_of player)
-starts_between image recording told phases player fresh made =
+pub starts_between : {image : Image} {recording : Recorded} {seen : Seen} {player : Player} → IsFresh seen.phases → IsMade image recording.frame player → IsBetween image recording seen.told seen (stage_of player)
+starts_between {image = image} {recording = recording} {seen = seen} {player = player} fresh made =
     let live = sym made.live in
     let events = sym made.events in
     let gone = sym made.gone in
     let same : start_stage image player.log ≡ stage_of player = λ i. record { live = live i; log = player.log; events = events i; gone = gone i } in
-    subst (IsBetween image recording told told phases) same
-    (starts image recording told phases player.log fresh made.shows made.log)
+    subst (IsBetween image recording seen.told seen) same
+    (starts fresh made.shows made.log)
 
 -- no instruction was executed yet
 pub starts_at : (image : Image) (player : Player) → player.cpu.slots.live ≡ start_standing image → player.cpu.slots.live.steps ≡ 0
 starts_at image player is = ap (λ (s : Standing). s.steps) is
 
 -- memory ran out for a player
-abbrev pub replayed_none : (image : Image) (recording : Recorded) (told : Told) (coming : Option Coming) (takes : Bool) (steps : ℕ) → takes ≡ true → HasReplayed image recording told told coming takes answer.Memory steps steps
-replayed_none image recording told coming takes steps takes_still = record {
-  entries = [];
-  replay = replay_of [] (start_standing image);
-  tells = tells_same told;
-  asked = asked_none image recording;
-  is = replay_start image recording [];
-  ends = giving.All [] [] giving.Nothing;
-  failed = λ no. absurd (both_ways takes no takes_still);
-  counted = omega arith;
-}
-
-pub replayed_none_by : (image : Image) (recording : Recorded) (told : Told) (coming : Option Coming) (takes gives : Bool) (Last : List Send → Type 0) (steps : ℕ) → takes ≡ true → gives ≡ true
-    → HasReplayedBy image recording told told coming takes gives Last answer.Memory steps steps
-replayed_none_by image recording told coming takes gives Last steps takes_still gives_still = record {
-  replayed = replayed_none image recording told coming takes steps takes_still;
+pub replayed_none : {image : Image} {recording : Recorded} {seen : Seen} (Last : List Send → Type 0) {steps : ℕ} → MayBegin seen → HasReplayedBy image recording seen seen Last answer.Memory steps steps
+replayed_none {image = image} {seen = seen} Last may = record {
+  replayed = record {
+    entries = [];
+    replay = replay_of [] (start_standing image);
+    tells = tells_same;
+    asked = asked_none;
+    is = replay_start;
+    ends = giving.All [] [] giving.Nothing;
+    failed = λ no. absurd (both_ways seen.takes no may.takes);
+    counted = omega arith;
+  };
   given = λ _. giving.Nothing;
-  last = λ no. absurd (both_ways gives no gives_still);
+  last = λ no. absurd (both_ways seen.gives no may.gives);
 }
 
--- a replay has ended
-abbrev replayed_at : (image : Image) (recording : Recorded) (began now : Told) (coming : Option Coming) (takes gives : Bool) (Last : List Send → Type 0) (stage : Stage) (end : Answer) (before after : ℕ) → after ≡ before + stage.live.steps
-    → IsEnd image recording began now coming takes gives Last stage end → HasReplayed image recording began now coming takes end before after
-replayed_at image recording began now coming takes gives Last stage end before after counted is = record {
-  entries = is.entries;
-  replay = replay_of is.sends stage.live;
-  tells = is.tells;
-  asked = is.asked;
-  is = is.is;
-  ends = is.ends;
-  failed = is.failed;
-  counted = counted;
+-- A replay has ended. Where giving broke off it was in one call, behind which the link had gone on so far.
+pub replayed_by : {K : Type 0} (seen : K → Seen) (Went : K → K → Type 0) (Gave : K → K → ℕ → List ℕ → Type 0) (began mid later : K) {image : Image} {recording : Recorded} {stage : Stage} {end : Answer} {before after : ℕ}
+    → Went began mid → (seen mid).gives ≡ true → after ≡ before + stage.live.steps → IsEnd image recording (seen began).told (seen later) (IsLastSend (seen began).told (seen mid).told (Gave mid later)) stage end
+    → HasReplayedBy image recording (seen began) (seen later) (BreaksOff seen Went Gave began later) end before after
+replayed_by seen Went Gave began mid later {stage = stage} went still counted is = record {
+  replayed = record {
+    entries = is.entries;
+    replay = replay_of is.sends stage.live;
+    tells = is.tells;
+    asked = is.asked;
+    is = is.is;
+    ends = is.ends;
+    failed = is.failed;
+    counted = counted;
+  };
+  given = is.given;
+  last = λ no. record { mid = mid; went = went; gives_still = still; last = is.last no };
 }
 
--- giving broke off in one call, behind which the link had gone on so far
-module _ {K : Type 0} (told : K → Told) (gives : K → Bool) (Went : K → K → Type 0) (Gave : K → K → ℕ → List ℕ → Type 0) (began mid later : K) where
-  pub replayed_by : (image : Image) (recording : Recorded) (coming : Option Coming) (takes : Bool) (stage : Stage) (end : Answer) (before after : ℕ) → Went began mid → gives mid ≡ true → after ≡ before + stage.live.steps
-      → IsEnd image recording (told began) (told later) coming takes (gives later) (IsLastSend (told began) (told mid) (Gave mid later)) stage end
-      → HasReplayedBy image recording (told began) (told later) coming takes (gives later) (BreaksOff told gives Went Gave began later) end before after
-  replayed_by image recording coming takes stage end before after went still counted is = record {
-    replayed = replayed_at image recording (told began) (told later) coming takes (gives later) (IsLastSend (told began) (told mid) (Gave mid later)) stage end before after counted is;
-    given = is.given;
-    last = λ no. record { mid = mid; went = went; gives_still = still; last = is.last no };
-  }
-
-pub answer_cause : (before now : Counts) (end : Answer) → HasCause {X = Unit {0}} before now (Err end) → HasAnswerCause before now end
-answer_cause before now end cause = record { takes = cause.takes; gives = cause.gives; read_fault = λ is. cause.read_fault (ap (λ (a : Answer). Err a) is); write_fault = λ is. cause.write_fault (ap (λ (a : Answer). Err a) is) }
+-- what the link shows then, by the turn that ended it
+pub answers_link : {before now : Seen} {end : Answer} → LinkTurns before now (Err end) → LinkAnswers before now end
+answers_link turns = record {
+  leaves = turns.leaves;
+  cause = record { takes = turns.cause.takes; gives = turns.cause.gives; read_fault = λ is. turns.cause.read_fault (ap (λ (a : Answer). Err a) is); write_fault = λ is. turns.cause.write_fault (ap (λ (a : Answer). Err a) is) };
+}

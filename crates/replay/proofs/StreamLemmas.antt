@@ -48,8 +48,8 @@ items_first framing rests (event ∷ events) more = of (hear framing rests event
         let front = later heard.rests in
         (front.0, append_assoc heard.items (items_from framing heard.rests events) front.0 ∙ ap (λ items. heard.items ++ items) front.1)
 
-pub items_grow : (framing : Framing) (events all : List LinkEvent) → Prefix events all → Prefix (items_of framing events) (items_of framing all)
-items_grow framing events all front = subst (λ es. Prefix (items_of framing events) (items_of framing es)) front.1 (items_first framing _ events front.0)
+pub items_grow : (framing : Framing) (events : List LinkEvent) {all : List LinkEvent} → Prefix events all → Prefix (items_of framing events) (items_of framing all)
+items_grow framing events front = subst (λ es. Prefix (items_of framing events) (items_of framing es)) front.1 (items_first framing _ events front.0)
 
 -- where a journal has its events in two parts, the second one was taken behind the first
 pub record TookBehind (entries : List Entry) (front : List LinkEvent) (event : LinkEvent) : Type 0 where
@@ -59,8 +59,8 @@ pub record TookBehind (entries : List Entry) (front : List LinkEvent) (event : L
   pub events : events_in before ≡ front
 
 -- one more entry before all of them
-took_later : (first : Entry) (entries : List Entry) (front : List LinkEvent) (event : LinkEvent) → TookBehind entries front event → TookBehind (first ∷ entries) (events_in (first ∷ []) ++ front) event
-took_later first entries front event took = record {
+took_later : {first : Entry} {entries : List Entry} {front : List LinkEvent} {event : LinkEvent} → TookBehind entries front event → TookBehind (first ∷ entries) (events_in (first ∷ []) ++ front) event
+took_later {first = first} took = record {
   before = first ∷ took.before;
   after = took.after;
   split = ap (λ es. first ∷ es) took.split;
@@ -68,26 +68,26 @@ took_later first entries front event took = record {
 }
 
 -- an event of a journal is the one looked for, or it comes before it
-took_here : (first : LinkEvent) (entries : List Entry) (front : List LinkEvent) (event : LinkEvent) (rest : List LinkEvent) → events_in (entry.Took first ∷ []) ≡ first ∷ []
+took_here : {first : LinkEvent} {entries : List Entry} (front : List LinkEvent) {event : LinkEvent} {rest : List LinkEvent} → events_in (entry.Took first ∷ []) ≡ first ∷ []
     → ((later : List LinkEvent) → events_in entries ≡ later ++ event ∷ rest → TookBehind entries later event)
     → first ∷ events_in entries ≡ front ++ event ∷ rest → TookBehind (entry.Took first ∷ entries) front event
-took_here first entries [] event rest counts later same =
+took_here {first = first} {entries = entries} [] {event = event} counts later same =
     let here : first ≡ event = cc in
     record { before = []; after = entries; split = ap (λ e. entry.Took e ∷ entries) here; events = refl }
-took_here first entries (f ∷ front) event rest counts later same =
+took_here {first = first} {entries = entries} (f ∷ front) {event = event} counts later same =
     let here : first ≡ f = cc in
-    let found = took_later (entry.Took first) entries front event (later front (ap (drop 1) same)) in
+    let found = took_later (later front (ap (drop 1) same)) in
     subst (λ es. TookBehind (entry.Took first ∷ entries) es event) (ap (λ es. es ++ front) counts ∙ ap (λ e. e ∷ front) here) found
 
-pub took_behind : (entries : List Entry) (front : List LinkEvent) (one : LinkEvent) (rest : List LinkEvent) → events_in entries ≡ front ++ one ∷ rest → TookBehind entries front one
-took_behind [] [] one rest same = absurd (cc)
-took_behind [] (f ∷ front) one rest same = absurd (cc)
-took_behind (entry.Gave conn bytes gone ∷ entries) front one rest same = took_later (entry.Gave conn bytes gone) entries front one (took_behind entries front one rest same)
-took_behind (entry.Took (event.Opens conn) ∷ entries) front one rest same = took_here (event.Opens conn) entries front one rest refl (λ later is. took_behind entries later one rest is) same
-took_behind (entry.Took (event.Piece conn bytes) ∷ entries) front one rest same = took_here (event.Piece conn bytes) entries front one rest refl (λ later is. took_behind entries later one rest is) same
-took_behind (entry.Took (event.Closes conn) ∷ entries) front one rest same = took_here (event.Closes conn) entries front one rest refl (λ later is. took_behind entries later one rest is) same
-took_behind (entry.Took event.Settles ∷ entries) front one rest same = took_here event.Settles entries front one rest refl (λ later is. took_behind entries later one rest is) same
-took_behind (entry.Took event.Ends ∷ entries) front one rest same = took_later (entry.Took event.Ends) entries front one (took_behind entries front one rest same)
+pub took_behind : (entries : List Entry) (front : List LinkEvent) {one : LinkEvent} (rest : List LinkEvent) → events_in entries ≡ front ++ one ∷ rest → TookBehind entries front one
+took_behind [] [] rest same = absurd (cc)
+took_behind [] (f ∷ front) rest same = absurd (cc)
+took_behind (entry.Gave conn bytes gone ∷ entries) front rest same = took_later (took_behind entries front rest same)
+took_behind (entry.Took (event.Opens conn) ∷ entries) front rest same = took_here front refl (λ later is. took_behind entries later rest is) same
+took_behind (entry.Took (event.Piece conn bytes) ∷ entries) front rest same = took_here front refl (λ later is. took_behind entries later rest is) same
+took_behind (entry.Took (event.Closes conn) ∷ entries) front rest same = took_here front refl (λ later is. took_behind entries later rest is) same
+took_behind (entry.Took event.Settles ∷ entries) front rest same = took_here front refl (λ later is. took_behind entries later rest is) same
+took_behind (entry.Took event.Ends ∷ entries) front rest same = took_later (took_behind entries front rest same)
 
 -- a journal of which nothing was taken has no event
 none_taken : (entries : List Entry) → last_taken entries ≡ None → events_in entries ≡ []
@@ -98,7 +98,7 @@ none_taken (entry.Took event ∷ entries) none = absurd (none-some _ (sym none))
 -- where a link has ended, all events were taken before it did
 pub ended_behind : (entries : List Entry) → HasEnded entries → TookBehind entries (events_in entries) Ends
 ended_behind [] ended = absurd (none-some Ends ended)
-ended_behind (entry.Gave conn bytes gone ∷ entries) ended = took_later (entry.Gave conn bytes gone) entries (events_in entries) Ends (ended_behind entries ended)
+ended_behind (entry.Gave conn bytes gone ∷ entries) ended = took_later (ended_behind entries ended)
 ended_behind (entry.Took first ∷ entries) ended = of (last_taken entries) refl (λ later. ended_behind entries later) (same_Some (unwrap_or (last_taken entries) first) Ends ended)
   where
     of : (found : Option LinkEvent) → last_taken entries ≡ found → (last_taken entries ≡ Some Ends → TookBehind entries (events_in entries) Ends) → unwrap_or (last_taken entries) first ≡ Ends
@@ -110,4 +110,4 @@ ended_behind (entry.Took first ∷ entries) ended = of (last_taken entries) refl
     of (Some found) some later is =
         let last : found ≡ Ends = sym (ap (λ (o : Option LinkEvent). unwrap_or o first) some) ∙ is in
         subst (λ es. TookBehind (entry.Took first ∷ entries) es Ends) (sym (events_in-append (entry.Took first ∷ []) entries))
-        (took_later (entry.Took first) entries (events_in entries) Ends (later (some ∙ ap (λ e. Some e) last)))
+        (took_later (later (some ∙ ap (λ e. Some e) last)))

@@ -3,7 +3,8 @@ use Rattle.std.proofs.Common.{◌≡◌, ℕ, ◌+◌, ◌<◌, ◌^◌, Bool, L
 use Rattle.std.specs.Prelude.{slice_get}
 use Rattle.std.proofs.lemmas.Option.{slice_get_within}
 use Rattle.rx_io.specs.declared.bytes.Item.{Item}
-use Rattle.links.specs.Links.{Told, Phases, events_in}
+use Rattle.links.specs.Links.{Told, events_in}
+use Rattle.links.specs.Seen.{Seen}
 use Rattle.block_book.specs.Heap.{is_bare}
 use Rattle.elf_image.specs.declared.image.Image.{Image}
 use Rattle.item_log.specs.Log.{IsItemOf}
@@ -19,29 +20,29 @@ use Rattle.replay.specs.Playing.{Stage, StayOpen, IsBetween, IsWaiting, replay_o
 use Rattle.replay.proofs.ReplayLemmas.{replay_takes}
 use Rattle.replay.proofs.OpenLemmas.{takes_open, stays_then, stays_now}
 
-module _ (image : Image) (recording : Recorded) (began now : Told) (phases : Phases) (stage : Stage) (waiting : IsWaiting image recording began now phases stage) where
+module _ {image : Image} {recording : Recorded} {began : Told} {seen : Seen} {stage : Stage} (waiting : IsWaiting image recording began seen stage) where
   -- the item of a log is that of the journal, and no longer than a guest can be told
-  item_here : (item : Item) → IsItemOf stage.log stage.live.guest.machine.taken item → slice_get (items_in (bounds_of recording) waiting.playing.entries) stage.live.guest.machine.taken ≡ Some item
-  item_here item is = item_is (bounds_of recording) waiting.playing.entries stage.log stage.live.guest.machine.taken item waiting.playing.base.items is
+  item_here : {item : Item} → IsItemOf stage.log stage.live.guest.machine.taken item → slice_get (items_in (bounds_of recording) waiting.playing.entries) stage.live.guest.machine.taken ≡ Some item
+  item_here {item = item} is = item_is (bounds_of recording) waiting.playing.entries stage.log stage.live.guest.machine.taken item waiting.playing.base.items is
 
-  pub item_short : (item : Item) → IsItemOf stage.log stage.live.guest.machine.taken item → length item.bytes < 2 ^ 32
-  item_short item is =
+  pub item_short : {item : Item} → IsItemOf stage.log stage.live.guest.machine.taken item → length item.bytes < 2 ^ 32
+  item_short {item = item} is =
       item_fits recording.frame (events_in waiting.playing.entries) stage.live.guest.machine.taken item (is recording.frame (events_in waiting.playing.entries) waiting.playing.base.items.shows)
 
-  pub takes_item : (item : Item) (later : Standing) → IsItemOf stage.log stage.live.guest.machine.taken item → later ≡ taken_standing item stage.live → IsBetween image recording began now phases (record stage { live = later })
-  takes_item item later is left =
+  pub takes_item : {item : Item} {later : Standing} → IsItemOf stage.log stage.live.guest.machine.taken item → later ≡ taken_standing item stage.live → IsBetween image recording began seen (record stage { live = later })
+  takes_item {item = item} {later = later} is left =
       let base = waiting.playing.base in
       let items = items_in (bounds_of recording) waiting.playing.entries in
       let n = stage.live.guest.machine.taken in
-      let here = item_here item is in
+      let here = item_here is in
       let keeps = received_keeps item stage.live.guest.machine in
       let taken : later.guest.machine.taken ≡ n + 1 = ap (λ (s : Standing). s.guest.machine.taken) left ∙ keeps.taken in
       let connections : later.guest.machine.connections ≡ connections_after item stage.live.guest.machine.connections = ap (λ (s : Standing). s.guest.machine.connections) left ∙ keeps.connections in
       let within = slice_get_within items n item here in
-      let opened : StayOpen phases (drop (n + 1) items) (connections_after item stage.live.guest.machine.connections) = takes_open phases items n item stage.live.guest.machine.connections here base.connected in
-      let stays : StayOpen phases (drop later.guest.machine.taken items) later.guest.machine.connections =
-      subst (λ (k : ℕ). StayOpen phases (drop k items) later.guest.machine.connections) (sym taken)
-      (subst (λ (connections : List Bool). StayOpen phases (drop (n + 1) items) connections) (sym connections) opened) in
+      let opened : StayOpen seen.phases (drop (n + 1) items) (connections_after item stage.live.guest.machine.connections) = takes_open seen.phases items n stage.live.guest.machine.connections here base.connected in
+      let stays : StayOpen seen.phases (drop later.guest.machine.taken items) later.guest.machine.connections =
+      subst (λ (k : ℕ). StayOpen seen.phases (drop k items) later.guest.machine.connections) (sym taken)
+      (subst (λ (connections : List Bool). StayOpen seen.phases (drop (n + 1) items) connections) (sym connections) opened) in
       record {
         playing = record {
           entries = waiting.playing.entries;
@@ -50,7 +51,7 @@ module _ (image : Image) (recording : Recorded) (began now : Told) (phases : Pha
             tells = base.tells;
             asked = base.asked;
             is = subst (λ (s : Standing). IsReplay image recording waiting.playing.entries (replay_of waiting.playing.sends s)) (sym left)
-                (replay_takes image recording waiting.playing.entries waiting.playing.sends stage.live item waiting.lives waiting.shorter waiting.asks here base.is);
+                (replay_takes stage.live waiting.lives waiting.shorter waiting.asks here base.is);
             items = base.items;
             goes_on = base.goes_on;
             first = base.first;
@@ -59,11 +60,11 @@ module _ (image : Image) (recording : Recorded) (began now : Told) (phases : Pha
             gone = base.gone;
             places = base.places;
             taken = omega (arith, taken, within);
-            connected = stays_then phases (drop later.guest.machine.taken items) later.guest.machine.connections stays;
+            connected = stays_then seen.phases (drop later.guest.machine.taken items) later.guest.machine.connections stays;
             bare = ap (λ (s : Standing). is_bare s.guest.heap) left ∙ base.bare;
           };
           given = waiting.playing.given;
         };
-        opened = stays_now phases (drop later.guest.machine.taken items) later.guest.machine.connections stays;
+        opened = stays_now seen.phases (drop later.guest.machine.taken items) later.guest.machine.connections stays;
         lives = ap (λ (s : Standing). s.ended) left ∙ waiting.lives;
       }

@@ -54,24 +54,24 @@ after_bare (Free place) heap bare = released_bare heap place bare
 after_bare Nothing heap bare = bare
 
 -- an effect by which a guest goes on needs nothing
-goes_settled : (m : Machine) → IsSettled (Goes m)
-goes_settled m = record { no_item = λ h. cc; no_choice = λ size h. cc }
+goes_settled : {m : Machine} → IsSettled (Goes m)
+goes_settled = record { no_item = λ h. cc; no_choice = λ size h. cc }
 
-emits_settled : (conn : ℕ) (bytes : List ℕ) (m : Machine) → IsSettled (Emits conn bytes m)
-emits_settled conn bytes m = record { no_item = λ h. cc; no_choice = λ size h. cc }
+emits_settled : {conn : ℕ} {bytes : List ℕ} {m : Machine} → IsSettled (Emits conn bytes m)
+emits_settled = record { no_item = λ h. cc; no_choice = λ size h. cc }
 
 -- what a turn says, by the effect of the instruction
 turn_by : (old : Standing) (found : Option Instr) (heap : Heap) (e : Effect) → old.ended ≡ None → (is_bare old.guest.heap ≡ true → is_bare heap ≡ true) → does None None old.guest.machine ≡ e
     → Means old (recorded_of found heap old e).event (recorded_of found heap old e).standing
 turn_by old found heap (Goes m) lives bare acts = record {
   goes = λ sends. next_after [] [] (state_of sends old) (Goes m) lives acts;
-  keeps = alone_is old.guest.machine (Goes m) acts (goes_settled m);
+  keeps = alone_is old.guest.machine (Goes m) acts (goes_settled);
   steps = refl;
   ended = refl;
   bare = bare;
 }
 turn_by old found heap (Emits conn bytes m) lives bare acts =
-    let alone : Alone old.guest.machine (Emits conn bytes m) = alone_is old.guest.machine (Emits conn bytes m) acts (emits_settled conn bytes m) in
+    let alone : Alone old.guest.machine (Emits conn bytes m) = alone_is old.guest.machine (Emits conn bytes m) acts (emits_settled) in
     (λ sends. next_after [] [] (state_of sends old) (Emits conn bytes m) lives acts, alone.0, alone.1, refl, refl, bare)
 turn_by old found heap (Ends code) lives bare acts = (λ sends. next_after [] [] (state_of sends old) (Ends code) lives acts, refl, refl, refl)
 turn_by old found heap Wants lives bare acts = (refl, acts)
@@ -83,17 +83,17 @@ abbrev pub IsWithin : ℕ → ℕ → Option Question → Type 0
 IsWithin until steps (Some question.Reached) = until ≤ steps
 IsWithin until steps _ = steps < until
 
-within_by : (until steps : ℕ) (found : Option Instr) (heap : Heap) (old : Standing) (e : Effect) → steps < until → IsWithin until steps (recorded_of found heap old e).event
-within_by until steps found heap old (Goes m) low = low
-within_by until steps found heap old (Emits conn bytes m) low = low
-within_by until steps found heap old (Ends code) low = low
-within_by until steps found heap old Wants low = low
-within_by until steps found heap old (Chooses size) low = low
-within_by until steps found heap old (Fails cause) low = low
+within_by : {until steps : ℕ} (found : Option Instr) (heap : Heap) (old : Standing) (e : Effect) → steps < until → IsWithin until steps (recorded_of found heap old e).event
+within_by found heap old (Goes m) low = low
+within_by found heap old (Emits conn bytes m) low = low
+within_by found heap old (Ends code) low = low
+within_by found heap old Wants low = low
+within_by found heap old (Chooses size) low = low
+within_by found heap old (Fails cause) low = low
 
-pub turn_means : (until : ℕ) (old : Standing) (t : Turn Question) → old.ended ≡ None → recorded until old ≡ Some t → Means old t.event t.standing × IsWithin until old.steps t.event
+pub turn_means : (until : ℕ) (old : Standing) {t : Turn Question} → old.ended ≡ None → recorded until old ≡ Some t → Means old t.event t.standing × IsWithin until old.steps t.event
 unfolding recorded
-turn_means until old t lives turns = of_test (leb until old.steps) refl turns
+turn_means until old {t = t} lives turns = of_test (leb until old.steps) refl turns
   where
     of_test : (late : Bool) → leb until old.steps ≡ late → cond late (Some (turn_to (Some question.Reached) old None)) (Some (recorded_turn old)) ≡ Some t → Means old t.event t.standing × IsWithin until old.steps t.event
     of_test true is h =
@@ -102,5 +102,5 @@ turn_means until old t lives turns = of_test (leb until old.steps) refl turns
         subst (λ (u : Turn Question). Means old u.event u.standing × IsWithin until old.steps u.event) (same_Some (recorded_turn old) t h) (
           turn_by old (instruction_at old.guest.machine) (heap_after (request_of (instruction_at old.guest.machine) old.guest.machine) old.guest.heap) (does None None old.guest.machine) lives
               (after_bare (request_of (instruction_at old.guest.machine) old.guest.machine) old.guest.heap) refl,
-          within_by until old.steps (instruction_at old.guest.machine) (heap_after (request_of (instruction_at old.guest.machine) old.guest.machine) old.guest.heap) old (does None None old.guest.machine) (leb-false until old.steps is),
+          within_by (instruction_at old.guest.machine) (heap_after (request_of (instruction_at old.guest.machine) old.guest.machine) old.guest.heap) old (does None None old.guest.machine) (leb-false until old.steps is),
         )

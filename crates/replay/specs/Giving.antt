@@ -1,8 +1,9 @@
 -- The pieces that a replay gives, beside the sends of its run.
-use Rattle.std.specs.Prelude.{◌≡◌, ℕ, List, [], ◌∷◌, ◌++◌, Bool, true, false, Option, ◌&&◌, ◌||◌, ◌==◌}
+use Rattle.std.specs.Prelude.{◌≡◌, ℕ, List, [], ◌∷◌, ◌++◌, Bool, true, false, ◌&&◌, ◌||◌, ◌==◌}
 use Rattle.rx_io.specs.Prefix.{Prefix}
 use Rattle.rx_io.specs.Sends.{Send}
-use Rattle.links.specs.Links.{Piece, Told, Tells, Handed, TellsHanded, pieces_in}
+use Rattle.links.specs.Links.{Piece, Told, Tells, TellsHanded, pieces_in}
+use Rattle.links.specs.Seen.{Seen}
 use Rattle.links.specs.declared.journal.Entry.{Entry}
 
 -- whether one of some pieces found its connection gone
@@ -42,12 +43,12 @@ pub record IsLastSend (began was : Told) (Gave : ℕ → List ℕ → Type 0) (s
 
 -- Giving broke off at what was sent last: a link had gone on to where it gave still and all other sends were given, and behind that
 -- came the one call for this send.
-pub record BreaksOff {K : Type 0} (told : K → Told) (gives : K → Bool) (Went : K → K → Type 0) (Gave : K → K → ℕ → List ℕ → Type 0) (began now : K) (sends : List Send) : Type 0 where
+pub record BreaksOff {K : Type 0} (seen : K → Seen) (Went : K → K → Type 0) (Gave : K → K → ℕ → List ℕ → Type 0) (began now : K) (sends : List Send) : Type 0 where
   pub mid : K
   pub went : Went began mid
-  pub gives_still : gives mid ≡ true
-  pub last : IsLastSend (told began) (told mid) (Gave mid now) sends
+  pub gives_still : (seen mid).gives ≡ true
+  pub last : IsLastSend (seen began).told (seen mid).told (Gave mid now) sends
 
 -- what each link says of a call: where it tells its pieces, this is the one that it was handed last
-abbrev pub WasHanded : {K : Type 0} → (K → Told) → (K → Option Handed) → K → K → ℕ → List ℕ → Type 0
-WasHanded told handed before after conn bytes = TellsHanded (told after) (handed after) conn bytes
+abbrev pub WasHanded : {K : Type 0} → (K → Seen) → K → K → ℕ → List ℕ → Type 0
+WasHanded seen before after conn bytes = TellsHanded (seen after).told (seen after).handed conn bytes

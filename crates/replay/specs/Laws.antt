@@ -3,7 +3,8 @@ use Rattle.std.specs.Prelude.{◌≡◌, ℕ, ◌≤◌, Bool, List, [], ◌++�
 use Rattle.rx_io.specs.declared.bytes.Item.{Item}
 use Rattle.links.specs.declared.journal.Entry.{Entry}
 use Rattle.links.specs.declared.journal.LinkEvent.{LinkEvent}
-use Rattle.links.specs.Links.{Told, Coming, Refuses, events_in, pieces_in, HasEnded}
+use Rattle.links.specs.Links.{Coming, Refuses, events_in, pieces_in, HasEnded}
+use Rattle.links.specs.Seen.{Seen}
 use Rattle.rx_io.specs.Prefix.{Prefix}
 use Rattle.block_book.specs.declared.choice.Choice.{Choice}
 use Rattle.block_book.specs.Heap.{most_blocks}
@@ -43,15 +44,15 @@ pub record BringsFirst (bounds : Bounds) (items : List Item) (entries : List Ent
 -- No replay of such a record says that the run doesn't go on as recorded.
 abbrev pub RecordIsReplayed : Type 0
 RecordIsReplayed =
-    (image : Image) (items : List Item) (state : State) (recorded : Recorded) (began now : Told) (coming : Option Coming) (takes : Bool) (step before after : ℕ)
-    (replayed : HasReplayed image recorded began now coming takes (answer.Mismatch step) before after) →
+    (image : Image) (items : List Item) (state : State) (recorded : Recorded) (began now : Seen) (step before after : ℕ)
+    (replayed : HasReplayed image recorded began now (answer.Mismatch step) before after) →
     IsRecordOf image items state recorded → BringsFirst (bounds_of recorded) items replayed.entries → ⊥
 
 -- At Finished it stands where the recorded run ended, so its pieces are the sends of that run.
 abbrev pub ReplayGivesSends : Type 0
 ReplayGivesSends =
-    (image : Image) (items : List Item) (state : State) (recorded : Recorded) (began now : Told) (coming : Option Coming) (takes : Bool) (before after : ℕ)
-    (replayed : HasReplayed image recorded began now coming takes answer.Finished before after) →
+    (image : Image) (items : List Item) (state : State) (recorded : Recorded) (began now : Seen) (before after : ℕ)
+    (replayed : HasReplayed image recorded began now answer.Finished before after) →
     IsRecordOf image items state recorded → BringsFirst (bounds_of recorded) items replayed.entries → (replayed.replay.state ≡ state) × AreGiven state.sends (pieces_in replayed.entries)
 
 -- An answer that says nothing against the record: all was as recorded; or there was a fault of reading or writing, or want of memory; or the
@@ -70,9 +71,9 @@ IsNoMismatch recorded entries coming _ = ⊥
 -- A replay of such a record has no other answer.
 abbrev pub OnlyFaults : Type 0
 OnlyFaults =
-    (image : Image) (items : List Item) (state : State) (recorded : Recorded) (began now : Told) (coming : Option Coming) (takes : Bool) (end : Answer) (before after : ℕ)
-    (replayed : HasReplayed image recorded began now coming takes end before after) →
-    IsRecordOf image items state recorded → BringsFirst (bounds_of recorded) items replayed.entries → IsNoMismatch recorded replayed.entries coming end
+    (image : Image) (items : List Item) (state : State) (recorded : Recorded) (began now : Seen) (end : Answer) (before after : ℕ)
+    (replayed : HasReplayed image recorded began now end before after) →
+    IsRecordOf image items state recorded → BringsFirst (bounds_of recorded) items replayed.entries → IsNoMismatch recorded replayed.entries now.coming end
 
 -- What a session knows of its run stands in a record: how pieces are cut into messages, the answers of malloc, how many instructions were
 -- executed, and how many items were taken.
@@ -98,15 +99,15 @@ pub record HadOneStream (events : List LinkEvent) (session replay : List Entry) 
 -- Then what the replay took brings the first of the items that the session received: it asks for no event behind those of the recorded run.
 abbrev pub OneStreamBrings : Type 0
 OneStreamBrings =
-    (image : Image) (bounds : Bounds) (journal : List Entry) (events : List LinkEvent) (state : State) (recorded : Recorded) (began now : Told) (coming : Option Coming) (takes : Bool) (end : Answer) (before after : ℕ)
-    (replayed : HasReplayed image recorded began now coming takes end before after) →
+    (image : Image) (bounds : Bounds) (journal : List Entry) (events : List LinkEvent) (state : State) (recorded : Recorded) (began now : Seen) (end : Answer) (before after : ℕ)
+    (replayed : HasReplayed image recorded began now end before after) →
     recorded.frame ≡ bounds.framing → IsRecordOf image (items_in bounds journal) state recorded → HadOneStream events journal replayed.entries → BringsFirst (bounds_of recorded) (items_in bounds journal) replayed.entries
 
 -- So a session's record is replayed over the session's stream: no answer says that the run doesn't go on as recorded, and at Finished the
 -- replay has given the sends of the session's run.
 abbrev pub SessionIsReplayed : Type 0
 SessionIsReplayed =
-    (rules : Rules) (image : Image) (session : Session) (at_end : Bool) (events : List LinkEvent) (recorded : Recorded) (began now : Told) (coming : Option Coming) (takes : Bool) (end : Answer) (before after : ℕ)
-    (replayed : HasReplayed image recorded began now coming takes end before after) →
+    (rules : Rules) (image : Image) (session : Session) (at_end : Bool) (events : List LinkEvent) (recorded : Recorded) (began now : Seen) (end : Answer) (before after : ℕ)
+    (replayed : HasReplayed image recorded began now end before after) →
     IsAccount rules image session at_end → HasSession rules session recorded → HadOneStream events (journal_of session) replayed.entries →
-    IsNoMismatch recorded replayed.entries coming end × (end ≡ answer.Finished → AreGiven session.survivor.now.state.sends (pieces_in replayed.entries))
+    IsNoMismatch recorded replayed.entries now.coming end × (end ≡ answer.Finished → AreGiven session.survivor.now.state.sends (pieces_in replayed.entries))

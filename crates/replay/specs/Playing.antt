@@ -1,9 +1,10 @@
 -- What holds while a record is replayed.
-use Rattle.std.specs.Prelude.{◌≡◌, ℕ, ◌<◌, ◌≤◌, Bool, true, false, List, [], ◌∷◌, ◌++◌, length, drop, Option, None, Result, Ok, Err, slice_get, unwrap_or, IsErrOf, IsSome}
+use Rattle.std.specs.Prelude.{◌≡◌, ℕ, ◌+◌, ◌<◌, ◌≤◌, ◌^◌, Bool, true, false, List, [], ◌∷◌, ◌++◌, length, drop, None, Result, Ok, Err, slice_get, unwrap_or, IfOk, IsErrOf, IsSome}
 use Rattle.rx_io.specs.declared.bytes.Item.{Item}
 use Rattle.links.specs.declared.journal.Entry.{Entry}
 use Rattle.rx_io.specs.Faults.{Rose}
-use Rattle.links.specs.Links.{Told, Tells, Coming, Counts, Phases, Open, events_in, pieces_in, HasEnded}
+use Rattle.links.specs.Links.{Told, Tells, Counts, Phases, Open, events_in, pieces_in, HasEnded}
+use Rattle.links.specs.Seen.{Seen}
 use Rattle.rx_io.specs.Sends.{Send}
 use Rattle.block_book.specs.Heap.{is_bare}
 use Rattle.elf_image.specs.declared.image.Image.{Image}
@@ -58,105 +59,127 @@ AreOpenThen phases [] connections = AreOpen phases connections
 AreOpenThen phases (item ∷ items) connections = StayOpen phases items (connections_after item connections)
 
 -- What holds at any time, by what the link told and what the run sent.
-pub record IsBase (image : Image) (recorded : Recorded) (began now : Told) (phases : Phases) (entries : List Entry) (sends : List Send) (stage : Stage) : Type 0 where
-  pub tells : Tells began now entries
+pub record IsBase (image : Image) (recorded : Recorded) (began : Told) (seen : Seen) (entries : List Entry) (sends : List Send) (stage : Stage) : Type 0 where
+  pub tells : Tells began seen.told entries
   pub asked : AreAsked image recorded entries
   pub is : IsReplay image recorded entries (replay_of sends stage.live)
   pub items : KeepsItems (bounds_of recorded) entries stage.log
   pub goes_on : HasEnded entries → ⊥
   pub first : stage.log.first ≡ 0
   pub events : stage.events ≡ length (events_in entries)
-  pub phases_are : KeepsPhases entries phases
+  pub phases_are : KeepsPhases entries seen.phases
   pub gone : (conn : ℕ) → has stage.gone conn ≡ found_gone conn (pieces_in entries)
   pub places : length stage.gone ≡ 4096
   pub taken : stage.live.guest.machine.taken ≤ received (bounds_of recorded) entries
-  pub connected : AreOpenThen phases (drop stage.live.guest.machine.taken (items_in (bounds_of recorded) entries)) stage.live.guest.machine.connections
+  pub connected : AreOpenThen seen.phases (drop stage.live.guest.machine.taken (items_in (bounds_of recorded) entries)) stage.live.guest.machine.connections
   pub bare : is_bare stage.live.guest.heap ≡ true
 
 -- all sends are given
-pub record IsPlaying (image : Image) (recorded : Recorded) (began now : Told) (phases : Phases) (stage : Stage) : Type 0 where
+pub record IsPlaying (image : Image) (recorded : Recorded) (began : Told) (seen : Seen) (stage : Stage) : Type 0 where
   pub entries : List Entry
   pub sends : List Send
-  pub base : IsBase image recorded began now phases entries sends stage
+  pub base : IsBase image recorded began seen entries sends stage
   pub given : AreGiven sends (pieces_in entries)
 
 -- between two questions of the guest
-pub record IsBetween (image : Image) (recorded : Recorded) (began now : Told) (phases : Phases) (stage : Stage) : Type 0 where
-  pub playing : IsPlaying image recorded began now phases stage
-  pub opened : AreOpen phases stage.live.guest.machine.connections
+pub record IsBetween (image : Image) (recorded : Recorded) (began : Told) (seen : Seen) (stage : Stage) : Type 0 where
+  pub playing : IsPlaying image recorded began seen stage
+  pub opened : AreOpen seen.phases stage.live.guest.machine.connections
   pub lives : stage.live.ended ≡ None
 
 -- where the guest asks for an item
-pub record IsWaiting (image : Image) (recorded : Recorded) (began now : Told) (phases : Phases) (stage : Stage) : Type 0 where
-  pub playing : IsPlaying image recorded began now phases stage
+pub record IsWaiting (image : Image) (recorded : Recorded) (began : Told) (seen : Seen) (stage : Stage) : Type 0 where
+  pub playing : IsPlaying image recorded began seen stage
   pub lives : stage.live.ended ≡ None
   pub shorter : stage.live.steps < recorded.steps
   pub asks : does None None stage.live.guest.machine ≡ Wants
 
 -- where it wants an answer of malloc
-pub record IsWanting (image : Image) (recorded : Recorded) (began now : Told) (phases : Phases) (stage : Stage) : Type 0 where
-  pub between : IsBetween image recorded began now phases stage
+pub record IsWanting (image : Image) (recorded : Recorded) (began : Told) (seen : Seen) (stage : Stage) : Type 0 where
+  pub between : IsBetween image recorded began seen stage
   pub shorter : stage.live.steps < recorded.steps
   pub wants : does None None stage.live.guest.machine ≡ Chooses (register stage.live.guest.machine 10)
 
 -- where it has just sent bytes to a connection
-pub record IsSending (image : Image) (recorded : Recorded) (began now : Told) (phases : Phases) (conn : ℕ) (bytes : List ℕ) (stage : Stage) : Type 0 where
+pub record IsSending (image : Image) (recorded : Recorded) (began : Told) (seen : Seen) (conn : ℕ) (bytes : List ℕ) (stage : Stage) : Type 0 where
   pub entries : List Entry
   pub sends : List Send
   pub stamp : ℕ
-  pub base : IsBase image recorded began now phases entries (sends ++ record { conn = conn; bytes = bytes; taken = stamp } ∷ []) stage
+  pub base : IsBase image recorded began seen entries (sends ++ record { conn = conn; bytes = bytes; taken = stamp } ∷ []) stage
   pub given : AreGiven sends (pieces_in entries)
-  pub opened : AreOpen phases stage.live.guest.machine.connections
+  pub opened : AreOpen seen.phases stage.live.guest.machine.connections
   pub lives : stage.live.ended ≡ None
-  pub here : phases conn ≡ Open
+  pub here : seen.phases conn ≡ Open
   pub some : 0 < length bytes
   pub few : length bytes ≤ 65535
 
 -- The replay has ended with an answer. All sends are given where the link gives still; where it gives no more, this holds of them.
-pub record IsEnd (image : Image) (recorded : Recorded) (began now : Told) (coming : Option Coming) (takes gives : Bool) (Last : List Send → Type 0) (stage : Stage) (end : Answer) : Type 0 where
+pub record IsEnd (image : Image) (recorded : Recorded) (began : Told) (seen : Seen) (Last : List Send → Type 0) (stage : Stage) (end : Answer) : Type 0 where
   pub entries : List Entry
   pub sends : List Send
-  pub tells : Tells began now entries
+  pub tells : Tells began seen.told entries
   pub asked : AreAsked image recorded entries
   pub is : IsReplay image recorded entries (replay_of sends stage.live)
-  pub ends : EndsBy image recorded entries coming (replay_of sends stage.live) end
-  pub failed : takes ≡ false → IsAsking image recorded entries (replay_of sends stage.live)
-  pub given : gives ≡ true → AreGiven sends (pieces_in entries)
-  pub last : gives ≡ false → Last sends
+  pub ends : EndsBy image recorded entries seen.coming (replay_of sends stage.live) end
+  pub failed : seen.takes ≡ false → IsAsking image recorded entries (replay_of sends stage.live)
+  pub given : seen.gives ≡ true → AreGiven sends (pieces_in entries)
+  pub last : seen.gives ≡ false → Last sends
 
--- no send is one that wasn't given whole
-abbrev pub NoLast : List Send → Type 0
-NoLast sends = ⊥
-
--- it has ended while the link gives still
-abbrev pub IsWholeEnd : Image → Recorded → Told → Told → Option Coming → Bool → Stage → Answer → Type 0
-IsWholeEnd image recorded began now coming takes stage end = IsEnd image recorded began now coming takes true NoLast stage end
+-- it has ended with all sends given
+pub record IsWholeEnd (image : Image) (recorded : Recorded) (began : Told) (seen : Seen) (stage : Stage) (end : Answer) : Type 0 where
+  pub entries : List Entry
+  pub sends : List Send
+  pub tells : Tells began seen.told entries
+  pub asked : AreAsked image recorded entries
+  pub is : IsReplay image recorded entries (replay_of sends stage.live)
+  pub ends : EndsBy image recorded entries seen.coming (replay_of sends stage.live) end
+  pub failed : seen.takes ≡ false → IsAsking image recorded entries (replay_of sends stage.live)
+  pub given : AreGiven sends (pieces_in entries)
 
 -- it goes on, or has ended
-abbrev pub TurnsBy : Image → Recorded → Told → Told → Phases → Option Coming → Bool → Bool → (List Send → Type 0) → Stage → Result (Unit {0}) Answer → Type 0
-TurnsBy image recorded began now phases coming takes gives Last stage (Ok done) = IsBetween image recorded began now phases stage
-TurnsBy image recorded began now phases coming takes gives Last stage (Err end) = IsEnd image recorded began now coming takes gives Last stage end
+abbrev pub TurnsBy : Image → Recorded → Told → Seen → (List Send → Type 0) → Stage → Result (Unit {0}) Answer → Type 0
+TurnsBy image recorded began seen Last stage (Ok done) = IsBetween image recorded began seen stage
+TurnsBy image recorded began seen Last stage (Err end) = IsEnd image recorded began seen Last stage end
 
--- the same while the link gives still
-abbrev pub GoesOnBy : Image → Recorded → Told → Told → Phases → Option Coming → Bool → Stage → Result (Unit {0}) Answer → Type 0
-GoesOnBy image recorded began now phases coming takes stage (Ok done) = IsBetween image recorded began now phases stage
-GoesOnBy image recorded began now phases coming takes stage (Err end) = IsWholeEnd image recorded began now coming takes stage end
+-- the same with all sends given
+abbrev pub GoesOnBy : Image → Recorded → Told → Seen → Stage → Result (Unit {0}) Answer → Type 0
+GoesOnBy image recorded began seen stage (Ok done) = IsBetween image recorded began seen stage
+GoesOnBy image recorded began seen stage (Err end) = IsWholeEnd image recorded began seen stage end
 
 -- its guest waits still, or it has ended
-abbrev pub WaitsBy : Image → Recorded → Told → Told → Phases → Option Coming → Bool → Stage → Result (Unit {0}) Answer → Type 0
-WaitsBy image recorded began now phases coming takes stage (Ok done) = IsWaiting image recorded began now phases stage
-WaitsBy image recorded began now phases coming takes stage (Err end) = IsWholeEnd image recorded began now coming takes stage end
+abbrev pub WaitsBy : Image → Recorded → Told → Seen → Stage → Result (Unit {0}) Answer → Type 0
+WaitsBy image recorded began seen stage (Ok done) = IsWaiting image recorded began seen stage
+WaitsBy image recorded began seen stage (Err end) = IsWholeEnd image recorded began seen stage end
 
--- No call of the link has failed, and it tells what comes, if it did before; or the replay has ended.
-abbrev pub LeavesBy : Option Coming → Option Coming → Bool → Bool → Result (Unit {0}) Answer → Type 0
-LeavesBy before now takes gives (Ok done) = (takes ≡ true) × (gives ≡ true) × (IsSome before → IsSome now)
-LeavesBy before now takes gives (Err end) = LeavesLink before now takes gives end
-
--- something holds for some image, since some time
-pub record Stands (P : Image → Told → Type 0) : Type 0 where
+-- a replay stands so for some image, since some time, and no call of its link has failed
+pub record StandsBetween (recorded : Recorded) (seen : Seen) (stage : Stage) : Type 0 where
   pub image : Image
   pub began : Told
-  pub is : P image began
+  pub is : IsBetween image recorded began seen stage
+  pub takes : seen.takes ≡ true
+  pub gives : seen.gives ≡ true
+
+-- so it stands where its guest asks for an item
+pub record StandsWaiting (recorded : Recorded) (seen : Seen) (stage : Stage) : Type 0 where
+  pub image : Image
+  pub began : Told
+  pub is : IsWaiting image recorded began seen stage
+  pub takes : seen.takes ≡ true
+  pub gives : seen.gives ≡ true
+
+-- and so where it has just sent bytes, for some record
+pub record StandsSending (seen : Seen) (conn : ℕ) (bytes : List ℕ) (stage : Stage) : Type 0 where
+  pub image : Image
+  pub recorded : Recorded
+  pub began : Told
+  pub is : IsSending image recorded began seen conn bytes stage
+  pub takes : seen.takes ≡ true
+  pub gives : seen.gives ≡ true
+
+-- No call of the link has failed, and it tells what comes, if it did before; or the replay has ended.
+abbrev pub LeavesBy : Seen → Seen → Result (Unit {0}) Answer → Type 0
+LeavesBy before now (Ok done) = (now.takes ≡ true) × (now.gives ≡ true) × (IsSome before.coming → IsSome now.coming)
+LeavesBy before now (Err end) = LeavesLink before now end
 
 -- no count of failed calls falls, and a fault is answered only where its own rose
 pub record HasCause {X : Type 0} (before now : Counts) (result : Result X Answer) : Type 0 where
@@ -171,3 +194,24 @@ HasNoFault (Err (answer.InputRefused kind offset)) = ⊥
 HasNoFault (Err answer.ReadFault) = ⊥
 HasNoFault (Err answer.WriteFault) = ⊥
 HasNoFault _ = Unit {0}
+
+-- what a link shows behind a turn: which of its calls have failed, and why
+pub record LinkTurns (before now : Seen) (result : Result (Unit {0}) Answer) : Type 0 where
+  pub leaves : LeavesBy before now result
+  pub cause : HasCause before.counts now.counts result
+
+-- what it shows where no piece was given
+pub record LinkHears (before now : Seen) (result : Result (Unit {0}) Answer) : Type 0 where
+  pub leaves : LeavesBy before now result
+  pub cause : HasCause before.counts now.counts result
+  pub gives : now.gives ≡ before.gives
+
+-- The counter of steps grows by the instructions that were executed. Where a replay goes on, some were.
+pub record CountsSteps (counter counter_later old new : ℕ) (result : Result (Unit {0}) Answer) : Type 0 where
+  pub later : IfOk result (λ _. old < new)
+  pub counted : counter_later + old ≡ counter + new
+
+-- one more event came, or none, and the guest stays
+pub record CountsEvent (old new : Player) (result : Result (Unit {0}) Answer) : Type 0 where
+  pub cpu : new.cpu ≡ old.cpu
+  pub later : IfOk result (λ _. (old.events < 2 ^ 32) × (new.events ≡ old.events + 1))

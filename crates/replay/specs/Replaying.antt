@@ -1,15 +1,16 @@
 -- What a replay of a record is: the run that the record tells of, over the events of a link, and its sends given again.
-use Rattle.std.specs.Prelude.{◌≡◌, ◌≢◌, ℕ, ◌+◌, ◌<◌, ◌≤◌, ◌^◌, List, ◌∷◌, ◌++◌, length, take, slice_get, false, None, Some, Option, IsSome, IfSome, ◌⊎◌, Bool, true}
+use Rattle.std.specs.Prelude.{◌≡◌, ◌≢◌, ℕ, ◌+◌, ◌<◌, ◌≤◌, ◌^◌, List, ◌∷◌, ◌++◌, length, take, slice_get, false, None, Some, Option, IsSome, IfSome, ◌⊎◌, true}
 use Rattle.links.specs.declared.journal.Entry.{Entry}
 use Rattle.links.specs.declared.journal.Entry.TheVariants as entry
 use Rattle.links.specs.declared.journal.LinkEvent.{LinkEvent}
 use Rattle.links.specs.declared.journal.LinkEvent.TheVariants as event
-use Rattle.rx_io.specs.Faults.{Rose}
-use Rattle.links.specs.Links.{Told, Tells, Coming, Comes, Refuses, Counts, events_in, pieces_in, HasEnded}
+use Rattle.links.specs.Links.{Tells, Coming, Comes, Refuses, events_in, pieces_in, HasEnded}
+use Rattle.links.specs.Seen.{Seen}
 use Rattle.rx_io.specs.Sends.{Send}
 use Rattle.block_book.specs.declared.choice.Choice.{Choice}
 use Rattle.block_book.specs.Answer.{is_allowed}
 use Rattle.block_book.specs.Heap.{most_blocks}
+use Rattle.session_history.specs.Answering.{HasAnswerCause}
 use Rattle.elf_image.specs.declared.image.Image.{Image}
 use Rattle.run_history.specs.declared.answer.Answer.{Answer}
 use Rattle.run_history.specs.declared.answer.Answer.TheVariants as answer
@@ -94,36 +95,34 @@ EndsBy image recorded entries coming replay answer.WriteFault = AreGivenInPart r
 EndsBy image recorded entries coming replay answer.Memory = AreGivenInPart replay.state.sends (pieces_in entries)
 EndsBy image recorded entries coming replay _ = ⊥
 
--- What a replay leaves at each answer, by what its link told before and after, what comes next there, whether events may still be taken,
--- and the counter of steps. Where none may be taken any more, the take that failed was asked for.
-pub record HasReplayed (image : Image) (recorded : Recorded) (began now : Told) (coming : Option Coming) (takes : Bool) (end : Answer) (before after : ℕ) : Type 0 where
+-- What a replay leaves at each answer, by what its link showed before and after, and the counter of steps. Where no event may be taken any
+-- more, the take that failed was asked for.
+pub record HasReplayed (image : Image) (recorded : Recorded) (began now : Seen) (end : Answer) (before after : ℕ) : Type 0 where
   pub entries : List Entry
   pub replay : Replay
-  pub tells : Tells began now entries
+  pub tells : Tells began.told now.told entries
   pub asked : AreAsked image recorded entries
   pub is : IsReplay image recorded entries replay
-  pub ends : EndsBy image recorded entries coming replay end
-  pub failed : takes ≡ false → IsAsking image recorded entries replay
+  pub ends : EndsBy image recorded entries now.coming replay end
+  pub failed : now.takes ≡ false → IsAsking image recorded entries replay
   pub counted : after ≡ before + replay.steps
 
 -- The same, and what is known of its sends: all are given where the link gives still. Where it gives no more, this holds of them.
-pub record HasReplayedBy (image : Image) (recorded : Recorded) (began now : Told) (coming : Option Coming) (takes gives : Bool) (Last : List Send → Type 0) (end : Answer) (before after : ℕ) : Type 0 where
-  pub replayed : HasReplayed image recorded began now coming takes end before after
-  pub given : gives ≡ true → AreGiven replayed.replay.state.sends (pieces_in replayed.entries)
-  pub last : gives ≡ false → Last replayed.replay.state.sends
+pub record HasReplayedBy (image : Image) (recorded : Recorded) (began now : Seen) (Last : List Send → Type 0) (end : Answer) (before after : ℕ) : Type 0 where
+  pub replayed : HasReplayed image recorded began now end before after
+  pub given : now.gives ≡ true → AreGiven replayed.replay.state.sends (pieces_in replayed.entries)
+  pub last : now.gives ≡ false → Last replayed.replay.state.sends
 
 -- Which calls of its link have failed where a replay has ended: none, but at a refusal and at a fault of reading the last take, at a fault of
 -- writing the last give, and at want of memory one of both at most. A link that told what its grammar has next tells its refusal too.
-abbrev pub LeavesLink : Option Coming → Option Coming → Bool → Bool → Answer → Type 0
-LeavesLink before now takes gives (answer.InputRefused kind offset) = (takes ≡ false) × (gives ≡ true) × (IsSome before → IsSome now)
-LeavesLink before now takes gives answer.ReadFault = gives ≡ true
-LeavesLink before now takes gives answer.WriteFault = takes ≡ true
-LeavesLink before now takes gives answer.Memory = (takes ≡ true) ⊎ (gives ≡ true)
-LeavesLink before now takes gives end = (takes ≡ true) × (gives ≡ true)
+abbrev pub LeavesLink : Seen → Seen → Answer → Type 0
+LeavesLink before now (answer.InputRefused kind offset) = (now.takes ≡ false) × (now.gives ≡ true) × (IsSome before.coming → IsSome now.coming)
+LeavesLink before now answer.ReadFault = now.gives ≡ true
+LeavesLink before now answer.WriteFault = now.takes ≡ true
+LeavesLink before now answer.Memory = (now.takes ≡ true) ⊎ (now.gives ≡ true)
+LeavesLink before now end = (now.takes ≡ true) × (now.gives ≡ true)
 
--- no count of failed calls of a link falls, and a fault is answered only where its own rose
-pub record HasAnswerCause (before now : Counts) (end : Answer) : Type 0 where
-  pub takes : before.takes ≤ now.takes
-  pub gives : before.gives ≤ now.gives
-  pub read_fault : end ≡ answer.ReadFault → Rose before.takes now.takes
-  pub write_fault : end ≡ answer.WriteFault → Rose before.gives now.gives
+-- what a link shows at a replay's answer
+pub record LinkAnswers (before now : Seen) (end : Answer) : Type 0 where
+  pub leaves : LeavesLink before now end
+  pub cause : HasAnswerCause before.counts now.counts end

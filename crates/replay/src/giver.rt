@@ -1,6 +1,6 @@
 // Who gives the sends of a replay to its link.
-ghost use Rattle.std.specs.Prelude.{◌≡◌, ◌^◌, ◌<◌, ℕ, true, List, length, is_ok};
-ghost use Rattle.links.specs.Links.{Gives, TellsHanded, HasGiveCause};
+ghost use Rattle.std.specs.Prelude.{◌≡◌, ◌^◌, ◌<◌, ℕ, true, List, length};
+ghost use Rattle.links.specs.Seen.{GiveShows};
 
 use links::{Given, Link, LinkFault};
 
@@ -11,18 +11,11 @@ pub trait Giver<K: Link> {
 
     /// Gives 1 to 65,535 bytes to a connection, as `give` of a link does.
     fn give(&self, link: &mut K, conn: u16, bytes: &[u8]) -> Result<Given, LinkFault>
-        requires may { K.gives link.old ≡ true }
-        requires connected { K.gives_to link.old conn ≡ true }
+        requires may { (K.seen link.old).gives ≡ true }
+        requires connected { (K.seen link.old).gives_to conn ≡ true }
         requires some { 0 < length bytes.now }
         requires few { length bytes.now < 2 ^ 16 }
-        ensures told { Gives (K.told link.old) (K.told link.new) conn bytes.now result }
-        ensures handed { TellsHanded (K.told link.new) (K.handed link.new) conn bytes.now }
-        ensures cause { HasGiveCause (K.counts link.old) (K.counts link.new) result }
-        ensures phases { (other : ℕ) → K.phases link.new other ≡ K.phases link.old other }
-        ensures gives_to { (other : ℕ) → K.gives_to link.new other ≡ K.gives_to link.old other }
-        ensures coming { K.coming link.new ≡ K.coming link.old }
-        ensures takes { K.takes link.new ≡ K.takes link.old }
-        ensures gives { K.gives link.new ≡ is_ok result }
+        ensures shows { GiveShows (K.seen link.old) (K.seen link.new) conn bytes.now result }
         ensures gave { Gave link.old link.new conn bytes.now }
         ensures went { K.Went link.old link.new };
 }
@@ -34,7 +27,7 @@ pub struct AnyGiver;
 impl<K: Link> Giver<K> for AnyGiver {
     ghost use Rattle.replay.specs.Giving.{WasHanded};
 
-    ghost Gave = { WasHanded K.told K.handed };
+    ghost Gave = { WasHanded K.seen };
 
     fn give(&self, link: &mut K, conn: u16, bytes: &[u8]) -> Result<Given, LinkFault> {
         link.give(conn, bytes)

@@ -1,10 +1,10 @@
 // A send of the guest is given to its connection.
-ghost use Rattle.std.specs.Prelude.{◌≡◌, true, IfOk};
+ghost use Rattle.std.specs.Prelude.{◌≡◌};
 ghost use Rattle.links.specs.Links.{Told};
 ghost use Rattle.elf_image.specs.declared.image.Image.{Image};
 ghost use Rattle.schedule_file.specs.declared.recorded.Recorded.{Recorded};
 ghost use Rattle.replay.specs.Giving.{IsLastSend};
-ghost use Rattle.replay.specs.Playing.{stage_of, IsSending, TurnsBy, Stands, HasCause, LeavesBy};
+ghost use Rattle.replay.specs.Playing.{stage_of, IsSending, StandsSending, TurnsBy, LinkTurns};
 
 use crate::giver::Giver;
 use crate::hearing::answer_to;
@@ -22,16 +22,12 @@ impl Player {
         conn: u16,
         bytes: &Bytes,
     ) -> Result<(), Answer>
-        requires sends { (recorded : Recorded) × Stands (λ image began. IsSending image recorded began (K.told link.old) (K.phases link.old) conn bytes.now (stage_of self.old)) }
-        requires takes { K.takes link.old ≡ true }
-        requires gives { K.gives link.old ≡ true }
-        ensures sends { (image : Image) (recorded : Recorded) (began : Told) → IsSending image recorded began (K.told link.old) (K.phases link.old) conn bytes.now (stage_of self.old)
-            → TurnsBy image recorded began (K.told link.new) (K.phases link.new) (K.coming link.new) (K.takes link.new) (K.gives link.new) (IsLastSend began (K.told link.old) (G.Gave link.old link.new)) (stage_of self.new) result }
+        requires sends { StandsSending (K.seen link.old) conn bytes.now (stage_of self.old) }
+        ensures sends { (image : Image) (recorded : Recorded) (began : Told) → IsSending image recorded began (K.seen link.old) conn bytes.now (stage_of self.old)
+            → TurnsBy image recorded began (K.seen link.new) (IsLastSend began (K.seen link.old).told (G.Gave link.old link.new)) (stage_of self.new) result }
         ensures cpu { self.new.cpu ≡ self.old.cpu }
-        ensures takes { K.takes link.new ≡ K.takes link.old }
-        ensures gives { IfOk result (λ _. K.gives link.new ≡ true) }
-        ensures leaves { LeavesBy (K.coming link.old) (K.coming link.new) (K.takes link.new) (K.gives link.new) result }
-        ensures cause { HasCause (K.counts link.old) (K.counts link.new) result }
+        ensures takes { (K.seen link.new).takes ≡ (K.seen link.old).takes }
+        ensures link { LinkTurns (K.seen link.old) (K.seen link.new) result }
         ensures went { K.Went link.old link.new }
     {
         if self.gone.has(u32::from(conn)) {

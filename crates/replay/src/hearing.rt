@@ -1,12 +1,12 @@
 // The next event of a link comes into the log.
-ghost use Rattle.std.specs.Prelude.{◌≡◌, ◌≢◌, ◌+◌, ◌<◌, ◌≤◌, ◌^◌, true, IsTrue, IfOk};
+ghost use Rattle.std.specs.Prelude.{◌≡◌, ◌≢◌, ◌<◌, ◌≤◌, IsTrue, IfOk};
 ghost use Rattle.links.specs.Links.{Told};
 ghost use Rattle.elf_image.specs.declared.image.Image.{Image};
 ghost use Rattle.schedule_file.specs.declared.recorded.Recorded.{Recorded};
 ghost use Rattle.item_log.specs.Connections.{in_order};
 ghost use Rattle.item_log.specs.Log.{received};
 ghost use Rattle.replay.specs.Hearing.{answer_of, refusal_answer, LogsEvent, HeedsEvent};
-ghost use Rattle.replay.specs.Playing.{stage_of, IsWaiting, WaitsBy, Stands, HasCause, LeavesBy};
+ghost use Rattle.replay.specs.Playing.{stage_of, IsWaiting, StandsWaiting, WaitsBy, LinkHears, CountsEvent};
 
 use crate::player::Player;
 use item_log::ItemRefusal;
@@ -42,17 +42,12 @@ fn refused_by(refusal: ItemRefusal) -> Answer
 impl Player {
     // Hears the link until the item is there that the guest asks for.
     pub(crate) fn await_item<K: Link>(&mut self, link: &mut K) -> Result<(), Answer>
-        requires waits { (recorded : Recorded) × Stands (λ image began. IsWaiting image recorded began (K.told link.old) (K.phases link.old) (stage_of self.old)) }
-        requires takes { K.takes link.old ≡ true }
-        requires gives { K.gives link.old ≡ true }
-        ensures hears { (image : Image) (recorded : Recorded) (began : Told) → IsWaiting image recorded began (K.told link.old) (K.phases link.old) (stage_of self.old)
-            → WaitsBy image recorded began (K.told link.new) (K.phases link.new) (K.coming link.new) (K.takes link.new) (stage_of self.new) result }
+        requires waits { (recorded : Recorded) × StandsWaiting recorded (K.seen link.old) (stage_of self.old) }
+        ensures hears { (image : Image) (recorded : Recorded) (began : Told) → IsWaiting image recorded began (K.seen link.old) (stage_of self.old)
+            → WaitsBy image recorded began (K.seen link.new) (stage_of self.new) result }
         ensures there { IfOk result (λ _. self.new.cpu.slots.live.guest.machine.taken < received self.new.log) }
         ensures cpu { self.new.cpu ≡ self.old.cpu }
-        ensures takes { IfOk result (λ _. K.takes link.new ≡ true) }
-        ensures gives { K.gives link.new ≡ K.gives link.old }
-        ensures leaves { LeavesBy (K.coming link.old) (K.coming link.new) (K.takes link.new) (K.gives link.new) result }
-        ensures cause { HasCause (K.counts link.old) (K.counts link.new) result }
+        ensures link { LinkHears (K.seen link.old) (K.seen link.new) result }
         ensures went { K.Went link.old link.new }
     {
         'waits: while self.log.received() <= self.cpu.marks().taken {
@@ -65,18 +60,12 @@ impl Player {
 
     // Takes the next event, while the guest asks for an item that isn't received yet.
     fn hear<K: Link>(&mut self, link: &mut K) -> Result<(), Answer>
-        requires waits { (recorded : Recorded) × Stands (λ image began. IsWaiting image recorded began (K.told link.old) (K.phases link.old) (stage_of self.old)) }
+        requires waits { (recorded : Recorded) × StandsWaiting recorded (K.seen link.old) (stage_of self.old) }
         requires none_left { received self.old.log ≤ self.old.cpu.slots.live.guest.machine.taken }
-        requires takes { K.takes link.old ≡ true }
-        requires gives { K.gives link.old ≡ true }
-        ensures hears { (image : Image) (recorded : Recorded) (began : Told) → IsWaiting image recorded began (K.told link.old) (K.phases link.old) (stage_of self.old)
-            → WaitsBy image recorded began (K.told link.new) (K.phases link.new) (K.coming link.new) (K.takes link.new) (stage_of self.new) result }
-        ensures later { IfOk result (λ _. (self.old.events < 2 ^ 32) × (self.new.events ≡ self.old.events + 1)) }
-        ensures cpu { self.new.cpu ≡ self.old.cpu }
-        ensures takes { IfOk result (λ _. K.takes link.new ≡ true) }
-        ensures gives { K.gives link.new ≡ K.gives link.old }
-        ensures leaves { LeavesBy (K.coming link.old) (K.coming link.new) (K.takes link.new) (K.gives link.new) result }
-        ensures cause { HasCause (K.counts link.old) (K.counts link.new) result }
+        ensures hears { (image : Image) (recorded : Recorded) (began : Told) → IsWaiting image recorded began (K.seen link.old) (stage_of self.old)
+            → WaitsBy image recorded began (K.seen link.new) (stage_of self.new) result }
+        ensures counts { CountsEvent self.old self.new result }
+        ensures link { LinkHears (K.seen link.old) (K.seen link.new) result }
         ensures went { K.Went link.old link.new }
     {
         match link.next() {

@@ -1,12 +1,13 @@
 // A turn of a replay.
-ghost use Rattle.std.specs.Prelude.{◌≡◌, ◌+◌, ◌-◌, ◌<◌, ◌^◌, true, None, Option, slice_get, IfOk};
-ghost use Rattle.links.specs.Links.{Told, Phases, Coming};
+ghost use Rattle.std.specs.Prelude.{◌≡◌, ◌-◌, ◌<◌, ◌^◌, true, None, slice_get};
+ghost use Rattle.links.specs.Links.{Told};
+ghost use Rattle.links.specs.Seen.{Seen};
 ghost use Rattle.block_book.specs.Heap.{is_bare};
 ghost use Rattle.run_history.specs.Machine.{Chooses, register};
 ghost use Rattle.run_history.specs.Run.{does};
 ghost use Rattle.elf_image.specs.declared.image.Image.{Image};
 ghost use Rattle.replay.specs.Giving.{IsLastSend};
-ghost use Rattle.replay.specs.Playing.{stage_of, IsBetween, IsWaiting, IsWanting, TurnsBy, GoesOnBy, Stands, HasCause, HasNoFault, LeavesBy};
+ghost use Rattle.replay.specs.Playing.{stage_of, IsBetween, IsWaiting, IsWanting, StandsBetween, StandsWaiting, TurnsBy, GoesOnBy, HasNoFault, LinkTurns, LinkHears, CountsSteps};
 ghost use Rattle.replay.specs.Judging.{judged};
 
 use crate::giver::Giver;
@@ -35,18 +36,12 @@ impl Player {
         link: &mut K,
         steps: &mut Steps<L>,
     ) -> Result<(), Answer>
-        requires stands { Stands (λ image began. IsBetween image recorded.now began (K.told link.old) (K.phases link.old) (stage_of self.old)) }
+        requires stands { StandsBetween recorded.now (K.seen link.old) (stage_of self.old) }
         requires short { recorded.now.steps < 2 ^ 63 }
-        requires takes { K.takes link.old ≡ true }
-        requires gives { K.gives link.old ≡ true }
-        ensures turns { (image : Image) (began : Told) → IsBetween image recorded.now began (K.told link.old) (K.phases link.old) (stage_of self.old)
-            → TurnsBy image recorded.now began (K.told link.new) (K.phases link.new) (K.coming link.new) (K.takes link.new) (K.gives link.new) (IsLastSend began (K.told link.old) (G.Gave link.old link.new)) (stage_of self.new) result }
-        ensures later { IfOk result (λ _. self.old.cpu.slots.live.steps < self.new.cpu.slots.live.steps) }
-        ensures counted { steps.new + self.old.cpu.slots.live.steps ≡ steps.old + self.new.cpu.slots.live.steps }
-        ensures takes { IfOk result (λ _. K.takes link.new ≡ true) }
-        ensures gives { IfOk result (λ _. K.gives link.new ≡ true) }
-        ensures leaves { LeavesBy (K.coming link.old) (K.coming link.new) (K.takes link.new) (K.gives link.new) result }
-        ensures cause { HasCause (K.counts link.old) (K.counts link.new) result }
+        ensures turns { (image : Image) (began : Told) → IsBetween image recorded.now began (K.seen link.old) (stage_of self.old)
+            → TurnsBy image recorded.now began (K.seen link.new) (IsLastSend began (K.seen link.old).told (G.Gave link.old link.new)) (stage_of self.new) result }
+        ensures steps { CountsSteps steps.old steps.new self.old.cpu.slots.live.steps self.new.cpu.slots.live.steps result }
+        ensures link { LinkTurns (K.seen link.old) (K.seen link.new) result }
         ensures went { K.Went link.old link.new }
     {
         match self.cpu.run_recorded(self.alloc, recorded.steps, steps) {
@@ -67,18 +62,12 @@ impl Player {
         link: &mut K,
         steps: &mut Steps<L>,
     ) -> Result<(), Answer>
-        requires waits { Stands (λ image began. IsWaiting image recorded.now began (K.told link.old) (K.phases link.old) (stage_of self.old)) }
+        requires waits { StandsWaiting recorded.now (K.seen link.old) (stage_of self.old) }
         requires short { recorded.now.steps < 2 ^ 63 }
-        requires takes { K.takes link.old ≡ true }
-        requires gives { K.gives link.old ≡ true }
-        ensures turns { (image : Image) (began : Told) → IsWaiting image recorded.now began (K.told link.old) (K.phases link.old) (stage_of self.old)
-            → GoesOnBy image recorded.now began (K.told link.new) (K.phases link.new) (K.coming link.new) (K.takes link.new) (stage_of self.new) result }
-        ensures later { IfOk result (λ _. self.old.cpu.slots.live.steps < self.new.cpu.slots.live.steps) }
-        ensures counted { steps.new + self.old.cpu.slots.live.steps ≡ steps.old + self.new.cpu.slots.live.steps }
-        ensures takes { IfOk result (λ _. K.takes link.new ≡ true) }
-        ensures gives { K.gives link.new ≡ K.gives link.old }
-        ensures leaves { LeavesBy (K.coming link.old) (K.coming link.new) (K.takes link.new) (K.gives link.new) result }
-        ensures cause { HasCause (K.counts link.old) (K.counts link.new) result }
+        ensures turns { (image : Image) (began : Told) → IsWaiting image recorded.now began (K.seen link.old) (stage_of self.old)
+            → GoesOnBy image recorded.now began (K.seen link.new) (stage_of self.new) result }
+        ensures steps { CountsSteps steps.old steps.new self.old.cpu.slots.live.steps self.new.cpu.slots.live.steps result }
+        ensures link { LinkHears (K.seen link.old) (K.seen link.new) result }
         ensures went { K.Went link.old link.new }
     {
         if let Err(answer) = self.await_item(link) {
@@ -94,10 +83,9 @@ impl Player {
         requires wants { does None None self.old.cpu.slots.live.guest.machine ≡ Chooses (register self.old.cpu.slots.live.guest.machine 10) }
         requires bare { is_bare self.old.cpu.slots.live.guest.heap ≡ true }
         requires room { self.old.cpu.slots.live.steps < 2 ^ 64 - 1 }
-        ensures turns { (image : Image) (began now : Told) (phases : Phases) (coming : Option Coming) → IsWanting image recorded.now began now phases (stage_of self.old)
-            → GoesOnBy image recorded.now began now phases coming true (stage_of self.new) result }
-        ensures later { IfOk result (λ _. self.old.cpu.slots.live.steps < self.new.cpu.slots.live.steps) }
-        ensures counted { steps.new + self.old.cpu.slots.live.steps ≡ steps.old + self.new.cpu.slots.live.steps }
+        ensures turns { (image : Image) (began : Told) (seen : Seen) → seen.takes ≡ true → IsWanting image recorded.now began seen (stage_of self.old)
+            → GoesOnBy image recorded.now began seen (stage_of self.new) result }
+        ensures steps { CountsSteps steps.old steps.new self.old.cpu.slots.live.steps self.new.cpu.slots.live.steps result }
         ensures no_fault { HasNoFault result }
     {
         self.cpu.sound();

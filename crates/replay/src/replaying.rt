@@ -1,8 +1,8 @@
 // A record is replayed.
-ghost use Rattle.std.specs.Prelude.{◌≡◌, ◌*◌, ◌<◌, ◌^◌, true};
-ghost use Rattle.links.specs.Links.{IsFresh};
+ghost use Rattle.std.specs.Prelude.{◌≡◌, ◌*◌, ◌<◌, ◌^◌};
 ghost use Rattle.replay.specs.Giving.{BreaksOff, WasHanded};
-ghost use Rattle.replay.specs.Replaying.{HasReplayedBy, HasAnswerCause, LeavesLink};
+ghost use Rattle.session_history.specs.Answering.{MayBegin};
+ghost use Rattle.replay.specs.Replaying.{HasReplayedBy, LinkAnswers};
 
 use crate::giver::{AnyGiver, Giver};
 use crate::player::Player;
@@ -31,13 +31,9 @@ pub fn replay<K: Link, L: Ledger>(
 ) -> Answer
     requires window { image.now.window ≡ recorded.now.window * 1048576 }
     requires short { recorded.now.steps < 2 ^ 63 }
-    requires fresh { IsFresh (K.phases link.old) }
-    requires takes { K.takes link.old ≡ true }
-    requires gives { K.gives link.old ≡ true }
-    ensures replayed { HasReplayedBy image.now recorded.now (K.told link.old) (K.told link.new) (K.coming link.new) (K.takes link.new) (K.gives link.new)
-        (BreaksOff K.told K.gives K.Went (WasHanded K.told K.handed) link.old link.new) result steps.old steps.new }
-    ensures leaves { LeavesLink (K.coming link.old) (K.coming link.new) (K.takes link.new) (K.gives link.new) result }
-    ensures cause { HasAnswerCause (K.counts link.old) (K.counts link.new) result }
+    requires link { MayBegin (K.seen link.old) }
+    ensures replayed { HasReplayedBy image.now recorded.now (K.seen link.old) (K.seen link.new) (BreaksOff K.seen K.Went (WasHanded K.seen) link.old link.new) result steps.old steps.new }
+    ensures link { LinkAnswers (K.seen link.old) (K.seen link.new) result }
     ensures went { K.Went link.old link.new }
 {
     replay_by(alloc, image, recorded, &AnyGiver, link, steps)
@@ -54,13 +50,9 @@ pub fn replay_by<K: Link, G: Giver<K>, L: Ledger>(
 ) -> Answer
     requires window { image.now.window ≡ recorded.now.window * 1048576 }
     requires short { recorded.now.steps < 2 ^ 63 }
-    requires fresh { IsFresh (K.phases link.old) }
-    requires takes { K.takes link.old ≡ true }
-    requires gives { K.gives link.old ≡ true }
-    ensures replayed { HasReplayedBy image.now recorded.now (K.told link.old) (K.told link.new) (K.coming link.new) (K.takes link.new) (K.gives link.new)
-        (BreaksOff K.told K.gives K.Went G.Gave link.old link.new) result steps.old steps.new }
-    ensures leaves { LeavesLink (K.coming link.old) (K.coming link.new) (K.takes link.new) (K.gives link.new) result }
-    ensures cause { HasAnswerCause (K.counts link.old) (K.counts link.new) result }
+    requires link { MayBegin (K.seen link.old) }
+    ensures replayed { HasReplayedBy image.now recorded.now (K.seen link.old) (K.seen link.new) (BreaksOff K.seen K.Went G.Gave link.old link.new) result steps.old steps.new }
+    ensures link { LinkAnswers (K.seen link.old) (K.seen link.new) result }
     ensures went { K.Went link.old link.new }
 {
     let mut player = match Player::make(alloc, image, recorded.frame) {

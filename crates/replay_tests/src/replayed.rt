@@ -1,7 +1,7 @@
 // Replays over a link in memory.
-ghost use Rattle.std.specs.Prelude.{◌≡◌, ◌*◌, ◌<◌, ◌^◌, true};
-ghost use Rattle.links.specs.Links.{IsFresh};
-ghost use Rattle.links.specs.MemoryLinks.{link_phases, link_takes, link_gives};
+ghost use Rattle.std.specs.Prelude.{◌≡◌, ◌*◌, ◌<◌, ◌^◌};
+ghost use Rattle.links.specs.MemoryLinks.{seen_in};
+ghost use Rattle.session_history.specs.Answering.{MayBegin};
 
 use block_book::{Choice, Choices};
 use elf_image::Image;
@@ -75,9 +75,7 @@ fn replay_counted<L: Ledger>(
     requires some { 0 < blank.parts }
     requires window { image.now.window ≡ recorded.now.window * 1048576 }
     requires short { recorded.now.steps < 2 ^ 63 }
-    requires fresh { IsFresh (link_phases link.old) }
-    requires takes { link_takes link.old ≡ true }
-    requires gives { link_gives link.old ≡ true }
+    requires may { MayBegin (seen_in link.old) }
 {
     let mut steps = Steps::<L>::start(blank);
     replay(alloc, image, recorded, link, &mut steps)

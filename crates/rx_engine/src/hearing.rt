@@ -1,11 +1,9 @@
 // What a session hears of its link.
-ghost use Rattle.std.specs.Prelude.{◌≡◌, ◌<◌, ◌≤◌, true, IfOk};
+ghost use Rattle.std.specs.Prelude.{◌<◌, ◌≤◌, IfOk};
 ghost use Rattle.elf_image.specs.declared.image.Image.{Image};
 ghost use Rattle.item_log.specs.Log.{received};
-ghost use Rattle.session_state.specs.Options.{rules_of};
 ghost use Rattle.session_state.specs.Standing.{Since, IsWaitingFor};
-ghost use Rattle.session_state.specs.Leaving.{IsHandled};
-ghost use Rattle.session_state.specs.Serving.{IsStopAt, CanGive, HasStopCause, UnlessBroken, TakesBy, StaysKnown, BreaksOnce, HasSameGuest, StandsWaiting, WaitsBy, IsUnnoted};
+ghost use Rattle.session_state.specs.Serving.{IsStopAt, KeepsHearing, StandsHearing, WaitsBy, rules_by};
 
 use crate::Session;
 use guest_space::AccessRule;
@@ -31,22 +29,13 @@ fn stop_at(fault: HearFault) -> Stop
 impl<R: AccessRule> Session<R> {
     /// Takes the link's next event, while the guest waits for an item that wasn't received, and passes what the event asks for.
     pub(crate) fn hear<K: Link>(&mut self, link: &mut K) -> Result<(), Stop>
-        requires waits { StandsWaiting (rules_of self.old.options (R.rule self.old.cpu.rule)) (K.told link.old) (K.phases link.old) self.old }
+        requires stands { StandsHearing (rules_by R.rule self.old) (K.seen link.old) self.old }
         requires none_left { received self.old.log ≤ self.old.taken }
-        requires handled { IsHandled self.old }
-        requires takes { K.takes link.old ≡ true }
-        requires gives { CanGive (K.gives link.old) (K.gives_to link.old) self.old.replies }
-        ensures hears { (image : Image) (began : Since) → IsWaitingFor (rules_of self.old.options (R.rule self.old.cpu.rule)) image began (K.told link.old) (K.phases link.old) self.old
-            → WaitsBy (rules_of self.old.options (R.rule self.old.cpu.rule)) image began (K.told link.new) (K.phases link.new) (K.coming link.new) (K.takes link.new) self.new result }
-        ensures same { HasSameGuest self.old self.new }
-        ensures takes { TakesBy (K.takes link.new) result }
-        ensures gives { UnlessBroken result (CanGive (K.gives link.new) (K.gives_to link.new) self.new.replies) }
+        ensures hears { (image : Image) (began : Since) → IsWaitingFor (rules_by R.rule self.old) image began (K.seen link.old) self.old
+            → WaitsBy (rules_by R.rule self.old) image began (K.seen link.new) self.new result }
+        ensures keeps { KeepsHearing (K.seen link.old) (K.seen link.new) self.old self.new result }
         ensures later { IfOk result (λ _. self.old.events < self.new.events) }
         ensures most { self.new.events ≤ self.old.options.max_events }
-        ensures coming { UnlessBroken result (StaysKnown (K.coming link.old) (K.coming link.new)) }
-        ensures once { BreaksOnce (K.coming link.old) (K.coming link.new) (K.gives link.new) result }
-        ensures cause { HasStopCause (K.counts link.old) (K.counts link.new) result }
-        ensures unnoted { IsUnnoted result }
         ensures went { K.Went link.old link.new }
     {
         match hear(
@@ -66,20 +55,11 @@ impl<R: AccessRule> Session<R> {
 
     /// Hears the link until the item is there that the guest waits for.
     pub(crate) fn await_item<K: Link>(&mut self, link: &mut K) -> Result<(), Stop>
-        requires waits { StandsWaiting (rules_of self.old.options (R.rule self.old.cpu.rule)) (K.told link.old) (K.phases link.old) self.old }
-        requires handled { IsHandled self.old }
-        requires takes { K.takes link.old ≡ true }
-        requires gives { CanGive (K.gives link.old) (K.gives_to link.old) self.old.replies }
-        ensures hears { (image : Image) (began : Since) → IsWaitingFor (rules_of self.old.options (R.rule self.old.cpu.rule)) image began (K.told link.old) (K.phases link.old) self.old
-            → WaitsBy (rules_of self.old.options (R.rule self.old.cpu.rule)) image began (K.told link.new) (K.phases link.new) (K.coming link.new) (K.takes link.new) self.new result }
+        requires { StandsHearing (rules_by R.rule self.old) (K.seen link.old) self.old }
+        ensures hears { (image : Image) (began : Since) → IsWaitingFor (rules_by R.rule self.old) image began (K.seen link.old) self.old
+            → WaitsBy (rules_by R.rule self.old) image began (K.seen link.new) self.new result }
         ensures there { IfOk result (λ _. self.new.taken < received self.new.log) }
-        ensures same { HasSameGuest self.old self.new }
-        ensures takes { TakesBy (K.takes link.new) result }
-        ensures gives { UnlessBroken result (CanGive (K.gives link.new) (K.gives_to link.new) self.new.replies) }
-        ensures coming { UnlessBroken result (StaysKnown (K.coming link.old) (K.coming link.new)) }
-        ensures once { BreaksOnce (K.coming link.old) (K.coming link.new) (K.gives link.new) result }
-        ensures cause { HasStopCause (K.counts link.old) (K.counts link.new) result }
-        ensures unnoted { IsUnnoted result }
+        ensures keeps { KeepsHearing (K.seen link.old) (K.seen link.new) self.old self.new result }
         ensures went { K.Went link.old link.new }
     {
         'waits: while self.log.received() <= self.taken {

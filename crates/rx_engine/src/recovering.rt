@@ -1,17 +1,14 @@
 // What a session does where its program failed.
-ghost use Rattle.std.specs.Prelude.{◌≡◌, ℕ, ◌+◌, ◌≤◌, true, None, Option, IfOk};
-ghost use Rattle.links.specs.Links.{Told, Phases, Coming};
+ghost use Rattle.std.specs.Prelude.{◌≡◌, ℕ, ◌+◌, ◌≤◌, IfOk};
+ghost use Rattle.links.specs.Seen.{Seen};
 ghost use Rattle.elf_image.specs.declared.image.Image.{Image};
-ghost use Rattle.session_notes.specs.Noting.{noted};
-ghost use Rattle.session_state.specs.Options.{rules_of};
 ghost use Rattle.session_state.specs.Standing.{Since, IsFailing};
-ghost use Rattle.session_state.specs.Leaving.{keeping_of, KeepsOldest};
-ghost use Rattle.session_state.specs.Serving.{CanGive, HasStopCause, HasNoteStop, IsNoteAnswer, UnlessBroken, UnlessMemory, TakesBy, BreaksOnce, StaysKnown, IsCounted, HasSameFrame, ComesBetween, StandsFailing, AdoptsBy, IsAdoptedLater, HasSameOpen, UnlessNoteStop, end_of};
+ghost use Rattle.session_state.specs.Serving.{IsNoteAnswer, UnlessMemory, IsCounted, ComesBetween, StandsFailing, AdoptsBy, KeepsAdopting, KeepsRecovering, end_of, rules_by};
 
 use crate::Session;
 use guest_space::AccessRule;
 use links::Link;
-use recovery::{Adopted, Recovered, Watch, recover};
+use recovery::{Adopted, FailureSite, Recovered, Watch, recover};
 use run_history::{Answer, Cause};
 use rx_io::{IoFault, Steps};
 use session_notes::Notes;
@@ -49,28 +46,14 @@ impl<R: AccessRule> Session<R> {
         cause: Cause,
         steps: &mut Steps<L>,
     ) -> Result<(), Stop>
-        requires fails { StandsFailing (rules_of self.old.options (R.rule self.old.cpu.rule)) (K.told link.old) (K.phases link.old) (W.tables watch.old) cause self.old }
+        requires fails { StandsFailing (rules_by R.rule self.old) (K.seen link.old) (W.tables watch.old) cause self.old }
         requires marked { IsCounted self.old }
-        requires takes { K.takes link.old ≡ true }
-        requires gives { CanGive (K.gives link.old) (K.gives_to link.old) self.old.replies }
-        ensures turns { (image : Image) (began : Since) (lost : ℕ) → IsFailing (rules_of self.old.options (R.rule self.old.cpu.rule)) image (record began { noted = noted (N.told_choices notes.old) (N.told_episodes notes.old); tables = W.tables watch.old }) (K.told link.old) (K.phases link.old) cause self.old
+        ensures turns { (image : Image) (began : Since) (lost : ℕ) → IsFailing (rules_by R.rule self.old) image (record began { noted = (N.shown notes.old).told; tables = W.tables watch.old }) (K.seen link.old) cause self.old
             → UnlessMemory result (lost + self.new.steps + (W.ran watch.new + steps.old) ≡ began.lost + self.old.steps + (W.ran watch.old + steps.new))
-            → ComesBetween (rules_of self.old.options (R.rule self.old.cpu.rule)) image (record began { lost = lost; noted = noted (N.told_choices notes.new) (N.told_episodes notes.new); tables = W.tables watch.new }) (K.told link.new) (K.phases link.new) (K.coming link.new) (K.takes link.new) self.new result }
-        ensures frame { HasSameFrame self.old self.new }
-        ensures oldest { UnlessNoteStop result (KeepsOldest self.old self.new) }
-        ensures keeping { keeping_of self.new ≡ keeping_of self.old }
-        ensures takes { TakesBy (K.takes link.new) result }
-        ensures gives { UnlessBroken result (CanGive (K.gives link.new) (K.gives_to link.new) self.new.replies) }
-        ensures coming { UnlessBroken result (StaysKnown (K.coming link.old) (K.coming link.new)) }
-        ensures once { BreaksOnce (K.coming link.old) (K.coming link.new) (K.gives link.new) result }
-        ensures marked { IfOk result (λ _. IsCounted self.new) }
+            → ComesBetween (rules_by R.rule self.old) image (record began { lost = lost; noted = (N.shown notes.new).told; tables = W.tables watch.new }) (K.seen link.new) self.new result }
+        ensures keeps { KeepsRecovering (K.seen link.old) (K.seen link.new) (N.shown notes.old) (N.shown notes.new) self.old self.new result }
         ensures least { self.new.steps + (W.ran watch.new + steps.old) ≤ W.ran watch.old + steps.new + self.old.steps }
-        ensures later { IfOk result (λ _. IsAdoptedLater self.old self.new) }
-        ensures cause { HasStopCause (K.counts link.old) (K.counts link.new) result }
-        ensures noted { HasNoteStop (N.faults notes.old) (N.faults notes.new) result }
-        ensures works { UnlessNoteStop result (N.works notes.new ≡ N.works notes.old) }
-        ensures fixed { N.fixed notes.new ≡ N.fixed notes.old }
-        ensures went { K.Went link.old link.new }
+        ensures outside { K.Went link.old link.new × (N.fixed notes.new ≡ N.fixed notes.old) }
     {
         let point = self.taken;
         let recovered = match self.adopt(watch, cause, steps) {
@@ -93,18 +76,13 @@ impl<R: AccessRule> Session<R> {
         cause: Cause,
         steps: &mut Steps<L>,
     ) -> Result<Recovered, AllocError>
-        requires fails { (told : Told) × (phases : Phases) × StandsFailing (rules_of self.old.options (R.rule self.old.cpu.rule)) told phases (W.tables watch.old) cause self.old }
+        requires fails { (seen : Seen) × StandsFailing (rules_by R.rule self.old) seen (W.tables watch.old) cause self.old }
         requires marked { IsCounted self.old }
-        ensures adopts { (image : Image) (began : Since) (now : Told) (phases : Phases) (coming : Option Coming) (lost : ℕ) → IsFailing (rules_of self.old.options (R.rule self.old.cpu.rule)) image (record began { tables = W.tables watch.old }) now phases cause self.old
+        ensures adopts { (image : Image) (began : Since) (seen : Seen) (lost : ℕ) → IsFailing (rules_by R.rule self.old) image (record began { tables = W.tables watch.old }) seen cause self.old
             → (IfOk result (λ _. lost + self.new.steps + (W.ran watch.new + steps.old) ≡ began.lost + self.old.steps + (W.ran watch.old + steps.new)))
-            → AdoptsBy (rules_of self.old.options (R.rule self.old.cpu.rule)) image (record began { lost = lost; tables = W.tables watch.new }) now phases coming self.old.taken cause self.new result }
-        ensures frame { HasSameFrame self.old self.new }
-        ensures oldest { IfOk result (λ _. KeepsOldest self.old self.new) }
-        ensures keeping { keeping_of self.new ≡ keeping_of self.old }
-        ensures opened { IfOk result (λ _. HasSameOpen self.old.replies self.new.replies) }
-        ensures marked { IfOk result (λ recovered. end_of self.old.taken cause recovered.adopted ≡ None → IsCounted self.new) }
+            → AdoptsBy (rules_by R.rule self.old) image (record began { lost = lost; tables = W.tables watch.new }) seen self.old.taken cause self.new result }
+        ensures keeps { KeepsAdopting cause self.old self.new result }
         ensures least { self.new.steps + (W.ran watch.new + steps.old) ≤ W.ran watch.old + steps.new + self.old.steps }
-        ensures later { IfOk result (λ recovered. end_of self.old.taken cause recovered.adopted ≡ None → IsAdoptedLater self.old self.new) }
     {
         let point = self.taken;
         let pc = self.cpu.pc();
@@ -112,9 +90,7 @@ impl<R: AccessRule> Session<R> {
             self.alloc,
             &mut self.cpu,
             &mut self.ring,
-            point,
-            cause,
-            pc,
+            FailureSite { point, cause, pc },
             self.options.budget,
             &self.log,
             &mut self.replies,

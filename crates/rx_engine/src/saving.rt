@@ -1,19 +1,16 @@
 // The checkpoints of a session.
-ghost use Rattle.std.specs.Prelude.{◌≡◌, ◌<◌, ◌+◌, ◌^◌, ℕ, [], ◌∷◌, length, true, Option, IfOk, IfSome, slice_get};
-ghost use Rattle.links.specs.Links.{Told, Phases, Coming};
-ghost use Rattle.reply_ledger.specs.Ledger.{is_open};
+ghost use Rattle.std.specs.Prelude.{◌≡◌, ◌<◌, ◌+◌, ◌^◌, [], ◌∷◌, length, true, IfSome, slice_get};
+ghost use Rattle.links.specs.Seen.{Seen};
 ghost use Rattle.reply_ledger.specs.Trimming.{trimmed};
-ghost use Rattle.session_notes.specs.Noting.{noted};
 ghost use Rattle.elf_image.specs.declared.image.Image.{Image};
 ghost use Rattle.run_history.specs.Served.{origin};
 ghost use Rattle.session_history.specs.Lawful.{Rules};
 ghost use Rattle.recovery.specs.Rings.{KeepsRing, SavesIf, is_due};
 ghost use Rattle.recovery.specs.Handling.{alone, stands_of};
-ghost use Rattle.session_state.specs.Options.{rules_of};
 ghost use Rattle.session_state.specs.Sessions.{IsBegun};
 ghost use Rattle.session_state.specs.Standing.{Since, IsWaitingFor};
-ghost use Rattle.session_state.specs.Leaving.{IsHandled, keeping_of, IsRecorded, IsTrimmed, CanForgetSends};
-ghost use Rattle.session_state.specs.Serving.{IsReadyToServe, StandsWaiting, WaitsBy, BreaksNoting, HasNoteStop, NotesRest, HasNoteRest, UnlessNoteStop};
+ghost use Rattle.session_state.specs.Leaving.{IsHandled, CanForgetSends};
+ghost use Rattle.session_state.specs.Serving.{IsReadyToServe, StandsSomewhere, WaitsBy, KeepsSaving, KeepsNoting, KeepsForgetting, NotesServe, NotesRest, HasNoteRest, rules_by};
 
 use crate::Session;
 use crate::recovering::note_answer;
@@ -26,29 +23,22 @@ use session_state::{Stop, note_up_to};
 impl<R: AccessRule> Session<R> {
     /// Saves the start of the program as the first checkpoint.
     pub(crate) fn save_start(&mut self)
-        requires begun { IsReadyToServe self.old }
-        ensures keeps { (rules : Rules) (image : Image) → IsBegun image self.old.options self.old.cpu.rule self.old
+        requires { IsReadyToServe self.old }
+        ensures rings { (rules : Rules) (image : Image) → IsBegun image self.old.options self.old.cpu.rule self.old
             → KeepsRing rules image [] [] (origin image) (origin image ∷ []) self.new.cpu self.new.ring self.old.log self.old.replies }
-        ensures same { self.new ≡ record self.old { cpu = self.new.cpu; ring = self.new.ring } }
         ensures first { stands_of self.new.cpu.slots.saved ≡ alone 0 self.new.cpu.slots.pages }
-        ensures keeping { keeping_of self.new ≡ keeping_of self.old }
-        ensures live { self.new.cpu.slots.live ≡ self.old.cpu.slots.live }
-        ensures rule { self.new.cpu.rule ≡ self.old.cpu.rule }
+        ensures keeps { KeepsSaving self.old self.new }
     {
         begin_ring(&mut self.cpu, &mut self.ring);
     }
 
     /// Saves the guest at its request for an item as the newest checkpoint, where enough items were taken since the last one.
     pub(crate) fn save(&mut self)
-        requires waits { (told : Told) × (phases : Phases) × StandsWaiting (rules_of self.old.options (R.rule self.old.cpu.rule)) told phases self.old }
-        ensures waits { (image : Image) (began : Since) (now : Told) (phases : Phases) → IsWaitingFor (rules_of self.old.options (R.rule self.old.cpu.rule)) image began now phases self.old
-            → IsWaitingFor (rules_of self.old.options (R.rule self.old.cpu.rule)) image began now phases self.new }
+        requires { StandsSomewhere (rules_by R.rule self.old) self.old }
+        ensures waits { (image : Image) (began : Since) (seen : Seen) → IsWaitingFor (rules_by R.rule self.old) image began seen self.old → IsWaitingFor (rules_by R.rule self.old) image began seen self.new }
         ensures handled { IsHandled self.new }
-        ensures keeping { keeping_of self.new ≡ keeping_of self.old }
         ensures saved { SavesIf (is_due self.old.options.every self.old.taken self.old.ring.standing) self.old.ring.capacity self.old.cpu self.new.cpu }
-        ensures same { self.new ≡ record self.old { cpu = self.new.cpu; ring = self.new.ring } }
-        ensures live { self.new.cpu.slots.live ≡ self.old.cpu.slots.live }
-        ensures rule { self.new.cpu.rule ≡ self.old.cpu.rule }
+        ensures keeps { KeepsSaving self.old self.new }
     {
         checkpoint(
             &mut self.cpu,
@@ -60,14 +50,11 @@ impl<R: AccessRule> Session<R> {
 
     /// Notes the answers of malloc that no trial can take back any more: those from before the oldest checkpoint.
     pub(crate) fn note_choices<N: Notes>(&mut self, notes: &mut N) -> Result<(), Stop>
-        requires waits { (told : Told) × (phases : Phases) × StandsWaiting (rules_of self.old.options (R.rule self.old.cpu.rule)) told phases self.old }
-        ensures waits { (image : Image) (began : Since) (now : Told) (phases : Phases) (coming : Option Coming) → IsWaitingFor (rules_of self.old.options (R.rule self.old.cpu.rule)) image (record began { noted = noted (N.told_choices notes.old) (N.told_episodes notes.old) }) now phases self.old
-            → WaitsBy (rules_of self.old.options (R.rule self.old.cpu.rule)) image (record began { noted = noted (N.told_choices notes.new) (N.told_episodes notes.new) }) now phases coming true self.new result }
-        ensures same { self.new ≡ record self.old { recorded = self.new.recorded; choices = self.new.choices } }
-        ensures recorded { IfOk result (λ _. IsRecorded self.new) }
-        ensures broken { BreaksNoting result }
-        ensures noted { HasNoteStop (N.faults notes.old) (N.faults notes.new) result }
-        ensures works { UnlessNoteStop result (N.works notes.new ≡ N.works notes.old) }
+        requires { StandsSomewhere (rules_by R.rule self.old) self.old }
+        ensures waits { (image : Image) (began : Since) (seen : Seen) → seen.takes ≡ true → IsWaitingFor (rules_by R.rule self.old) image (record began { noted = (N.shown notes.old).told }) seen self.old
+            → WaitsBy (rules_by R.rule self.old) image (record began { noted = (N.shown notes.new).told }) seen self.new result }
+        ensures keeps { KeepsNoting self.old self.new result }
+        ensures shows { NotesServe (N.shown notes.old) (N.shown notes.new) result }
         ensures fixed { N.fixed notes.new ≡ N.fixed notes.old }
     {
         let safe = self.cpu.oldest_marks().choices;
@@ -79,12 +66,9 @@ impl<R: AccessRule> Session<R> {
 
     /// Gives up the items and the replies that no trial needs any more.
     pub(crate) fn forget(&mut self)
-        requires waits { (told : Told) × (phases : Phases) × StandsWaiting (rules_of self.old.options (R.rule self.old.cpu.rule)) told phases self.old }
-        ensures waits { (image : Image) (began : Since) (now : Told) (phases : Phases) → IsWaitingFor (rules_of self.old.options (R.rule self.old.cpu.rule)) image began now phases self.old
-            → IsWaitingFor (rules_of self.old.options (R.rule self.old.cpu.rule)) image began now phases self.new }
-        ensures same { self.new ≡ record self.old { log = self.new.log; replies = self.new.replies } }
-        ensures trimmed { IsRecorded self.old → IsTrimmed self.new }
-        ensures open { (conn : ℕ) → is_open self.new.replies.connections conn ≡ is_open self.old.replies.connections conn }
+        requires { StandsSomewhere (rules_by R.rule self.old) self.old }
+        ensures waits { (image : Image) (began : Since) (seen : Seen) → IsWaitingFor (rules_by R.rule self.old) image began seen self.old → IsWaitingFor (rules_by R.rule self.old) image began seen self.new }
+        ensures keeps { KeepsForgetting self.old self.new }
     {
         forget(&self.cpu, &mut self.log, &mut self.replies);
     }
@@ -101,11 +85,9 @@ impl<R: AccessRule> Session<R> {
 
     /// At an end: notes the answers of malloc that aren't noted yet.
     pub(crate) fn note_rest<N: Notes>(&mut self, notes: &mut N) -> Result<(), Answer>
-        requires fits { self.old.recorded + length self.old.choices < 2 ^ 64 }
-        ensures noted { NotesRest (N.told_choices notes.old) (N.told_choices notes.new) self.old self.new result }
-        ensures episodes { N.told_episodes notes.new ≡ N.told_episodes notes.old }
-        ensures cause { HasNoteRest (N.faults notes.old) (N.faults notes.new) result }
-        ensures works { IfOk result (λ _. N.works notes.new ≡ N.works notes.old) }
+        requires { self.old.recorded + length self.old.choices < 2 ^ 64 }
+        ensures noted { NotesRest (N.shown notes.old) (N.shown notes.new) self.old self.new result }
+        ensures shows { HasNoteRest (N.shown notes.old) (N.shown notes.new) result }
         ensures fixed { N.fixed notes.new ≡ N.fixed notes.old }
     {
         let all = self.recorded + self.choices.len() as u64;

@@ -1,5 +1,6 @@
 -- Where every event is heeded, no end has a refused event for its cause.
-use Rattle.std.proofs.Common.{Some, sym, ◌∙◌, ap, length}
+use Rattle.std.proofs.Common.{Option, Some, sym, ◌∙◌, ap, subst, length}
+use Rattle.links.specs.Links.{Coming}
 use Rattle.run_history.specs.declared.answer.Answer.{Answer}
 use Rattle.run_history.specs.declared.answer.Answer.TheVariants as answer
 use Rattle.session_history.specs.Heeding.{Unheeded, TooLong, LimitItems, LimitEvents}
@@ -9,7 +10,8 @@ use Rattle.session_history.specs.AccountLaws.{IsComplete, NoOtherAnswer}
 use Rattle.session_history.proofs.Refused.{none_refused}
 
 pub no_other_answer : NoOtherAnswer
-no_other_answer rules image began now next takes end choices taken steps served heeds no_refusal = of end served.ends
+no_other_answer rules image began seen next end choices taken steps served known heeds no_refusal =
+    of end (subst (λ (coming : Option Coming). EndsBy rules coming served.session end) known served.ends)
   where
     never : (cause : Unheeded) → IsLastRefused rules.bounds (before_end served.session) cause → ⊥
     never cause last = none_refused rules.bounds (before_end served.session) cause heeds last

@@ -123,8 +123,8 @@ end_owes rules coming session answer.LimitEvents is ends = (ends.1, ends.2)
 end_owes rules coming session _ is ends = absurd is
 
 pub served_is_passed : ServedIsPassed
-served_is_passed rules image began now coming takes end choices taken steps served is first holds_nothing none_gone opens_once =
-    let owes = end_owes rules coming served.session end is served.ends in
+served_is_passed rules image began seen end choices taken steps served is first holds_nothing none_gone opens_once =
+    let owes = end_owes rules seen.coming served.session end is served.ends in
     let passed = sent_is_passed rules image served.session (record {
       at_end = served.at_end;
       account = served.account;
@@ -136,4 +136,4 @@ served_is_passed rules image began now coming takes end choices taken steps serv
       none_gone = none_gone;
       opens_once = opens_once;
     }) in
-    (passed, subst (Grew began.pieces now.pieces) passed served.tells.pieces)
+    (passed, subst (Grew began.pieces seen.told.pieces) passed served.tells.pieces)

@@ -1,8 +1,9 @@
 -- What follows from the account of a session, and from the causes of its ends.
-use Rattle.std.specs.Prelude.{◌≡◌, ◌≢◌, ℕ, Bool, List, [], ◌∷◌, ◌++◌, false, map, Option, Some}
+use Rattle.std.specs.Prelude.{◌≡◌, ◌≢◌, ℕ, Bool, List, [], ◌∷◌, ◌++◌, false, map, Some}
 use Rattle.links.specs.declared.journal.Entry.{Entry}
 use Rattle.links.specs.declared.journal.LinkEvent.TheVariants as event
 use Rattle.links.specs.declared.journal.LinkEvent.{LinkEvent}
+use Rattle.links.specs.Seen.{Seen}
 use Rattle.links.specs.Links.{Phases, IsInOrder, phases_after, Told, Grew, Coming, Refuses, Piece, pieces_in, events_in}
 use Rattle.block_book.specs.declared.choice.Choice.{Choice}
 use Rattle.rx_io.specs.Sends.{Send}
@@ -49,9 +50,9 @@ SentIsPassed = (rules : Rules) (image : Image) (session : Session) → PassesAtO
 -- So are they at each end of a session that served, and its link tells no other pieces.
 abbrev pub ServedIsPassed : Type 0
 ServedIsPassed =
-    (rules : Rules) (image : Image) (began now : Told) (coming : Option Coming) (takes : Bool) (end : Answer) (choices : List Choice) (taken steps : ℕ) (served : HasServed rules image began now coming takes end choices taken steps) →
+    (rules : Rules) (image : Image) (began : Told) (seen : Seen) (end : Answer) (choices : List Choice) (taken steps : ℕ) (served : HasServed rules image began seen end choices taken steps) →
     IsEnd end → served.session.earlier ≡ [] → rules.hold ≡ 0 → ((conn : ℕ) → is_gone conn (journal_of served.session) ≡ false) → OpensOnce (events_in (journal_of served.session)) →
-    (pieces_in (journal_of served.session) ≡ map piece_of served.session.survivor.now.state.sends) × Grew began.pieces now.pieces (map piece_of served.session.survivor.now.state.sends)
+    (pieces_in (journal_of served.session) ≡ map piece_of served.session.survivor.now.state.sends) × Grew began.pieces seen.told.pieces (map piece_of served.session.survivor.now.state.sends)
 
 -- events that a link gave, each in order for its connection
 abbrev pub AreInTurn : Phases → List LinkEvent → Type 0
@@ -76,5 +77,6 @@ IsComplete rules session _ = ⊥
 -- where every event is heeded and the link refuses nothing behind them, a session has no other answer
 abbrev pub NoOtherAnswer : Type 0
 NoOtherAnswer =
-    (rules : Rules) (image : Image) (began now : Told) (next : Coming) (takes : Bool) (end : Answer) (choices : List Choice) (taken steps : ℕ) (served : HasServed rules image began now (Some next) takes end choices taken steps) →
+    (rules : Rules) (image : Image) (began : Told) (seen : Seen) (next : Coming) (end : Answer) (choices : List Choice) (taken steps : ℕ) (served : HasServed rules image began seen end choices taken steps) →
+    seen.coming ≡ Some next →
     AreHeeded rules.bounds (before_end served.session) → ((kind offset : ℕ) → next ≢ Refuses kind offset) → IsComplete rules served.session end

@@ -7,6 +7,7 @@ use Rattle.links.specs.declared.journal.LinkEvent.{LinkEvent}
 use Rattle.links.specs.declared.journal.LinkEvent.TheVariants as event
 use Rattle.links.specs.declared.journal.LinkEvent.TheVariants.{Ends}
 use Rattle.links.specs.Links.{Told, Tells, Coming, Comes, Refuses, events_in, HasEnded}
+use Rattle.links.specs.Seen.{Seen}
 use Rattle.elf_image.specs.declared.image.Image.{Image}
 use Rattle.item_log.specs.Log.{IsPieceOf}
 use Rattle.run_history.specs.declared.answer.Answer.{Answer}
@@ -95,18 +96,17 @@ EndsBy rules coming session (answer.GaveUp point cause) =
     StandsAt rules (before_end session) coming session.survivor (answer.GaveUp point cause) × OwesNothingAtEnd rules session × (session.broken ≡ []) × OwesNothingBefore rules session
 EndsBy rules coming session end = StandsAt rules (before_end session) coming session.survivor end × OwesNothingAtEnd rules session × (session.broken ≡ [])
 
--- What a session leaves at each answer, by what its link told before and after, by whether events may still be taken there, and by its
--- counts: one account of it; where pieces were passed as at an end, the cause of that end; and what stands behind the answer. At an end
+-- What a session leaves at each answer, by what its link told before and shows after, and by its counts: one account of it; where pieces were passed as at an end, the cause of that end; and what stands behind the answer. At an end
 -- pieces alone are passed. And where no event may be taken any more, the take that failed was asked for.
-pub record HasServed (rules : Rules) (image : Image) (began now : Told) (coming : Option Coming) (takes : Bool) (end : Answer) (choices : List Choice) (taken steps : ℕ) : Type 0 where
+pub record HasServed (rules : Rules) (image : Image) (began : Told) (seen : Seen) (end : Answer) (choices : List Choice) (taken steps : ℕ) : Type 0 where
   pub session : Session
   pub at_end : Bool
-  pub tells : Tells began now (journal_of session)
+  pub tells : Tells began seen.told (journal_of session)
   pub account : IsAccount rules image session at_end
-  pub comes : at_end ≡ true → HasCome rules coming session
-  pub ends : EndsBy rules coming session end
+  pub comes : at_end ≡ true → HasCome rules seen.coming session
+  pub ends : EndsBy rules seen.coming session end
   pub pieces : AreGiven session.ending
-  pub asked : takes ≡ false → WasAsked rules session
+  pub asked : seen.takes ≡ false → WasAsked rules session
   pub choices_are : session.survivor.now.choices ≡ choices
   pub taken_is : session.survivor.now.state.machine.taken ≡ taken
   pub steps_are : session.survivor.now.steps ≡ steps

@@ -11,3 +11,4 @@ pub mod Giving
 pub mod Hearing
 pub mod Ends
 pub mod AccountLaws
+pub mod Answering

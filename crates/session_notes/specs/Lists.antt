@@ -1,8 +1,9 @@
 -- What the notes in memory tell.
-use Rattle.std.specs.Prelude.{List}
+use Rattle.std.specs.Prelude.{List, None, Some, true}
 use Rattle.block_book.specs.declared.choice.Choice.{Choice}
 use Rattle.session_notes.specs.declared.episode.Episode.{Episode}
 use Rattle.rx_io.specs.Planned.{Plan}
+use Rattle.session_notes.specs.Noting.{Shown}
 use Rattle.session_notes.specs.declared.note_list.NoteList.{NoteList}
 
 abbrev pub list_choices : NoteList → List Choice
@@ -13,3 +14,15 @@ list_episodes notes = notes.episodes.items
 
 abbrev pub list_plan : NoteList → Plan
 list_plan notes = notes.fails
+
+-- they tell both lists, and work always
+abbrev pub shown_in : NoteList → Shown
+shown_in notes = record {
+  told = record { choices = Some (list_choices notes); episodes = Some (list_episodes notes) };
+  faults = (list_plan notes).faults;
+  works = true;
+}
+
+-- notes that keep nothing tell nothing and never fail
+abbrev pub shows_nothing : Shown
+shows_nothing = record { told = record { choices = None; episodes = None }; faults = 0; works = true }

@@ -6,13 +6,7 @@ use block_book::Choice;
 use rx_io::IoFault;
 
 impl<T: Notes> Notes for &mut T {
-    ghost told_choices = { λ s. T.told_choices s.now };
-
-    ghost told_episodes = { λ s. T.told_episodes s.now };
-
-    ghost faults = { λ s. T.faults s.now };
-
-    ghost works = { λ s. T.works s.now };
+    ghost shown = { λ s. T.shown s.now };
 
     ghost Fixed = { GName × T.Fixed };
 

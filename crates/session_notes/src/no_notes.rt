@@ -1,6 +1,7 @@
 // Notes that keep nothing.
-ghost use Rattle.std.specs.Prelude.{None, true, IsOk};
-ghost use Rattle.rx_io.specs.Faults.{HasCause};
+ghost use Rattle.std.specs.Prelude.{IsOk};
+ghost use Rattle.session_notes.specs.Noting.{ChoicesShow, EpisodeShows};
+ghost use Rattle.session_notes.specs.Lists.{shows_nothing};
 
 use crate::{Episode, Notes};
 use block_book::Choice;
@@ -11,31 +12,27 @@ use rx_io::IoFault;
 pub struct NoNotes;
 
 impl Notes for NoNotes {
-    ghost told_choices = { λ _. None };
-
-    ghost told_episodes = { λ _. None };
-
-    ghost faults = { λ _. 0 };
-
-    ghost works = { λ _. true };
+    ghost shown = { λ _. shows_nothing };
 
     ghost Fixed = { Unit {0} };
 
     ghost fixed = { λ _. tt };
 
     /// Notes nothing.
-    fn choices(&mut self, _list: &[Choice]) -> Result<(), IoFault>
-        ensures cause { HasCause 0 0 result }
+    fn choices(&mut self, list: &[Choice]) -> Result<(), IoFault>
+        ensures shows { ChoicesShow shows_nothing shows_nothing list.now result }
         ensures done { IsOk result }
     {
+        let _ = list;
         Ok(())
     }
 
     /// Notes nothing.
-    fn episode(&mut self, _e: &Episode) -> Result<(), IoFault>
-        ensures cause { HasCause 0 0 result }
+    fn episode(&mut self, e: &Episode) -> Result<(), IoFault>
+        ensures shows { EpisodeShows shows_nothing shows_nothing e.now result }
         ensures done { IsOk result }
     {
+        let _ = e;
         Ok(())
     }
 }

@@ -1,10 +1,7 @@
 // Notes in memory, of which certain calls fail.
-ghost use Rattle.std.specs.Prelude.{◌≡◌, ◌∷◌, [], ◌<◌, length, true, Option, Some};
-ghost use Rattle.block_book.specs.declared.choice.Choice.{Choice};
-ghost use Rattle.session_notes.specs.declared.episode.Episode.{Episode};
-ghost use Rattle.rx_io.specs.Faults.{HasCause};
+ghost use Rattle.std.specs.Prelude.{◌≡◌, [], ◌<◌, length};
 ghost use Rattle.rx_io.specs.Planned.{FailsBy, fails_next, after_call, first_plan};
-ghost use Rattle.session_notes.specs.Noting.{IsNoted};
+ghost use Rattle.session_notes.specs.Noting.{ChoicesShow, EpisodeShows};
 
 use crate::keeping::{keep_choices, keep_episode};
 use crate::{Episode, Notes};
@@ -55,15 +52,9 @@ impl NoteList {
 }
 
 impl Notes for NoteList {
-    ghost use Rattle.session_notes.specs.Lists.{list_choices, list_episodes, list_plan};
+    ghost use Rattle.session_notes.specs.Lists.{list_plan, shown_in};
 
-    ghost told_choices = { λ notes. Some (list_choices notes) };
-
-    ghost told_episodes = { λ notes. Some (list_episodes notes) };
-
-    ghost faults = { λ notes. (list_plan notes).faults };
-
-    ghost works = { λ _. true };
+    ghost shown = { shown_in };
 
     ghost Fixed = { Unit {0} };
 
@@ -72,9 +63,7 @@ impl Notes for NoteList {
     /// A call that doesn't fail notes all of them, or none where memory ran out.
     fn choices(&mut self, list: &[Choice]) -> Result<(), IoFault>
         requires { 0 < length list.now }
-        ensures noted { IsNoted (Some (list_choices self.old)) (Some (list_choices self.new)) list.now result }
-        ensures episodes { Some (list_episodes self.new) ≡ Some (list_episodes self.old) }
-        ensures cause { HasCause (list_plan self.old).faults (list_plan self.new).faults result }
+        ensures shows { ChoicesShow (shown_in self.old) (shown_in self.new) list.now result }
         ensures answer { FailsBy (fails_next (list_plan self.old)) result }
         ensures plan { list_plan self.new ≡ after_call (list_plan self.old) }
     {
@@ -86,9 +75,7 @@ impl Notes for NoteList {
 
     /// A call that doesn't fail notes a copy, or nothing where memory ran out.
     fn episode(&mut self, e: &Episode) -> Result<(), IoFault>
-        ensures noted { IsNoted (Some (list_episodes self.old)) (Some (list_episodes self.new)) (e.now ∷ []) result }
-        ensures choices { Some (list_choices self.new) ≡ Some (list_choices self.old) }
-        ensures cause { HasCause (list_plan self.old).faults (list_plan self.new).faults result }
+        ensures shows { EpisodeShows (shown_in self.old) (shown_in self.new) e.now result }
         ensures answer { FailsBy (fails_next (list_plan self.old)) result }
         ensures plan { list_plan self.new ≡ after_call (list_plan self.old) }
     {

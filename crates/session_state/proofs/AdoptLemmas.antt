@@ -1,5 +1,5 @@
 -- What a failure makes of a session: it goes on as a trial, or gives up.
-use Rattle.std.proofs.Common.{◌≡◌, inl, inr, ℕ, zero, suc, ◌+◌, ◌-◌, ◌^◌, ◌<◌, ◌≤◌, List, [], ◌∷◌, ◌++◌, length, map, take, drop, Option, None, Some, false, refl, sym, ◌∙◌, ap, subst, arith, append-nil, append_assoc, length-drop}
+use Rattle.std.proofs.Common.{◌≡◌, inl, inr, ℕ, zero, suc, ◌+◌, ◌-◌, ◌^◌, ◌<◌, ◌≤◌, List, [], ◌∷◌, ◌++◌, length, map, take, drop, Option, None, Some, false, refl, sym, ◌∙◌, ap, subst, arith, append-nil, append_assoc}
 use Rattle.std.specs.Prelude.{◌≢◌, ◌⊎◌, sum, option_map}
 use Rattle.std.proofs.lemmas.List.{map-append}
 use Rattle.std.proofs.lemmas.List.Sums.{sum_by-append}
@@ -7,7 +7,8 @@ use Rattle.std.proofs.lemmas.Option.{none-some}
 use Rattle.block_book.specs.declared.choice.Choice.{Choice}
 use Rattle.alloc_env.specs.declared.env.Env.{Env}
 use Rattle.links.specs.declared.journal.Entry.{Entry}
-use Rattle.links.specs.Links.{Phases, Told, Tells, Grew, Coming, events_in}
+use Rattle.links.specs.Seen.{Seen}
+use Rattle.links.specs.Links.{Told, Tells, Grew, events_in}
 use Rattle.elf_image.specs.declared.image.Image.{Image}
 use Rattle.reply_ledger.specs.Ledger.{Ledger}
 use Rattle.reply_ledger.specs.Trials.{discarded}
@@ -36,13 +37,10 @@ use Rattle.trials.proofs.Survivors.{recovered_then}
 use Rattle.recovery.specs.Sessions.{Failure}
 use Rattle.recovery.specs.Trying.{steps_of}
 use Rattle.recovery.specs.Walking.{HasSameBytes}
-use Rattle.recovery.specs.declared.recovering.Adopted.{Adopted}
+use Rattle.recovery.specs.declared.walking.Adopted.{Adopted}
 use Rattle.recovery.specs.Rings.{KeepsRing, AreBehind, IsInForce}
 use Rattle.recovery.specs.Recovering.{recovery_of, HasToRecover, HasAdoptedRun, LeavesRun, HasRecovery, KeepsSlots}
 use Rattle.trials.specs.Chains.{AreChained}
-use Rattle.std.proofs.lemmas.Option.{slice_get_within}
-use Rattle.std.proofs.lemmas.List.{length-take-le}
-use Rattle.ckpt_ring.specs.Rings.{without_newer}
 use Rattle.recovery.specs.Handling.{Keeping, HaveRings, HasHandled, stands_of, keeping_by}
 use Rattle.recovery.proofs.Handled.{handled_adopts, has_ring, stands_up_to}
 use Rattle.session_state.specs.Leaving.{keeping_of}
@@ -95,10 +93,10 @@ same_entries story recovery trial =
     ∙ entries_then story.earlier (record { survivor = story.survivor; entries = story.since })
 
 -- it is told, where so many instructions were counted
-told_adopted : (rules : Rules) (image : Image) (began : Since) (now : Told) (story : Story) (recovery : Recovery) (trial : Trial) (lost : ℕ) (noted : Noted) (tables : Option (List (List Try))) → IsTold rules image began now story → LeavesNothing rules (entries_of story.earlier) story.since story.survivor → recovery.survivor ≡ story.survivor → IsRecovery rules image (entries story) recovery
+told_adopted : {rules : Rules} {image : Image} {began : Since} {now : Told} {story : Story} {recovery : Recovery} {trial : Trial} {lost : ℕ} {noted : Noted} {tables : Option (List (List Try))} → IsTold rules image began now story → LeavesNothing rules (entries_of story.earlier) story.since story.survivor → recovery.survivor ≡ story.survivor → IsRecovery rules image (entries story) recovery
     → survivor_in recovery.trials ≡ Some trial → lost + trial.path.steps ≡ began.lost + story.survivor.now.steps + steps_of recovery.trials → Grew began.noted.episodes noted.episodes (episode_of recovery ∷ [])
     → TellsOne rules (entries story) recovery began.tables tables → IsTold rules image (record began { lost = lost; noted = noted; tables = tables }) now (adopted_story story recovery trial)
-told_adopted rules image began now story recovery trial lost noted tables told leaves is was found counts grew one =
+told_adopted {rules = rules} {image = image} {began = began} {now = now} {story = story} {recovery = recovery} {trial = trial} {noted = noted} {tables = tables} told leaves is was found counts grew one =
     let g : GoesOnAs rules image (entries story) recovery trial = recovery_adopts rules image (entries story) recovery trial was found in
     let early : trial.path.state.machine.taken ≤ story.survivor.now.state.machine.taken = subst (λ (s : Survivor). trial.path.state.machine.taken ≤ s.now.state.machine.taken) is g.early in
     let enough : story.survivor.now.state.machine.taken ≤ received rules.bounds (entries story) = told.serving.carries.taken in
@@ -124,8 +122,8 @@ told_adopted rules image began now story recovery trial lost noted tables told l
     }
 
 -- a run that fails doesn't stand at its request
-pub asks_or_fails : (limits : Limits) (plan : List Override) (path : Path) (cause : Cause) (item : ℕ) → AsksFor limits [] path item → FailsBy limits plan path cause → ⊥
-asks_or_fails limits plan path cause item asks fails =
+pub asks_or_fails : {limits : Limits} {plan : List Override} {path : Path} {cause : Cause} {item : ℕ} → AsksFor limits [] path item → FailsBy limits plan path cause → ⊥
+asks_or_fails {limits = limits} {plan = plan} {path = path} {cause = cause} {item = item} asks fails =
     let here : AsksFor limits plan path item = asks_under_all limits [] plan path item asks in
     let never : Wants ≡ Fails cause = sym here.asks ∙ fails.fails in absurd (cc)
 
@@ -134,16 +132,16 @@ abbrev pub failure_of : Rules → Image → Story → List Path → Failure
 failure_of rules image story paths = record { rules = rules; image = image; entries = entries story; plan = story.survivor.plan; failed = story.survivor.now; ring = paths }
 
 -- the ledger has no trial: so nothing of it is discarded
-discards_none : (ledger : Ledger) → ledger.trial ≡ None → discarded ledger ≡ ledger
-discards_none ledger none = ap (λ t. record ledger { trial = t }) (sym none)
+discards_none : {ledger : Ledger} → ledger.trial ≡ None → discarded ledger ≡ ledger
+discards_none {ledger = ledger} none = ap (λ t. record ledger { trial = t }) (sym none)
 
 -- what was counted behind an adoption
-some_counts : (before after lost began steps old failed to tried : ℕ) → after ≡ before + tried → lost + steps + before ≡ began + old + after → steps ≡ to → old ≡ failed → lost + to ≡ began + failed + tried
-some_counts before after lost began steps old failed to tried counted counts is same = omega (arith, counted, counts, is, same)
+some_counts : (before : ℕ) {after : ℕ} (lost began : ℕ) {steps old failed to : ℕ} (tried : ℕ) → after ≡ before + tried → lost + steps + before ≡ began + old + after → steps ≡ to → old ≡ failed → lost + to ≡ began + failed + tried
+some_counts before lost began tried counted counts is same = omega (arith, counted, counts, is, same)
 
 -- the same by other words for the counts
-pub counts_seen : (lost began steps live old seen before after : ℕ) → lost + steps + before ≡ began + old + after → steps ≡ live → old ≡ seen → lost + live + before ≡ began + seen + after
-counts_seen lost began steps live old seen before after counts is same = omega (arith, counts, is, same)
+pub counts_seen : (lost began : ℕ) {steps live old seen : ℕ} (before after : ℕ) → lost + steps + before ≡ began + old + after → steps ≡ live → old ≡ seen → lost + live + before ≡ began + seen + after
+counts_seen lost began before after counts is same = omega (arith, counts, is, same)
 
 -- checkpoints that stand still have used so many answers of malloc
 behind_drop : (count index : ℕ) (ring : List Path) → AreBehind count ring → AreBehind count (drop index ring)
@@ -153,10 +151,10 @@ behind_drop count (suc index) (newest ∷ older) behind = behind_drop count inde
 
 module _ {R : Type 0} where
   -- the session answers for the run that it adopted, of which the first answers of malloc are those that are noted
-  answers_adopted : (began : Since) (noted : Noted) (story next : Story) (old new : SessionState R) → new.recorded ≡ old.recorded → new.recorded ≤ length next.survivor.now.choices → new.choices ≡ drop new.recorded next.survivor.now.choices
+  answers_adopted : {began : Since} {noted : Noted} {story next : Story} {old new : SessionState R} → new.recorded ≡ old.recorded → new.recorded ≤ length next.survivor.now.choices → new.choices ≡ drop new.recorded next.survivor.now.choices
       → new.taken ≡ next.survivor.now.state.machine.taken → new.steps ≡ next.survivor.now.steps → take old.recorded next.survivor.now.choices ≡ take old.recorded story.survivor.now.choices → AnswersFor began story old
       → Grew began.noted.choices noted.choices [] → (lost : ℕ) → AnswersFor (record began { lost = lost; noted = noted }) next new
-  answers_adopted began noted story next old new same low chose taken steps front answers grew lost = record {
+  answers_adopted {began = began} {noted = noted} {story = story} {next = next} {old = old} same low chose taken steps front answers grew lost = record {
     low = low;
     recorded =
         subst (Grew began.noted_before.choices noted.choices) (append-nil (take old.recorded story.survivor.now.choices) ∙ (sym front ∙ ap (λ n. take n next.survivor.now.choices) (sym same)))
@@ -167,13 +165,13 @@ module _ {R : Type 0} where
   }
 
   -- whatever its watch tells
-  answers_told : (began : Since) (story : Story) (session : SessionState R) (tables : Option (List (List Try))) → AnswersFor began story session → AnswersFor (record began { tables = tables }) story session
-  answers_told began story session tables answers = record { low = answers.low; recorded = answers.recorded; choices = answers.choices; taken = answers.taken; steps = answers.steps }
+  answers_told : {began : Since} {story : Story} {session : SessionState R} {tables : Option (List (List Try))} → AnswersFor began story session → AnswersFor (record began { tables = tables }) story session
+  answers_told answers = record { low = answers.low; recorded = answers.recorded; choices = answers.choices; taken = answers.taken; steps = answers.steps }
 
   -- what is asked for before a recovery
-  pub to_recover : (rules : Rules) (image : Image) (began : Since) (now : Told) (phases : Phases) (cause : Cause) (session : SessionState R) (f : IsFailing rules image began now phases cause session) → rules.limits.budget ≤ 2 ^ 24 → rules.bounds.max_items ≤ 2 ^ 20
-      → HasToRecover session.taken cause session.cpu.slots.live.guest.machine.pc (failure_of rules image f.going.story f.going.saved.paths) session.cpu session.ring session.recorded session.choices session.log session.replies
-  to_recover rules image began now phases cause session f budget items =
+  pub to_recover : {rules : Rules} {image : Image} {began : Since} {seen : Seen} {cause : Cause} {session : SessionState R} (f : IsFailing rules image began seen cause session) → rules.limits.budget ≤ 2 ^ 24 → rules.bounds.max_items ≤ 2 ^ 20
+      → HasToRecover (record { point = session.taken; cause = cause; pc = session.cpu.slots.live.guest.machine.pc }) (failure_of rules image f.going.story f.going.saved.paths) session.cpu session.ring session.recorded session.choices session.log session.replies
+  to_recover {rules = rules} {image = image} {session = session} f budget items =
       let g = f.going in
       let story : Story = g.story in
       record {
@@ -190,10 +188,10 @@ module _ {R : Type 0} where
       }
 
   -- the table that was told of a failure is that of its recovery
-  table_of : (rules : Rules) (image : Image) (began : Since) (now : Told) (phases : Phases) (cause : Cause) (session : SessionState R) (f : IsFailing rules image began now phases cause session) (trials : List Trial) (old new : Option (List (List Try)))
+  table_of : {rules : Rules} {image : Image} {began : Since} {seen : Seen} {cause : Cause} {session : SessionState R} (f : IsFailing rules image began seen cause session) (trials : List Trial) (old new : Option (List (List Try)))
       → TellsTable (failure_of rules image f.going.story f.going.saved.paths) session.taken old new
       → TellsOne rules (entries f.going.story) (recovery_of (failure_of rules image f.going.story f.going.saved.paths) f.going.story.survivor.begun cause trials) old new
-  table_of rules image began now phases cause session f trials old new told =
+  table_of {rules = rules} {image = image} f trials old new told =
       subst (λ n. TellsTable (failure_of rules image f.going.story f.going.saved.paths) n old new) f.going.answers.taken told
 
   -- the session behind a walk and an adoption
@@ -205,20 +203,20 @@ module _ {R : Type 0} where
       record old { cpu = cpu; ring = ring; replies = replies; choices = choices; env = env; until = until; taken = cpu.slots.live.guest.machine.taken; steps = cpu.slots.live.steps }
 
   -- a failure comes at no request: the requests before it were handled
-  failed_requests : (rules : Rules) (image : Image) (began : Since) (now : Told) (phases : Phases) (cause : Cause) (old : SessionState R) (f : IsFailing rules image began now phases cause old)
+  failed_requests : {rules : Rules} {image : Image} {began : Since} {seen : Seen} {cause : Cause} {old : SessionState R} (f : IsFailing rules image began seen cause old)
       → HasHandled rules image (keeping_of old) f.going.story.earlier (entries f.going.story) f.going.story.recoveries f.going.story.survivor f.going.story.survivor.now.state.machine.taken (stands_of old.cpu.slots.saved)
-  failed_requests rules image began now phases cause old f =
+  failed_requests f =
       let story : Story = f.going.story in
       elim f.going.saved.requests [
         | inl h ↦ h
-        | inr there ↦ absurd (asks_or_fails rules.limits story.survivor.plan story.survivor.now cause story.survivor.now.state.machine.taken there.0 f.fails)
+        | inr there ↦ absurd (asks_or_fails there.0 f.fails)
       ]
 
   -- it gave up, where none of these trials survived
-  abbrev given_up_by : (rules : Rules) (image : Image) (began : Since) (now : Told) (phases : Phases) (cause : Cause) (old : SessionState R) (keeping : Keeping) (f : IsFailing rules image began now phases cause old) (trials : List Trial) → keeping ≡ keeping_of old
+  abbrev given_up_by : (rules : Rules) (image : Image) (began : Since) (seen : Seen) (cause : Cause) (old : SessionState R) (keeping : Keeping) (f : IsFailing rules image began seen cause old) (trials : List Trial) → keeping ≡ keeping_of old
       → IsRecovery rules image (entries f.going.story) (recovery_of (failure_of rules image f.going.story f.going.saved.paths) f.going.story.survivor.begun cause trials) → survivor_in trials ≡ None
       → HasGivenUp rules image keeping f.going.story.earlier f.going.story.since f.going.story.recoveries f.going.story.survivor trials cause
-  given_up_by rules image began now phases cause old keeping f trials same was none =
+  given_up_by rules image began seen cause old keeping f trials same was none =
       let story : Story = f.going.story in
       let k = f.going.saved.ring in
       record {
@@ -227,7 +225,7 @@ module _ {R : Type 0} where
         stands = stands_of old.cpu.slots.saved;
         handled =
             subst (λ (kept : Keeping). HasHandled rules image kept story.earlier (entries story) story.recoveries story.survivor story.survivor.now.state.machine.taken (stands_of old.cpu.slots.saved)) (sym same)
-            (failed_requests rules image began now phases cause old f);
+            (failed_requests f);
         ringed = has_ring old.cpu.slots.saved f.going.saved.paths k.as_many k.saved;
         recovers = was;
         none = none;
@@ -235,16 +233,16 @@ module _ {R : Type 0} where
       }
 
   -- no trial survived
-  pub gives_up : (rules : Rules) (image : Image) (began : Since) (now : Told) (phases : Phases) (coming : Option Coming) (cause : Cause) (old : SessionState R) (cpu : CpuState R) (ring : Checkpoints) (replies : Ledger) (choices : List Choice)
-      (f : IsFailing rules image began now phases cause old) (trials : List Trial) (lost before after : ℕ) (noted : Noted) (tables : Option (List (List Try))) → cpu.slots.saved ≡ old.cpu.slots.saved → keeping_by ring.capacity old.options.every cpu.slots ≡ keeping_of old → IsRecovery rules image (entries f.going.story) (recovery_of (failure_of rules image f.going.story f.going.saved.paths) f.going.story.survivor.begun cause trials)
+  pub gives_up : {rules : Rules} {image : Image} {began : Since} {seen : Seen} {cause : Cause} {old : SessionState R} {cpu : CpuState R} {ring : Checkpoints} {replies : Ledger} {choices : List Choice}
+      (f : IsFailing rules image began seen cause old) {trials : List Trial} {lost : ℕ} (before : ℕ) {after : ℕ} {noted : Noted} {tables : Option (List (List Try))} → cpu.slots.saved ≡ old.cpu.slots.saved → keeping_by ring.capacity old.options.every cpu.slots ≡ keeping_of old → IsRecovery rules image (entries f.going.story) (recovery_of (failure_of rules image f.going.story f.going.saved.paths) f.going.story.survivor.begun cause trials)
       → survivor_in trials ≡ None → replies ≡ discarded old.replies → choices ≡ old.choices → after ≡ before + steps_of trials → lost + old.steps + before ≡ began.lost + old.steps + after
       → HasNotedMore began.noted noted [] (told_of f.going.story.survivor cause trials ∷ []) → TellsOne rules (entries f.going.story) (recovery_of (failure_of rules image f.going.story f.going.saved.paths) f.going.story.survivor.begun cause trials) began.tables tables
-      → IsEnding rules image (record began { lost = lost; noted = noted; tables = tables }) now coming (walked old cpu ring replies choices) (answer.GaveUp old.taken cause)
-  gives_up rules image began now phases coming cause old cpu ring replies choices f trials lost before after noted tables slots keeping was none ledger chose counted counts more one =
+      → IsEnding rules image (record began { lost = lost; noted = noted; tables = tables }) seen (walked old cpu ring replies choices) (answer.GaveUp old.taken cause)
+  gives_up {rules = rules} {image = image} {began = began} {seen = seen} {cause = cause} {old = old} {cpu = cpu} {ring = ring} {replies = replies} {choices = choices} f {trials = trials} {lost = lost} before {noted = noted} {tables = tables} slots keeping was none ledger chose counted counts more one =
       let g = f.going in
       let story : Story = g.story in
-      let same : replies ≡ old.replies = ledger ∙ discards_none old.replies g.passed.no_trial in
-      let given_up : HasGivenUp rules image (keeping_by ring.capacity old.options.every cpu.slots) story.earlier story.since story.recoveries story.survivor trials cause = given_up_by rules image began now phases cause old (keeping_by ring.capacity old.options.every cpu.slots) f trials keeping was none in
+      let same : replies ≡ old.replies = ledger ∙ discards_none g.passed.no_trial in
+      let given_up : HasGivenUp rules image (keeping_by ring.capacity old.options.every cpu.slots) story.earlier story.since story.recoveries story.survivor trials cause = given_up_by rules image began seen cause old (keeping_by ring.capacity old.options.every cpu.slots) f trials keeping was none in
       record {
         story = story;
         trials = trials;
@@ -253,14 +251,14 @@ module _ {R : Type 0} where
         noted = began.noted;
         last = told_of story.survivor cause trials ∷ [];
         last_noted = more;
-        told = told_unwatched rules image began now story g.told;
-        tables = tables_given_up rules image (keeping_by ring.capacity old.options.every cpu.slots) story.earlier story.since story.survivor story.recoveries trials cause (answer.GaveUp old.taken cause) given_up began.tables_before began.tables tables g.told.tables one;
-        answers = answers_told began story (walked old cpu ring replies choices) tables (answers_as began story old (walked old cpu ring replies choices) refl chose refl refl g.answers);
-        received_are = received_is rules.bounds (entries story) old.log g.goes.items;
+        told = told_unwatched g.told;
+        tables = tables_given_up (answer.GaveUp old.taken cause) given_up began.tables_before began.tables tables g.told.tables one;
+        answers = answers_told (answers_as refl chose refl refl g.answers);
+        received_are = received_is g.goes.items;
         replies = subst (λ (l : Ledger). KeepsReplies rules.bounds (entries story) None (sends story) l) (sym same) g.passed.replies;
         no_trial = ap (λ (l : Ledger). l.trial) same ∙ g.passed.no_trial;
         closed = λ send stands closing owed. g.passed.done send stands owed;
-        holds = held_by rules image story.earlier (entries story) story.recoveries story.survivor old (walked old cpu ring replies choices) slots keeping (held_of rules image story old g.saved);
+        holds = held_by rules image story.earlier (entries story) story.recoveries story.survivor old (walked old cpu ring replies choices) slots keeping (held_of g.saved);
         handled = λ is. absurd is;
         live = tt;
         is_end = tt;
@@ -270,42 +268,34 @@ module _ {R : Type 0} where
       }
 
   -- what stands behind a recovery that adopted a trial
-  adopted_requests : (rules : Rules) (image : Image) (began : Since) (now : Told) (phases : Phases) (cause : Cause) (old : SessionState R) (cpu : CpuState R) (ring : Checkpoints) (replies : Ledger) (choices : List Choice) (adopted : Adopted)
-      (f : IsFailing rules image began now phases cause old) (trials : List Trial) (trial : Trial) → survivor_in trials ≡ Some trial
+  adopted_requests : {rules : Rules} {image : Image} {began : Since} {seen : Seen} {cause : Cause} {old : SessionState R} {cpu : CpuState R} {ring : Checkpoints} {replies : Ledger} {choices : List Choice} {adopted : Adopted}
+      (f : IsFailing rules image began seen cause old) {trials : List Trial} {trial : Trial} → survivor_in trials ≡ Some trial
       → HasAdoptedRun (failure_of rules image f.going.story f.going.saved.paths) (recovery_of (failure_of rules image f.going.story f.going.saved.paths) f.going.story.survivor.begun cause trials) trial adopted cpu ring old.recorded choices old.log replies
       → KeepsSlots (Some adopted) old.cpu cpu → keeping_by ring.capacity old.options.every cpu.slots ≡ keeping_of old
       → HasHandled rules image (keeping_by ring.capacity old.options.every cpu.slots) (f.going.story.earlier ++ record { survivor = f.going.story.survivor; entries = f.going.story.since } ∷ [])
       (entries (adopted_story f.going.story (recovery_of (failure_of rules image f.going.story f.going.saved.paths) f.going.story.survivor.begun cause trials) trial)) (f.going.story.recoveries ++ recovery_of (failure_of rules image f.going.story f.going.saved.paths) f.going.story.survivor.begun cause trials ∷ [])
       (adopted_by (recovery_of (failure_of rules image f.going.story f.going.saved.paths) f.going.story.survivor.begun cause trials) trial) trial.path.state.machine.taken (stands_of cpu.slots.saved)
-  adopted_requests rules image began now phases cause old cpu ring replies choices adopted f trials trial found run slots keeping =
+  adopted_requests {rules = rules} {image = image} {cause = cause} {old = old} {cpu = cpu} {adopted = adopted} f {trials = trials} {trial = trial} found run slots keeping =
       let g = f.going in
       let story : Story = g.story in
       let recovery : Recovery = recovery_of (failure_of rules image story g.saved.paths) story.survivor.begun cause trials in
       let next : Story = adopted_story story recovery trial in
       let k = g.saved.ring in
-      let before = failed_requests rules image began now phases cause old f in
-      let within : run.index < length g.saved.paths = slice_get_within g.saved.paths run.index trial.chance.checkpoint run.from in
-      let left : length (drop run.index g.saved.paths) ≡ length g.saved.paths - run.index = length-drop run.index g.saved.paths in
-      let cut : length cpu.slots.saved ≡ length old.cpu.slots.saved - slots.0 = ap length slots.2 ∙ length-take-le (length old.cpu.slots.saved - slots.0) old.cpu.slots.saved (omega arith) in
-      let as_many = run.ring.as_many in
-      let many = k.as_many in
-      let low = slots.1 in
-      let index : slots.0 ≡ run.index = omega (arith, within, left, cut, as_many, many, low) in
+      let before = failed_requests f in
       subst (λ (kept : Keeping). HasHandled rules image kept next.earlier (entries next) (story.recoveries ++ recovery ∷ []) (adopted_by recovery trial) trial.path.state.machine.taken (stands_of cpu.slots.saved)) (sym keeping)
-      (handled_adopts rules image (keeping_of old) story.earlier (record { survivor = story.survivor; entries = story.since }) (entries story) (entries next) story.recoveries recovery (adopted_by recovery trial) (stands_of old.cpu.slots.saved) (stands_of cpu.slots.saved) trial run.index
-      refl before (has_ring old.cpu.slots.saved g.saved.paths k.as_many k.saved) found run.from
-      (stands_up_to run.index old.cpu.slots.saved cpu.slots.saved (slots.2 ∙ ap (λ n. without_newer n old.cpu.slots.saved) index)))
+      (handled_adopts rules image (keeping_of old) story.earlier (record { survivor = story.survivor; entries = story.since }) (entries story) (entries next) story.recoveries recovery (adopted_by recovery trial) (stands_of old.cpu.slots.saved) (stands_of cpu.slots.saved) trial adopted.index
+      refl before (has_ring old.cpu.slots.saved g.saved.paths k.as_many k.saved) found run.from (stands_up_to adopted.index old.cpu.slots.saved cpu.slots.saved slots.1))
 
   -- the session goes on as a trial that asks for the next item
-  pub adopts_going : (rules : Rules) (image : Image) (began : Since) (now : Told) (phases : Phases) (cause : Cause) (old : SessionState R) (cpu : CpuState R) (ring : Checkpoints) (replies : Ledger) (choices : List Choice) (adopted : Adopted)
-      (f : IsFailing rules image began now phases cause old) (trials : List Trial) (trial : Trial) (lost : ℕ) → IsRecovery rules image (entries f.going.story) (recovery_of (failure_of rules image f.going.story f.going.saved.paths) f.going.story.survivor.begun cause trials)
+  pub adopts_going : {rules : Rules} {image : Image} {began : Since} {seen : Seen} {cause : Cause} {old : SessionState R} {cpu : CpuState R} {ring : Checkpoints} {replies : Ledger} {choices : List Choice} {adopted : Adopted}
+      (f : IsFailing rules image began seen cause old) {trials : List Trial} {trial : Trial} {lost : ℕ} → IsRecovery rules image (entries f.going.story) (recovery_of (failure_of rules image f.going.story f.going.saved.paths) f.going.story.survivor.begun cause trials)
       → survivor_in trials ≡ Some trial
       → HasAdoptedRun (failure_of rules image f.going.story f.going.saved.paths) (recovery_of (failure_of rules image f.going.story f.going.saved.paths) f.going.story.survivor.begun cause trials) trial adopted cpu ring old.recorded choices old.log replies
       → KeepsSlots (Some adopted) old.cpu cpu → keeping_by ring.capacity old.options.every cpu.slots ≡ keeping_of old
       → HasSameBytes old.replies replies → adopted.code ≡ None → lost + trial.path.steps ≡ began.lost + f.going.story.survivor.now.steps + steps_of trials
       → (noted : Noted) → HasNotedMore began.noted noted [] (told_of f.going.story.survivor cause trials ∷ []) → (tables : Option (List (List Try))) → TellsOne rules (entries f.going.story) (recovery_of (failure_of rules image f.going.story f.going.saved.paths) f.going.story.survivor.begun cause trials) began.tables tables
-      → IsGoing rules image (record began { lost = lost; noted = noted; tables = tables }) now phases (goes_as old cpu ring replies choices adopted.env (old.taken + 4))
-  adopts_going rules image began now phases cause old cpu ring replies choices adopted f trials trial lost was found run slots keeping bytes asks counts noted more tables one =
+      → IsGoing rules image (record began { lost = lost; noted = noted; tables = tables }) seen (goes_as old cpu ring replies choices adopted.env (old.taken + 4))
+  adopts_going {rules = rules} {image = image} {seen = seen} {cause = cause} {old = old} {cpu = cpu} {ring = ring} {replies = replies} {adopted = adopted} f {trials = trials} {trial = trial} {lost = lost} was found run slots keeping bytes asks counts noted more tables one =
       let g = f.going in
       let story : Story = g.story in
       let recovery : Recovery = recovery_of (failure_of rules image story g.saved.paths) story.survivor.begun cause trials in
@@ -319,8 +309,8 @@ module _ {R : Type 0} where
       let few : story.survivor.now.state.machine.taken ≤ rules.bounds.max_items = g.goes.few in
       record {
         story = next;
-        told = told_adopted rules image began now story recovery trial lost noted tables g.told (owes_nothing rules story f.due g.passed.done) refl was found counts more.episodes_more one;
-        answers = answers_told (record began { lost = lost; noted = noted }) next (goes_as old cpu ring replies choices adopted.env (old.taken + 4)) tables (answers_adopted began noted story next old (goes_as old cpu ring replies choices adopted.env (old.taken + 4)) refl run.low run.chose
+        told = told_adopted g.told (owes_nothing rules story f.due g.passed.done) refl was found counts more.episodes_more one;
+        answers = answers_told (answers_adopted refl run.low run.chose
             (ap (λ (s : Standing). s.guest.machine.taken) run.stands) (ap (λ (s : Standing). s.steps) run.stands) run.front g.answers more.choices_more lost);
         goes = record {
           lives = lives;
@@ -330,13 +320,13 @@ module _ {R : Type 0} where
           within = λ conn may. ap (λ es. opens conn (heeded rules.bounds (events_in es))) same ∙ run.goes.within conn may;
           items = subst (λ es. KeepsItems rules.bounds es old.log) (sym same) g.goes.items;
           events = g.goes.events ∙ ap (λ es. length (events_in es)) (sym same);
-          phases_are = subst (λ (es : List Entry). KeepsPhases es phases) (sym same) g.goes.phases_are;
+          phases_are = subst (λ (es : List Entry). KeepsPhases es seen.phases) (sym same) g.goes.phases_are;
         };
         saved = record {
-          paths = drop run.index g.saved.paths;
-          ring = subst (λ es. KeepsRing rules image es (adopted_by recovery trial).plan trial.path (drop run.index g.saved.paths) cpu ring old.log replies) (sym same) run.ring;
-          early = behind_drop old.recorded run.index g.saved.paths g.saved.early;
-          requests = inl (adopted_requests rules image began now phases cause old cpu ring replies choices adopted f trials trial found run slots keeping);
+          paths = drop adopted.index g.saved.paths;
+          ring = subst (λ es. KeepsRing rules image es (adopted_by recovery trial).plan trial.path (drop adopted.index g.saved.paths) cpu ring old.log replies) (sym same) run.ring;
+          early = behind_drop old.recorded adopted.index g.saved.paths g.saved.early;
+          requests = inl (adopted_requests f found run slots keeping);
           in_force =
               subst (λ n. IsInForce (adopted_by recovery trial).plan n adopted.env (old.taken + 4)) (sym taken)
               (subst (λ n. IsInForce (adopted_by recovery trial).plan story.survivor.now.state.machine.taken adopted.env n) (sym (ap (λ n. n + 4) point)) run.in_force);
@@ -351,45 +341,45 @@ module _ {R : Type 0} where
       }
 
   -- the trial ended itself
-  pub adopts_ending : (rules : Rules) (image : Image) (began : Since) (now : Told) (phases : Phases) (coming : Option Coming) (cause : Cause) (old : SessionState R) (cpu : CpuState R) (ring : Checkpoints) (replies : Ledger) (choices : List Choice)
-      (adopted : Adopted) (code : ℕ) (f : IsFailing rules image began now phases cause old) (trials : List Trial) (trial : Trial) (lost : ℕ)
+  pub adopts_ending : {rules : Rules} {image : Image} {began : Since} {seen : Seen} {cause : Cause} {old : SessionState R} {cpu : CpuState R} {ring : Checkpoints} {replies : Ledger} {choices : List Choice}
+      {adopted : Adopted} {code : ℕ} (f : IsFailing rules image began seen cause old) {trials : List Trial} {trial : Trial} {lost : ℕ}
       → IsRecovery rules image (entries f.going.story) (recovery_of (failure_of rules image f.going.story f.going.saved.paths) f.going.story.survivor.begun cause trials) → survivor_in trials ≡ Some trial
       → HasAdoptedRun (failure_of rules image f.going.story f.going.saved.paths) (recovery_of (failure_of rules image f.going.story f.going.saved.paths) f.going.story.survivor.begun cause trials) trial adopted cpu ring old.recorded choices old.log replies
       → KeepsSlots (Some adopted) old.cpu cpu → keeping_by ring.capacity old.options.every cpu.slots ≡ keeping_of old
       → HasSameBytes old.replies replies → adopted.code ≡ Some code → lost + trial.path.steps ≡ began.lost + f.going.story.survivor.now.steps + steps_of trials
       → (noted : Noted) → HasNotedMore began.noted noted [] (told_of f.going.story.survivor cause trials ∷ []) → (tables : Option (List (List Try))) → TellsOne rules (entries f.going.story) (recovery_of (failure_of rules image f.going.story f.going.saved.paths) f.going.story.survivor.begun cause trials) began.tables tables
-      → IsEnding rules image (record began { lost = lost; noted = noted; tables = tables }) now coming (goes_as old cpu ring replies choices adopted.env (old.taken + 4)) (answer.Exited code)
-  adopts_ending rules image began now phases coming cause old cpu ring replies choices adopted code f trials trial lost was found run slots keeping bytes exits counts noted more tables one =
+      → IsEnding rules image (record began { lost = lost; noted = noted; tables = tables }) seen (goes_as old cpu ring replies choices adopted.env (old.taken + 4)) (answer.Exited code)
+  adopts_ending {rules = rules} {image = image} {began = began} {cause = cause} {old = old} {cpu = cpu} {ring = ring} {replies = replies} {adopted = adopted} {code = code} f {trials = trials} {trial = trial} {lost = lost} was found run slots keeping bytes exits counts noted more tables one =
       let g = f.going in
       let story : Story = g.story in
       let recovery : Recovery = recovery_of (failure_of rules image story g.saved.paths) story.survivor.begun cause trials in
       let next : Story = adopted_story story recovery trial in
       let same : entries next ≡ entries story = same_entries story recovery trial in
-      let then = told_adopted rules image began now story recovery trial lost noted tables g.told (owes_nothing rules story f.due g.passed.done) refl was found counts more.episodes_more one in
+      let then = told_adopted g.told (owes_nothing rules story f.due g.passed.done) refl was found counts more.episodes_more one in
       record {
         story = next;
         trials = [];
         lost = lost;
-        lost_is = none_lost lost;
+        lost_is = none_lost;
         noted = noted;
         last = [];
-        last_noted = none_noted noted;
-        told = told_unwatched rules image (record began { lost = lost; noted = noted; tables = tables }) now next then;
+        last_noted = none_noted;
+        told = told_unwatched then;
         tables = tables_here rules image (keeping_by ring.capacity old.options.every cpu.slots) next.earlier next.since next.survivor next.recoveries [] (answer.Exited code) began.tables_before tables then.tables;
-        answers = answers_told (record began { lost = lost; noted = noted }) next (goes_as old cpu ring replies choices adopted.env (old.taken + 4)) tables (answers_adopted began noted story next old (goes_as old cpu ring replies choices adopted.env (old.taken + 4)) refl run.low run.chose
+        answers = answers_told (answers_adopted refl run.low run.chose
             (ap (λ (s : Standing). s.guest.machine.taken) run.stands) (ap (λ (s : Standing). s.steps) run.stands) run.front g.answers more.choices_more lost);
-        received_are = received_is rules.bounds (entries story) old.log g.goes.items ∙ ap (received rules.bounds) (sym same);
+        received_are = received_is g.goes.items ∙ ap (received rules.bounds) (sym same);
         replies = subst (λ es. KeepsReplies rules.bounds es None trial.path.state.sends replies) (sym same) run.replies;
         no_trial = bytes.no_trial;
         closed = λ send stands closing owed. absurd owed;
         holds = record {
-          paths = drop run.index g.saved.paths;
+          paths = drop adopted.index g.saved.paths;
           some = run.ring.some;
-          chained = subst (λ es. AreChained rules.limits (items_in rules.bounds es) (adopted_by recovery trial).plan image trial.path (drop run.index g.saved.paths)) (sym same) run.ring.chained;
+          chained = subst (λ es. AreChained rules.limits (items_in rules.bounds es) (adopted_by recovery trial).plan image trial.path (drop adopted.index g.saved.paths)) (sym same) run.ring.chained;
           are = run.ring.are;
           as_many = run.ring.as_many;
           saved = run.ring.saved;
-          requests = inl (adopted_requests rules image began now phases cause old cpu ring replies choices adopted f trials trial found run slots keeping);
+          requests = inl (adopted_requests f found run slots keeping);
         };
         handled = λ is. absurd is;
         live = run.stands;
@@ -400,24 +390,24 @@ module _ {R : Type 0} where
       }
 
   -- the episode of a recovery that adopted isn't noted: the session is broken off as the trial
-  adopted_unnoted : (rules : Rules) (image : Image) (began : Since) (now : Told) (coming : Option Coming) (story : Story) (recovery : Recovery) (trial : Trial) (lost : ℕ) (session : SessionState R) (fault : Answer) (tables : Option (List (List Try))) → IsTold rules image began now story → LeavesNothing rules (entries_of story.earlier) story.since story.survivor
+  adopted_unnoted : {rules : Rules} {image : Image} {began : Since} {seen : Seen} {story : Story} {recovery : Recovery} {trial : Trial} {lost : ℕ} {session : SessionState R} {fault : Answer} {tables : Option (List (List Try))} → IsTold rules image began seen.told story → LeavesNothing rules (entries_of story.earlier) story.since story.survivor
       → recovery.survivor ≡ story.survivor → IsRecovery rules image (entries story) recovery → survivor_in recovery.trials ≡ Some trial → lost + trial.path.steps ≡ began.lost + story.survivor.now.steps + steps_of recovery.trials
       → AnswersFor (record began { lost = lost }) (adopted_story story recovery trial) session → HaveRings rules image (keeping_of session) (story.earlier ++ record { survivor = story.survivor; entries = story.since } ∷ []) (story.recoveries ++ recovery ∷ []) → IsNoteFault fault → TellsOne rules (entries story) recovery began.tables tables
-      → IsBrokenOff rules image (record began { lost = lost; tables = tables }) now coming session fault
-  adopted_unnoted rules image began now coming story recovery trial lost session fault tables told leaves is was found counts answers rings note one =
+      → IsBrokenOff rules image (record began { lost = lost; tables = tables }) seen session fault
+  adopted_unnoted {rules = rules} {image = image} {began = began} {seen = seen} {story = story} {recovery = recovery} {trial = trial} {session = session} {fault = fault} {tables = tables} told leaves is was found counts answers rings note one =
       let next : Story = adopted_story story recovery trial in
       let nobody : Noted = record { choices = None; episodes = None } in
-      let then = told_adopted rules image (unwatched (record began { noted_before = nobody; noted = nobody })) now story recovery trial lost nobody None
+      let then = told_adopted {began = unwatched (record began { noted_before = nobody; noted = nobody })}
       (record { serving = told.serving; way = told.way; tells = told.tells; counted = told.counted; recovered = told.recovered; episodes = tt; tables = refl }) leaves is was found counts tt refl in
-      (broken_noting (λ account. Unit {0}) rules image (record began { lost = lost; tables = tables }) nobody nobody now coming session next fault then
+      (broken_noting (λ account. Unit {0}) {before = nobody} {noted = nobody} then
       (tables_here rules image (keeping_of session) next.earlier next.since next.survivor next.recoveries [] fault began.tables_before tables (tables_then rules story recovery began.tables_before began.tables tables told.tables one))
-      (notes_here (record began { lost = lost }) next session fault (map episode_of story.recoveries) (episode_of recovery ∷ []) told.episodes answers (map-append episode_of story.recoveries (recovery ∷ [])) (omega arith) (λ some. note)
-      (note_no_end fault note)) answers.taken answers.steps (note_ends rules coming (account_of next) fault note) (note_no_end fault note) rings (λ never. absurd (never note)) (λ is. absurd (note_at_none fault note is)) tt).0
+      (notes_here (map episode_of story.recoveries) (episode_of recovery ∷ []) told.episodes answers (map-append episode_of story.recoveries (recovery ∷ [])) (omega arith) (λ some. note)
+      (note_no_end fault note)) answers.taken answers.steps (note_ends rules seen.coming (account_of next) fault note) (note_no_end fault note) rings (λ never. absurd (never note)) (λ is. absurd (note_at_none fault note is)) tt).0
 
   -- what is counted otherwise at want of memory isn't counted at all
-  abbrev pub off_lost : (rules : Rules) (image : Image) (began : Since) (now : Told) (coming : Option Coming) (session : SessionState R) (end : Answer) (lost : ℕ) → (end ≢ answer.Memory → lost ≡ began.lost) → IsBrokenOff rules image began now coming session end
-      → IsBrokenOff rules image (record began { lost = lost }) now coming session end
-  off_lost rules image began now coming session end lost same off = record {
+  abbrev pub off_lost : (rules : Rules) (image : Image) (began : Since) (seen : Seen) (session : SessionState R) (end : Answer) (lost : ℕ) → (end ≢ answer.Memory → lost ≡ began.lost) → IsBrokenOff rules image began seen session end
+      → IsBrokenOff rules image (record began { lost = lost }) seen session end
+  off_lost rules image began seen session end lost same off = record {
     account = off.account;
     tells = off.tells;
     is_account = off.is_account;
@@ -441,87 +431,87 @@ module _ {R : Type 0} where
   }
 
   -- memory ran out: the session answers for the run that failed
-  pub adopt_breaks : (rules : Rules) (image : Image) (began : Since) (now : Told) (phases : Phases) (coming : Option Coming) (cause : Cause) (old : SessionState R) (cpu : CpuState R) (ring : Checkpoints) (replies : Ledger) (choices : List Choice) (lost : ℕ) (tables : Option (List (List Try)))
-      → (f : IsFailing rules image began now phases cause old) → keeping_by ring.capacity old.options.every cpu.slots ≡ keeping_of old → choices ≡ old.choices → (tables ≡ began.tables) ⊎ TellsTable (failure_of rules image f.going.story f.going.saved.paths) old.taken began.tables tables
-      → IsBrokenOff rules image (record began { lost = lost; tables = tables }) now coming (walked old cpu ring replies choices) answer.Memory
-  adopt_breaks rules image began now phases coming cause old cpu ring replies choices lost tables f keeping chose looked =
+  pub adopt_breaks : {rules : Rules} {image : Image} {began : Since} {seen : Seen} {cause : Cause} {old : SessionState R} {cpu : CpuState R} {ring : Checkpoints} {replies : Ledger} {choices : List Choice} {lost : ℕ} {tables : Option (List (List Try))}
+      → (f : IsFailing rules image began seen cause old) → keeping_by ring.capacity old.options.every cpu.slots ≡ keeping_of old → choices ≡ old.choices → (tables ≡ began.tables) ⊎ TellsTable (failure_of rules image f.going.story f.going.saved.paths) old.taken began.tables tables
+      → IsBrokenOff rules image (record began { lost = lost; tables = tables }) seen (walked old cpu ring replies choices) answer.Memory
+  adopt_breaks {rules = rules} {image = image} {began = began} {seen = seen} {cause = cause} {old = old} {cpu = cpu} {ring = ring} {replies = replies} {choices = choices} {lost = lost} {tables = tables} f keeping chose looked =
       let story : Story = f.going.story in
       let told = f.going.told in
-      let answers = answers_as began story old (walked old cpu ring replies choices) refl chose refl refl f.going.answers in
+      let answers = answers_as {new = walked old cpu ring replies choices} refl chose refl refl f.going.answers in
       let all : List Episode = map episode_of story.recoveries in
-      off_lost rules image (record began { tables = tables }) now coming (walked old cpu ring replies choices) answer.Memory lost (λ others. absurd (others refl))
-      (broken_noting (λ account. Unit {0}) rules image (record began { tables = tables }) began.noted_before began.noted now coming (walked old cpu ring replies choices) story answer.Memory (told_unwatched rules image began now story told)
+      off_lost rules image (record began { tables = tables }) seen (walked old cpu ring replies choices) answer.Memory lost (λ others. absurd (others refl))
+      (broken_noting (λ account. Unit {0}) (told_unwatched told)
       (elim looked [
         | inl same ↦ tables_here rules image (keeping_by ring.capacity old.options.every cpu.slots) story.earlier story.since story.survivor story.recoveries [] answer.Memory began.tables_before tables (subst (λ (t : Option (List (List Try))). TellsMore began.tables_before t (AreTables rules [] story.earlier story.recoveries)) (sym same) told.tables)
-        | inr more ↦ tables_memory rules image (keeping_by ring.capacity old.options.every cpu.slots) story.earlier story.since story.survivor story.recoveries (recovery_of (failure_of rules image story f.going.saved.paths) story.survivor.begun cause []) [] began.tables_before began.tables tables told.tables (table_of rules image began now phases cause old f [] began.tables tables more)
+        | inr more ↦ tables_memory rules image (keeping_by ring.capacity old.options.every cpu.slots) story.earlier story.since story.survivor story.recoveries (recovery_of (failure_of rules image story f.going.saved.paths) story.survivor.begun cause []) [] began.tables_before began.tables tables told.tables (table_of f [] began.tables tables more)
       ])
-      (notes_here began story (walked old cpu ring replies choices) answer.Memory all [] told.episodes answers (sym (append-nil all)) (omega arith) (λ some. absurd (omega (arith, some))) (λ is. is)) answers.taken answers.steps tt (λ is. is) (rings_kept rules image story old (walked old cpu ring replies choices) keeping f.going.saved) (λ never. absurd (never tt)) (λ is. absurd is) tt).0
+      (notes_here all [] told.episodes answers (sym (append-nil all)) (omega arith) (λ some. absurd (omega (arith, some))) (λ is. is)) answers.taken answers.steps tt (λ is. is) (rings_kept (walked old cpu ring replies choices) keeping f.going.saved) (λ never. absurd (never tt)) (λ is. absurd is) tt).0
 
   -- behind a failure the number is higher, up to which an environment is in force
-  pub adopted_later : (rules : Rules) (image : Image) (began : Since) (now : Told) (phases : Phases) (cause : Cause) (old : SessionState R) → IsFailing rules image began now phases cause old → (old.until < old.taken + 4) × (old.taken ≤ rules.bounds.max_items)
-  adopted_later rules image began now phases cause old f =
+  pub adopted_later : {rules : Rules} {image : Image} {began : Since} {seen : Seen} {cause : Cause} {old : SessionState R} → IsFailing rules image began seen cause old → (old.until < old.taken + 4) × (old.taken ≤ rules.bounds.max_items)
+  adopted_later {rules = rules} {old = old} f =
       let g = f.going in
       let taken : old.taken ≡ g.story.survivor.now.state.machine.taken = g.answers.taken in
       let few : g.story.survivor.now.state.machine.taken ≤ rules.bounds.max_items = g.goes.few in
       let past : old.until < g.story.survivor.now.state.machine.taken + 4 = elim g.saved.past [
         | inl past ↦ past
-        | inr there ↦ absurd (asks_or_fails rules.limits g.story.survivor.plan g.story.survivor.now cause g.story.survivor.now.state.machine.taken there.1 f.fails)
+        | inr there ↦ absurd (asks_or_fails there.1 f.fails)
       ] in
       (omega (arith, taken, past), omega (arith, taken, few))
 
   -- a session that is seen in another way fails still
-  pub failing_moved : {rules : Rules} {image : Image} {began : Since} {now : Told} {phases : Phases} {cause : Cause} {s t : SessionState R} → s ≡ t → IsFailing rules image began now phases cause s → IsFailing rules image began now phases cause t
-  failing_moved {rules = rules} {image = image} {began = began} {now = now} {phases = phases} {cause = cause} same = subst (λ (s : SessionState R). IsFailing rules image began now phases cause s) same
+  pub failing_moved : {rules : Rules} {image : Image} {began : Since} {seen : Seen} {cause : Cause} {s t : SessionState R} → s ≡ t → IsFailing rules image began seen cause s → IsFailing rules image began seen cause t
+  failing_moved {rules = rules} {image = image} {began = began} {seen = seen} {cause = cause} same = subst (λ (s : SessionState R). IsFailing rules image began seen cause s) same
 
   -- the point of a failure by another word for it
-  pub adopting_at : {rules : Rules} {image : Image} {began : Since} {now : Told} {phases : Phases} {coming : Option Coming} {cause : Cause} {session : SessionState R} {recovered : Recovered} {one other : ℕ} → one ≡ other
-      → Adopting rules image began now phases coming one cause session recovered → Adopting rules image began now phases coming other cause session recovered
-  adopting_at {rules = rules} {image = image} {began = began} {now = now} {phases = phases} {coming = coming} {cause = cause} {session = session} {recovered = recovered} same =
-      subst (λ n. Adopting rules image began now phases coming n cause session recovered) same
+  pub adopting_at : {rules : Rules} {image : Image} {began : Since} {seen : Seen} {cause : Cause} {session : SessionState R} {recovered : Recovered} {one other : ℕ} → one ≡ other
+      → Adopting rules image began seen one cause session recovered → Adopting rules image began seen other cause session recovered
+  adopting_at {rules = rules} {image = image} {began = began} {seen = seen} {cause = cause} {session = session} {recovered = recovered} same =
+      subst (λ n. Adopting rules image began seen n cause session recovered) same
 
   -- a session that is seen in another way goes on so still
-  pub adopting_in : {rules : Rules} {image : Image} {began : Since} {now : Told} {phases : Phases} {coming : Option Coming} {point : ℕ} {cause : Cause} {recovered : Recovered} {s t : SessionState R} → s ≡ t → Adopting rules image began now phases coming point cause s recovered
-      → Adopting rules image began now phases coming point cause t recovered
-  adopting_in {rules = rules} {image = image} {began = began} {now = now} {phases = phases} {coming = coming} {point = point} {cause = cause} {recovered = recovered} same = subst (λ (s : SessionState R). Adopting rules image began now phases coming point cause s recovered) same
+  pub adopting_in : {rules : Rules} {image : Image} {began : Since} {seen : Seen} {point : ℕ} {cause : Cause} {recovered : Recovered} {s t : SessionState R} → s ≡ t → Adopting rules image began seen point cause s recovered
+      → Adopting rules image began seen point cause t recovered
+  adopting_in {rules = rules} {image = image} {began = began} {seen = seen} {point = point} {cause = cause} {recovered = recovered} same = subst (λ (s : SessionState R). Adopting rules image began seen point cause s recovered) same
 
   -- what a recovery left of it
-  abbrev pub Left : (rules : Rules) (image : Image) (began : Since) (now : Told) (phases : Phases) (cause : Cause) (old : SessionState R) → IsFailing rules image began now phases cause old → Recovered → CpuState R → Checkpoints → Ledger → List Choice → ℕ → ℕ → Type 0
-  Left rules image began now phases cause old f recovered cpu ring replies choices before after =
+  abbrev pub Left : (rules : Rules) (image : Image) (began : Since) (seen : Seen) (cause : Cause) (old : SessionState R) → IsFailing rules image began seen cause old → Recovered → CpuState R → Checkpoints → Ledger → List Choice → ℕ → ℕ → Type 0
+  Left rules image began seen cause old f recovered cpu ring replies choices before after =
       HasRecovery (failure_of rules image f.going.story f.going.saved.paths) f.going.story.survivor.begun cause recovered cpu old.ring ring old.recorded old.choices choices old.log old.replies replies before after
 
   -- no trial survived, and the episode isn't noted
-  gave_up_unnoted : (rules : Rules) (image : Image) (began : Since) (now : Told) (coming : Option Coming) (cause : Cause) (story : Story) (paths : List Path) (trials : List Trial) (lost : ℕ) (session : SessionState R) (fault : Answer) (tables : Option (List (List Try))) → IsTold rules image began now story
+  gave_up_unnoted : {rules : Rules} {image : Image} {began : Since} {seen : Seen} {cause : Cause} {story : Story} (paths : List Path) {trials : List Trial} {lost : ℕ} {session : SessionState R} {fault : Answer} {tables : Option (List (List Try))} → IsTold rules image began seen.told story
       → (given_up : HasGivenUp rules image (keeping_of session) story.earlier story.since story.recoveries story.survivor trials cause) → lost ≡ began.lost + steps_of trials → AnswersFor began story session → IsNoteFault fault
-      → TellsOne rules (entries story) (record { survivor = story.survivor; cause = cause; ring = given_up.ring; trials = trials }) began.tables tables → IsBrokenOff rules image (record began { lost = lost; tables = tables }) now coming session fault
-  gave_up_unnoted rules image began now coming cause story paths trials lost session fault tables told given_up counts answers note one =
+      → TellsOne rules (entries story) (record { survivor = story.survivor; cause = cause; ring = given_up.ring; trials = trials }) began.tables tables → IsBrokenOff rules image (record began { lost = lost; tables = tables }) seen session fault
+  gave_up_unnoted {rules = rules} {image = image} {began = began} {seen = seen} {cause = cause} {story = story} paths {trials = trials} {fault = fault} {tables = tables} told given_up counts answers note one =
       let is : entries story ≡ before_end (account_of story) = refl in
       record {
         account = account_of story;
-        tells = subst (Tells began.told now) (sym (journal_of_story story)) told.tells;
+        tells = subst (Tells began.told seen.told) (sym (journal_of_story story)) told.tells;
         is_account = serving_account rules image story.earlier story.survivor story.since false told.serving;
-        ends = note_ends rules coming (account_of story) fault note;
+        ends = note_ends rules seen.coming (account_of story) fault note;
         pieces = tt;
         no_end = note_no_end fault note;
         recoveries = story.recoveries;
         holds = λ never. absurd (never note);
         handled = λ is. absurd (note_at_none fault note is);
         recovered = told.recovered;
-        ringed = rings_of rules image (keeping_of session) story.earlier (entries story) story.recoveries story.survivor story.survivor.now.state.machine.taken given_up.stands given_up.handled;
+        ringed = rings_of given_up.handled;
         trials = trials;
         last = told_of story.survivor cause trials ∷ [];
         tried = inr (cause, given_up, refl);
-        notes = notes_here began story session fault (map episode_of story.recoveries) (told_of story.survivor cause trials ∷ []) told.episodes answers refl (omega arith) (λ some. note) (note_no_end fault note);
-        tables = tables_given_up rules image (keeping_of session) story.earlier story.since story.survivor story.recoveries trials cause fault given_up began.tables_before began.tables tables told.tables one;
+        notes = notes_here (map episode_of story.recoveries) (told_of story.survivor cause trials ∷ []) told.episodes answers refl (omega arith) (λ some. note) (note_no_end fault note);
+        tables = tables_given_up fault given_up began.tables_before began.tables tables told.tables one;
         taken = answers.taken;
         steps = answers.steps;
         counted = λ others. let before = told.counted in omega (arith, before, counts);
         later = steps_later rules.limits (items_in rules.bounds (entries story)) story.survivor.plan story.survivor.begun story.survivor.now told.way;
       }
 
-  pub adopt_none : (rules : Rules) (image : Image) (began : Since) (now : Told) (phases : Phases) (coming : Option Coming) (cause : Cause) (old : SessionState R) (cpu : CpuState R) (ring : Checkpoints) (replies : Ledger) (choices : List Choice) (recovered : Recovered)
-      (lost before after : ℕ) (tables : Option (List (List Try))) (f : IsFailing rules image began now phases cause old) → Left rules image began now phases cause old f recovered cpu ring replies choices before after → KeepsSlots recovered.adopted old.cpu cpu → keeping_by ring.capacity old.options.every cpu.slots ≡ keeping_of old → recovered.adopted ≡ None → lost + old.steps + before ≡ began.lost + old.steps + after
-      → TellsTable (failure_of rules image f.going.story f.going.saved.paths) old.taken began.tables tables → Adopting rules image (record began { lost = lost; tables = tables }) now phases coming old.taken cause (walked old cpu ring replies choices) recovered
-  adopt_none rules image began now phases coming cause old cpu ring replies choices recovered lost before after tables f h slots keeping is counts told =
+  pub adopt_none : {rules : Rules} {image : Image} {began : Since} {seen : Seen} {cause : Cause} {old : SessionState R} {cpu : CpuState R} {ring : Checkpoints} {replies : Ledger} {choices : List Choice} {recovered : Recovered}
+      {lost before after : ℕ} {tables : Option (List (List Try))} (f : IsFailing rules image began seen cause old) → Left rules image began seen cause old f recovered cpu ring replies choices before after → KeepsSlots recovered.adopted old.cpu cpu → keeping_by ring.capacity old.options.every cpu.slots ≡ keeping_of old → recovered.adopted ≡ None → lost + old.steps + before ≡ began.lost + old.steps + after
+      → TellsTable (failure_of rules image f.going.story f.going.saved.paths) old.taken began.tables tables → Adopting rules image (record began { lost = lost; tables = tables }) seen old.taken cause (walked old cpu ring replies choices) recovered
+  adopt_none {rules = rules} {image = image} {began = began} {seen = seen} {cause = cause} {old = old} {cpu = cpu} {ring = ring} {replies = replies} {choices = choices} {recovered = recovered} {lost = lost} {before = before} {tables = tables} f h slots keeping is counts told =
       let g = f.going in
       let story : Story = g.story in
       let failure : Failure = failure_of rules image story g.saved.paths in
@@ -530,23 +520,23 @@ module _ {R : Type 0} where
       let end : end_of old.taken cause recovered.adopted ≡ Some (answer.GaveUp old.taken cause) = ap (end_of old.taken cause) is in
       let counted = h.counted in
       let given_up : HasGivenUp rules image (keeping_by ring.capacity old.options.every cpu.slots) story.earlier story.since story.recoveries story.survivor h.trials cause =
-      given_up_by rules image began now phases cause old (keeping_by ring.capacity old.options.every cpu.slots) f h.trials keeping h.recovers leaves.0 in
-      let one = table_of rules image began now phases cause old f h.trials began.tables tables told in
+      given_up_by rules image began seen cause old (keeping_by ring.capacity old.options.every cpu.slots) f h.trials keeping h.recovers leaves.0 in
+      let one = table_of f h.trials began.tables tables told in
       record {
         goes = λ noted more.
-            subst (AdoptsTo rules image (record began { lost = lost; noted = noted; tables = tables }) now phases coming (walked old cpu ring replies choices)) (sym end)
-            (gives_up rules image began now phases coming cause old cpu ring replies choices f h.trials lost before after noted tables stay keeping h.recovers leaves.0 leaves.3 leaves.2 h.counted counts
+            subst (AdoptsTo rules image (record began { lost = lost; noted = noted; tables = tables }) seen (walked old cpu ring replies choices)) (sym end)
+            (gives_up f before stay keeping h.recovers leaves.0 leaves.3 leaves.2 h.counted counts
             (subst (λ (e : Episode). HasNotedMore began.noted noted [] (e ∷ [])) h.episode_is more) one);
         breaks = λ fault note.
-            gave_up_unnoted rules image began now coming cause story g.saved.paths h.trials lost (walked old cpu ring replies choices) fault tables g.told given_up (omega (arith, counted, counts))
-            (answers_as began story old (walked old cpu ring replies choices) refl leaves.2 refl refl g.answers) note one;
+            gave_up_unnoted g.saved.paths g.told given_up (omega (arith, counted, counts))
+            (answers_as refl leaves.2 refl refl g.answers) note one;
       }
 
-  pub adopt_some : (rules : Rules) (image : Image) (began : Since) (now : Told) (phases : Phases) (coming : Option Coming) (cause : Cause) (old : SessionState R) (cpu : CpuState R) (ring : Checkpoints) (replies : Ledger) (choices : List Choice) (recovered : Recovered) (adopted : Adopted)
-      (lost before after : ℕ) (tables : Option (List (List Try))) (f : IsFailing rules image began now phases cause old) → Left rules image began now phases cause old f recovered cpu ring replies choices before after → KeepsSlots recovered.adopted old.cpu cpu → keeping_by ring.capacity old.options.every cpu.slots ≡ keeping_of old → HasSameBytes old.replies replies → recovered.adopted ≡ Some adopted
+  pub adopt_some : {rules : Rules} {image : Image} {began : Since} {seen : Seen} {cause : Cause} {old : SessionState R} {cpu : CpuState R} {ring : Checkpoints} {replies : Ledger} {choices : List Choice} {recovered : Recovered} {adopted : Adopted}
+      {lost before after : ℕ} {tables : Option (List (List Try))} (f : IsFailing rules image began seen cause old) → Left rules image began seen cause old f recovered cpu ring replies choices before after → KeepsSlots recovered.adopted old.cpu cpu → keeping_by ring.capacity old.options.every cpu.slots ≡ keeping_of old → HasSameBytes old.replies replies → recovered.adopted ≡ Some adopted
       → lost + cpu.slots.live.steps + before ≡ began.lost + old.steps + after → TellsTable (failure_of rules image f.going.story f.going.saved.paths) old.taken began.tables tables
-      → Adopting rules image (record began { lost = lost; tables = tables }) now phases coming old.taken cause (goes_as old cpu ring replies choices adopted.env (old.taken + 4)) recovered
-  adopt_some rules image began now phases coming cause old cpu ring replies choices recovered adopted lost before after tables f h slots keeping bytes is counts told =
+      → Adopting rules image (record began { lost = lost; tables = tables }) seen old.taken cause (goes_as old cpu ring replies choices adopted.env (old.taken + 4)) recovered
+  adopt_some {rules = rules} {image = image} {began = began} {seen = seen} {cause = cause} {old = old} {cpu = cpu} {ring = ring} {replies = replies} {choices = choices} {recovered = recovered} {adopted = adopted} {lost = lost} {before = before} {tables = tables} f h slots keeping bytes is counts told =
       let g = f.going in
       let story : Story = g.story in
       let failure : Failure = failure_of rules image story g.saved.paths in
@@ -555,14 +545,14 @@ module _ {R : Type 0} where
       let trial : Trial = leaves.0 in
       let run = leaves.2 in
       let new : SessionState R = goes_as old cpu ring replies choices adopted.env (old.taken + 4) in
-      let all = some_counts before after lost began.lost cpu.slots.live.steps old.steps story.survivor.now.steps trial.path.steps (steps_of h.trials) h.counted counts (ap (λ (s : Standing). s.steps) run.stands) g.answers.steps in
+      let all = some_counts before lost began.lost (steps_of h.trials) h.counted counts (ap (λ (s : Standing). s.steps) run.stands) g.answers.steps in
       let episode = λ (noted : Noted) (more : HasNotedMore began.noted noted [] (recovered.episode ∷ [])). subst (λ (e : Episode). HasNotedMore began.noted noted [] (e ∷ [])) h.episode_is more in
       record {
         goes = λ noted more.
-            subst (AdoptsTo rules image (record began { lost = lost; noted = noted; tables = tables }) now phases coming new) (sym (ap (end_of old.taken cause) is))
+            subst (AdoptsTo rules image (record began { lost = lost; noted = noted; tables = tables }) seen new) (sym (ap (end_of old.taken cause) is))
             (of_code adopted.code refl noted (episode noted more));
         breaks = λ fault note.
-            adopted_unnoted rules image began now coming story recovery trial lost new fault tables g.told (owes_nothing rules story f.due g.passed.done) refl h.recovers leaves.1 all
+            adopted_unnoted g.told (owes_nothing rules story f.due g.passed.done) refl h.recovers leaves.1 all
             (record {
               low = run.low;
               recorded = subst (Grew began.noted_before.choices began.noted.choices) (sym run.front) g.answers.recorded;
@@ -570,29 +560,29 @@ module _ {R : Type 0} where
               taken = ap (λ (s : Standing). s.guest.machine.taken) run.stands;
               steps = ap (λ (s : Standing). s.steps) run.stands;
             })
-            (rings_of rules image (keeping_of new) (adopted_story story recovery trial).earlier (entries (adopted_story story recovery trial)) (story.recoveries ++ recovery ∷ []) (adopted_by recovery trial) trial.path.state.machine.taken (stands_of cpu.slots.saved)
-            (adopted_requests rules image began now phases cause old cpu ring replies choices adopted f h.trials trial leaves.1 run (subst (λ (a : Option Adopted). KeepsSlots a old.cpu cpu) is slots) keeping)) note (table_of rules image began now phases cause old f h.trials began.tables tables told);
+            (rings_of
+            (adopted_requests f leaves.1 run (subst (λ (a : Option Adopted). KeepsSlots a old.cpu cpu) is slots) keeping)) note (table_of f h.trials began.tables tables told);
       }
     where
       of_code : (code : Option ℕ) → adopted.code ≡ code → (noted : Noted) → HasNotedMore began.noted noted [] (told_of f.going.story.survivor cause h.trials ∷ [])
-          → AdoptsTo rules image (record began { lost = lost; noted = noted; tables = tables }) now phases coming (goes_as old cpu ring replies choices adopted.env (old.taken + 4)) (option_map answer.Exited adopted.code)
+          → AdoptsTo rules image (record began { lost = lost; noted = noted; tables = tables }) seen (goes_as old cpu ring replies choices adopted.env (old.taken + 4)) (option_map answer.Exited adopted.code)
       of_code None asks noted more =
           let failure : Failure = failure_of rules image f.going.story f.going.saved.paths in
           let leaves = subst (λ a. LeavesRun failure (recovery_of failure f.going.story.survivor.begun cause h.trials) cpu old.ring ring old.recorded old.choices choices old.log old.replies replies a) is h.leaves in
-          subst (λ code. AdoptsTo rules image (record began { lost = lost; noted = noted; tables = tables }) now phases coming (goes_as old cpu ring replies choices adopted.env (old.taken + 4)) (option_map answer.Exited code)) (sym asks)
-          (adopts_going rules image began now phases cause old cpu ring replies choices adopted f h.trials leaves.0 lost h.recovers leaves.1 leaves.2 (subst (λ (a : Option Adopted). KeepsSlots a old.cpu cpu) is slots) keeping bytes asks
-          (some_counts before after lost began.lost cpu.slots.live.steps old.steps f.going.story.survivor.now.steps leaves.0.path.steps (steps_of h.trials) h.counted counts (ap (λ (s : Standing). s.steps) leaves.2.stands) f.going.answers.steps) noted more tables (table_of rules image began now phases cause old f h.trials began.tables tables told))
+          subst (λ code. AdoptsTo rules image (record began { lost = lost; noted = noted; tables = tables }) seen (goes_as old cpu ring replies choices adopted.env (old.taken + 4)) (option_map answer.Exited code)) (sym asks)
+          (adopts_going f h.recovers leaves.1 leaves.2 (subst (λ (a : Option Adopted). KeepsSlots a old.cpu cpu) is slots) keeping bytes asks
+          (some_counts before lost began.lost (steps_of h.trials) h.counted counts (ap (λ (s : Standing). s.steps) leaves.2.stands) f.going.answers.steps) noted more tables (table_of f h.trials began.tables tables told))
       of_code (Some code) exits noted more =
           let failure : Failure = failure_of rules image f.going.story f.going.saved.paths in
           let leaves = subst (λ a. LeavesRun failure (recovery_of failure f.going.story.survivor.begun cause h.trials) cpu old.ring ring old.recorded old.choices choices old.log old.replies replies a) is h.leaves in
-          subst (λ code. AdoptsTo rules image (record began { lost = lost; noted = noted; tables = tables }) now phases coming (goes_as old cpu ring replies choices adopted.env (old.taken + 4)) (option_map answer.Exited code)) (sym exits)
-          (adopts_ending rules image began now phases coming cause old cpu ring replies choices adopted code f h.trials leaves.0 lost h.recovers leaves.1 leaves.2 (subst (λ (a : Option Adopted). KeepsSlots a old.cpu cpu) is slots) keeping bytes exits
-          (some_counts before after lost began.lost cpu.slots.live.steps old.steps f.going.story.survivor.now.steps leaves.0.path.steps (steps_of h.trials) h.counted counts (ap (λ (s : Standing). s.steps) leaves.2.stands) f.going.answers.steps) noted more tables (table_of rules image began now phases cause old f h.trials began.tables tables told))
+          subst (λ code. AdoptsTo rules image (record began { lost = lost; noted = noted; tables = tables }) seen (goes_as old cpu ring replies choices adopted.env (old.taken + 4)) (option_map answer.Exited code)) (sym exits)
+          (adopts_ending f h.recovers leaves.1 leaves.2 (subst (λ (a : Option Adopted). KeepsSlots a old.cpu cpu) is slots) keeping bytes exits
+          (some_counts before lost began.lost (steps_of h.trials) h.counted counts (ap (λ (s : Standing). s.steps) leaves.2.stands) f.going.answers.steps) noted more tables (table_of f h.trials began.tables tables told))
 
   -- the run that is adopted has no more instructions than were counted
-  pub adopt_least : (rules : Rules) (image : Image) (began : Since) (now : Told) (phases : Phases) (cause : Cause) (old : SessionState R) (cpu : CpuState R) (ring : Checkpoints) (replies : Ledger) (choices : List Choice) (recovered : Recovered) (adopted : Adopted)
-      (before after : ℕ) (f : IsFailing rules image began now phases cause old) → Left rules image began now phases cause old f recovered cpu ring replies choices before after → recovered.adopted ≡ Some adopted → cpu.slots.live.steps + before ≤ after + old.steps
-  adopt_least rules image began now phases cause old cpu ring replies choices recovered adopted before after f h is =
+  pub adopt_least : {rules : Rules} {image : Image} {began : Since} {seen : Seen} {cause : Cause} {old : SessionState R} {cpu : CpuState R} {ring : Checkpoints} {replies : Ledger} {choices : List Choice} {recovered : Recovered} {adopted : Adopted}
+      {before after : ℕ} (f : IsFailing rules image began seen cause old) → Left rules image began seen cause old f recovered cpu ring replies choices before after → recovered.adopted ≡ Some adopted → cpu.slots.live.steps + before ≤ after + old.steps
+  adopt_least {rules = rules} {image = image} {cause = cause} {old = old} {cpu = cpu} {ring = ring} {replies = replies} {choices = choices} f h is =
       let failure : Failure = failure_of rules image f.going.story f.going.saved.paths in
       let leaves = subst (λ a. LeavesRun failure (recovery_of failure f.going.story.survivor.begun cause h.trials) cpu old.ring ring old.recorded old.choices choices old.log old.replies replies a) is h.leaves in
       let enough : leaves.0.path.steps ≤ f.going.story.survivor.now.steps + steps_of h.trials = leaves.2.enough in

@@ -2,7 +2,8 @@
 use Rattle.std.proofs.Common.{◌≡◌, ℕ, zero, suc, ◌+◌, ◌-◌, ◌≤◌, Bool, true, false, cond, List, [], ◌∷◌, ◌++◌, length, map, take, drop, Option, None, Some, Err, refl, sym, ◌∙◌, ap, subst, arith, length-drop, length-append}
 use Rattle.std.specs.Prelude.{slice_get, is_some, option_map}
 use Rattle.block_book.specs.declared.choice.Choice.{Choice}
-use Rattle.links.specs.Links.{Phases, Told, Coming, Grew}
+use Rattle.links.specs.Seen.{Seen}
+use Rattle.links.specs.Links.{Grew}
 use Rattle.elf_image.specs.declared.image.Image.{Image}
 use Rattle.item_log.specs.Log.{Log}
 use Rattle.reply_ledger.specs.Ledger.{Ledger}
@@ -31,7 +32,6 @@ use Rattle.session_state.proofs.HeldLemmas.{rings_kept, note_at_none}
 use Rattle.session_state.proofs.FaultLemmas.{note_no_end, note_ends}
 use Rattle.session_state.proofs.NoteLemmas.{grew_on, taken_all}
 use Rattle.session_state.proofs.SaveLemmas.{waits_whole}
-use Rattle.session_history.specs.Heeding.{items_in}
 
 module _ {X : Type 0} where
   take_none : (count : ℕ) → take {A = X} count [] ≡ []
@@ -83,8 +83,8 @@ few_one limits items plan first second goes = of (is_some first.state.ended) goe
     of true is = absurd (none-some second is)
     of false is = of_next (grant (env_at plan first.state.machine.taken) (guest_of first)) (after first.state (serves limits (env_at plan first.state.machine.taken) (slice_get items first.state.machine.taken) (guest_of first))) is
 
-pub few_choices : (limits : Limits) (items : List Item) (plan : List Override) (image : Image) (path : Path) → Served limits items plan (origin image) path → length path.choices ≤ path.steps
-few_choices limits items plan image path served =
+pub few_choices : {limits : Limits} {items : List Item} {plan : List Override} (image : Image) {path : Path} → Served limits items plan (origin image) path → length path.choices ≤ path.steps
+few_choices {limits = limits} {items = items} {plan = plan} image {path = path} served =
     let all : IsFew (origin image) path =
     repeated_keeps (planned_next limits items plan) IsFew (λ x. record { few = omega arith }) (λ x y z first second. record { few = let one = first.few in let other = second.few in omega (arith, one, other) }) (few_one limits items plan) served.more (origin image) path
     served.ran in
@@ -95,25 +95,25 @@ few_choices limits items plan image path served =
 
 module _ {R : Type 0} where
   -- notes that tell the same
-  pub waits_told : (rules : Rules) (image : Image) (began : Since) (now : Told) (phases : Phases) (choices later : Option (List Choice)) (episodes others : Option (List Episode)) (session : SessionState R) → later ≡ choices → others ≡ episodes
-      → IsWaitingFor rules image (record began { noted = noted choices episodes }) now phases session → IsWaitingFor rules image (record began { noted = noted later others }) now phases session
-  waits_told rules image began now phases choices later episodes others session same alike waits =
-      subst (λ e. IsWaitingFor rules image (record began { noted = noted later e }) now phases session) (sym alike)
-      (subst (λ c. IsWaitingFor rules image (record began { noted = noted c episodes }) now phases session) (sym same) waits)
+  pub waits_told : {rules : Rules} {image : Image} (began : Since) {seen : Seen} {choices later : Option (List Choice)} {episodes others : Option (List Episode)} {session : SessionState R} → later ≡ choices → others ≡ episodes
+      → IsWaitingFor rules image (record began { noted = noted choices episodes }) seen session → IsWaitingFor rules image (record began { noted = noted later others }) seen session
+  waits_told {rules = rules} {image = image} began {seen = seen} {later = later} {episodes = episodes} {session = session} same alike waits =
+      subst (λ e. IsWaitingFor rules image (record began { noted = noted later e }) seen session) (sym alike)
+      (subst (λ c. IsWaitingFor rules image (record began { noted = noted c episodes }) seen session) (sym same) waits)
 
   -- noting failed
-  pub waits_unnoted : (rules : Rules) (image : Image) (began : Since) (now : Told) (phases : Phases) (coming : Option Coming) (session : SessionState R) (end : Answer) → IsWaitingFor rules image began now phases session → IsNoteFault end
-      → WaitsBy rules image began now phases coming true session (Err (stop.Breaks end))
-  waits_unnoted rules image began now phases coming session end w note =
+  pub waits_unnoted : {rules : Rules} {image : Image} {began : Since} {seen : Seen} {session : SessionState R} {end : Answer} → IsWaitingFor rules image began seen session → seen.takes ≡ true → IsNoteFault end
+      → WaitsBy rules image began seen session (Err (stop.Breaks end))
+  waits_unnoted {rules = rules} {seen = seen} {session = session} {end = end} w takes note =
       let h = w.hearing in
-      (broken_off rules image began now coming session h.story end h.told h.answers (note_ends rules coming (account_of h.story) end note) (note_no_end end note) (rings_kept rules image h.story session session refl h.saved) (λ never. absurd (never note)) (λ is. absurd (note_at_none end note is)), λ none. still_takes true _ refl none)
+      (broken_off h.told h.answers (note_ends rules seen.coming (account_of h.story) end note) (note_no_end end note) (rings_kept session refl h.saved) (λ never. absurd (never note)) (λ is. absurd (note_at_none end note is)), λ none. still_takes _ takes none)
 
   -- the answers of malloc up to a number are noted
-  pub waits_noted : (rules : Rules) (image : Image) (began : Since) (now : Told) (phases : Phases) (choices later : Option (List Choice)) (episodes others : Option (List Episode)) (old : SessionState R) (safe : ℕ) (left : List Choice)
-      (w : IsWaitingFor rules image (record began { noted = noted choices episodes }) now phases old) → AreBehind safe w.hearing.saved.paths → safe ≤ length w.hearing.story.survivor.now.choices → old.recorded ≤ safe
+  pub waits_noted : {rules : Rules} {image : Image} (began : Since) {seen : Seen} {choices later : Option (List Choice)} {episodes others : Option (List Episode)} {old : SessionState R} {safe : ℕ} {left : List Choice}
+      (w : IsWaitingFor rules image (record began { noted = noted choices episodes }) seen old) → AreBehind safe w.hearing.saved.paths → safe ≤ length w.hearing.story.survivor.now.choices → old.recorded ≤ safe
       → Grew choices later (take (safe - old.recorded) old.choices) → others ≡ episodes → left ≡ drop (safe - old.recorded) old.choices
-      → IsWaitingFor rules image (record began { noted = noted later others }) now phases (record old { recorded = safe; choices = left })
-  waits_noted rules image began now phases choices later episodes others old safe left w behind low more grew alike rest =
+      → IsWaitingFor rules image (record began { noted = noted later others }) seen (record old { recorded = safe; choices = left })
+  waits_noted began {choices = choices} {later = later} {episodes = episodes} {old = old} {safe = safe} w behind low more grew alike rest =
       let h = w.hearing in
       let all : List Choice = h.story.survivor.now.choices in
       let count : old.recorded + (safe - old.recorded) ≡ safe = omega (arith, more) in
@@ -158,25 +158,25 @@ module _ {R : Type 0} where
       }
 
   -- how many are left to note
-  pub waits_left : (rules : Rules) (image : Image) (began : Since) (now : Told) (phases : Phases) (session : SessionState R) (safe : ℕ) (w : IsWaitingFor rules image began now phases session) → safe ≤ length w.hearing.story.survivor.now.choices
+  pub waits_left : {rules : Rules} {image : Image} {began : Since} {seen : Seen} {session : SessionState R} {safe : ℕ} (w : IsWaitingFor rules image began seen session) → safe ≤ length w.hearing.story.survivor.now.choices
       → safe - session.recorded ≤ length session.choices
-  waits_left rules image began now phases session safe w low =
+  waits_left {session = session} w low =
       let h = w.hearing in
       let left : length session.choices ≡ length h.story.survivor.now.choices - session.recorded = ap length h.answers.choices ∙ length-drop session.recorded h.story.survivor.now.choices in
       omega (arith, left, low)
 
   -- what is asked for before what no trial needs is given up
-  pub waits_forgets : (rules : Rules) (image : Image) (began : Since) (now : Told) (phases : Phases) (session : SessionState R) → IsWaitingFor rules image began now phases session → CanForget session.cpu session.log session.replies
-  waits_forgets rules image began now phases session w =
+  pub waits_forgets : {rules : Rules} {image : Image} {began : Since} {seen : Seen} {session : SessionState R} → IsWaitingFor rules image began seen session → CanForget session.cpu session.log session.replies
+  waits_forgets {rules = rules} {image = image} {session = session} w =
       let h = w.hearing in
       can_forget rules image (entries h.story) h.story.survivor.plan h.story.survivor.now h.saved.paths session.cpu session.ring session.log session.replies h.saved.ring h.goes.items h.passed.replies h.passed.no_trial
-      (let taken = h.told.serving.carries.taken in let all = received_is rules.bounds (entries h.story) session.log h.goes.items in omega (arith, taken, all))
+      (let taken = h.told.serving.carries.taken in let all = received_is h.goes.items in omega (arith, taken, all))
 
   -- and it waits on
-  pub waits_forgot : (rules : Rules) (image : Image) (began : Since) (now : Told) (phases : Phases) (old : SessionState R) (log : Log) (replies : Ledger) (w : IsWaitingFor rules image began now phases old)
+  pub waits_forgot : {rules : Rules} {image : Image} {began : Since} {seen : Seen} {old : SessionState R} {log : Log} {replies : Ledger} (w : IsWaitingFor rules image began seen old)
       → Forgets rules image (entries w.hearing.story) w.hearing.story.survivor.plan w.hearing.story.survivor.now w.hearing.saved.paths old.cpu old.ring log replies → replies.trial ≡ None
-      → IsWaitingFor rules image began now phases (record old { log = log; replies = replies })
-  waits_forgot rules image began now phases old log replies w forgets none =
+      → IsWaitingFor rules image began seen (record old { log = log; replies = replies })
+  waits_forgot {replies = replies} w forgets none =
       let h = w.hearing in
       record {
         hearing = record {
@@ -202,21 +202,21 @@ module _ {R : Type 0} where
       }
 
   -- the log has the item that the guest takes next
-  pub waits_kept : (rules : Rules) (image : Image) (began : Since) (now : Told) (phases : Phases) (session : SessionState R) → IsWaitingFor rules image began now phases session → session.log.first ≤ session.taken
-  waits_kept rules image began now phases session w = waits_whole rules image began now phases session w
+  pub waits_kept : {rules : Rules} {image : Image} {began : Since} {seen : Seen} {session : SessionState R} → IsWaitingFor rules image began seen session → session.log.first ≤ session.taken
+  waits_kept w = waits_whole w
 
   -- the number of all answers of malloc at an end is one of 64 bits
-  pub ending_few : (rules : Rules) (image : Image) (began : Since) (now : Told) (coming : Option Coming) (session : SessionState R) (end : Answer) → IsEnding rules image began now coming session end → session.recorded + length session.choices ≤ session.steps
-  ending_few rules image began now coming session end e =
-      let all = few_choices rules.limits (items_in rules.bounds (entries e.story)) e.story.survivor.plan image e.story.survivor.now e.told.serving.carries.served in
-      let count = taken_all session.recorded e.story.survivor.now.choices session.choices e.answers.choices e.answers.low in
+  pub ending_few : {rules : Rules} {image : Image} {began : Since} {seen : Seen} {session : SessionState R} {end : Answer} → IsEnding rules image began seen session end → session.recorded + length session.choices ≤ session.steps
+  ending_few {image = image} {session = session} e =
+      let all = few_choices image e.told.serving.carries.served in
+      let count = taken_all session.recorded e.story.survivor.now.choices e.answers.choices e.answers.low in
       let steps = e.answers.steps in
       omega (arith, all, count, steps)
 
   -- where the notes told nothing when the session began, they may tell anything now
-  pub waits_untold : (rules : Rules) (image : Image) (began : Since) (now : Told) (phases : Phases) (session : SessionState R) (told : Noted) → IsWaitingFor rules image began now phases session
-      → IsWaitingFor rules image (record began { noted_before = noted None None; noted = told }) now phases session
-  waits_untold rules image began now phases session told w =
+  pub waits_untold : {rules : Rules} {image : Image} {began : Since} {seen : Seen} {session : SessionState R} {told : Noted} → IsWaitingFor rules image began seen session
+      → IsWaitingFor rules image (record began { noted_before = noted None None; noted = told }) seen session
+  waits_untold {told = told} w =
       let h = w.hearing in
       record {
         hearing = record {

@@ -1,7 +1,7 @@
 -- Where what is due was passed, or the session was broken off.
-use Rattle.std.proofs.Common.{◌≡◌, ℕ, Bool, true, Option, Result, Ok, Err, sym, subst}
+use Rattle.std.proofs.Common.{◌≡◌, ℕ, true, Result, Ok, Err, sym, subst}
 use Rattle.std.specs.Prelude.{IfOk}
-use Rattle.links.specs.Links.{Phases, Told, Coming}
+use Rattle.links.specs.Seen.{Seen}
 use Rattle.elf_image.specs.declared.image.Image.{Image}
 use Rattle.session_history.specs.Lawful.{Rules}
 use Rattle.session_state.specs.declared.stop.Stop.{Stop}
@@ -15,16 +15,16 @@ use Rattle.session_state.proofs.ArmLemmas.{between_on}
 
 module _ {R : Type 0} where
   -- the session stands between two events of its guest
-  pub comes_between : (rules : Rules) (image : Image) (began : Since) (before now : Told) (phases later : Phases) (coming : Option Coming) (takes : Bool) (old new : SessionState R) (g : IsGoing rules image began before phases old) (result : Result (Unit {0}) Stop)
-      → new ≡ record old { replies = new.replies } → new.replies.first ≡ old.replies.first → ((conn : ℕ) → later conn ≡ phases conn) → takes ≡ true → PassesDue rules image began now coming g.story new result → ComesBetween rules image began now later coming takes new result
-  comes_between rules image began before now phases later coming takes old new g (Ok done) same kept stay still p =
-      subst (λ (s : SessionState R). IsBetween rules image began now later s) (sym same) (between_on rules image began before now phases later old new.replies g p.0 p.1 stay p.2 p.3 p.4 kept)
-  comes_between rules image began before now phases later coming takes old new g (Err (stop.Ends end)) same kept stay still p = absurd p
-  comes_between rules image began before now phases later coming takes old new g (Err (stop.Breaks end)) same kept stay still p = (p, λ none. still_takes takes _ still none)
+  pub comes_between : {rules : Rules} {image : Image} {began : Since} {before : Seen} (seen : Seen) {old new : SessionState R} (g : IsGoing rules image began before old) (result : Result (Unit {0}) Stop)
+      → new ≡ record old { replies = new.replies } → new.replies.first ≡ old.replies.first → ((conn : ℕ) → seen.phases conn ≡ before.phases conn) → seen.takes ≡ true → PassesDue rules image began seen g.story new result → ComesBetween rules image began seen new result
+  comes_between {rules = rules} {image = image} {began = began} seen g (Ok done) same kept stay still p =
+      subst (λ (s : SessionState R). IsBetween rules image began seen s) (sym same) (between_on g p.0 p.1 stay p.2 p.3 p.4 kept)
+  comes_between seen g (Err (stop.Ends end)) same kept stay still p = absurd p
+  comes_between seen g (Err (stop.Breaks end)) same kept stay still p = (p, λ none. still_takes _ still none)
 
   -- it never ends there
-  pub unless_due : (rules : Rules) (image : Image) (began : Since) (now : Told) (coming : Option Coming) (story : Story) (session : SessionState R) (result : Result (Unit {0}) Stop) (P : Type 0)
-      → PassesDue rules image began now coming story session result → IfOk result (λ _. P) → UnlessBroken result P
-  unless_due rules image began now coming story session (Ok done) P p is = is
-  unless_due rules image began now coming story session (Err (stop.Ends end)) P p is = absurd p
-  unless_due rules image began now coming story session (Err (stop.Breaks end)) P p is = tt
+  pub unless_due : (rules : Rules) (image : Image) (began : Since) (seen : Seen) (story : Story) (session : SessionState R) (result : Result (Unit {0}) Stop) (P : Type 0)
+      → PassesDue rules image began seen story session result → IfOk result (λ _. P) → UnlessBroken result P
+  unless_due rules image began seen story session (Ok done) P p is = is
+  unless_due rules image began seen story session (Err (stop.Ends end)) P p is = absurd p
+  unless_due rules image began seen story session (Err (stop.Breaks end)) P p is = tt

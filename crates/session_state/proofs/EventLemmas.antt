@@ -29,10 +29,10 @@ owes_nothing rules story due done send stands owed = of owed
     of (inr made) = done send stands made
 
 -- an event that is due is taken
-pub told_event : (rules : Rules) (image : Image) (began : Since) (old now : Told) (story : Story) (event : LinkEvent) (more : List Item) → IsTold rules image began old story
+pub told_event : {rules : Rules} {image : Image} {began : Since} {old now : Told} {story : Story} {event : LinkEvent} (more : List Item) → IsTold rules image began old story
     → AsksFor rules.limits story.survivor.plan story.survivor.now (received rules.bounds (entries story)) → OwesNothing rules.bounds rules.hold (moment story) (sends story) → AreHeeded rules.bounds (entries story) → Tells old now (entry.Took event ∷ [])
     → items_in rules.bounds (entries story ++ entry.Took event ∷ []) ≡ items_in rules.bounds (entries story) ++ more → IsTold rules image began now (then_story story (entry.Took event ∷ []))
-told_event rules image began old now story event more told asks owes heeds tells brings =
+told_event {rules = rules} {image = image} {began = began} {now = now} {story = story} {event = event} more told asks owes heeds tells brings =
     let items : List Item = items_in rules.bounds (entries story) in
     let survivor : Survivor = story.survivor in
     let due : IsDue rules items survivor (place_of story.earlier story.since false) (entry.Took event) =
@@ -43,7 +43,7 @@ told_event rules image began old now story event more told asks owes heeds tells
       way =
           subst (λ its. Served rules.limits its survivor.plan survivor.begun survivor.now) (sym brings ∙ ap (items_in rules.bounds) same)
           (served_with rules.limits items more survivor.plan survivor.begun survivor.now told.way);
-      tells = subst (Tells began.told now) same (tells_on began.told old now (entries story) (entry.Took event ∷ []) told.tells tells);
+      tells = subst (Tells began.told now) same (tells_on told.tells tells);
       recovered = told.recovered;
       counted = told.counted;
       episodes = told.episodes;
@@ -55,14 +55,14 @@ abbrev pub IsNoEnd : LinkEvent → Type 0
 IsNoEnd event.Ends = ⊥
 IsNoEnd other = Unit {0}
 
-took : (entries : List Entry) (event : LinkEvent) (found : Option Latest) → found ≡ Some (record { before = entries; event = event }) → (first : Entry)
+took : {entries : List Entry} {event : LinkEvent} {found : Option Latest} → found ≡ Some (record { before = entries; event = event }) → (first : Entry)
     → option_map (behind first) found ≡ Some (record { before = first ∷ entries; event = event })
-took entries event found is first = ap (option_map (behind first)) is
+took is first = ap (option_map (behind first)) is
 
 -- the first entry stands before it
-in_front : (first : LinkEvent) (entries : List Entry) (event : LinkEvent) (found : Option Latest) → found ≡ Some (record { before = entries; event = event })
+in_front : {first : LinkEvent} {entries : List Entry} {event : LinkEvent} {found : Option Latest} → found ≡ Some (record { before = entries; event = event })
     → Some (unwrap_or (option_map (behind (entry.Took first)) found) (record { before = []; event = first })) ≡ Some (record { before = entry.Took first ∷ entries; event = event })
-in_front first entries event found is = ap (λ (o : Option Latest). Some (unwrap_or (option_map (behind (entry.Took first)) o) (record { before = []; event = first }))) is
+in_front {first = first} {event = event} is = ap (λ (o : Option Latest). Some (unwrap_or (option_map (behind (entry.Took first)) o) (record { before = []; event = first }))) is
 
 one_took : (event : LinkEvent) → IsNoEnd event → latest (entry.Took event ∷ []) ≡ Some (record { before = []; event = event })
 one_took (event.Opens conn) is = refl
@@ -71,14 +71,14 @@ one_took (event.Closes conn) is = refl
 one_took event.Settles is = refl
 one_took event.Ends is = absurd is
 
-pub latest-took : (entries : List Entry) (last : LinkEvent) → IsNoEnd last → latest (entries ++ entry.Took last ∷ []) ≡ Some (record { before = entries; event = last })
-latest-took [] last is = one_took last is
-latest-took (entry.Gave conn bytes gone ∷ entries) last is = took entries last _ (latest-took entries last is) (entry.Gave conn bytes gone)
-latest-took (entry.Took event.Ends ∷ entries) last is = took entries last _ (latest-took entries last is) (entry.Took event.Ends)
-latest-took (entry.Took (event.Opens conn) ∷ entries) last is = in_front (event.Opens conn) entries last _ (latest-took entries last is)
-latest-took (entry.Took (event.Piece conn bytes) ∷ entries) last is = in_front (event.Piece conn bytes) entries last _ (latest-took entries last is)
-latest-took (entry.Took (event.Closes conn) ∷ entries) last is = in_front (event.Closes conn) entries last _ (latest-took entries last is)
-latest-took (entry.Took event.Settles ∷ entries) last is = in_front event.Settles entries last _ (latest-took entries last is)
+pub latest-took : (entries : List Entry) {last : LinkEvent} → IsNoEnd last → latest (entries ++ entry.Took last ∷ []) ≡ Some (record { before = entries; event = last })
+latest-took [] {last = last} is = one_took last is
+latest-took (entry.Gave conn bytes gone ∷ entries) is = took (latest-took entries is) (entry.Gave conn bytes gone)
+latest-took (entry.Took event.Ends ∷ entries) is = took (latest-took entries is) (entry.Took event.Ends)
+latest-took (entry.Took (event.Opens conn) ∷ entries) is = in_front (latest-took entries is)
+latest-took (entry.Took (event.Piece conn bytes) ∷ entries) is = in_front (latest-took entries is)
+latest-took (entry.Took (event.Closes conn) ∷ entries) is = in_front (latest-took entries is)
+latest-took (entry.Took event.Settles ∷ entries) is = in_front (latest-took entries is)
 
 -- Ends is no latest event
 pub latest-ended : (entries : List Entry) → latest (entries ++ entry.Took event.Ends ∷ []) ≡ latest entries
@@ -91,17 +91,17 @@ latest-ended (entry.Took (event.Closes conn) ∷ entries) = ap (λ (o : Option L
 latest-ended (entry.Took event.Settles ∷ entries) = ap (λ (o : Option Latest). Some (unwrap_or (option_map (behind (entry.Took event.Settles)) o) (record { before = []; event = event.Settles }))) (latest-ended entries)
 
 -- what some events open, more do
-or_true : (a b : Bool) → b ≡ true → (a || b) ≡ true
-or_true true b is = refl
-or_true false b is = is
+or_true : (a : Bool) {b : Bool} → b ≡ true → (a || b) ≡ true
+or_true true is = refl
+or_true false is = is
 
-or_more : (a b c : Bool) → (b ≡ true → c ≡ true) → (a || b) ≡ true → (a || c) ≡ true
-or_more true b c more is = refl
-or_more false b c more is = more is
+or_more : (a : Bool) {b c : Bool} → (b ≡ true → c ≡ true) → (a || b) ≡ true → (a || c) ≡ true
+or_more true more is = refl
+or_more false more is = more is
 
 pub opens_more : (conn : ℕ) (events more : List LinkEvent) → opens conn events ≡ true → opens conn (events ++ more) ≡ true
 opens_more conn [] more is = absurd (let no : ⊥ = cc in no)
-opens_more conn (event.Opens opened ∷ events) more is = or_more (eqb opened conn) (opens conn events) (opens conn (events ++ more)) (opens_more conn events more) is
+opens_more conn (event.Opens opened ∷ events) more is = or_more (eqb opened conn) (opens_more conn events more) is
 opens_more conn (event.Piece to bytes ∷ events) more is = opens_more conn events more is
 opens_more conn (event.Closes closed ∷ events) more is = opens_more conn events more is
 opens_more conn (event.Settles ∷ events) more is = opens_more conn events more is

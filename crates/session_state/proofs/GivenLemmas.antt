@@ -28,12 +28,12 @@ due_before bounds at conn bytes gone to taken due =
     (sym (ap (λ (es : List Entry). closes to (heeded bounds (events_in es))) same ∙ closes-gave bounds (journal at) conn bytes gone to)) (not_gone (journal at) conn bytes gone to here) due)
 
 -- behind one piece
-done_piece : (rules : Rules) (all : List Send) (at : Moment) (conn : ℕ) (bytes : List ℕ) (gone : Bool) → IsLatestDone rules at all → IsLatestDone rules (then_entry at (entry.Gave conn bytes gone)) all
-done_piece rules all at conn bytes gone done send stands due =
+done_piece : (rules : Rules) {all : List Send} (at : Moment) (conn : ℕ) (bytes : List ℕ) (gone : Bool) → IsLatestDone rules at all → IsLatestDone rules (then_entry at (entry.Gave conn bytes gone)) all
+done_piece rules {all = all} at conn bytes gone done send stands due =
     passed_then rules.bounds at conn bytes gone all send stands (done send stands (due_before rules.bounds at conn bytes gone send.conn send.taken due))
 
-closed_piece : (rules : Rules) (all : List Send) (at : Moment) (conn : ℕ) (bytes : List ℕ) (gone : Bool) → IsCloseDone rules at all → IsCloseDone rules (then_entry at (entry.Gave conn bytes gone)) all
-closed_piece rules all at conn bytes gone done send stands closing due =
+closed_piece : (rules : Rules) {all : List Send} (at : Moment) (conn : ℕ) (bytes : List ℕ) (gone : Bool) → IsCloseDone rules at all → IsCloseDone rules (then_entry at (entry.Gave conn bytes gone)) all
+closed_piece rules {all = all} at conn bytes gone done send stands closing due =
     passed_then rules.bounds at conn bytes gone all send stands
     (done send stands (sym (is_closing-gave rules.bounds at conn bytes gone send.conn) ∙ closing) (due_before rules.bounds at conn bytes gone send.conn send.taken due))
 
@@ -42,17 +42,17 @@ two_steps : (P : Moment → Type 0) (at : Moment) (e : Entry) (more : List Entry
 two_steps P at e more h = subst (λ (since : List Entry). P (record at { since = since })) (append_assoc at.since (e ∷ []) more) h
 
 -- what the latest event makes owed was passed, and stays so
-pub done_given : (rules : Rules) (all : List Send) (at : Moment) (more : List Entry) → AreGiven more → IsLatestDone rules at all → IsLatestDone rules (then_entries at more) all
-done_given rules all at [] given done = subst (λ (since : List Entry). IsLatestDone rules (record at { since = since }) all) (sym (append-nil at.since)) done
-done_given rules all at (entry.Gave conn bytes gone ∷ more) given done =
-    two_steps (λ (m : Moment). IsLatestDone rules m all) at (entry.Gave conn bytes gone) more (done_given rules all (then_entry at (entry.Gave conn bytes gone)) more given (done_piece rules all at conn bytes gone done))
-done_given rules all at (entry.Took event ∷ more) given done = absurd given
+pub done_given : (rules : Rules) {all : List Send} (at : Moment) (more : List Entry) → AreGiven more → IsLatestDone rules at all → IsLatestDone rules (then_entries at more) all
+done_given rules {all = all} at [] given done = subst (λ (since : List Entry). IsLatestDone rules (record at { since = since }) all) (sym (append-nil at.since)) done
+done_given rules {all = all} at (entry.Gave conn bytes gone ∷ more) given done =
+    two_steps (λ (m : Moment). IsLatestDone rules m all) at (entry.Gave conn bytes gone) more (done_given rules (then_entry at (entry.Gave conn bytes gone)) more given (done_piece rules at conn bytes gone done))
+done_given rules at (entry.Took event ∷ more) given done = absurd given
 
-pub closed_given : (rules : Rules) (all : List Send) (at : Moment) (more : List Entry) → AreGiven more → IsCloseDone rules at all → IsCloseDone rules (then_entries at more) all
-closed_given rules all at [] given done = subst (λ (since : List Entry). IsCloseDone rules (record at { since = since }) all) (sym (append-nil at.since)) done
-closed_given rules all at (entry.Gave conn bytes gone ∷ more) given done =
-    two_steps (λ (m : Moment). IsCloseDone rules m all) at (entry.Gave conn bytes gone) more (closed_given rules all (then_entry at (entry.Gave conn bytes gone)) more given (closed_piece rules all at conn bytes gone done))
-closed_given rules all at (entry.Took event ∷ more) given done = absurd given
+pub closed_given : (rules : Rules) {all : List Send} (at : Moment) (more : List Entry) → AreGiven more → IsCloseDone rules at all → IsCloseDone rules (then_entries at more) all
+closed_given rules {all = all} at [] given done = subst (λ (since : List Entry). IsCloseDone rules (record at { since = since }) all) (sym (append-nil at.since)) done
+closed_given rules {all = all} at (entry.Gave conn bytes gone ∷ more) given done =
+    two_steps (λ (m : Moment). IsCloseDone rules m all) at (entry.Gave conn bytes gone) more (closed_given rules (then_entry at (entry.Gave conn bytes gone)) more given (closed_piece rules at conn bytes gone done))
+closed_given rules at (entry.Took event ∷ more) given done = absurd given
 
 -- the latest event stays
 pub latest-given : (since more : List Entry) → AreGiven more → latest (since ++ more) ≡ latest since
@@ -62,8 +62,8 @@ latest-given since (entry.Gave conn bytes gone ∷ more) given =
 latest-given since (entry.Took event ∷ more) given = absurd given
 
 -- items and phases are told by the events
-pub items_by : (bounds : Bounds) (before after : List Entry) (log : Log) → events_in after ≡ events_in before → KeepsItems bounds before log → KeepsItems bounds after log
-items_by bounds before after log same keeps = record {
+pub items_by : {bounds : Bounds} {before after : List Entry} {log : Log} → events_in after ≡ events_in before → KeepsItems bounds before log → KeepsItems bounds after log
+items_by {bounds = bounds} {log = log} same keeps = record {
   all_heeded = ap (heeded bounds) same ∙ (keeps.all_heeded ∙ sym same);
   shows = subst (λ events. Rattle.item_log.specs.Log.Shows bounds.framing events log) (sym same) keeps.shows;
   most = keeps.most;

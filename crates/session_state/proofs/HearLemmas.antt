@@ -3,7 +3,8 @@ use Rattle.std.proofs.Common.{◌≡◌, ◌⊎◌, ◌+◌, ◌<◌, ℕ, ◌�
 use Rattle.links.specs.declared.journal.Entry.{Entry}
 use Rattle.links.specs.declared.journal.Entry.TheVariants as entry
 use Rattle.links.specs.declared.journal.LinkEvent.{LinkEvent}
-use Rattle.links.specs.Links.{Phases, Told, Tells, events_in}
+use Rattle.links.specs.Seen.{Seen}
+use Rattle.links.specs.Links.{Phases, Tells, events_in}
 use Rattle.elf_image.specs.declared.image.Image.{Image}
 use Rattle.rx_io.specs.declared.bytes.Item.{Item}
 use Rattle.ckpt_ring.specs.Rings.{Checkpoints}
@@ -20,7 +21,6 @@ use Rattle.session_history.proofs.Heeding.{events_in-append}
 use Rattle.session_state.specs.Sessions.{SessionState}
 use Rattle.session_state.specs.Standing.{Since, Story, entries, sends, then_story, IsTold, AnswersFor, GoesWith, KeepsCheckpoints, IsWaitingFor}
 use Rattle.session_state.specs.Leaving.{keeping_of}
-use Rattle.recovery.specs.Handling.{stands_of}
 use Rattle.session_state.proofs.HeldLemmas.{requests_by, requests_more}
 use Rattle.session_state.proofs.CheckpointLemmas.{in_force_by}
 use Rattle.session_state.proofs.GuestLemmas.{answers_as}
@@ -31,9 +31,9 @@ pub more_entries : (story : Story) (more : List Entry) → entries story ++ more
 more_entries story more = append_assoc (entries_of story.earlier) story.since more
 
 -- who was open to sends before more entries is so behind them
-pub opens_still : (bounds : Bounds) (before after : List Entry) (more : List Entry) (conn : ℕ) → after ≡ before ++ more → heeded bounds (events_in before) ≡ events_in before → heeded bounds (events_in after) ≡ events_in after
+pub opens_still : (bounds : Bounds) (before : List Entry) {after : List Entry} (more : List Entry) (conn : ℕ) → after ≡ before ++ more → heeded bounds (events_in before) ≡ events_in before → heeded bounds (events_in after) ≡ events_in after
     → opens conn (heeded bounds (events_in before)) ≡ true → opens conn (heeded bounds (events_in after)) ≡ true
-opens_still bounds before after more conn is first second open_before =
+opens_still bounds before {after = after} more conn is first second open_before =
     let longer : events_in after ≡ events_in before ++ events_in more = ap events_in is ∙ events_in-append before more in
     ap (opens conn) (second ∙ longer) ∙ opens_more conn (events_in before) (events_in more) (ap (opens conn) (sym first) ∙ open_before)
 
@@ -51,33 +51,33 @@ module _ {R : Type 0} where
     pub until : new.until ≡ old.until
     pub options : new.options ≡ old.options
 
-  answers_then : (began : Since) (story : Story) (session : SessionState R) (more : List Entry) → AnswersFor began story session → AnswersFor began (then_story story more) session
-  answers_then began story session more answers = record { low = answers.low; recorded = answers.recorded; choices = answers.choices; taken = answers.taken; steps = answers.steps }
+  answers_then : {began : Since} {story : Story} {session : SessionState R} (more : List Entry) → AnswersFor began story session → AnswersFor began (then_story story more) session
+  answers_then more answers = record { low = answers.low; recorded = answers.recorded; choices = answers.choices; taken = answers.taken; steps = answers.steps }
 
-  pub answers_still : (began : Since) (story : Story) (old new : SessionState R) (more : List Entry) → HasSameRun old new → AnswersFor began story old → AnswersFor began (then_story story more) new
-  answers_still began story old new more same answers = answers_as began (then_story story more) old new same.recorded same.choices same.taken same.steps (answers_then began story old more answers)
+  pub answers_still : {began : Since} {story : Story} {old new : SessionState R} (more : List Entry) → HasSameRun old new → AnswersFor began story old → AnswersFor began (then_story story more) new
+  answers_still more same answers = answers_as same.recorded same.choices same.taken same.steps (answers_then more answers)
 
   -- the guest, the items and the phases behind more entries
-  pub goes_then : (rules : Rules) (story : Story) (old new : SessionState R) (phases later : Phases) (more : List Entry) → HasSameRun old new → GoesWith rules story old phases → KeepsItems rules.bounds (entries (then_story story more)) new.log
+  pub goes_then : {rules : Rules} {story : Story} {old new : SessionState R} {phases later : Phases} (more : List Entry) → HasSameRun old new → GoesWith rules story old phases → KeepsItems rules.bounds (entries (then_story story more)) new.log
       → new.events ≡ length (events_in (entries (then_story story more))) → KeepsPhases (entries (then_story story more)) later → GoesWith rules (then_story story more) new later
-  goes_then rules story old new phases later more same goes items events knows = record {
+  goes_then {rules = rules} {story = story} more same goes items events knows = record {
     lives = goes.lives;
     guest = ap (λ cpu. cpu.slots.live) same.cpu ∙ goes.guest;
     bounded = goes.bounded;
     few = goes.few;
-    within = λ conn may. opens_still rules.bounds (entries story) (entries (then_story story more)) more conn (sym (more_entries story more)) goes.items.all_heeded items.all_heeded (goes.within conn may);
+    within = λ conn may. opens_still rules.bounds (entries story) more conn (sym (more_entries story more)) goes.items.all_heeded items.all_heeded (goes.within conn may);
     items = items;
     events = events;
     phases_are = knows;
   }
 
-  pub run_keeping : (old new : SessionState R) → HasSameRun old new → keeping_of new ≡ keeping_of old
-  run_keeping old new same = λ i. record { ring = (same.ring i).capacity; every = (same.options i).every; pages = (same.cpu i).slots.pages; frames = (same.cpu i).slots.frames }
+  pub run_keeping : {old new : SessionState R} → HasSameRun old new → keeping_of new ≡ keeping_of old
+  run_keeping same = λ i. record { ring = (same.ring i).capacity; every = (same.options i).every; pages = (same.cpu i).slots.pages; frames = (same.cpu i).slots.frames }
 
   -- the checkpoints and the environment behind more entries
-  pub saved_then : (rules : Rules) (image : Image) (story : Story) (old new : SessionState R) (more : List Entry) (items : List Item) → HasSameRun old new → new.replies.first ≡ old.replies.first
+  pub saved_then : {rules : Rules} {image : Image} {story : Story} {old new : SessionState R} (more : List Entry) {items : List Item} → HasSameRun old new → new.replies.first ≡ old.replies.first
       → Brings rules (entries story) (entries (then_story story more)) items → KeepsCheckpoints rules image story old → KeepsCheckpoints rules image (then_story story more) new
-  saved_then rules image story old new more items same kept brings k =
+  saved_then {rules = rules} {image = image} {story = story} {old = old} {new = new} more {items = items} same kept brings k =
       let plan : List Override = story.survivor.plan in
       let now : Path = story.survivor.now in
       record {
@@ -88,49 +88,49 @@ module _ {R : Type 0} where
             (ring_more rules image (entries story) (entries (then_story story more)) items plan now k.paths old.cpu old.ring old.log new.log old.replies new.replies brings same.first kept k.ring));
         early = subst (λ n. AreBehind n k.paths) (sym same.recorded) k.early;
         requests =
-            requests_by rules image story.earlier (entries (then_story story more)) story.recoveries story.survivor old new (ap (λ (cpu : CpuState R). cpu.slots.saved) same.cpu) (run_keeping old new same)
-            (requests_more rules image (keeping_of old) story.earlier (entries story) (entries (then_story story more)) items story.recoveries story.survivor (stands_of old.cpu.slots.saved) brings.items k.requests);
-        in_force = in_force_by plan now.state.machine.taken old.env new.env old.until new.until same.env same.until k.in_force;
+            requests_by rules image story.earlier (entries (then_story story more)) story.recoveries story.survivor old new (ap (λ (cpu : CpuState R). cpu.slots.saved) same.cpu) (run_keeping same)
+            (requests_more items brings.items k.requests);
+        in_force = in_force_by same.env same.until k.in_force;
         past = subst (λ n. (n < now.state.machine.taken + 4) ⊎ ((n ≡ now.state.machine.taken + 4) × AsksFor rules.limits [] now now.state.machine.taken)) (sym same.until) k.past;
       }
 
   -- what is known behind an event that was heard, but for the replies
-  pub record HasHeard (rules : Rules) (image : Image) (began : Since) (now : Told) (phases : Phases) (story : Story) (session : SessionState R) : Type 0 where
-    pub told : IsTold rules image began now story
+  pub record HasHeard (rules : Rules) (image : Image) (began : Since) (seen : Seen) (story : Story) (session : SessionState R) : Type 0 where
+    pub told : IsTold rules image began seen.told story
     pub answers : AnswersFor began story session
-    pub goes : GoesWith rules story session phases
+    pub goes : GoesWith rules story session seen.phases
     pub asks : AsksFor rules.limits story.survivor.plan story.survivor.now story.survivor.now.state.machine.taken
 
-  pub has_heard : (rules : Rules) (image : Image) (began : Since) (before now : Told) (phases later : Phases) (event : LinkEvent) (old new : SessionState R) (w : IsWaitingFor rules image began before phases old)
-      → received rules.bounds (entries w.hearing.story) ≤ w.hearing.story.survivor.now.state.machine.taken → HasSameRun old new → Tells before now (entry.Took event ∷ [])
-      → IsHeard rules.bounds (entries w.hearing.story) (sends w.hearing.story) event new.log new.replies → KeepsPhases (entries w.hearing.story ++ entry.Took event ∷ []) later
-      → new.events ≡ length (events_in (entries w.hearing.story ++ entry.Took event ∷ [])) → HasHeard rules image began now later (then_story w.hearing.story (entry.Took event ∷ [])) new
-  has_heard rules image began before now phases later event old new w all same tells heard knows events =
+  pub has_heard : {rules : Rules} {image : Image} {began : Since} {before seen : Seen} {event : LinkEvent} {old new : SessionState R} (w : IsWaitingFor rules image began before old)
+      → received rules.bounds (entries w.hearing.story) ≤ w.hearing.story.survivor.now.state.machine.taken → HasSameRun old new → Tells before.told seen.told (entry.Took event ∷ [])
+      → IsHeard rules.bounds (entries w.hearing.story) (sends w.hearing.story) event new.log new.replies → KeepsPhases (entries w.hearing.story ++ entry.Took event ∷ []) seen.phases
+      → new.events ≡ length (events_in (entries w.hearing.story ++ entry.Took event ∷ [])) → HasHeard rules image began seen (then_story w.hearing.story (entry.Took event ∷ [])) new
+  has_heard {rules = rules} {seen = seen} {event = event} {new = new} w all same tells heard knows events =
       let story : Story = w.hearing.story in
       let is = more_entries story (entry.Took event ∷ []) in
       let exact : received rules.bounds (entries story) ≡ story.survivor.now.state.machine.taken = let low = w.hearing.told.serving.carries.taken in omega (arith, low, all) in
       let asks = w.hearing.asks in
       record {
         told =
-            told_event rules image began before now story event heard.more w.hearing.told (subst (AsksFor rules.limits story.survivor.plan story.survivor.now) (sym exact) asks) (owes_nothing rules story w.due w.hearing.passed.done) w.hearing.goes.items.all_heeded tells
+            told_event heard.more w.hearing.told (subst (AsksFor rules.limits story.survivor.plan story.survivor.now) (sym exact) asks) (owes_nothing rules story w.due w.hearing.passed.done) w.hearing.goes.items.all_heeded tells
             heard.brings;
-        answers = answers_still began story old new (entry.Took event ∷ []) same w.hearing.answers;
+        answers = answers_still (entry.Took event ∷ []) same w.hearing.answers;
         goes =
-            goes_then rules story old new phases later (entry.Took event ∷ []) same w.hearing.goes (subst (λ es. KeepsItems rules.bounds es new.log) is heard.items) (events ∙ ap (λ es. length (events_in es)) is)
-            (subst (λ (es : List Entry). KeepsPhases es later) is knows);
+            goes_then (entry.Took event ∷ []) same w.hearing.goes (subst (λ es. KeepsItems rules.bounds es new.log) is heard.items) (events ∙ ap (λ es. length (events_in es)) is)
+            (subst (λ (es : List Entry). KeepsPhases es seen.phases) is knows);
         asks = asks;
       }
 
   -- its checkpoints behind the event
-  pub saved_heard : (rules : Rules) (image : Image) (began : Since) (before : Told) (phases : Phases) (event : LinkEvent) (old new : SessionState R) (w : IsWaitingFor rules image began before phases old) → HasSameRun old new → new.replies.first ≡ old.replies.first
+  pub saved_heard : {rules : Rules} {image : Image} {began : Since} {before : Seen} {event : LinkEvent} {old new : SessionState R} (w : IsWaitingFor rules image began before old) → HasSameRun old new → new.replies.first ≡ old.replies.first
       → IsHeard rules.bounds (entries w.hearing.story) (sends w.hearing.story) event new.log new.replies → KeepsCheckpoints rules image (then_story w.hearing.story (entry.Took event ∷ [])) new
-  saved_heard rules image began before phases event old new w same kept heard =
+  saved_heard {rules = rules} {before = before} {event = event} w same kept heard =
       let story : Story = w.hearing.story in
       let is = more_entries story (entry.Took event ∷ []) in
-      saved_then rules image story old new (entry.Took event ∷ []) heard.more same kept
+      saved_then (entry.Took event ∷ []) same kept
       (record {
         items = ap (items_in rules.bounds) (sym is) ∙ heard.brings;
-        opened = λ conn before.
-            opens_still rules.bounds (entries story) (entries (then_story story (entry.Took event ∷ []))) (entry.Took event ∷ []) conn (sym is) w.hearing.goes.items.all_heeded
-            (subst (λ es. heeded rules.bounds (events_in es) ≡ events_in es) is heard.items.all_heeded) before;
+        opened = λ conn known.
+            opens_still rules.bounds (entries story) (entry.Took event ∷ []) conn (sym is) w.hearing.goes.items.all_heeded
+            (subst (λ es. heeded rules.bounds (events_in es) ≡ events_in es) is heard.items.all_heeded) known;
       }) w.hearing.saved

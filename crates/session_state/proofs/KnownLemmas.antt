@@ -22,8 +22,8 @@ known_self : (coming : Option Coming) → StaysKnown coming coming
 known_self None = tt
 known_self (Some next) = refl
 
-pub known_same : (old new : Option Coming) → new ≡ old → StaysKnown old new
-known_same old new same = subst (StaysKnown old) (sym same) (known_self old)
+pub known_same : {old new : Option Coming} → new ≡ old → StaysKnown old new
+known_same {old = old} same = subst (StaysKnown old) (sym same) (known_self old)
 
 pub known_then : (old mid new : Option Coming) → StaysKnown old mid → StaysKnown mid new → StaysKnown old new
 known_then None mid new first second = tt
@@ -37,11 +37,11 @@ unless_broken (Err (stop.Ends end)) P holds = holds
 unless_broken (Err (stop.Breaks end)) P holds = tt
 
 -- first it was told still, and then it stayed
-pub known_on : (old mid new : Option Coming) (result : Result (Unit {0}) Stop) → StaysKnown old mid → new ≡ mid → UnlessBroken result (StaysKnown old new)
-known_on old mid new result known same = unless_broken result (StaysKnown old new) (known_then old mid new known (known_same mid new same))
+pub known_on : (old : Option Coming) {mid new : Option Coming} (result : Result (Unit {0}) Stop) → StaysKnown old mid → new ≡ mid → UnlessBroken result (StaysKnown old new)
+known_on old {mid = mid} {new = new} result known same = unless_broken result (StaysKnown old new) (known_then old mid new known (known_same same))
 
-pub known_kept : (old new : Option Coming) (result : Result (Unit {0}) Stop) → new ≡ old → UnlessBroken result (StaysKnown old new)
-known_kept old new result same = unless_broken result (StaysKnown old new) (known_same old new same)
+pub known_kept : {old new : Option Coming} (result : Result (Unit {0}) Stop) → new ≡ old → UnlessBroken result (StaysKnown old new)
+known_kept {old = old} {new = new} result same = unless_broken result (StaysKnown old new) (known_same same)
 
 pub known_unless : (old mid new : Option Coming) (result : Result (Unit {0}) Stop) → StaysKnown old mid → UnlessBroken result (StaysKnown mid new) → UnlessBroken result (StaysKnown old new)
 known_unless old mid new (Ok done) known unless = known_then old mid new known unless
@@ -49,85 +49,85 @@ known_unless old mid new (Err (stop.Ends end)) known unless = known_then old mid
 known_unless old mid new (Err (stop.Breaks end)) known unless = tt
 
 -- at an end it is told still
-pub known_ended : (old new : Option Coming) (why : Stop) (end : Answer) → why ≡ stop.Ends end → UnlessBroken {X = Unit {0}} (Err why) (StaysKnown old new) → StaysKnown old new
-known_ended old new why end is unless = subst (λ (w : Stop). UnlessBroken {X = Unit {0}} (Err w) (StaysKnown old new)) is unless
+pub known_ended : (old new : Option Coming) {why : Stop} {end : Answer} → why ≡ stop.Ends end → UnlessBroken {X = Unit {0}} (Err why) (StaysKnown old new) → StaysKnown old new
+known_ended old new is unless = subst (λ (w : Stop). UnlessBroken {X = Unit {0}} (Err w) (StaysKnown old new)) is unless
 
 -- an event was heard
 event_known : (old mid : Option Coming) (answer : Heard) → ComesOn old mid (Ok answer) → StaysKnown old mid
 event_known None mid answer on = tt
 event_known (Some old) mid answer on = on
 
-pub known_heard : (old mid new : Option Coming) (answer : Heard) (result : Result (Unit {0}) Stop) → ComesOn old mid (Ok answer) → new ≡ mid → UnlessBroken result (StaysKnown old new)
-known_heard old mid new answer result on same = known_on old mid new result (event_known old mid answer on) same
+pub known_heard : (old : Option Coming) {mid new : Option Coming} (answer : Heard) (result : Result (Unit {0}) Stop) → ComesOn old mid (Ok answer) → new ≡ mid → UnlessBroken result (StaysKnown old new)
+known_heard old {mid = mid} answer result on same = known_on old result (event_known old mid answer on) same
 
-stopped : (why now : Stop) (P : Type 0) → why ≡ now → UnlessBroken {X = Unit {0}} (Err now) P → UnlessBroken {X = Unit {0}} (Err why) P
-stopped why now P is unless = subst (λ (w : Stop). UnlessBroken {X = Unit {0}} (Err w) P) (sym is) unless
+stopped : {why now : Stop} (P : Type 0) → why ≡ now → UnlessBroken {X = Unit {0}} (Err now) P → UnlessBroken {X = Unit {0}} (Err why) P
+stopped P is unless = subst (λ (w : Stop). UnlessBroken {X = Unit {0}} (Err w) P) (sym is) unless
 
 -- none was
 pub known_stopped : (old new : Option Coming) (cause : HearFault) (why : Stop) → ComesOn old new (Err cause) → IsStopAt cause why → UnlessBroken {X = Unit {0}} (Err why) (StaysKnown old new)
 known_stopped None new cause why on is = unless_broken (Err why) (StaysKnown None new) tt
-known_stopped (Some old) new (hear.Refused kind offset) why on is = stopped why (stop.Ends (answer.InputRefused kind offset)) (IsSome new) is on
-known_stopped (Some old) new hear.LimitEvents why on is = stopped why (stop.Ends answer.LimitEvents) (IsSome new) is on
-known_stopped (Some old) new (hear.TooLong conn) why on is = stopped why (stop.Ends (answer.MessageTooLong conn)) (IsSome new) is on
-known_stopped (Some old) new hear.LimitItems why on is = stopped why (stop.Ends answer.LimitItems) (IsSome new) is on
-known_stopped (Some old) new hear.ReadFault why on is = stopped why (stop.Breaks answer.ReadFault) (IsSome new) is tt
-known_stopped (Some old) new hear.Memory why on is = stopped why (stop.Breaks answer.Memory) (IsSome new) is tt
+known_stopped (Some old) new (hear.Refused kind offset) why on is = stopped (IsSome new) is on
+known_stopped (Some old) new hear.LimitEvents why on is = stopped (IsSome new) is on
+known_stopped (Some old) new (hear.TooLong conn) why on is = stopped (IsSome new) is on
+known_stopped (Some old) new hear.LimitItems why on is = stopped (IsSome new) is on
+known_stopped (Some old) new hear.ReadFault why on is = stopped (IsSome new) is tt
+known_stopped (Some old) new hear.Memory why on is = stopped (IsSome new) is tt
 
 -- events may be taken still where nothing but pieces was given
-pub takes_given : (mid new : Bool) (result : Result (Unit {0}) Stop) → mid ≡ true → new ≡ mid → BreaksPassing result → TakesBy new result
-takes_given mid new (Ok done) is same none = same ∙ is
-takes_given mid new (Err (stop.Ends end)) is same none = absurd none
-takes_given mid new (Err (stop.Breaks end)) is same none = tt
+pub takes_given : {mid new : Bool} (result : Result (Unit {0}) Stop) → mid ≡ true → new ≡ mid → BreaksPassing result → TakesBy new result
+takes_given (Ok done) is same none = same ∙ is
+takes_given (Err (stop.Ends end)) is same none = absurd none
+takes_given (Err (stop.Breaks end)) is same none = tt
 
-pub takes_chosen : (takes : Bool) (result : Result (Unit {0}) Stop) → takes ≡ true → IsOkOrMemory result → TakesBy takes result
-takes_chosen takes (Ok done) is memory = is
-takes_chosen takes (Err why) is memory = subst (λ (w : Stop). TakesBy {X = Unit {0}} takes (Err w)) (sym memory) tt
+pub takes_chosen : {takes : Bool} (result : Result (Unit {0}) Stop) → takes ≡ true → IsOkOrMemory result → TakesBy takes result
+takes_chosen (Ok done) is memory = is
+takes_chosen {takes = takes} (Err why) is memory = subst (λ (w : Stop). TakesBy {X = Unit {0}} takes (Err w)) (sym memory) tt
 
-halted : (takes : Bool) (why now : Stop) → why ≡ now → TakesBy {X = Unit {0}} takes (Err now) → TakesBy {X = Unit {0}} takes (Err why)
-halted takes why now is by = subst (λ (w : Stop). TakesBy {X = Unit {0}} takes (Err w)) (sym is) by
+halted : (takes : Bool) {why now : Stop} → why ≡ now → TakesBy {X = Unit {0}} takes (Err now) → TakesBy {X = Unit {0}} takes (Err why)
+halted takes is by = subst (λ (w : Stop). TakesBy {X = Unit {0}} takes (Err w)) (sym is) by
 
 -- behind an event that wasn't heard
 pub takes_stopped : (old new : Told) (takes : Bool) (cause : HearFault) (why : Stop) → TakesBehind old new takes (Err cause) → IsStopAt cause why → TakesBy {X = Unit {0}} takes (Err why)
-takes_stopped old new takes (hear.Refused kind offset) why behind is = halted takes why (stop.Ends (answer.InputRefused kind offset)) is behind
-takes_stopped old new takes hear.LimitEvents why behind is = halted takes why (stop.Ends answer.LimitEvents) is (λ end. behind)
-takes_stopped old new takes (hear.TooLong conn) why behind is = halted takes why (stop.Ends (answer.MessageTooLong conn)) is (λ end. behind)
-takes_stopped old new takes hear.LimitItems why behind is = halted takes why (stop.Ends answer.LimitItems) is (λ end. behind)
-takes_stopped old new takes hear.ReadFault why behind is = halted takes why (stop.Breaks answer.ReadFault) is tt
-takes_stopped old new takes hear.Memory why behind is = halted takes why (stop.Breaks answer.Memory) is tt
+takes_stopped old new takes (hear.Refused kind offset) why behind is = halted takes is behind
+takes_stopped old new takes hear.LimitEvents why behind is = halted takes is (λ end. behind)
+takes_stopped old new takes (hear.TooLong conn) why behind is = halted takes is (λ end. behind)
+takes_stopped old new takes hear.LimitItems why behind is = halted takes is (λ end. behind)
+takes_stopped old new takes hear.ReadFault why behind is = halted takes is tt
+takes_stopped old new takes hear.Memory why behind is = halted takes is tt
 
 -- and at an answer
-pub takes_ended : (takes : Bool) (why : Stop) (end : Answer) → why ≡ stop.Ends end → TakesBy {X = Unit {0}} takes (Err why) → TakesAtEnd takes end
-takes_ended takes why end is by = subst (λ (w : Stop). TakesBy {X = Unit {0}} takes (Err w)) is by
+pub takes_ended : (takes : Bool) {why : Stop} {end : Answer} → why ≡ stop.Ends end → TakesBy {X = Unit {0}} takes (Err why) → TakesAtEnd takes end
+takes_ended takes is by = subst (λ (w : Stop). TakesBy {X = Unit {0}} takes (Err w)) is by
 
 pub takes_no_end : (takes : Bool) (end : Answer) → (IsEnd end → ⊥) → TakesAtEnd takes end
 takes_no_end takes (answer.InputRefused kind offset) none = absurd (none tt)
 takes_no_end takes _ none = λ is. absurd (none is)
 
 -- where it was broken off, no call failed but one: a piece was given behind an event, or where none was heard
-pub once_given : (old mid new : Option Coming) (gives : Bool) (result : Result (Unit {0}) Stop) → StaysKnown old mid → new ≡ mid → BreaksPassing result → BreaksOnce old new gives result
-once_given old mid new gives (Ok done) known same passing = tt
-once_given old mid new gives (Err (stop.Ends end)) known same passing = tt
-once_given old mid new gives (Err (stop.Breaks answer.WriteFault)) known same passing = known_then old mid new known (known_same mid new same)
-once_given old mid new gives (Err (stop.Breaks answer.Memory)) known same passing = inl (known_then old mid new known (known_same mid new same))
-once_given old mid new gives (Err (stop.Breaks _)) known same passing = absurd passing
+pub once_given : (old : Option Coming) {mid new : Option Coming} (gives : Bool) (result : Result (Unit {0}) Stop) → StaysKnown old mid → new ≡ mid → BreaksPassing result → BreaksOnce old new gives result
+once_given old gives (Ok done) known same passing = tt
+once_given old gives (Err (stop.Ends end)) known same passing = tt
+once_given old {mid = mid} {new = new} gives (Err (stop.Breaks answer.WriteFault)) known same passing = known_then old mid new known (known_same same)
+once_given old {mid = mid} {new = new} gives (Err (stop.Breaks answer.Memory)) known same passing = inl (known_then old mid new known (known_same same))
+once_given old gives (Err (stop.Breaks _)) known same passing = absurd passing
 
-pub once_heard : (old mid new : Option Coming) (gives : Bool) (heard : Heard) (result : Result (Unit {0}) Stop) → ComesOn old mid (Ok heard) → new ≡ mid → BreaksPassing result → BreaksOnce old new gives result
-once_heard old mid new gives heard result on same passing = once_given old mid new gives result (event_known old mid heard on) same passing
+pub once_heard : (old : Option Coming) {mid new : Option Coming} (gives : Bool) (heard : Heard) (result : Result (Unit {0}) Stop) → ComesOn old mid (Ok heard) → new ≡ mid → BreaksPassing result → BreaksOnce old new gives result
+once_heard old {mid = mid} gives heard result on same passing = once_given old gives result (event_known old mid heard on) same passing
 
 pub once_chosen : (coming : Option Coming) (gives : Bool) (result : Result (Unit {0}) Stop) → IsOkOrMemory result → BreaksOnce coming coming gives result
 once_chosen coming gives (Ok done) memory = tt
 once_chosen coming gives (Err why) memory = subst (λ (w : Stop). BreaksOnce {X = Unit {0}} coming coming gives (Err w)) (sym memory) (inl (known_self coming))
 
-once_why : (old new : Option Coming) (gives : Bool) (why now : Stop) → why ≡ now → BreaksOnce {X = Unit {0}} old new gives (Err now) → BreaksOnce {X = Unit {0}} old new gives (Err why)
-once_why old new gives why now is once = subst (λ (w : Stop). BreaksOnce {X = Unit {0}} old new gives (Err w)) (sym is) once
+once_why : (old new : Option Coming) (gives : Bool) {why now : Stop} → why ≡ now → BreaksOnce {X = Unit {0}} old new gives (Err now) → BreaksOnce {X = Unit {0}} old new gives (Err why)
+once_why old new gives is once = subst (λ (w : Stop). BreaksOnce {X = Unit {0}} old new gives (Err w)) (sym is) once
 
-pub once_stopped : (old new : Option Coming) (gives : Bool) (cause : HearFault) (why : Stop) → gives ≡ true → IsStopAt cause why → BreaksOnce {X = Unit {0}} old new gives (Err why)
-once_stopped old new gives (hear.Refused kind offset) why still is = once_why old new gives why (stop.Ends (answer.InputRefused kind offset)) is tt
-once_stopped old new gives hear.LimitEvents why still is = once_why old new gives why (stop.Ends answer.LimitEvents) is tt
-once_stopped old new gives (hear.TooLong conn) why still is = once_why old new gives why (stop.Ends (answer.MessageTooLong conn)) is tt
-once_stopped old new gives hear.LimitItems why still is = once_why old new gives why (stop.Ends answer.LimitItems) is tt
-once_stopped old new gives hear.ReadFault why still is = once_why old new gives why (stop.Breaks answer.ReadFault) is still
-once_stopped old new gives hear.Memory why still is = once_why old new gives why (stop.Breaks answer.Memory) is (inr still)
+pub once_stopped : (old new : Option Coming) {gives : Bool} (cause : HearFault) (why : Stop) → gives ≡ true → IsStopAt cause why → BreaksOnce {X = Unit {0}} old new gives (Err why)
+once_stopped old new {gives = gives} (hear.Refused kind offset) why still is = once_why old new gives is tt
+once_stopped old new {gives = gives} hear.LimitEvents why still is = once_why old new gives is tt
+once_stopped old new {gives = gives} (hear.TooLong conn) why still is = once_why old new gives is tt
+once_stopped old new {gives = gives} hear.LimitItems why still is = once_why old new gives is tt
+once_stopped old new {gives = gives} hear.ReadFault why still is = once_why old new gives is still
+once_stopped old new {gives = gives} hear.Memory why still is = once_why old new gives is (inr still)
 
 -- the same since earlier
 pub once_at : (old mid new : Option Coming) (gives : Bool) (end : Answer) → StaysKnown old mid → BreaksAt mid new gives end → BreaksAt old new gives end
@@ -143,8 +143,8 @@ once_then old mid new gives (Ok done) known once = tt
 once_then old mid new gives (Err (stop.Ends end)) known once = tt
 once_then old mid new gives (Err (stop.Breaks end)) known once = once_at old mid new gives end known once
 
-pub once_broke : (old new : Option Coming) (gives : Bool) (why : Stop) (end : Answer) → why ≡ stop.Breaks end → BreaksOnce {X = Unit {0}} old new gives (Err why) → BreaksAt old new gives end
-once_broke old new gives why end is once = subst (λ (w : Stop). BreaksOnce {X = Unit {0}} old new gives (Err w)) is once
+pub once_broke : (old new : Option Coming) (gives : Bool) {why : Stop} {end : Answer} → why ≡ stop.Breaks end → BreaksOnce {X = Unit {0}} old new gives (Err why) → BreaksAt old new gives end
+once_broke old new gives is once = subst (λ (w : Stop). BreaksOnce {X = Unit {0}} old new gives (Err w)) is once
 
 pub once_ended : (old new : Option Coming) (gives : Bool) (end : Answer) → IsEnd end → BreaksAt old new gives end
 once_ended old new gives answer.WriteFault is = absurd is
@@ -157,9 +157,9 @@ pub pass_answer : (why : PassFault) (end : Answer) → IsAnswerTo why end → Is
 pass_answer fault.WriteFault end is = subst IsPassAnswer (sym is) tt
 pass_answer fault.Memory end is = subst IsPassAnswer (sym is) tt
 
-pub once_passing : (old new : Option Coming) (gives : Bool) (why : PassFault) (end : Answer) → new ≡ old → IsAnswerTo why end → BreaksAt old new gives end
-once_passing old new gives fault.WriteFault end same is = subst (BreaksAt old new gives) (sym is) (known_same old new same)
-once_passing old new gives fault.Memory end same is = subst (BreaksAt old new gives) (sym is) (inl (known_same old new same))
+pub once_passing : {old new : Option Coming} (gives : Bool) (why : PassFault) (end : Answer) → new ≡ old → IsAnswerTo why end → BreaksAt old new gives end
+once_passing {old = old} {new = new} gives fault.WriteFault end same is = subst (BreaksAt old new gives) (sym is) (known_same same)
+once_passing {old = old} {new = new} gives fault.Memory end same is = subst (BreaksAt old new gives) (sym is) (inl (known_same same))
 
 -- passing and hearing answer no fault of the notes
 pub unnoted_passing : (result : Result (Unit {0}) Stop) → BreaksPassing result → IsUnnoted result
@@ -169,16 +169,16 @@ unnoted_passing (Err (stop.Breaks answer.WriteFault)) is = tt
 unnoted_passing (Err (stop.Breaks answer.Memory)) is = tt
 unnoted_passing (Err (stop.Breaks end)) is = absurd is
 
-unnoted_why : (why now : Stop) → why ≡ now → IsUnnoted (Err now) → IsUnnoted (Err why)
-unnoted_why why now is unnoted = subst (λ (w : Stop). IsUnnoted (Err w)) (sym is) unnoted
+unnoted_why : {why now : Stop} → why ≡ now → IsUnnoted (Err now) → IsUnnoted (Err why)
+unnoted_why is unnoted = subst (λ (w : Stop). IsUnnoted (Err w)) (sym is) unnoted
 
 pub unnoted_stopped : (cause : HearFault) (why : Stop) → IsStopAt cause why → IsUnnoted (Err why)
-unnoted_stopped (hear.Refused kind offset) why is = unnoted_why why (stop.Ends (answer.InputRefused kind offset)) is tt
-unnoted_stopped hear.LimitEvents why is = unnoted_why why (stop.Ends answer.LimitEvents) is tt
-unnoted_stopped (hear.TooLong conn) why is = unnoted_why why (stop.Ends (answer.MessageTooLong conn)) is tt
-unnoted_stopped hear.LimitItems why is = unnoted_why why (stop.Ends answer.LimitItems) is tt
-unnoted_stopped hear.ReadFault why is = unnoted_why why (stop.Breaks answer.ReadFault) is tt
-unnoted_stopped hear.Memory why is = unnoted_why why (stop.Breaks answer.Memory) is tt
+unnoted_stopped (hear.Refused kind offset) why is = unnoted_why is tt
+unnoted_stopped hear.LimitEvents why is = unnoted_why is tt
+unnoted_stopped (hear.TooLong conn) why is = unnoted_why is tt
+unnoted_stopped hear.LimitItems why is = unnoted_why is tt
+unnoted_stopped hear.ReadFault why is = unnoted_why is tt
+unnoted_stopped hear.Memory why is = unnoted_why is tt
 
 file_fault : (result : Result (Unit {0}) Stop) → IsUnnoted result → IsErrOf result (stop.Breaks answer.FileFault) → ⊥
 file_fault (Ok done) unnoted is = absurd (cc)
@@ -189,21 +189,21 @@ file_fault (Err (stop.Breaks end)) unnoted is = subst (λ (w : Stop). IsUnnoted 
     err_is why other is = cc (is)
 
 -- behind notes that failed nothing
-pub noted_still : (before now : ℕ) (result : Result (Unit {0}) Stop) → before ≤ now → IsUnnoted result → HasNoteStop before now result
-noted_still before now result later unnoted = record { later = later; file_fault = λ is. absurd (file_fault result unnoted is) }
+pub noted_still : {before now : ℕ} {result : Result (Unit {0}) Stop} → before ≤ now → IsUnnoted result → HasNoteStop before now result
+noted_still {result = result} later unnoted = record { later = later; file_fault = λ is. absurd (file_fault result unnoted is) }
 
 -- a fault of the notes, where the link failed nothing
-pub once_noted : (coming : Option Coming) (gives : Bool) (end : Answer) → gives ≡ true → IsNoteFault end → BreaksAt coming coming gives end
-once_noted coming gives answer.FileFault still is = (known_same coming coming refl, still)
-once_noted coming gives answer.Memory still is = inr still
-once_noted coming gives _ still is = absurd is
+pub once_noted : (coming : Option Coming) {gives : Bool} (end : Answer) → gives ≡ true → IsNoteFault end → BreaksAt coming coming gives end
+once_noted coming answer.FileFault still is = (known_same refl, still)
+once_noted coming answer.Memory still is = inr still
+once_noted coming _ still is = absurd is
 
 -- a stop that isn't for want of memory
-pub breaks_of : (why : Stop) (end other : Answer) → why ≡ stop.Breaks end → IsErrOf {T = Unit {0}} {E = Stop} (Err why) (stop.Breaks other) → end ≡ other
-breaks_of why end other is same = cc
+pub breaks_of : {why : Stop} {end other : Answer} → why ≡ stop.Breaks end → IsErrOf {T = Unit {0}} {E = Stop} (Err why) (stop.Breaks other) → end ≡ other
+breaks_of is same = cc
 
-pub ends_of : (why : Stop) (end : Answer) → why ≡ stop.Ends end → IsErrOf {T = Unit {0}} {E = Stop} (Err why) (stop.Breaks answer.Memory) → ⊥
-ends_of why end is same = cc
+pub ends_of : {why : Stop} {end : Answer} → why ≡ stop.Ends end → IsErrOf {T = Unit {0}} {E = Stop} (Err why) (stop.Breaks answer.Memory) → ⊥
+ends_of is same = cc
 
 -- a fault of passing is no end
 pub fault_no_end : (why : PassFault) (end : Answer) → IsAnswerTo why end → IsEnd end → ⊥
@@ -212,11 +212,11 @@ fault_no_end fault.Memory end is = subst (λ (a : Answer). IsEnd a → ⊥) (sym
 
 module _ {R : Type 0} where
   -- counts stay where the guest does
-  pub counted_same : (old new : SessionState R) → HasSameGuest old new → IsCounted old → IsCounted new
-  counted_same old new same counted = record {
+  pub counted_same : {old new : SessionState R} → HasSameGuest old new → IsCounted old → IsCounted new
+  counted_same same counted = record {
     taken = same.taken ∙ counted.taken ∙ sym (ap (λ (cpu : CpuState R). cpu.slots.live.guest.machine.taken) same.cpu);
     steps = same.steps ∙ counted.steps ∙ sym (ap (λ (cpu : CpuState R). cpu.slots.live.steps) same.cpu);
   }
 
-  pub counted_low : (session : SessionState R) → IsCounted session → session.steps ≤ session.cpu.slots.live.steps
-  counted_low session counted = let steps = counted.steps in omega (arith, steps)
+  pub counted_low : {session : SessionState R} → IsCounted session → session.steps ≤ session.cpu.slots.live.steps
+  counted_low counted = let steps = counted.steps in omega (arith, steps)

@@ -29,7 +29,7 @@ use Rattle.session_history.specs.Ends.{IsEnd, before_end}
 use Rattle.session_history.specs.Passing.{AreBetween}
 use Rattle.recovery.proofs.Starting.{kept_at}
 use Rattle.recovery.specs.Rings.{KeepsRing, AreBehind}
-use Rattle.recovery.proofs.Walked.{behind_at}
+use Rattle.recovery.proofs.Survived.{behind_at}
 use Rattle.recovery.proofs.ForgetLemmas.{HasOldest, has_oldest, after_oldest, oldest_of, oldest_used}
 use Rattle.session_state.specs.Sessions.{SessionState}
 use Rattle.links.specs.Links.{Coming}
@@ -60,14 +60,14 @@ between_dropped low high zero sends are = are
 between_dropped low high (suc n) [] are = tt
 between_dropped low high (suc n) (send ∷ sends) are = between_dropped low high n sends are.2
 
-between_at : (low high : ℕ) (x : List Send) (y : Send) (z : List Send) → AreBetween low high (x ++ y ∷ z) → y.taken ≤ high
-between_at low high [] y z are = are.1
-between_at low high (first ∷ x) y z are = between_at low high x y z are.2
+between_at : (low : ℕ) {high : ℕ} (x : List Send) (y : Send) (z : List Send) → AreBetween low high (x ++ y ∷ z) → y.taken ≤ high
+between_at low [] y z are = are.1
+between_at low (first ∷ x) y z are = between_at low x y z are.2
 
 -- where nothing may be passed any more, no kept send waits
-all_settled : (ledger : Ledger) (sends : List Send) (until taken : ℕ) → next_part ledger until ≡ None → ledger.kept ≡ drop ledger.first sends → AreBetween 0 taken sends → taken ≤ until → settled ledger ≡ length ledger.kept
+all_settled : (ledger : Ledger) (sends : List Send) {until taken : ℕ} → next_part ledger until ≡ None → ledger.kept ≡ drop ledger.first sends → AreBetween 0 taken sends → taken ≤ until → settled ledger ≡ length ledger.kept
 unfolding settled waits unpassed
-all_settled ledger sends until taken none kept timed low = none_passes (waits ledger.connections) ledger.connections [] ledger.kept here
+all_settled ledger sends {until = until} {taken = taken} none kept timed low = none_passes (waits ledger.connections) ledger.connections [] ledger.kept here
   where
     between : AreBetween 0 taken ledger.kept
     between = subst (AreBetween 0 taken) (sym kept) (between_dropped 0 taken ledger.first sends timed)
@@ -77,7 +77,7 @@ all_settled ledger sends until taken none kept timed low = none_passes (waits le
       where
         by : (b : Bool) → is_open ledger.connections y.conn ≡ b → (is_open ledger.connections y.conn && is_left (unpassed ledger.connections x y)) ≡ false
         by true opened =
-            let last : y.taken ≤ taken = between_at 0 taken x y z (subst (AreBetween 0 taken) split between) in
+            let last : y.taken ≤ taken = between_at 0 x y z (subst (AreBetween 0 taken) split between) in
             ap (λ b. b && is_left (unpassed ledger.connections x y)) opened ∙ next_none ledger until none x y z split opened (omega (arith, last, low))
         by false shut = ap (λ b. b && is_left (unpassed ledger.connections x y)) shut
 
@@ -104,13 +104,13 @@ IsOfLink answer.WriteFault = Unit {0}
 IsOfLink _ = ⊥
 
 -- what stands at a fault of the link
-pub off_requests : (rules : Rules) (image : Image) (keeping : Keeping) (chapters : List Chapter) (entries : List Entry) (recoveries : List Recovery) (survivor : Survivor) (stands : List Stand) (end : Answer) → (IsEnd end → ⊥) → HandlesRequests rules image keeping chapters entries recoveries survivor stands
+pub off_requests : {rules : Rules} {image : Image} {keeping : Keeping} {chapters : List Chapter} {entries : List Entry} {recoveries : List Recovery} {survivor : Survivor} {stands : List Stand} (end : Answer) → (IsEnd end → ⊥) → HandlesRequests rules image keeping chapters entries recoveries survivor stands
     → (IsAtRequest end → HasHandled rules image keeping chapters entries recoveries survivor (survivor.now.state.machine.taken + 1) stands) → (IsNoteFault end → ⊥) → IsOfLink end
     → HandledAt end (HasHandled rules image keeping chapters entries recoveries survivor survivor.now.state.machine.taken stands) (HasHandled rules image keeping chapters entries recoveries survivor (survivor.now.state.machine.taken + 1) stands)
-off_requests rules image keeping chapters entries recoveries survivor stands answer.ReadFault no_end h handled never of_link = handled tt
-off_requests rules image keeping chapters entries recoveries survivor stands answer.WriteFault no_end (inl h) handled never of_link = inl h
-off_requests rules image keeping chapters entries recoveries survivor stands answer.WriteFault no_end (inr h) handled never of_link = inr h.1
-off_requests rules image keeping chapters entries recoveries survivor stands _ no_end h handled never of_link = absurd of_link
+off_requests answer.ReadFault no_end h handled never of_link = handled tt
+off_requests answer.WriteFault no_end (inl h) handled never of_link = inl h
+off_requests answer.WriteFault no_end (inr h) handled never of_link = inr h.1
+off_requests _ no_end h handled never of_link = absurd of_link
 
 pub of_link : (rules : Rules) (coming : Option Coming) (session : Session) (end : Answer) → EndsBy rules coming session end → (IsEnd end → ⊥) → (IsNoteFault end → ⊥) → IsOfLink end
 of_link rules coming session answer.ReadFault ends no_end never = tt
@@ -127,42 +127,42 @@ of_link rules coming session answer.LimitEvents ends no_end never = no_end tt
 of_link rules coming session _ ends no_end never = ends.0
 
 -- at a fault of passing at an end
-pub passing_requests : (rules : Rules) (image : Image) (keeping : Keeping) (chapters : List Chapter) (entries : List Entry) (recoveries : List Recovery) (survivor : Survivor) (stands : List Stand) (why : PassFault) (end : Answer) → IsAnswerTo why end → (IsNoteFault end → ⊥) → HandlesRequests rules image keeping chapters entries recoveries survivor stands
+pub passing_requests : {rules : Rules} {image : Image} {keeping : Keeping} {chapters : List Chapter} {entries : List Entry} {recoveries : List Recovery} {survivor : Survivor} {stands : List Stand} (why : PassFault) (end : Answer) → IsAnswerTo why end → (IsNoteFault end → ⊥) → HandlesRequests rules image keeping chapters entries recoveries survivor stands
     → HandledAt end (HasHandled rules image keeping chapters entries recoveries survivor survivor.now.state.machine.taken stands) (HasHandled rules image keeping chapters entries recoveries survivor (survivor.now.state.machine.taken + 1) stands)
-passing_requests rules image keeping chapters entries recoveries survivor stands pass_fault.WriteFault end is never h =
+passing_requests {rules = rules} {image = image} {keeping = keeping} {chapters = chapters} {entries = entries} {recoveries = recoveries} {survivor = survivor} {stands = stands} pass_fault.WriteFault end is never h =
     subst (λ (a : Answer). HandledAt a (HasHandled rules image keeping chapters entries recoveries survivor survivor.now.state.machine.taken stands) (HasHandled rules image keeping chapters entries recoveries survivor (survivor.now.state.machine.taken + 1) stands)) (sym is) (either h)
   where
     either : HandlesRequests rules image keeping chapters entries recoveries survivor stands
         → HasHandled rules image keeping chapters entries recoveries survivor survivor.now.state.machine.taken stands ⊎ HasHandled rules image keeping chapters entries recoveries survivor (survivor.now.state.machine.taken + 1) stands
     either (inl h) = inl h
     either (inr h) = inr h.1
-passing_requests rules image keeping chapters entries recoveries survivor stands pass_fault.Memory end is never h = absurd (never (subst IsNoteFault (sym is) tt))
+passing_requests pass_fault.Memory end is never h = absurd (never (subst IsNoteFault (sym is) tt))
 
 -- what stands at an end
-pub end_requests : (rules : Rules) (image : Image) (coming : Option Coming) (keeping : Keeping) (chapters : List Chapter) (entries : List Entry) (recoveries : List Recovery) (survivor : Survivor) (stands : List Stand) (end : Answer) → IsEnd end → StandsAt rules entries coming survivor end
+pub end_requests : {rules : Rules} {image : Image} (coming : Option Coming) {keeping : Keeping} {chapters : List Chapter} {entries : List Entry} {recoveries : List Recovery} {survivor : Survivor} {stands : List Stand} (end : Answer) → IsEnd end → StandsAt rules entries coming survivor end
     → HandlesRequests rules image keeping chapters entries recoveries survivor stands → (IsAtRequest end → HasHandled rules image keeping chapters entries recoveries survivor (survivor.now.state.machine.taken + 1) stands)
     → HandledAt end (HasHandled rules image keeping chapters entries recoveries survivor survivor.now.state.machine.taken stands) (HasHandled rules image keeping chapters entries recoveries survivor (survivor.now.state.machine.taken + 1) stands)
-end_requests rules image coming keeping chapters entries recoveries survivor stands answer.Finished is where_at h handled = handled tt
-end_requests rules image coming keeping chapters entries recoveries survivor stands (answer.InputRefused kind offset) is where_at h handled = handled tt
-end_requests rules image coming keeping chapters entries recoveries survivor stands (answer.MessageTooLong conn) is where_at h handled = handled tt
-end_requests rules image coming keeping chapters entries recoveries survivor stands answer.LimitItems is where_at h handled = handled tt
-end_requests rules image coming keeping chapters entries recoveries survivor stands answer.LimitEvents is where_at h handled = handled tt
-end_requests rules image coming keeping chapters entries recoveries survivor stands (answer.Exited code) is where_at (inl h) handled = h
-end_requests rules image coming keeping chapters entries recoveries survivor stands (answer.Exited code) is where_at (inr h) handled = absurd (none-some code (sym h.0.lives ∙ where_at))
-end_requests rules image coming keeping chapters entries recoveries survivor stands (answer.GaveUp point cause) is where_at (inl h) handled = h
-end_requests rules image coming keeping chapters entries recoveries survivor stands (answer.GaveUp point cause) is where_at (inr h) handled = absurd (asks_or_fails rules.limits survivor.plan survivor.now cause survivor.now.state.machine.taken h.0 where_at.0)
-end_requests rules image coming keeping chapters entries recoveries survivor stands _ is where_at h handled = absurd is
+end_requests coming answer.Finished is where_at h handled = handled tt
+end_requests coming (answer.InputRefused kind offset) is where_at h handled = handled tt
+end_requests coming (answer.MessageTooLong conn) is where_at h handled = handled tt
+end_requests coming answer.LimitItems is where_at h handled = handled tt
+end_requests coming answer.LimitEvents is where_at h handled = handled tt
+end_requests coming (answer.Exited code) is where_at (inl h) handled = h
+end_requests coming (answer.Exited code) is where_at (inr h) handled = absurd (none-some code (sym h.0.lives ∙ where_at))
+end_requests coming (answer.GaveUp point cause) is where_at (inl h) handled = h
+end_requests coming (answer.GaveUp point cause) is where_at (inr h) handled = absurd (asks_or_fails h.0 where_at.0)
+end_requests coming _ is where_at h handled = absurd is
 
 module _ {R : Type 0} where
   -- the oldest of the checkpoints that a session holds
-  pub oldest_held : (rules : Rules) (image : Image) (chapters : List Chapter) (entries : List Entry) (recoveries : List Recovery) (survivor : Survivor) (session : SessionState R) (h : HoldsCheckpoints rules image chapters entries recoveries survivor session) → HasOldest h.paths session.cpu.slots.saved
-  oldest_held rules image chapters entries recoveries survivor session h = has_oldest h.paths session.cpu.slots.saved h.some h.as_many h.saved
+  pub oldest_held : {rules : Rules} {image : Image} {chapters : List Chapter} {entries : List Entry} {recoveries : List Recovery} {survivor : Survivor} {session : SessionState R} (h : HoldsCheckpoints rules image chapters entries recoveries survivor session) → HasOldest h.paths session.cpu.slots.saved
+  oldest_held {session = session} h = has_oldest h.paths session.cpu.slots.saved h.some h.as_many h.saved
 
   -- what is asked for before sends are given up
-  pub can_forget_sends : (rules : Rules) (image : Image) (chapters : List Chapter) (entries : List Entry) (recoveries : List Recovery) (survivor : Survivor) (session : SessionState R) (h : HoldsCheckpoints rules image chapters entries recoveries survivor session) (ledger : Ledger)
+  pub can_forget_sends : {rules : Rules} {image : Image} {chapters : List Chapter} {entries : List Entry} {recoveries : List Recovery} {survivor : Survivor} {session : SessionState R} (h : HoldsCheckpoints rules image chapters entries recoveries survivor session) {ledger : Ledger}
       → ledger.kept ≡ drop ledger.first survivor.now.state.sends → ledger.first ≤ length survivor.now.state.sends → ledger.trial ≡ None → CanForgetSends (record session { replies = ledger })
-  can_forget_sends rules image chapters entries recoveries survivor session h ledger kept counted none =
-      let o = oldest_held rules image chapters entries recoveries survivor session h in
+  can_forget_sends {rules = rules} {image = image} {entries = entries} {survivor = survivor} h {ledger = ledger} kept counted none =
+      let o = oldest_held h in
       let before = (after_oldest rules.limits (items_in rules.bounds entries) survivor.plan image survivor.now h.paths o.oldest h.chained o.last).0 in
       let all : length ledger.kept ≡ length survivor.now.state.sends - ledger.first = ap length kept ∙ length-drop ledger.first survivor.now.state.sends in
       let there : o.slot.state.sends ≤ ledger.first + length ledger.kept = omega (arith, ap (λ (s : Standing). s.sends) o.stands, before.sends, all, counted) in
@@ -173,17 +173,17 @@ module _ {R : Type 0} where
       }
 
   -- a session that noted all that no trial can take back
-  pub noted_up : (rules : Rules) (image : Image) (entries : List Entry) (plan : List Override) (now : Path) (ring : List Path) (cpu : CpuState R) (checkpoints : Checkpoints) (log : Log) (ledger : Ledger) (marks : Marks)
+  pub noted_up : {rules : Rules} {image : Image} {entries : List Entry} {plan : List Override} {now : Path} {ring : List Path} {cpu : CpuState R} {checkpoints : Checkpoints} {log : Log} {ledger : Ledger} (marks : Marks)
       → IfSome (slice_get cpu.slots.saved 0) (λ one. marks ≡ marks_of one.state) → KeepsRing rules image entries plan now ring cpu checkpoints log ledger → IfSome (slice_get cpu.slots.saved 0) (λ oldest. marks.choices ≡ oldest.state.guest.machine.allocations)
-  noted_up rules image entries plan now ring cpu checkpoints log ledger marks is k =
+  noted_up {rules = rules} {image = image} {entries = entries} {plan = plan} {now = now} {ring = ring} {cpu = cpu} {checkpoints = checkpoints} {log = log} {ledger = ledger} marks is k =
       let o = oldest_of rules image entries plan now ring cpu checkpoints log ledger k in
       let here : marks ≡ marks_of o.slot.state = subst (λ (s : Option (Saved Standing)). IfSome s (λ one. marks ≡ marks_of one.state)) o.first is in
       subst (λ (s : Option (Saved Standing)). IfSome s (λ oldest. marks.choices ≡ oldest.state.guest.machine.allocations)) (sym o.first) (ap (λ (m : Marks). m.choices) here)
 
   -- no more is noted than the oldest checkpoint had used
-  pub noted_low : (rules : Rules) (image : Image) (entries : List Entry) (plan : List Override) (now : Path) (ring : List Path) (cpu : CpuState R) (checkpoints : Checkpoints) (log : Log) (ledger : Ledger) (marks : Marks) (recorded : ℕ)
+  pub noted_low : {rules : Rules} {image : Image} {entries : List Entry} {plan : List Override} {now : Path} {ring : List Path} {cpu : CpuState R} {checkpoints : Checkpoints} {log : Log} {ledger : Ledger} (marks : Marks) {recorded : ℕ}
       → IfSome (slice_get cpu.slots.saved 0) (λ one. marks ≡ marks_of one.state) → KeepsRing rules image entries plan now ring cpu checkpoints log ledger → AreBehind recorded ring → recorded ≤ marks.choices
-  noted_low rules image entries plan now ring cpu checkpoints log ledger marks recorded is k early =
+  noted_low {rules = rules} {image = image} {entries = entries} {plan = plan} {now = now} {ring = ring} {cpu = cpu} {checkpoints = checkpoints} {log = log} {ledger = ledger} marks {recorded = recorded} is k early =
       let o = oldest_of rules image entries plan now ring cpu checkpoints log ledger k in
       let here : marks ≡ marks_of o.slot.state = subst (λ (s : Option (Saved Standing)). IfSome s (λ one. marks ≡ marks_of one.state)) o.first is in
       let low : recorded ≤ length o.oldest.choices = behind_at recorded ring (length ring - 1) o.oldest early o.last in
@@ -193,11 +193,11 @@ module _ {R : Type 0} where
       omega (arith, low, used, stands, marked)
 
   -- a session that gave up what lies before its oldest checkpoint
-  pub forgot_up : (rules : Rules) (image : Image) (entries : List Entry) (plan : List Override) (now : Path) (ring : List Path) (old : SessionState R) (log : Log) (ledger : Ledger)
+  pub forgot_up : {rules : Rules} {image : Image} {entries : List Entry} {plan : List Override} {now : Path} {ring : List Path} {old : SessionState R} {log : Log} {ledger : Ledger}
       → KeepsRing rules image entries plan now ring old.cpu old.ring old.log old.replies
       → IfSome (slice_get old.cpu.slots.saved 0) (λ oldest. log ≡ logs.trimmed old.log oldest.state.guest.machine.taken) → IfSome (slice_get old.cpu.slots.saved 0) (λ oldest. ledger ≡ ledgers.trimmed old.replies oldest.state.sends)
       → IsRecorded old → IsTrimmed (record old { log = log; replies = ledger })
-  forgot_up rules image entries plan now ring old log ledger k cut less recorded =
+  forgot_up {rules = rules} {image = image} {entries = entries} {plan = plan} {now = now} {ring = ring} {old = old} {log = log} {ledger = ledger} k cut less recorded =
       let o = oldest_of rules image entries plan now ring old.cpu old.ring old.log old.replies k in
       let kept = kept_at rules entries old.log old.replies ring (length ring - 1) o.oldest k.kept o.last in
       let here : log ≡ logs.trimmed old.log o.slot.state.guest.machine.taken = subst (λ (s : Option (Saved Standing)). IfSome s (λ oldest. log ≡ logs.trimmed old.log oldest.state.guest.machine.taken)) o.first cut in
@@ -213,9 +213,9 @@ module _ {R : Type 0} where
       }
 
   -- at the start all is given up that lies before it: nothing
-  pub start_trimmed : (rules : Rules) (image : Image) (entries : List Entry) (plan : List Override) (now : Path) (ring : List Path) (session : SessionState R) → KeepsRing rules image entries plan now ring session.cpu session.ring session.log session.replies
+  pub start_trimmed : {rules : Rules} {image : Image} {entries : List Entry} {plan : List Override} {now : Path} {ring : List Path} {session : SessionState R} → KeepsRing rules image entries plan now ring session.cpu session.ring session.log session.replies
       → (oldest : Path) → slice_get ring (length ring - 1) ≡ Some oldest → session.log.first ≡ oldest.state.machine.taken → session.recorded ≡ oldest.state.machine.allocations → session.replies.first ≤ length oldest.state.sends → IsTrimmed session
-  start_trimmed rules image entries plan now ring session k oldest last items recorded sends =
+  start_trimmed {rules = rules} {image = image} {entries = entries} {plan = plan} {now = now} {ring = ring} {session = session} k oldest last items recorded sends =
       let o = oldest_of rules image entries plan now ring session.cpu session.ring session.log session.replies k in
       let same : o.oldest ≡ oldest = same_Some o.oldest oldest (sym o.last ∙ last) in
       let stands : o.slot.state ≡ standing_of oldest = o.stands ∙ ap standing_of same in
@@ -226,11 +226,11 @@ module _ {R : Type 0} where
       }
 
   -- what a session that was broken off leaves
-  pub left_off : (rules : Rules) (image : Image) (recoveries : List Recovery) (account : Session) (session : SessionState R) (end : Answer) → (IsEnd end → ⊥) → IsTrimmed session → HoldsCheckpoints rules image account.earlier (before_end account) recoveries account.survivor session
+  pub left_off : {rules : Rules} {image : Image} {recoveries : List Recovery} {account : Session} {session : SessionState R} {end : Answer} → (IsEnd end → ⊥) → IsTrimmed session → HoldsCheckpoints rules image account.earlier (before_end account) recoveries account.survivor session
       → HandledAt end (HasHandled rules image (keeping_of session) account.earlier (before_end account) recoveries account.survivor account.survivor.now.state.machine.taken (stands_of session.cpu.slots.saved)) (HasHandled rules image (keeping_of session) account.earlier (before_end account) recoveries account.survivor (account.survivor.now.state.machine.taken + 1) (stands_of session.cpu.slots.saved))
       → HasLeft rules image recoveries account session end
-  left_off rules image recoveries account session end no_end trimmed h requests =
-      let o = oldest_held rules image account.earlier (before_end account) recoveries account.survivor session h in
+  left_off {rules = rules} {image = image} {account = account} {session = session} no_end trimmed h requests =
+      let o = oldest_held h in
       let used : o.oldest.state.machine.allocations ≡ length o.oldest.choices = oldest_used rules.limits (items_in rules.bounds (before_end account)) account.survivor.plan image account.survivor.now h.paths o.oldest h.chained o.last in
       let items : session.log.first ≡ o.slot.state.guest.machine.taken = subst (λ (s : Option (Saved Standing)). IfSome s (λ oldest. session.log.first ≡ oldest.state.guest.machine.taken)) o.first trimmed.items in
       let recorded : session.recorded ≡ o.slot.state.guest.machine.allocations = subst (λ (s : Option (Saved Standing)). IfSome s (λ oldest. session.recorded ≡ oldest.state.guest.machine.allocations)) o.first trimmed.recorded in
@@ -246,20 +246,20 @@ module _ {R : Type 0} where
       }
 
   -- and one that came to its end, where nothing that was sent waits
-  pub left_end : (rules : Rules) (image : Image) (recoveries : List Recovery) (account : Session) (old new : SessionState R) (ledger : Ledger) (end : Answer) (until : ℕ) → IsEnd end → IsTrimmed old → HoldsCheckpoints rules image account.earlier (before_end account) recoveries account.survivor old
+  pub left_end : {rules : Rules} {image : Image} {recoveries : List Recovery} {account : Session} {old new : SessionState R} (ledger : Ledger) {end : Answer} {until : ℕ} → IsEnd end → IsTrimmed old → HoldsCheckpoints rules image account.earlier (before_end account) recoveries account.survivor old
       → HandledAt end (HasHandled rules image (keeping_of new) account.earlier (before_end account) recoveries account.survivor account.survivor.now.state.machine.taken (stands_of new.cpu.slots.saved)) (HasHandled rules image (keeping_of new) account.earlier (before_end account) recoveries account.survivor (account.survivor.now.state.machine.taken + 1) (stands_of new.cpu.slots.saved))
       → UnlessGaveUp end (old.cpu.slots.live ≡ standing_of account.survivor.now) → new.cpu ≡ old.cpu → keeping_of new ≡ keeping_of old → new.log ≡ old.log → ledger.first ≡ old.replies.first
       → ledger.kept ≡ drop ledger.first account.survivor.now.state.sends → ledger.first ≤ length account.survivor.now.state.sends → AreBetween 0 account.survivor.now.state.machine.taken account.survivor.now.state.sends → account.survivor.now.state.machine.taken ≤ until → next_part ledger until ≡ None
       → IfSome (slice_get old.cpu.slots.saved 0) (λ oldest. new.replies ≡ ledgers.trimmed ledger oldest.state.sends) → HasLeft rules image recoveries account new end
-  left_end rules image recoveries account old new ledger end until is trimmed h requests live guest keeping log first kept counted timed low none less =
+  left_end {rules = rules} {image = image} {recoveries = recoveries} {account = account} {old = old} {new = new} ledger {end = end} is trimmed h requests live guest keeping log first kept counted timed low none less =
       let items : List Item = items_in rules.bounds (before_end account) in
-      let o = oldest_held rules image account.earlier (before_end account) recoveries account.survivor old h in
+      let o = oldest_held h in
       let before = (after_oldest rules.limits items account.survivor.plan image account.survivor.now h.paths o.oldest h.chained o.last).0 in
       let whole : old.log.first ≡ o.slot.state.guest.machine.taken = subst (λ (s : Option (Saved Standing)). IfSome s (λ oldest. old.log.first ≡ oldest.state.guest.machine.taken)) o.first trimmed.items in
       let early : old.replies.first ≤ o.slot.state.sends = subst (λ (s : Option (Saved Standing)). IfSome s (λ oldest. old.replies.first ≤ oldest.state.sends)) o.first trimmed.sends in
       let left : new.replies ≡ ledgers.trimmed ledger o.slot.state.sends = subst (λ (s : Option (Saved Standing)). IfSome s (λ oldest. new.replies ≡ ledgers.trimmed ledger oldest.state.sends)) o.first less in
       let first_send : new.replies.first ≡ ledger.first + min (o.slot.state.sends - ledger.first) (settled ledger) = ap (λ (l : Ledger). l.first) left in
-      let all : settled ledger ≡ length ledger.kept = all_settled ledger account.survivor.now.state.sends until account.survivor.now.state.machine.taken none kept timed low in
+      let all : settled ledger ≡ length ledger.kept = all_settled ledger account.survivor.now.state.sends none kept timed low in
       let many : length ledger.kept ≡ length account.survivor.now.state.sends - ledger.first = ap length kept ∙ length-drop ledger.first account.survivor.now.state.sends in
       let sent : o.slot.state.sends ≡ length o.oldest.state.sends = ap (λ (s : Standing). s.sends) o.stands in
       let most = before.sends in

@@ -31,4 +31,5 @@ pub mod HearingLemmas
 pub mod TurnLemmas
 pub mod StartLemmas
 pub mod KnownLemmas
+pub mod ServingLemmas
 pub mod RecordingLemmas

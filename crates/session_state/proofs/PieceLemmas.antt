@@ -14,7 +14,7 @@ use Rattle.session_history.specs.Serving.{moment_of, Serving}
 use Rattle.session_history.proofs.Heeding.{items_in-gave}
 use Rattle.session_history.proofs.Paths.{served_same}
 use Rattle.session_history.proofs.Sessions.{serving_piece}
-use Rattle.session_state.specs.Standing.{Since, Story, entries, moment, sends, then_story, IsTold}
+use Rattle.session_state.specs.Standing.{Since, Story, moment, sends, then_story, IsTold}
 use Rattle.session_state.proofs.TellLemmas.{tells_on}
 
 -- pieces that are due are pieces
@@ -30,9 +30,9 @@ pub record Stood (rules : Rules) (image : Image) (earlier : List Chapter) (survi
   pub way : Served rules.limits (items_in rules.bounds (entries_of earlier ++ since)) survivor.plan survivor.begun survivor.now
 
 -- one piece
-one_piece : (rules : Rules) (image : Image) (earlier : List Chapter) (survivor : Survivor) (since : List Entry) (conn : ℕ) (bytes : List ℕ) (gone : Bool) → Stood rules image earlier survivor since
+one_piece : {rules : Rules} {image : Image} {earlier : List Chapter} {survivor : Survivor} {since : List Entry} (conn : ℕ) (bytes : List ℕ) (gone : Bool) → Stood rules image earlier survivor since
     → IsDueAt rules survivor.plan survivor.now (moment_of earlier since survivor.now.state.machine.taken) (entry.Gave conn bytes gone) → Stood rules image earlier survivor (since ++ entry.Gave conn bytes gone ∷ [])
-one_piece rules image earlier survivor since conn bytes gone stood due =
+one_piece {rules = rules} {image = image} {earlier = earlier} {survivor = survivor} {since = since} conn bytes gone stood due =
     let items : List Item = items_in rules.bounds (entries_of earlier ++ since) in
     let whole : IsDue rules items survivor (place_of earlier since false) (entry.Gave conn bytes gone) =
     record { way = record { path = survivor.now; from = stood.way; on = served_same rules.limits items survivor.plan survivor.now }; early = stood.serving.carries.taken; due = due } in
@@ -44,26 +44,26 @@ one_piece rules image earlier survivor since conn bytes gone stood due =
     }
 
 -- several pieces
-pub pieces : (rules : Rules) (image : Image) (earlier : List Chapter) (survivor : Survivor) (since more : List Entry) → Stood rules image earlier survivor since → AreDuePieces rules survivor.now.state.sends (moment_of earlier since survivor.now.state.machine.taken) more
+pub pieces : {rules : Rules} {image : Image} {earlier : List Chapter} {survivor : Survivor} {since : List Entry} (more : List Entry) → Stood rules image earlier survivor since → AreDuePieces rules survivor.now.state.sends (moment_of earlier since survivor.now.state.machine.taken) more
     → Stood rules image earlier survivor (since ++ more)
-pieces rules image earlier survivor since [] stood due = subst (Stood rules image earlier survivor) (sym (append-nil since)) stood
-pieces rules image earlier survivor since (entry.Gave conn bytes false ∷ more) stood due =
+pieces {rules = rules} {image = image} {earlier = earlier} {survivor = survivor} {since = since} [] stood due = subst (Stood rules image earlier survivor) (sym (append-nil since)) stood
+pieces {rules = rules} {image = image} {earlier = earlier} {survivor = survivor} {since = since} (entry.Gave conn bytes false ∷ more) stood due =
     subst (Stood rules image earlier survivor) (append_assoc since (entry.Gave conn bytes false ∷ []) more)
-    (pieces rules image earlier survivor (since ++ entry.Gave conn bytes false ∷ []) more (one_piece rules image earlier survivor since conn bytes false stood due.0) due.1)
-pieces rules image earlier survivor since (entry.Gave conn bytes true ∷ more) stood due =
+    (pieces more (one_piece conn bytes false stood due.0) due.1)
+pieces {rules = rules} {image = image} {earlier = earlier} {survivor = survivor} {since = since} (entry.Gave conn bytes true ∷ more) stood due =
     subst (Stood rules image earlier survivor) (append_assoc since (entry.Gave conn bytes true ∷ []) more)
-    (pieces rules image earlier survivor (since ++ entry.Gave conn bytes true ∷ []) more (one_piece rules image earlier survivor since conn bytes true stood due.0) due.1)
-pieces rules image earlier survivor since (entry.Took event ∷ more) stood due = absurd due
+    (pieces more (one_piece conn bytes true stood due.0) due.1)
+pieces (entry.Took event ∷ more) stood due = absurd due
 
 -- the story goes on with them
-pub told_pieces : (rules : Rules) (image : Image) (began : Since) (old now : Told) (story : Story) (more : List Entry) → IsTold rules image began old story → AreDuePieces rules (sends story) (moment story) more → Tells old now more
+pub told_pieces : {rules : Rules} {image : Image} {began : Since} {old now : Told} {story : Story} {more : List Entry} → IsTold rules image began old story → AreDuePieces rules (sends story) (moment story) more → Tells old now more
     → IsTold rules image began now (then_story story more)
-told_pieces rules image began old now story more told due tells =
-    let stood = pieces rules image story.earlier story.survivor story.since more (record { serving = told.serving; way = told.way }) due in
+told_pieces {began = began} {now = now} {story = story} {more = more} told due tells =
+    let stood = pieces more (record { serving = told.serving; way = told.way }) due in
     record {
       serving = stood.serving;
       way = stood.way;
-      tells = subst (Tells began.told now) (append_assoc (entries_of story.earlier) story.since more) (tells_on began.told old now (entries story) more told.tells tells);
+      tells = subst (Tells began.told now) (append_assoc (entries_of story.earlier) story.since more) (tells_on told.tells tells);
       recovered = told.recovered;
       counted = told.counted;
       episodes = told.episodes;

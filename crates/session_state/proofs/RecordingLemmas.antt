@@ -1,10 +1,9 @@
 -- What a session records while its guest waits for an item.
-use Rattle.std.proofs.Common.{◌≡◌, ℕ, ◌+◌, ◌-◌, ◌≤◌, Bool, List, length, Option, Result, Ok, sym, subst, arith}
+use Rattle.std.proofs.Common.{◌≡◌, ℕ, ◌+◌, ◌-◌, ◌≤◌, List, length, Result, Ok, sym, subst, arith}
 use Rattle.block_book.specs.declared.choice.Choice.{Choice}
-use Rattle.links.specs.Links.{Phases, Told, Coming}
+use Rattle.links.specs.Seen.{Seen}
 use Rattle.elf_image.specs.declared.image.Image.{Image}
-use Rattle.session_notes.specs.declared.episode.Episode.{Episode}
-use Rattle.session_notes.specs.Noting.{noted}
+use Rattle.session_notes.specs.Noting.{Shown}
 use Rattle.session_history.specs.Lawful.{Rules}
 use Rattle.recovery.specs.Rings.{AreBehind}
 use Rattle.session_state.specs.Sessions.{SessionState}
@@ -15,23 +14,23 @@ use Rattle.session_state.specs.Recording.{NotesUpTo}
 use Rattle.session_state.proofs.ChoiceLemmas.{waits_noted}
 
 -- where no more was noted before, so many are
-pub up_to_safe : (safe recorded later : ℕ) → recorded ≤ safe → later ≡ recorded + (safe - recorded) → safe ≡ later
-up_to_safe safe recorded later low is = omega (arith, low, is)
+pub up_to_safe : {safe recorded later : ℕ} → recorded ≤ safe → later ≡ recorded + (safe - recorded) → safe ≡ later
+up_to_safe low is = omega (arith, low, is)
 
 module _ {R : Type 0} where
   -- the answers of malloc up to a number were noted, and the guest still waits
-  pub waits_up_to : (rules : Rules) (image : Image) (began : Since) (now : Told) (phases : Phases) (choices later : Option (List Choice)) (episodes others : Option (List Episode)) (old : SessionState R) (safe recorded : ℕ) (left : List Choice)
-      (w : IsWaitingFor rules image (record began { noted = noted choices episodes }) now phases old) → AreBehind safe w.hearing.saved.paths → safe ≤ length w.hearing.story.survivor.now.choices → old.recorded ≤ safe
-      → NotesUpTo safe old.recorded old.choices choices later recorded left (Ok tt) → others ≡ episodes
-      → IsWaitingFor rules image (record began { noted = noted later others }) now phases (record old { recorded = recorded; choices = left })
-  waits_up_to rules image began now phases choices later episodes others old safe recorded left w behind low more n alike =
-      let count : safe ≡ recorded = up_to_safe safe old.recorded recorded more n.1 in
-      subst (λ k. IsWaitingFor rules image (record began { noted = noted later others }) now phases (record old { recorded = k; choices = left })) count
-      (waits_noted rules image began now phases choices later episodes others old safe left w behind low more n.0 alike n.2)
+  pub waits_up_to : {rules : Rules} {image : Image} (began : Since) {seen : Seen} (shown now : Shown) {old : SessionState R} {safe recorded : ℕ} {left : List Choice}
+      (w : IsWaitingFor rules image (record began { noted = shown.told }) seen old) → AreBehind safe w.hearing.saved.paths → safe ≤ length w.hearing.story.survivor.now.choices → old.recorded ≤ safe
+      → NotesUpTo safe old.recorded old.choices shown now recorded left (Ok tt) → now.told.episodes ≡ shown.told.episodes
+      → IsWaitingFor rules image (record began { noted = now.told }) seen (record old { recorded = recorded; choices = left })
+  waits_up_to {rules = rules} {image = image} began {seen = seen} shown now {old = old} {safe = safe} {recorded = recorded} {left = left} w behind low more n alike =
+      let count : safe ≡ recorded = up_to_safe more n.1 in
+      subst (λ k. IsWaitingFor rules image (record began { noted = now.told }) seen (record old { recorded = k; choices = left })) count
+      (waits_noted began w behind low more n.0 alike n.2)
 
   -- what is said of a session where noting failed, since it is the same as before
-  pub waits_same : (rules : Rules) (image : Image) (began : Since) (now : Told) (phases : Phases) (coming : Option Coming) (takes : Bool) (old : SessionState R) (recorded : ℕ) (left : List Choice) (result : Result (Unit {0}) Stop) → recorded ≡ old.recorded → left ≡ old.choices
-      → WaitsBy rules image began now phases coming takes old result → WaitsBy rules image began now phases coming takes (record old { recorded = recorded; choices = left }) result
-  waits_same rules image began now phases coming takes old recorded left result same alike w =
-      subst (λ k. WaitsBy rules image began now phases coming takes (record old { recorded = k; choices = left }) result) (sym same)
-      (subst (λ cs. WaitsBy rules image began now phases coming takes (record old { choices = cs }) result) (sym alike) w)
+  pub waits_same : (rules : Rules) (image : Image) (began : Since) (seen : Seen) (old : SessionState R) {recorded : ℕ} {left : List Choice} (result : Result (Unit {0}) Stop) → recorded ≡ old.recorded → left ≡ old.choices
+      → WaitsBy rules image began seen old result → WaitsBy rules image began seen (record old { recorded = recorded; choices = left }) result
+  waits_same rules image began seen old {recorded = recorded} {left = left} result same alike w =
+      subst (λ k. WaitsBy rules image began seen (record old { recorded = k; choices = left }) result) (sym same)
+      (subst (λ cs. WaitsBy rules image began seen (record old { choices = cs }) result) (sym alike) w)

@@ -1,6 +1,6 @@
 -- A checkpoint is saved while the guest waits for an item.
 use Rattle.std.proofs.Common.{◌≡◌, ◌≤◌, ℕ, zero, suc, Bool, true, false, List, [], ◌∷◌, length, take, refl, sym, ◌∙◌, ap, subst, arith}
-use Rattle.links.specs.Links.{Phases, Told}
+use Rattle.links.specs.Seen.{Seen}
 use Rattle.elf_image.specs.declared.image.Image.{Image}
 use Rattle.ckpt_ring.specs.Rings.{Checkpoints}
 use Rattle.run_history.specs.Served.{Override, Path, AsksFor}
@@ -35,56 +35,56 @@ behind_take count (suc number) [] behind = tt
 behind_take count (suc number) (newest ∷ older) behind = (behind.0, behind_take count number older behind.1)
 
 -- a checkpoint that is made where no fewer were used
-pub behind_saved : (count number : ℕ) (due : Bool) (now : Path) (ring : List Path) → count ≤ length now.choices → AreBehind count ring → AreBehind count (ring_if due number now ring)
-behind_saved count number true now ring low behind = behind_take count number (now ∷ ring) (low, behind)
-behind_saved count number false now ring low behind = behind
+pub behind_saved : {count : ℕ} (number : ℕ) (due : Bool) (now : Path) (ring : List Path) → count ≤ length now.choices → AreBehind count ring → AreBehind count (ring_if due number now ring)
+behind_saved {count = count} number true now ring low behind = behind_take count number (now ∷ ring) (low, behind)
+behind_saved number false now ring low behind = behind
 
 module _ {R : Type 0} where
   -- the log has each item that the survivor takes from here on
-  pub kept_first : (rules : Rules) (image : Image) (entries : List Entry) (plan : List Override) (now : Path) (ring : List Path) (cpu : CpuState R) (checkpoints : Checkpoints) (log : Log) (ledger : Ledger)
+  pub kept_first : {rules : Rules} {image : Image} {entries : List Entry} {plan : List Override} {now : Path} (ring : List Path) {cpu : CpuState R} {checkpoints : Checkpoints} {log : Log} {ledger : Ledger}
       → KeepsRing rules image entries plan now ring cpu checkpoints log ledger → log.first ≤ now.state.machine.taken
-  kept_first rules image entries plan now [] cpu checkpoints log ledger keeps = let some = keeps.some in absurd (omega (arith, some))
-  kept_first rules image entries plan now (newest ∷ older) cpu checkpoints log ledger keeps =
+  kept_first [] keeps = let some = keeps.some in absurd (omega (arith, some))
+  kept_first {rules = rules} {entries = entries} {plan = plan} {now = now} (newest ∷ older) keeps =
       let later = taken_later rules.limits (items_in rules.bounds entries) plan newest now keeps.chained.0 in
       let kept = keeps.kept.0.items in
       omega (arith, later, kept)
 
   -- its ring and its guest have the same checkpoints
-  pub waits_ring : (rules : Rules) (image : Image) (began : Since) (now : Told) (phases : Phases) (session : SessionState R) → IsWaitingFor rules image began now phases session → IsRingOf session.cpu session.ring
-  waits_ring rules image began now phases session w =
+  pub waits_ring : {rules : Rules} {image : Image} {began : Since} {seen : Seen} {session : SessionState R} → IsWaitingFor rules image began seen session → IsRingOf session.cpu session.ring
+  waits_ring {rules = rules} {image = image} {session = session} w =
       let h = w.hearing in
       is_ring_of rules image (entries h.story) h.story.survivor.plan h.story.survivor.now h.saved.paths session.cpu session.ring session.log session.replies h.saved.ring
 
   -- its survivor can go on
-  pub waits_goes : (rules : Rules) (image : Image) (began : Since) (now : Told) (phases : Phases) (session : SessionState R) (w : IsWaitingFor rules image began now phases session) → CanGoOn rules (entries w.hearing.story) w.hearing.story.survivor.now
-  waits_goes rules image began now phases session w =
+  pub waits_goes : {rules : Rules} {image : Image} {began : Since} {seen : Seen} {session : SessionState R} (w : IsWaitingFor rules image began seen session) → CanGoOn rules (entries w.hearing.story) w.hearing.story.survivor.now
+  waits_goes {rules = rules} {image = image} {session = session} w =
       let h = w.hearing in
       survivor_goes rules image (entries h.story) h.story.survivor.plan h.story.survivor.now session.replies h.told.serving.carries h.passed.replies (λ lives. h.goes.bounded) h.goes.within
 
   -- it stands at its request for the item that the session takes next
-  pub waits_asks : (rules : Rules) (image : Image) (began : Since) (now : Told) (phases : Phases) (session : SessionState R) (w : IsWaitingFor rules image began now phases session)
+  pub waits_asks : {rules : Rules} {image : Image} {began : Since} {seen : Seen} {session : SessionState R} (w : IsWaitingFor rules image began seen session)
       → AsksFor rules.limits w.hearing.story.survivor.plan w.hearing.story.survivor.now session.taken
-  waits_asks rules image began now phases session w =
+  waits_asks {rules = rules} w =
       let h = w.hearing in
       subst (AsksFor rules.limits h.story.survivor.plan h.story.survivor.now) (sym h.answers.taken) h.asks
 
   -- the log has all items, and the ledger all that was sent later
-  pub waits_whole : (rules : Rules) (image : Image) (began : Since) (now : Told) (phases : Phases) (session : SessionState R) → IsWaitingFor rules image began now phases session → session.log.first ≤ session.taken
-  waits_whole rules image began now phases session w =
+  pub waits_whole : {rules : Rules} {image : Image} {began : Since} {seen : Seen} {session : SessionState R} → IsWaitingFor rules image began seen session → session.log.first ≤ session.taken
+  waits_whole w =
       let h = w.hearing in
       let taken = h.answers.taken in
-      let kept = kept_first rules image (entries h.story) h.story.survivor.plan h.story.survivor.now h.saved.paths session.cpu session.ring session.log session.replies h.saved.ring in
+      let kept = kept_first h.saved.paths h.saved.ring in
       omega (arith, taken, kept)
 
-  pub waits_counted : (rules : Rules) (image : Image) (began : Since) (now : Told) (phases : Phases) (session : SessionState R) (w : IsWaitingFor rules image began now phases session) → session.replies.first ≤ length w.hearing.story.survivor.now.state.sends
-  waits_counted rules image began now phases session w = w.hearing.passed.replies.shows.counted
+  pub waits_counted : {rules : Rules} {image : Image} {began : Since} {seen : Seen} {session : SessionState R} (w : IsWaitingFor rules image began seen session) → session.replies.first ≤ length w.hearing.story.survivor.now.state.sends
+  waits_counted w = w.hearing.passed.replies.shows.counted
 
   -- with another ring of its checkpoints it waits on
-  pub waits_saved : (rules : Rules) (image : Image) (began : Since) (now : Told) (phases : Phases) (old : SessionState R) (cpu : CpuState R) (ring : Checkpoints) (paths : List Path) (w : IsWaitingFor rules image began now phases old) → cpu.slots.live ≡ old.cpu.slots.live
+  pub waits_saved : {rules : Rules} {image : Image} {began : Since} {seen : Seen} {old : SessionState R} {cpu : CpuState R} {ring : Checkpoints} {paths : List Path} (w : IsWaitingFor rules image began seen old) → cpu.slots.live ≡ old.cpu.slots.live
       → KeepsRing rules image (entries w.hearing.story) w.hearing.story.survivor.plan w.hearing.story.survivor.now paths cpu ring old.log old.replies → AreBehind old.recorded paths
       → keeping_by ring.capacity old.options.every cpu.slots ≡ keeping_of old → count_true old.cpu.written ≡ old.cpu.slots.written → stands_of cpu.slots.saved ≡ handle (keeping_of old) old.taken old.cpu.slots.written (stands_of old.cpu.slots.saved) → is_far old.options.every old.taken (from_newest (stands_of cpu.slots.saved) 0) ≡ false
-      → IsWaitingFor rules image began now phases (record old { cpu = cpu; ring = ring })
-  waits_saved rules image began now phases old cpu ring paths w live keeps early keeping counted handles near =
+      → IsWaitingFor rules image began seen (record old { cpu = cpu; ring = ring })
+  waits_saved {rules = rules} {image = image} {old = old} {cpu = cpu} {ring = ring} {paths = paths} w live keeps early keeping counted handles near =
       let h = w.hearing in
       record {
         hearing = record {
@@ -107,7 +107,7 @@ module _ {R : Type 0} where
             early = early;
             requests =
                 subst (λ (k : Keeping). HandlesRequests rules image k h.story.earlier (entries h.story) h.story.recoveries h.story.survivor (stands_of cpu.slots.saved)) (sym keeping)
-                (requests_saved rules image (keeping_of old) h.story.earlier (entries h.story) h.story.recoveries h.story.survivor (stands_of cpu.slots.saved) h.saved.paths old.cpu old.ring old.log old.replies refl counted h.saved.ring
+                (requests_saved refl counted h.saved.ring
                 (asks_under_all rules.limits h.story.survivor.plan [] h.story.survivor.now h.story.survivor.now.state.machine.taken h.asks)
                 (subst (λ n. stands_of cpu.slots.saved ≡ handle (keeping_of old) n old.cpu.slots.written (stands_of old.cpu.slots.saved)) h.answers.taken handles)
                 (subst (λ n. is_far old.options.every n (from_newest (stands_of cpu.slots.saved) 0) ≡ false) h.answers.taken near) h.saved.requests);
@@ -122,17 +122,17 @@ module _ {R : Type 0} where
       }
 
   -- a save changes nothing of how checkpoints are kept
-  pub saves_keeping : (due : Bool) (capacity ring every : ℕ) (old new : CpuState R) → SavesIf due capacity old new → keeping_by ring every new.slots ≡ keeping_by ring every old.slots
-  saves_keeping true capacity ring every old new saves = ap (keeping_by ring every) saves.1
-  saves_keeping false capacity ring every old new saves = ap (λ (cpu : CpuState R). keeping_by ring every cpu.slots) saves
+  pub saves_keeping : (due : Bool) (capacity : ℕ) {ring every : ℕ} (old new : CpuState R) → SavesIf due capacity old new → keeping_by ring every new.slots ≡ keeping_by ring every old.slots
+  saves_keeping true capacity {ring = ring} {every = every} old new saves = ap (keeping_by ring every) saves.1
+  saves_keeping false capacity {ring = ring} {every = every} old new saves = ap (λ (cpu : CpuState R). keeping_by ring every cpu.slots) saves
 
   -- the guest has taken as many items as the session
-  pub waits_live : (rules : Rules) (image : Image) (began : Since) (now : Told) (phases : Phases) (session : SessionState R) → IsWaitingFor rules image began now phases session → taken_in session.cpu.slots.live ≡ session.taken
-  waits_live rules image began now phases session w = ap taken_in w.hearing.goes.guest ∙ sym w.hearing.answers.taken
+  pub waits_live : {rules : Rules} {image : Image} {began : Since} {seen : Seen} {session : SessionState R} → IsWaitingFor rules image began seen session → taken_in session.cpu.slots.live ≡ session.taken
+  waits_live w = ap taken_in w.hearing.goes.guest ∙ sym w.hearing.answers.taken
 
   -- its counts are still those of its guest
-  pub counted_saved : (old new : SessionState R) → new ≡ record old { cpu = new.cpu; ring = new.ring } → new.cpu.slots.live ≡ old.cpu.slots.live → IsCounted old → IsCounted new
-  counted_saved old new same live counted = record {
+  pub counted_saved : {old new : SessionState R} → new ≡ record old { cpu = new.cpu; ring = new.ring } → new.cpu.slots.live ≡ old.cpu.slots.live → IsCounted old → IsCounted new
+  counted_saved same live counted = record {
     taken = ap (λ (s : SessionState R). s.taken) same ∙ (counted.taken ∙ sym (ap (λ (s : Standing). s.guest.machine.taken) live));
     steps = ap (λ (s : SessionState R). s.steps) same ∙ (counted.steps ∙ sym (ap (λ (s : Standing). s.steps) live));
   }

@@ -7,7 +7,8 @@ use Rattle.links.specs.declared.journal.Entry.{Entry}
 use Rattle.links.specs.declared.journal.Entry.TheVariants as entry
 use Rattle.links.specs.declared.journal.LinkEvent.{LinkEvent}
 use Rattle.links.specs.declared.journal.LinkEvent.TheVariants as event
-use Rattle.links.specs.Links.{Phases, Told, Tells, Coming, Comes, Refuses, events_in, last_taken, HasEnded}
+use Rattle.links.specs.Seen.{Seen}
+use Rattle.links.specs.Links.{Told, Tells, Comes, Refuses, events_in, last_taken, HasEnded}
 use Rattle.rx_io.specs.Sends.{Send, sent_to}
 use Rattle.elf_image.specs.declared.image.Image.{Image}
 use Rattle.item_log.specs.Log.{Log}
@@ -48,10 +49,10 @@ use Rattle.session_state.proofs.EventLemmas.{IsNoEnd, owes_nothing, told_event, 
 use Rattle.session_state.proofs.HearLemmas.{HasSameRun, run_keeping, answers_still, more_entries}
 
 -- what was taken last
-pub last_taken-took : (es : List Entry) (e : LinkEvent) → last_taken (es ++ entry.Took e ∷ []) ≡ Some e
-last_taken-took [] e = refl
-last_taken-took (entry.Gave conn bytes gone ∷ es) e = last_taken-took es e
-last_taken-took (entry.Took first ∷ es) e = ap (λ (o : Option LinkEvent). Some (unwrap_or o first)) (last_taken-took es e)
+pub last_taken-took : (es : List Entry) {e : LinkEvent} → last_taken (es ++ entry.Took e ∷ []) ≡ Some e
+last_taken-took [] = refl
+last_taken-took (entry.Gave conn bytes gone ∷ es) = last_taken-took es
+last_taken-took (entry.Took first ∷ es) = ap (λ (o : Option LinkEvent). Some (unwrap_or o first)) (last_taken-took es)
 
 -- behind an event that is refused no connection closes
 pub refused_closes : (bounds : Bounds) (story : Story) (e : LinkEvent) → IsNoEnd e → heeded bounds (events_in (entries (then_story story (entry.Took e ∷ [])))) ≡ heeded bounds (events_in (entries story))
@@ -59,7 +60,7 @@ pub refused_closes : (bounds : Bounds) (story : Story) (e : LinkEvent) → IsNoE
 refused_closes bounds story e no_end same first conn closing = by e first no_end (sym whole ∙ closing)
   where
     whole : is_closing bounds (moment (then_story story (entry.Took e ∷ []))) conn ≡ (is_closed_by (Some (record { before = story.since; event = e })) conn && closes conn (heeded bounds (events_in (entries story))))
-    whole = (λ i. is_closed_by (latest-took story.since e no_end i) conn && closes conn (same i))
+    whole = (λ i. is_closed_by (latest-took story.since no_end i) conn && closes conn (same i))
 
     by : (e : LinkEvent) → ((conn : ℕ) → closing_of e ≡ Some conn → closes conn (heeded bounds (events_in (entries story))) ≡ false) → IsNoEnd e
         → (is_closed_by (Some (record { before = story.since; event = e })) conn && closes conn (heeded bounds (events_in (entries story)))) ≡ true → ⊥
@@ -107,11 +108,11 @@ one_event event.Settles is = refl
 one_event event.Ends is = absurd is
 
 -- the link told nothing more
-told_nothing : (rules : Rules) (image : Image) (began : Since) (before now : Told) (story : Story) → IsTold rules image began before story → Tells before now [] → IsTold rules image began now story
-told_nothing rules image began before now story told tells = record {
+told_nothing : {rules : Rules} {image : Image} {began : Since} {before now : Told} {story : Story} → IsTold rules image began before story → Tells before now [] → IsTold rules image began now story
+told_nothing {began = began} {now = now} {story = story} told tells = record {
   serving = told.serving;
   way = told.way;
-  tells = subst (Tells began.told now) (append-nil (entries story)) (tells_on began.told before now (entries story) [] told.tells tells);
+  tells = subst (Tells began.told now) (append-nil (entries story)) (tells_on told.tells tells);
   recovered = told.recovered;
   counted = told.counted;
   episodes = told.episodes;
@@ -120,19 +121,19 @@ told_nothing rules image began before now story told tells = record {
 
 module _ {R : Type 0} where
   -- the story of a session that waits, and took one event more, which brings nothing
-  pub waits_took : (rules : Rules) (image : Image) (began : Since) (before now : Told) (phases : Phases) (old : SessionState R) (w : IsWaitingFor rules image began before phases old) (e : LinkEvent) → received rules.bounds (entries w.hearing.story) ≤ w.hearing.story.survivor.now.state.machine.taken
-      → Tells before now (entry.Took e ∷ []) → (more : List Item) → items_in rules.bounds (entries w.hearing.story ++ entry.Took e ∷ []) ≡ items_in rules.bounds (entries w.hearing.story) ++ more
+  pub waits_took : {rules : Rules} {image : Image} {began : Since} {before : Seen} {now : Told} {old : SessionState R} (w : IsWaitingFor rules image began before old) {e : LinkEvent} → received rules.bounds (entries w.hearing.story) ≤ w.hearing.story.survivor.now.state.machine.taken
+      → Tells before.told now (entry.Took e ∷ []) → (more : List Item) → items_in rules.bounds (entries w.hearing.story ++ entry.Took e ∷ []) ≡ items_in rules.bounds (entries w.hearing.story) ++ more
       → IsTold rules image began now (then_story w.hearing.story (entry.Took e ∷ []))
-  waits_took rules image began before now phases old w e all tells more brings =
+  waits_took {rules = rules} w all tells more brings =
       let story : Story = w.hearing.story in
       let low = w.hearing.told.serving.carries.taken in
       let exact : received rules.bounds (entries story) ≡ story.survivor.now.state.machine.taken = omega (arith, low, all) in
-      told_event rules image began before now story e more w.hearing.told (subst (AsksFor rules.limits story.survivor.plan story.survivor.now) (sym exact) w.hearing.asks) (owes_nothing rules story w.due w.hearing.passed.done) w.hearing.goes.items.all_heeded tells brings
+      told_event more w.hearing.told (subst (AsksFor rules.limits story.survivor.plan story.survivor.now) (sym exact) w.hearing.asks) (owes_nothing rules story w.due w.hearing.passed.done) w.hearing.goes.items.all_heeded tells brings
 
   -- it waits behind entries that bring nothing
-  pub waits_still : (rules : Rules) (image : Image) (began : Since) (before : Told) (phases : Phases) (old : SessionState R) (w : IsWaitingFor rules image began before phases old) (more : List Entry) → received rules.bounds (entries w.hearing.story) ≤ w.hearing.story.survivor.now.state.machine.taken
+  pub waits_still : {rules : Rules} {image : Image} {began : Since} {before : Seen} {old : SessionState R} (w : IsWaitingFor rules image began before old) (more : List Entry) → received rules.bounds (entries w.hearing.story) ≤ w.hearing.story.survivor.now.state.machine.taken
       → items_in rules.bounds (entries w.hearing.story ++ more) ≡ items_in rules.bounds (entries w.hearing.story) → IsWaiting rules (entries (then_story w.hearing.story more)) w.hearing.story.survivor
-  waits_still rules image began before phases old w more all none =
+  waits_still {rules = rules} w more all none =
       let story : Story = w.hearing.story in
       let low = w.hearing.told.serving.carries.taken in
       let same : items_in rules.bounds (entries (then_story story more)) ≡ items_in rules.bounds (entries story) = ap (items_in rules.bounds) (sym (more_entries story more)) ∙ none in
@@ -140,72 +141,72 @@ module _ {R : Type 0} where
       subst (AsksFor rules.limits story.survivor.plan story.survivor.now) exact w.hearing.asks
 
   -- it waits where it is
-  waits_here : (rules : Rules) (image : Image) (began : Since) (before : Told) (phases : Phases) (old : SessionState R) (w : IsWaitingFor rules image began before phases old) → received rules.bounds (entries w.hearing.story) ≤ w.hearing.story.survivor.now.state.machine.taken
+  waits_here : {rules : Rules} {image : Image} {began : Since} {before : Seen} {old : SessionState R} (w : IsWaitingFor rules image began before old) → received rules.bounds (entries w.hearing.story) ≤ w.hearing.story.survivor.now.state.machine.taken
       → IsWaiting rules (entries w.hearing.story) w.hearing.story.survivor
-  waits_here rules image began before phases old w all =
+  waits_here {rules = rules} w all =
       let story : Story = w.hearing.story in
       let low = w.hearing.told.serving.carries.taken in
       let exact : story.survivor.now.state.machine.taken ≡ received rules.bounds (entries story) = omega (arith, low, all) in
       subst (AsksFor rules.limits story.survivor.plan story.survivor.now) exact w.hearing.asks
 
   -- its guest is as it was, with its checkpoints
-  held_here : (rules : Rules) (image : Image) (began : Since) (before : Told) (phases : Phases) (old new : SessionState R) (w : IsWaitingFor rules image began before phases old) → HasSameRun old new
+  held_here : {rules : Rules} {image : Image} {began : Since} {before : Seen} {old new : SessionState R} (w : IsWaitingFor rules image began before old) → HasSameRun old new
       → HoldsCheckpoints rules image w.hearing.story.earlier (entries w.hearing.story) w.hearing.story.recoveries w.hearing.story.survivor new
-  held_here rules image began before phases old new w same =
-      held_by rules image w.hearing.story.earlier (entries w.hearing.story) w.hearing.story.recoveries w.hearing.story.survivor old new (ap (λ (cpu : CpuState R). cpu.slots.saved) same.cpu) (run_keeping old new same) (held_of rules image w.hearing.story old w.hearing.saved)
+  held_here {rules = rules} {image = image} {old = old} {new = new} w same =
+      held_by rules image w.hearing.story.earlier (entries w.hearing.story) w.hearing.story.recoveries w.hearing.story.survivor old new (ap (λ (cpu : CpuState R). cpu.slots.saved) same.cpu) (run_keeping same) (held_of w.hearing.saved)
 
-  rings_here : (rules : Rules) (image : Image) (began : Since) (before : Told) (phases : Phases) (old new : SessionState R) (w : IsWaitingFor rules image began before phases old) → HasSameRun old new → HaveRings rules image (keeping_of new) w.hearing.story.earlier w.hearing.story.recoveries
-  rings_here rules image began before phases old new w same = rings_kept rules image w.hearing.story old new (run_keeping old new same) w.hearing.saved
+  rings_here : {rules : Rules} {image : Image} {began : Since} {before : Seen} {old new : SessionState R} (w : IsWaitingFor rules image began before old) → HasSameRun old new → HaveRings rules image (keeping_of new) w.hearing.story.earlier w.hearing.story.recoveries
+  rings_here {new = new} w same = rings_kept new (run_keeping same) w.hearing.saved
 
-  handled_here : (rules : Rules) (image : Image) (began : Since) (before : Told) (phases : Phases) (old new : SessionState R) (w : IsWaitingFor rules image began before phases old) (after : List Entry)
+  handled_here : {rules : Rules} {image : Image} {began : Since} {before : Seen} {old new : SessionState R} (w : IsWaitingFor rules image began before old) {after : List Entry}
       → items_in rules.bounds after ≡ items_in rules.bounds (entries w.hearing.story) → HasSameRun old new → IsHandled old
       → HasHandled rules image (keeping_of new) w.hearing.story.earlier after w.hearing.story.recoveries w.hearing.story.survivor (w.hearing.story.survivor.now.state.machine.taken + 1) (stands_of new.cpu.slots.saved)
-  handled_here rules image began before phases old new w after none same handled =
+  handled_here {rules = rules} {image = image} {old = old} {new = new} w {after = after} none same handled =
       let story : Story = w.hearing.story in
       let requests : ℕ = story.survivor.now.state.machine.taken + 1 in
-      handled_by rules image story.earlier after story.recoveries story.survivor requests old new (ap (λ (cpu : CpuState R). cpu.slots.saved) same.cpu) (run_keeping old new same)
+      handled_by old new (ap (λ (cpu : CpuState R). cpu.slots.saved) same.cpu) (run_keeping same)
       (handled_on rules image (keeping_of old) story.earlier (entries story) after [] story.recoveries story.survivor story.survivor requests (stands_of old.cpu.slots.saved) refl refl
-      (served_same rules.limits (items_in rules.bounds after) story.survivor.plan story.survivor.now) (none ∙ sym (append-nil (items_in rules.bounds (entries story)))) (waits_handled rules image began before phases old w handled))
+      (served_same rules.limits (items_in rules.bounds after) story.survivor.plan story.survivor.now) (none ∙ sym (append-nil (items_in rules.bounds (entries story)))) (waits_handled w handled))
 
-  lives_here : (rules : Rules) (image : Image) (began : Since) (before : Told) (phases : Phases) (old new : SessionState R) (w : IsWaitingFor rules image began before phases old) → HasSameRun old new
+  lives_here : {rules : Rules} {image : Image} {began : Since} {before : Seen} {old new : SessionState R} (w : IsWaitingFor rules image began before old) → HasSameRun old new
       → new.cpu.slots.live ≡ standing_of w.hearing.story.survivor.now
-  lives_here rules image began before phases old new w same = ap (λ (cpu : CpuState R). cpu.slots.live) same.cpu ∙ w.hearing.goes.guest
+  lives_here w same = ap (λ (cpu : CpuState R). cpu.slots.live) same.cpu ∙ w.hearing.goes.guest
 
-  answers_here : (began : Since) (story : Story) (old new : SessionState R) → HasSameRun old new → AnswersFor began story old → AnswersFor began story new
-  answers_here began story old new same answers = answers_as began story old new same.recorded same.choices same.taken same.steps answers
+  answers_here : {began : Since} {story : Story} {old new : SessionState R} → HasSameRun old new → AnswersFor began story old → AnswersFor began story new
+  answers_here same answers = answers_as same.recorded same.choices same.taken same.steps answers
 
   -- an event that is refused ends the session
-  pub ending_refused : (rules : Rules) (image : Image) (began : Since) (before now : Told) (phases : Phases) (coming : Option Coming) (old new : SessionState R) (w : IsWaitingFor rules image began before phases old) (e : LinkEvent) (cause : Unheeded) (end : Answer) → IsNoEnd e → IsHandled old
-      → received rules.bounds (entries w.hearing.story) ≤ w.hearing.story.survivor.now.state.machine.taken → Tells before now (entry.Took e ∷ []) → (u : IsUnheeded rules.bounds (entries w.hearing.story) (sends w.hearing.story) e cause new.replies)
+  pub ending_refused : {rules : Rules} {image : Image} {began : Since} {before seen : Seen} {old new : SessionState R} (w : IsWaitingFor rules image began before old) {e : LinkEvent} (cause : Unheeded) {end : Answer} → IsNoEnd e → IsHandled old
+      → received rules.bounds (entries w.hearing.story) ≤ w.hearing.story.survivor.now.state.machine.taken → Tells before.told seen.told (entry.Took e ∷ []) → (u : IsUnheeded rules.bounds (entries w.hearing.story) (sends w.hearing.story) e cause new.replies)
       → HasSameRun old new → new.log ≡ old.log → new.replies.trial ≡ None → IsEnd end
       → (IsWaiting rules (entries (then_story w.hearing.story (entry.Took e ∷ []))) w.hearing.story.survivor → IsLastRefused rules.bounds (entries (then_story w.hearing.story (entry.Took e ∷ []))) cause
-      → StandsAt rules (entries (then_story w.hearing.story (entry.Took e ∷ []))) coming w.hearing.story.survivor end)
-      → GivesUpBy rules image (keeping_of new) w.hearing.story.earlier (w.hearing.story.since ++ entry.Took e ∷ []) w.hearing.story.recoveries w.hearing.story.survivor [] end → IsEnding rules image began now coming new end
-  ending_refused rules image began before now phases coming old new w e cause end no_end handled all tells u same log no_trial is_end stands gave_up =
+      → StandsAt rules (entries (then_story w.hearing.story (entry.Took e ∷ []))) seen.coming w.hearing.story.survivor end)
+      → GivesUpBy rules image (keeping_of new) w.hearing.story.earlier (w.hearing.story.since ++ entry.Took e ∷ []) w.hearing.story.recoveries w.hearing.story.survivor [] end → IsEnding rules image began seen new end
+  ending_refused {rules = rules} {image = image} {began = began} {before = before} {new = new} w {e = e} cause {end = end} no_end handled all tells u same log no_trial is_end stands gave_up =
       let story : Story = w.hearing.story in
       let es = more_entries story (entry.Took e ∷ []) in
       let none : items_in rules.bounds (entries (then_story story (entry.Took e ∷ []))) ≡ items_in rules.bounds (entries story) = ap (items_in rules.bounds) (sym es) ∙ u.brings_none in
-      let waits = waits_still rules image began before phases old w (entry.Took e ∷ []) all u.brings_none in
+      let waits = waits_still w (entry.Took e ∷ []) all u.brings_none in
       let heeds : heeded rules.bounds (events_in (entries (then_story story (entry.Took e ∷ [])))) ≡ heeded rules.bounds (events_in (entries story)) =
       ap (λ (all : List Entry). heeded rules.bounds (events_in all)) (sym es) ∙ heeded_without rules.bounds (entries story) e cause (one_event e no_end) w.hearing.goes.items.all_heeded u.refused in
       record {
         story = then_story story (entry.Took e ∷ []);
         trials = [];
         lost = began.lost;
-        lost_is = none_lost began.lost;
+        lost_is = none_lost;
         noted = began.noted;
         last = [];
-        last_noted = none_noted began.noted;
-        told = told_unwatched rules image began now (then_story story (entry.Took e ∷ [])) (waits_took rules image began before now phases old w e all tells [] (u.brings_none ∙ sym (append-nil (items_in rules.bounds (entries story)))));
+        last_noted = none_noted;
+        told = told_unwatched (waits_took w all tells [] (u.brings_none ∙ sym (append-nil (items_in rules.bounds (entries story)))));
         tables = tables_here rules image (keeping_of new) story.earlier (story.since ++ entry.Took e ∷ []) story.survivor story.recoveries [] end began.tables_before began.tables w.hearing.told.tables;
-        answers = answers_still began story old new (entry.Took e ∷ []) same w.hearing.answers;
-        received_are = ap (λ (l : Log). logs.received l) log ∙ (received_is rules.bounds (entries story) old.log w.hearing.goes.items ∙ ap length (sym none));
+        answers = answers_still (entry.Took e ∷ []) same w.hearing.answers;
+        received_are = ap (λ (l : Log). logs.received l) log ∙ (received_is w.hearing.goes.items ∙ ap length (sym none));
         replies = subst (λ (all : List Entry). KeepsReplies rules.bounds all None (sends story) new.replies) es u.replies;
         no_trial = no_trial;
         closed = λ send stands closing owed. absurd (refused_closes rules.bounds story e no_end heeds u.first_close send.conn closing);
-        holds = held_as rules image story.earlier (entries story) (entries (then_story story (entry.Took e ∷ []))) story.recoveries story.survivor new none (held_here rules image began before phases old new w same);
-        handled = λ is. handled_here rules image began before phases old new w (entries (then_story story (entry.Took e ∷ []))) none same handled;
-        live = unless_gave_up end (new.cpu.slots.live ≡ standing_of story.survivor.now) (lives_here rules image began before phases old new w same);
+        holds = held_as none (held_here w same);
+        handled = λ is. handled_here w none same handled;
+        live = unless_gave_up end (new.cpu.slots.live ≡ standing_of story.survivor.now) (lives_here w same);
         is_end = is_end;
         stands = stands waits (record { before = entries story; event = e; last = sym es; no_end = u.no_end; refused = u.refused });
         tried = inl (refl, refl);
@@ -213,10 +214,10 @@ module _ {R : Type 0} where
       }
 
   -- the link has ended
-  pub ending_ended : (rules : Rules) (image : Image) (began : Since) (before now : Told) (phases : Phases) (coming : Option Coming) (old new : SessionState R) (w : IsWaitingFor rules image began before phases old) → IsHandled old
-      → received rules.bounds (entries w.hearing.story) ≤ w.hearing.story.survivor.now.state.machine.taken → Tells before now (entry.Took event.Ends ∷ []) → IsHeard rules.bounds (entries w.hearing.story) (sends w.hearing.story) event.Ends new.log new.replies
-      → HasSameRun old new → new.replies.trial ≡ None → IfSome coming (λ next. next ≡ Comes event.Ends) → IsEnding rules image began now coming new answer.Finished
-  ending_ended rules image began before now phases coming old new w handled all tells heard same no_trial last =
+  pub ending_ended : {rules : Rules} {image : Image} {began : Since} {before seen : Seen} {old new : SessionState R} (w : IsWaitingFor rules image began before old) → IsHandled old
+      → received rules.bounds (entries w.hearing.story) ≤ w.hearing.story.survivor.now.state.machine.taken → Tells before.told seen.told (entry.Took event.Ends ∷ []) → IsHeard rules.bounds (entries w.hearing.story) (sends w.hearing.story) event.Ends new.log new.replies
+      → HasSameRun old new → new.replies.trial ≡ None → IfSome seen.coming (λ next. next ≡ Comes event.Ends) → IsEnding rules image began seen new answer.Finished
+  ending_ended {rules = rules} {image = image} {began = began} {new = new} w handled all tells heard same no_trial last =
       let story : Story = w.hearing.story in
       let es = more_entries story (entry.Took event.Ends ∷ []) in
       let none : items_in rules.bounds (entries story ++ entry.Took event.Ends ∷ []) ≡ items_in rules.bounds (entries story) = ap (λ (evs : List LinkEvent). items_of rules.bounds.framing (heeded rules.bounds evs)) (events_ended (entries story)) in
@@ -224,52 +225,52 @@ module _ {R : Type 0} where
         story = then_story story (entry.Took event.Ends ∷ []);
         trials = [];
         lost = began.lost;
-        lost_is = none_lost began.lost;
+        lost_is = none_lost;
         noted = began.noted;
         last = [];
-        last_noted = none_noted began.noted;
-        told = told_unwatched rules image began now (then_story story (entry.Took event.Ends ∷ [])) (waits_took rules image began before now phases old w event.Ends all tells heard.more heard.brings);
+        last_noted = none_noted;
+        told = told_unwatched (waits_took w all tells heard.more heard.brings);
         tables = tables_here rules image (keeping_of new) story.earlier (story.since ++ entry.Took event.Ends ∷ []) story.survivor story.recoveries [] answer.Finished began.tables_before began.tables w.hearing.told.tables;
-        answers = answers_still began story old new (entry.Took event.Ends ∷ []) same w.hearing.answers;
-        received_are = received_is rules.bounds (entries story ++ entry.Took event.Ends ∷ []) new.log heard.items ∙ ap (received rules.bounds) es;
+        answers = answers_still (entry.Took event.Ends ∷ []) same w.hearing.answers;
+        received_are = received_is heard.items ∙ ap (received rules.bounds) es;
         replies = subst (λ (all : List Entry). KeepsReplies rules.bounds all None (sends story) new.replies) es heard.replies;
         no_trial = no_trial;
         closed = λ send stands closing owed. done_ended rules story w.hearing.passed.done send stands owed;
-        holds = held_as rules image story.earlier (entries story) (entries (then_story story (entry.Took event.Ends ∷ []))) story.recoveries story.survivor new (ap (items_in rules.bounds) (sym es) ∙ none) (held_here rules image began before phases old new w same);
-        handled = λ is. handled_here rules image began before phases old new w (entries (then_story story (entry.Took event.Ends ∷ []))) (ap (items_in rules.bounds) (sym es) ∙ none) same handled;
-        live = lives_here rules image began before phases old new w same;
+        holds = held_as (ap (items_in rules.bounds) (sym es) ∙ none) (held_here w same);
+        handled = λ is. handled_here w (ap (items_in rules.bounds) (sym es) ∙ none) same handled;
+        live = lives_here w same;
         is_end = tt;
-        stands = (waits_still rules image began before phases old w (entry.Took event.Ends ∷ []) all none, subst HasEnded es (last_taken-took (entries story) event.Ends), last);
+        stands = (waits_still w (entry.Took event.Ends ∷ []) all none, subst HasEnded es (last_taken-took (entries story)), last);
         tried = inl (refl, refl);
         gave_up = tt;
       }
 
   -- the link has no event there
-  pub ending_stopped : (rules : Rules) (image : Image) (began : Since) (before now : Told) (phases : Phases) (coming : Option Coming) (kind offset : ℕ) (old new : SessionState R) (w : IsWaitingFor rules image began before phases old) → IsHandled old
-      → received rules.bounds (entries w.hearing.story) ≤ w.hearing.story.survivor.now.state.machine.taken → Tells before now [] → HasSameRun old new → new.log ≡ old.log → new.replies ≡ old.replies
-      → IfSome coming (λ next. next ≡ Refuses kind offset) → (ending : IsEnding rules image began now coming new (answer.InputRefused kind offset)) × IsAsking rules ending.story
-  ending_stopped rules image began before now phases coming kind offset old new w handled all tells same log replies stops =
+  pub ending_stopped : {rules : Rules} {image : Image} {began : Since} {before seen : Seen} {kind offset : ℕ} {old new : SessionState R} (w : IsWaitingFor rules image began before old) → IsHandled old
+      → received rules.bounds (entries w.hearing.story) ≤ w.hearing.story.survivor.now.state.machine.taken → Tells before.told seen.told [] → HasSameRun old new → new.log ≡ old.log → new.replies ≡ old.replies
+      → IfSome seen.coming (λ next. next ≡ Refuses kind offset) → (ending : IsEnding rules image began seen new (answer.InputRefused kind offset)) × IsAsking rules ending.story
+  ending_stopped {rules = rules} {image = image} {began = began} {seen = seen} {kind = kind} {offset = offset} {new = new} w handled all tells same log replies stops =
       let story : Story = w.hearing.story in
-      let told : IsTold rules image began now story = told_nothing rules image began before now story w.hearing.told tells in
-      let waits = waits_here rules image began before phases old w all in (
+      let told : IsTold rules image began seen.told story = told_nothing w.hearing.told tells in
+      let waits = waits_here w all in (
         record {
           story = story;
           trials = [];
           lost = began.lost;
-          lost_is = none_lost began.lost;
+          lost_is = none_lost;
           noted = began.noted;
           last = [];
-          last_noted = none_noted began.noted;
-          told = told_unwatched rules image began now story told;
+          last_noted = none_noted;
+          told = told_unwatched told;
           tables = tables_here rules image (keeping_of new) story.earlier story.since story.survivor story.recoveries [] (answer.InputRefused kind offset) began.tables_before began.tables w.hearing.told.tables;
-          answers = answers_here began story old new same w.hearing.answers;
-          received_are = ap (λ (l : Log). logs.received l) log ∙ received_is rules.bounds (entries story) old.log w.hearing.goes.items;
+          answers = answers_here same w.hearing.answers;
+          received_are = ap (λ (l : Log). logs.received l) log ∙ received_is w.hearing.goes.items;
           replies = subst (λ (ledger : Ledger). KeepsReplies rules.bounds (entries story) None (sends story) ledger) (sym replies) w.hearing.passed.replies;
           no_trial = ap (λ (ledger : Ledger). ledger.trial) replies ∙ w.hearing.passed.no_trial;
           closed = λ send stands closing owed. w.hearing.passed.done send stands owed;
-          holds = held_here rules image began before phases old new w same;
-          handled = λ is. handled_here rules image began before phases old new w (entries story) refl same handled;
-          live = lives_here rules image began before phases old new w same;
+          holds = held_here w same;
+          handled = λ is. handled_here w refl same handled;
+          live = lives_here w same;
           is_end = tt;
           stands = (waits, w.hearing.goes.items.all_heeded, stops);
           tried = inl (refl, refl);
@@ -279,27 +280,27 @@ module _ {R : Type 0} where
       )
 
   -- no event could be taken
-  pub off_read : (rules : Rules) (image : Image) (began : Since) (before now : Told) (phases : Phases) (coming : Option Coming) (old new : SessionState R) (w : IsWaitingFor rules image began before phases old) → IsHandled old
-      → received rules.bounds (entries w.hearing.story) ≤ w.hearing.story.survivor.now.state.machine.taken → Tells before now [] → HasSameRun old new → IsBrokenOff rules image began now coming new answer.ReadFault
-  off_read rules image began before now phases coming old new w handled all tells same =
+  pub off_read : {rules : Rules} {image : Image} {began : Since} {before seen : Seen} {old new : SessionState R} (w : IsWaitingFor rules image began before old) → IsHandled old
+      → received rules.bounds (entries w.hearing.story) ≤ w.hearing.story.survivor.now.state.machine.taken → Tells before.told seen.told [] → HasSameRun old new → IsBrokenOff rules image began seen new answer.ReadFault
+  off_read {rules = rules} w handled all tells same =
       let story : Story = w.hearing.story in
-      broken_off rules image began now coming new story answer.ReadFault (told_nothing rules image began before now story w.hearing.told tells) (answers_here began story old new same w.hearing.answers)
-      ((waits_here rules image began before phases old w all, owes_nothing rules story w.due w.hearing.passed.done, w.hearing.goes.items.all_heeded), (refl, refl)) (λ is. is)
-      (rings_here rules image began before phases old new w same) (λ never. held_here rules image began before phases old new w same) (λ is. handled_here rules image began before phases old new w (entries story) refl same handled)
+      broken_off (told_nothing w.hearing.told tells) (answers_here same w.hearing.answers)
+      ((waits_here w all, owes_nothing rules story w.due w.hearing.passed.done, w.hearing.goes.items.all_heeded), (refl, refl)) (λ is. is)
+      (rings_here w same) (λ never. held_here w same) (λ is. handled_here w refl same handled)
 
   -- memory ran out, before an event was taken or behind one that is heeded
-  pub off_memory : (rules : Rules) (image : Image) (began : Since) (before now : Told) (phases : Phases) (coming : Option Coming) (takes : Bool) (old new : SessionState R) (w : IsWaitingFor rules image began before phases old)
-      → received rules.bounds (entries w.hearing.story) ≤ w.hearing.story.survivor.now.state.machine.taken → HasSameRun old new → (Tells before now [] ⊎ (takes ≡ true))
-      → (Tells before now [] ⊎ ((e : LinkEvent) × Tells before now (entry.Took e ∷ []) × IsHeeded rules.bounds (entries w.hearing.story) e))
-      → (off : IsBrokenOff rules image began now coming new answer.Memory) × (takes ≡ false → WasAsked rules off.account)
-  off_memory rules image began before now phases coming takes old new w all same (inl tells) took =
+  pub off_memory : {rules : Rules} {image : Image} {began : Since} {before seen : Seen} {old new : SessionState R} (w : IsWaitingFor rules image began before old)
+      → received rules.bounds (entries w.hearing.story) ≤ w.hearing.story.survivor.now.state.machine.taken → HasSameRun old new → (Tells before.told seen.told [] ⊎ (seen.takes ≡ true))
+      → (Tells before.told seen.told [] ⊎ ((e : LinkEvent) × Tells before.told seen.told (entry.Took e ∷ []) × IsHeeded rules.bounds (entries w.hearing.story) e))
+      → (off : IsBrokenOff rules image began seen new answer.Memory) × (seen.takes ≡ false → WasAsked rules off.account)
+  off_memory {rules = rules} {seen = seen} w all same (inl tells) took =
       let story : Story = w.hearing.story in
-      broken_with (λ account. takes ≡ false → WasAsked rules account) rules image began now coming new story answer.Memory (told_nothing rules image began before now story w.hearing.told tells) (answers_here began story old new same w.hearing.answers) tt (λ is. is) (rings_here rules image began before phases old new w same) (λ never. absurd (never tt)) (λ is. absurd is)
-      (λ none. (waits_here rules image began before phases old w all, owes_nothing rules story w.due w.hearing.passed.done, w.hearing.goes.items.all_heeded))
-  off_memory rules image began before now phases coming takes old new w all same (inr still) (inl tells) =
-      broken_with (λ account. takes ≡ false → WasAsked rules account) rules image began now coming new w.hearing.story answer.Memory (told_nothing rules image began before now w.hearing.story w.hearing.told tells) (answers_here began w.hearing.story old new same w.hearing.answers) tt (λ is. is) (rings_here rules image began before phases old new w same) (λ never. absurd (never tt)) (λ is. absurd is)
-      (λ none. still_takes takes _ still none)
-  off_memory rules image began before now phases coming takes old new w all same (inr still) (inr took) =
-      broken_with (λ account. takes ≡ false → WasAsked rules account) rules image began now coming new (then_story w.hearing.story (entry.Took took.0 ∷ [])) answer.Memory
-      (waits_took rules image began before now phases old w took.0 all took.1 took.2.more took.2.brings) (answers_still began w.hearing.story old new (entry.Took took.0 ∷ []) same w.hearing.answers) tt (λ is. is) (rings_here rules image began before phases old new w same) (λ never. absurd (never tt)) (λ is. absurd is)
-      (λ none. still_takes takes _ still none)
+      broken_with (λ account. seen.takes ≡ false → WasAsked rules account) (told_nothing w.hearing.told tells) (answers_here same w.hearing.answers) tt (λ is. is) (rings_here w same) (λ never. absurd (never tt)) (λ is. absurd is)
+      (λ none. (waits_here w all, owes_nothing rules story w.due w.hearing.passed.done, w.hearing.goes.items.all_heeded))
+  off_memory {rules = rules} {seen = seen} w all same (inr still) (inl tells) =
+      broken_with (λ account. seen.takes ≡ false → WasAsked rules account) (told_nothing w.hearing.told tells) (answers_here same w.hearing.answers) tt (λ is. is) (rings_here w same) (λ never. absurd (never tt)) (λ is. absurd is)
+      (λ none. still_takes _ still none)
+  off_memory {rules = rules} {seen = seen} w all same (inr still) (inr took) =
+      broken_with (λ account. seen.takes ≡ false → WasAsked rules account)
+      (waits_took w all took.1 took.2.more took.2.brings) (answers_still (entry.Took took.0 ∷ []) same w.hearing.answers) tt (λ is. is) (rings_here w same) (λ never. absurd (never tt)) (λ is. absurd is)
+      (λ none. still_takes _ still none)

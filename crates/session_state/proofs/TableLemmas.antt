@@ -1,8 +1,9 @@
 -- The tables that a watch tells of a session.
-use Rattle.std.proofs.Common.{◌≡◌, ◌+◌, ℕ, Bool, List, [], ◌∷◌, ◌++◌, length, Option, None, Some, refl, sym, ◌∙◌, ap, subst, arith, append-nil, append_assoc}
+use Rattle.std.proofs.Common.{◌≡◌, ◌+◌, ℕ, List, [], ◌∷◌, ◌++◌, length, Option, None, Some, refl, sym, ◌∙◌, ap, subst, arith, append-nil, append_assoc}
 use Rattle.std.specs.Prelude.{◌≢◌}
 use Rattle.links.specs.declared.journal.Entry.{Entry}
-use Rattle.links.specs.Links.{Told, Coming}
+use Rattle.links.specs.Seen.{Seen}
+use Rattle.links.specs.Links.{Told}
 use Rattle.block_book.specs.declared.choice.Choice.{Choice}
 use Rattle.session_notes.specs.Noting.{Noted}
 use Rattle.session_history.specs.Account.{Session}
@@ -46,8 +47,8 @@ tells_then (Some tables) mid new P Q S both one other =
     (one.0 ++ next.0, next.1 ∙ ap Some (append_assoc tables one.0 next.0), both one.0 next.0 one.2 next.2)
 
 -- a story that is told, whoever watches
-pub told_unwatched : (rules : Rules) (image : Image) (began : Since) (now : Told) (story : Story) → IsTold rules image began now story → IsTold rules image (unwatched began) now story
-told_unwatched rules image began now story told = record {
+pub told_unwatched : {rules : Rules} {image : Image} {began : Since} {now : Told} {story : Story} → IsTold rules image began now story → IsTold rules image (unwatched began) now story
+told_unwatched told = record {
   serving = told.serving;
   way = told.way;
   tells = told.tells;
@@ -72,24 +73,24 @@ tables_memory rules image keeping earlier since survivor recoveries recovery tri
     (λ first later are one. record { each = first; behind = later; all = refl; each_right = are; behind_right = (let count = ap length one.1 in omega (arith, count), λ others. absurd (others refl)) })
 
 -- none of them survived
-pub tables_given_up : (rules : Rules) (image : Image) (keeping : Keeping) (earlier : List Chapter) (since : List Entry) (survivor : Survivor) (recoveries : List Recovery) (trials : List Trial) (cause : Cause) (end : Answer) (given_up : HasGivenUp rules image keeping earlier since recoveries survivor trials cause)
+pub tables_given_up : {rules : Rules} {image : Image} {keeping : Keeping} {earlier : List Chapter} {since : List Entry} {survivor : Survivor} {recoveries : List Recovery} {trials : List Trial} {cause : Cause} (end : Answer) (given_up : HasGivenUp rules image keeping earlier since recoveries survivor trials cause)
     (old mid new : Option (List (List Try))) → TellsMore old mid (AreTables rules [] earlier recoveries) → TellsOne rules (entries_of earlier ++ since) (record { survivor = survivor; cause = cause; ring = given_up.ring; trials = trials }) mid new
     → TellsMore old new (AreAllTables rules image keeping earlier since survivor recoveries trials (told_of survivor cause trials ∷ []) end)
-tables_given_up rules image keeping earlier since survivor recoveries trials cause end given_up old mid new =
+tables_given_up {rules = rules} {image = image} {keeping = keeping} {earlier = earlier} {since = since} {survivor = survivor} {recoveries = recoveries} {trials = trials} {cause = cause} end given_up old mid new =
     tells_then old mid new (AreTables rules [] earlier recoveries) (λ more. (tries : List Try) × (more ≡ tries ∷ []) × IsTable rules (entries_of earlier ++ since) (record { survivor = survivor; cause = cause; ring = given_up.ring; trials = trials }) tries)
     (AreAllTables rules image keeping earlier since survivor recoveries trials (told_of survivor cause trials ∷ []) end)
     (λ first later are one. record { each = first; behind = later; all = refl; each_right = are; behind_right = (cause, given_up, one.0, one.1, one.2) })
 
 -- a recovery more, behind these entries
-are_tables_then : (rules : Rules) (all before : List Entry) (chapters : List Chapter) (chapter : Chapter) (recoveries : List Recovery) (recovery : Recovery) (tables : List (List Try)) (tries : List Try) → AreTables rules before chapters recoveries tables
+are_tables_then : (rules : Rules) {all : List Entry} (before : List Entry) (chapters : List Chapter) (chapter : Chapter) (recoveries : List Recovery) (recovery : Recovery) (tables : List (List Try)) {tries : List Try} → AreTables rules before chapters recoveries tables
     → all ≡ (before ++ entries_of chapters) ++ chapter.entries → IsTable rules all recovery tries → AreTables rules before (chapters ++ chapter ∷ []) (recoveries ++ recovery ∷ []) (tables ++ tries ∷ [])
-are_tables_then rules all before [] chapter [] recovery [] tries are same is = (subst (λ (es : List Entry). IsTable rules es recovery tries) (same ∙ ap (λ (es : List Entry). es ++ chapter.entries) (append-nil before)) is, tt)
-are_tables_then rules all before [] chapter [] recovery (first ∷ tables) tries are same is = absurd are
-are_tables_then rules all before [] chapter (next ∷ recoveries) recovery tables tries are same is = absurd are
-are_tables_then rules all before (one ∷ chapters) chapter [] recovery tables tries are same is = absurd are
-are_tables_then rules all before (one ∷ chapters) chapter (next ∷ recoveries) recovery [] tries are same is = absurd are
-are_tables_then rules all before (one ∷ chapters) chapter (next ∷ recoveries) recovery (first ∷ tables) tries are same is =
-    (are.0, are_tables_then rules all (before ++ one.entries) chapters chapter recoveries recovery tables tries are.1 (same ∙ ap (λ (es : List Entry). es ++ chapter.entries) (sym (append_assoc before one.entries (entries_of chapters)))) is)
+are_tables_then rules before [] chapter [] recovery [] {tries = tries} are same is = (subst (λ (es : List Entry). IsTable rules es recovery tries) (same ∙ ap (λ (es : List Entry). es ++ chapter.entries) (append-nil before)) is, tt)
+are_tables_then rules before [] chapter [] recovery (first ∷ tables) are same is = absurd are
+are_tables_then rules before [] chapter (next ∷ recoveries) recovery tables are same is = absurd are
+are_tables_then rules before (one ∷ chapters) chapter [] recovery tables are same is = absurd are
+are_tables_then rules before (one ∷ chapters) chapter (next ∷ recoveries) recovery [] are same is = absurd are
+are_tables_then rules before (one ∷ chapters) chapter (next ∷ recoveries) recovery (first ∷ tables) are same is =
+    (are.0, are_tables_then rules (before ++ one.entries) chapters chapter recoveries recovery tables are.1 (same ∙ ap (λ (es : List Entry). es ++ chapter.entries) (sym (append_assoc before one.entries (entries_of chapters)))) is)
 
 pub tables_then : (rules : Rules) (story : Story) (recovery : Recovery) (old mid new : Option (List (List Try))) → TellsMore old mid (AreTables rules [] story.earlier story.recoveries) → TellsOne rules (entries story) recovery mid new
     → TellsMore old new (AreTables rules [] (story.earlier ++ record { survivor = story.survivor; entries = story.since } ∷ []) (story.recoveries ++ recovery ∷ []))
@@ -97,33 +98,33 @@ tables_then rules story recovery old mid new =
     let chapter : Chapter = record { survivor = story.survivor; entries = story.since } in
     tells_then old mid new (AreTables rules [] story.earlier story.recoveries) (λ more. (tries : List Try) × (more ≡ tries ∷ []) × IsTable rules (entries story) recovery tries) (AreTables rules [] (story.earlier ++ chapter ∷ []) (story.recoveries ++ recovery ∷ []))
     (λ first later are one. subst (λ (more : List (List Try)). AreTables rules [] (story.earlier ++ chapter ∷ []) (story.recoveries ++ recovery ∷ []) (first ++ more)) (sym one.1)
-    (are_tables_then rules (entries story) [] story.earlier chapter story.recoveries recovery first one.0 are refl one.2))
+    (are_tables_then rules [] story.earlier chapter story.recoveries recovery first are refl one.2))
 
 -- a fault at an end, behind which as many tables are told
-last_fault : (rules : Rules) (image : Image) (keeping : Keeping) (earlier : List Chapter) (since : List Entry) (recoveries : List Recovery) (survivor : Survivor) (trials : List Trial) (last : List Episode) (end fault : Answer) (tables : List (List Try)) → end ≢ answer.Memory → AreLastTables rules image keeping earlier since recoveries survivor trials last end tables
+last_fault : (rules : Rules) (image : Image) (keeping : Keeping) (earlier : List Chapter) (since : List Entry) (recoveries : List Recovery) (survivor : Survivor) (trials : List Trial) (last : List Episode) {end : Answer} (fault : Answer) (tables : List (List Try)) → end ≢ answer.Memory → AreLastTables rules image keeping earlier since recoveries survivor trials last end tables
     → AreLastTables rules image keeping earlier since recoveries survivor trials last fault tables
-last_fault rules image keeping earlier since recoveries survivor trials [] end fault tables other are = (are.0, λ others. are.1 other)
-last_fault rules image keeping earlier since recoveries survivor trials (episode ∷ more) end fault tables other are = are
+last_fault rules image keeping earlier since recoveries survivor trials [] fault tables other are = (are.0, λ others. are.1 other)
+last_fault rules image keeping earlier since recoveries survivor trials (episode ∷ more) fault tables other are = are
 
-pub tables_fault : (rules : Rules) (image : Image) (keeping : Keeping) (earlier : List Chapter) (since : List Entry) (survivor : Survivor) (recoveries : List Recovery) (trials : List Trial) (last : List Episode) (end fault : Answer) (old new : Option (List (List Try))) → end ≢ answer.Memory
+pub tables_fault : (rules : Rules) (image : Image) (keeping : Keeping) (earlier : List Chapter) (since : List Entry) (survivor : Survivor) (recoveries : List Recovery) (trials : List Trial) (last : List Episode) {end : Answer} (fault : Answer) (old new : Option (List (List Try))) → end ≢ answer.Memory
     → TellsMore old new (AreAllTables rules image keeping earlier since survivor recoveries trials last end) → TellsMore old new (AreAllTables rules image keeping earlier since survivor recoveries trials last fault)
-tables_fault rules image keeping earlier since survivor recoveries trials last end fault old new other =
+tables_fault rules image keeping earlier since survivor recoveries trials last {end = end} fault old new other =
     tells_so old new (AreAllTables rules image keeping earlier since survivor recoveries trials last end) (AreAllTables rules image keeping earlier since survivor recoveries trials last fault)
-    (λ more are. record { each = are.each; behind = are.behind; all = are.all; each_right = are.each_right; behind_right = last_fault rules image keeping earlier since recoveries survivor trials last end fault are.behind other are.behind_right })
+    (λ more are. record { each = are.each; behind = are.behind; all = are.all; each_right = are.each_right; behind_right = last_fault rules image keeping earlier since recoveries survivor trials last fault are.behind other are.behind_right })
 
 -- where a watch counts nothing, what is counted is the session's
-pub counted_alone : (P : List Recovery → Session → Type 0) (rules : Rules) (image : Image) (keeping : Keeping) (began now : Told) (coming : Option Coming) (takes : Bool) (end : Answer) (noted_before noted_now : Noted) (recorded : ℕ) (tail : List Choice) (taken steps before after : ℕ)
-    → (recovered : HasRecovered rules image keeping began now coming takes end noted_before noted_now recorded tail taken steps (0 + before) (0 + after)) × P recovered.recoveries recovered.served.session
-    → (recovered : HasRecovered rules image keeping began now coming takes end noted_before noted_now recorded tail taken steps before after) × P recovered.recoveries recovered.served.session
-counted_alone P rules image keeping began now coming takes end noted_before noted_now recorded tail taken steps before after h =
+pub counted_alone : (P : List Recovery → Session → Type 0) {rules : Rules} {image : Image} {keeping : Keeping} {began : Told} {seen : Seen} {end : Answer} {noted_before noted_now : Noted} {recorded : ℕ} {tail : List Choice} {taken steps before after : ℕ}
+    → (recovered : HasRecovered rules image keeping began seen end noted_before noted_now recorded tail taken steps (0 + before) (0 + after)) × P recovered.recoveries recovered.served.session
+    → (recovered : HasRecovered rules image keeping began seen end noted_before noted_now recorded tail taken steps before after) × P recovered.recoveries recovered.served.session
+counted_alone P {rules = rules} {image = image} {keeping = keeping} {began = began} {seen = seen} {end = end} {noted_before = noted_before} {noted_now = noted_now} {recorded = recorded} {tail = tail} {taken = taken} {steps = steps} {before = before} {after = after} h =
     let first : 0 + before ≡ before = omega arith in
     let last : 0 + after ≡ after = omega arith in
-    subst (λ n. (recovered : HasRecovered rules image keeping began now coming takes end noted_before noted_now recorded tail taken steps before n) × P recovered.recoveries recovered.served.session) last
-    (subst (λ n. (recovered : HasRecovered rules image keeping began now coming takes end noted_before noted_now recorded tail taken steps n (0 + after)) × P recovered.recoveries recovered.served.session) first h)
+    subst (λ n. (recovered : HasRecovered rules image keeping began seen end noted_before noted_now recorded tail taken steps before n) × P recovered.recoveries recovered.served.session) last
+    (subst (λ n. (recovered : HasRecovered rules image keeping began seen end noted_before noted_now recorded tail taken steps n (0 + after)) × P recovered.recoveries recovered.served.session) first h)
 
 -- by another word for how its checkpoints are kept
-pub watched_kept : (P : List Recovery → Session → Type 0) {rules : Rules} {image : Image} {began now : Told} {coming : Option Coming} {takes : Bool} {end : Answer} {noted_before noted_now : Noted} {recorded : ℕ} {tail : List Choice} {taken steps before after : ℕ} {tables_before tables : Option (List (List Try))} {first second : Keeping}
-    → first ≡ second → (watched : HasWatched rules image first began now coming takes end noted_before noted_now recorded tail taken steps before after tables_before tables) × P watched.recovered.recoveries watched.recovered.served.session
-    → (watched : HasWatched rules image second began now coming takes end noted_before noted_now recorded tail taken steps before after tables_before tables) × P watched.recovered.recoveries watched.recovered.served.session
-watched_kept P {rules = rules} {image = image} {began = began} {now = now} {coming = coming} {takes = takes} {end = end} {noted_before = noted_before} {noted_now = noted_now} {recorded = recorded} {tail = tail} {taken = taken} {steps = steps} {before = before} {after = after} {tables_before = tables_before} {tables = tables} same h =
-    subst (λ (keeping : Keeping). (watched : HasWatched rules image keeping began now coming takes end noted_before noted_now recorded tail taken steps before after tables_before tables) × P watched.recovered.recoveries watched.recovered.served.session) same h
+pub watched_kept : (P : List Recovery → Session → Type 0) {rules : Rules} {image : Image} {began : Told} {seen : Seen} {end : Answer} {noted_before noted_now : Noted} {recorded : ℕ} {tail : List Choice} {taken steps before after : ℕ} {tables_before tables : Option (List (List Try))} {first second : Keeping}
+    → first ≡ second → (watched : HasWatched rules image first began seen end noted_before noted_now recorded tail taken steps before after tables_before tables) × P watched.recovered.recoveries watched.recovered.served.session
+    → (watched : HasWatched rules image second began seen end noted_before noted_now recorded tail taken steps before after tables_before tables) × P watched.recovered.recoveries watched.recovered.served.session
+watched_kept P {rules = rules} {image = image} {began = began} {seen = seen} {end = end} {noted_before = noted_before} {noted_now = noted_now} {recorded = recorded} {tail = tail} {taken = taken} {steps = steps} {before = before} {after = after} {tables_before = tables_before} {tables = tables} same h =
+    subst (λ (keeping : Keeping). (watched : HasWatched rules image keeping began seen end noted_before noted_now recorded tail taken steps before after tables_before tables) × P watched.recovered.recoveries watched.recovered.served.session) same h

@@ -4,7 +4,8 @@ use Rattle.std.specs.Prelude.{is_none, nat_le, nat_lt, slice_get}
 use Rattle.std.proofs.lemmas.Bool.{true≢false, ltb-false}
 use Rattle.rx_io.specs.declared.bytes.Item.{Item}
 use Rattle.links.specs.declared.journal.LinkEvent.{LinkEvent}
-use Rattle.links.specs.Links.{Phases, Told, events_in}
+use Rattle.links.specs.Seen.{Seen}
+use Rattle.links.specs.Links.{events_in}
 use Rattle.elf_image.specs.declared.image.Image.{Image}
 use Rattle.msg_frame.specs.declared.framing.Framing.{Framing}
 use Rattle.item_log.specs.Heard.{heard, items_from, items_of}
@@ -30,11 +31,11 @@ abbrev refused_by : Bool → Bool → Bool → Option Unheeded
 refused_by many long full = if many then Some LimitEvents else if long then Some TooLong else if full then Some LimitItems else None
 
 -- an event that isn't refused brings no item too many
-fits_by : (bounds : Bounds) (number : ℕ) (many long full : Bool) → nat_lt bounds.max_items number ≡ full → is_none (refused_by many long full) ≡ true → number ≤ bounds.max_items
-fits_by bounds number true long full is fine = absurd (true≢false (sym fine))
-fits_by bounds number false true full is fine = absurd (true≢false (sym fine))
-fits_by bounds number false false true is fine = absurd (true≢false (sym fine))
-fits_by bounds number false false false is fine = ltb-false bounds.max_items number is
+fits_by : (bounds : Bounds) {number : ℕ} (many long full : Bool) → nat_lt bounds.max_items number ≡ full → is_none (refused_by many long full) ≡ true → number ≤ bounds.max_items
+fits_by bounds true long full is fine = absurd (true≢false (sym fine))
+fits_by bounds false true full is fine = absurd (true≢false (sym fine))
+fits_by bounds false false true is fine = absurd (true≢false (sym fine))
+fits_by bounds {number = number} false false false is fine = ltb-false bounds.max_items number is
 
 -- of events that are all heeded there are no more items than may be
 behind_items : (bounds : Bounds) (before events : List LinkEvent) → heeded_behind bounds before events ≡ events → length (items_of bounds.framing before) ≤ bounds.max_items → length (items_of bounds.framing (before ++ events)) ≤ bounds.max_items
@@ -49,44 +50,44 @@ behind_items bounds before (event ∷ events) all h = by (is_none (refusal bound
     by false f ih so = absurd (let no : ⊥ = cc in no)
     by true f ih so =
         subst (λ es. length (items_of bounds.framing es) ≤ bounds.max_items) (append_assoc before (event ∷ []) events)
-        (ih (ap (drop 1) so) (fits_by bounds (length (items_of bounds.framing (before ++ event ∷ []))) (nat_le bounds.max_events (length before)) (is_none (heard bounds.framing (before ++ event ∷ [])))
+        (ih (ap (drop 1) so) (fits_by bounds (nat_le bounds.max_events (length before)) (is_none (heard bounds.framing (before ++ event ∷ [])))
         (nat_lt bounds.max_items (length (items_of bounds.framing (before ++ event ∷ [])))) refl f))
 
 no_items : (framing : Framing) → length (items_of framing []) ≤ 0
 unfolding items_from
 no_items framing = omega arith
 
-few_items : (bounds : Bounds) (events : List LinkEvent) → heeded bounds events ≡ events → length (items_of bounds.framing events) ≤ bounds.max_items
-few_items bounds events all = behind_items bounds [] events all (omega (arith, no_items bounds.framing))
+few_items : (bounds : Bounds) {events : List LinkEvent} → heeded bounds events ≡ events → length (items_of bounds.framing events) ≤ bounds.max_items
+few_items bounds {events = events} all = behind_items bounds [] events all (omega (arith, no_items bounds.framing))
 
 module _ {R : Type 0} where
   -- its instruction is a recv whose buffer may be written
-  pub waits_wants : (rules : Rules) (image : Image) (began : Since) (now : Told) (phases : Phases) (session : SessionState R) → IsWaitingFor rules image began now phases session → does None None session.cpu.slots.live.guest.machine ≡ Wants
-  waits_wants rules image began now phases session w =
+  pub waits_wants : {rules : Rules} {image : Image} {began : Since} {seen : Seen} {session : SessionState R} → IsWaitingFor rules image began seen session → does None None session.cpu.slots.live.guest.machine ≡ Wants
+  waits_wants {rules = rules} w =
       let h = w.hearing in
       subst (λ (s : Standing). does None None s.guest.machine ≡ Wants) (sym h.goes.guest)
       (asks_wants rules.limits h.story.survivor.plan h.story.survivor.now h.story.survivor.now.state.machine.taken h.asks)
 
   -- the item of its number is short
-  pub waits_short : (rules : Rules) (image : Image) (began : Since) (now : Told) (phases : Phases) (session : SessionState R) (item : Item) → IsWaitingFor rules image began now phases session → IsItemOf session.log session.taken item → length item.bytes < 2 ^ 32
-  waits_short rules image began now phases session item w is =
+  pub waits_short : {rules : Rules} {image : Image} {began : Since} {seen : Seen} {session : SessionState R} {item : Item} → IsWaitingFor rules image began seen session → IsItemOf session.log session.taken item → length item.bytes < 2 ^ 32
+  waits_short {rules = rules} {session = session} {item = item} w is =
       let h = w.hearing in
       item_fits rules.bounds.framing (heeded rules.bounds (events_in (entries h.story))) session.taken item (item_is rules.bounds (entries h.story) session.log session.taken item h.goes.items is)
 
   -- it takes the item, and its counts are those of the guest
-  pub taken_going : (rules : Rules) (image : Image) (began : Since) (now : Told) (phases : Phases) (item : Item) (old inside after : SessionState R) (cpu : CpuState R) → IsWaitingFor rules image began now phases old → IsHandled old → inside ≡ old → IsItemOf inside.log inside.taken item
+  pub taken_going : {rules : Rules} {image : Image} {began : Since} {seen : Seen} {item : Item} {old inside after : SessionState R} {cpu : CpuState R} → IsWaitingFor rules image began seen old → IsHandled old → inside ≡ old → IsItemOf inside.log inside.taken item
       → old.taken < logs.received old.log → cpu ≡ with_live (live_of cpu) inside.cpu → live_of cpu ≡ live_with_item inside.cpu.base item (live_of inside.cpu)
-      → after ≡ record inside { cpu = cpu; taken = cpu.slots.live.guest.machine.taken; steps = cpu.slots.live.steps } → IsGoing rules image began now phases after
-  taken_going rules image began now phases item old inside after cpu w handled same is there kept live becomes =
+      → after ≡ record inside { cpu = cpu; taken = cpu.slots.live.guest.machine.taken; steps = cpu.slots.live.steps } → IsGoing rules image began seen after
+  taken_going {rules = rules} {image = image} {began = began} {seen = seen} {item = item} {old = old} {cpu = cpu} w handled same is there kept live becomes =
       let h = w.hearing in
       let number : old.taken ≡ h.story.survivor.now.state.machine.taken = h.answers.taken in
-      let count : logs.received old.log ≡ received rules.bounds (entries h.story) = received_is rules.bounds (entries h.story) old.log h.goes.items in
+      let count : logs.received old.log ≡ received rules.bounds (entries h.story) = received_is h.goes.items in
       let of_events : IsItemOf old.log old.taken item = subst (λ (s : SessionState R). IsItemOf s.log s.taken item) same is in
       let found : slice_get (items_in rules.bounds (entries h.story)) old.taken ≡ Some item = item_is rules.bounds (entries h.story) old.log old.taken item h.goes.items of_events in
       let few : received rules.bounds (entries h.story) ≤ rules.bounds.max_items =
-      subst (λ events. length (items_of rules.bounds.framing events) ≤ rules.bounds.max_items) (sym h.goes.items.all_heeded) (few_items rules.bounds (events_in (entries h.story)) h.goes.items.all_heeded) in
-      subst (λ (s : SessionState R). IsGoing rules image began now phases s) (sym becomes)
-      (takes_going rules image began now phases item old (record inside { cpu = cpu; taken = cpu.slots.live.guest.machine.taken; steps = cpu.slots.live.steps }) w
+      subst (λ events. length (items_of rules.bounds.framing events) ≤ rules.bounds.max_items) (sym h.goes.items.all_heeded) (few_items rules.bounds h.goes.items.all_heeded) in
+      subst (λ (s : SessionState R). IsGoing rules image began seen s) (sym becomes)
+      (takes_going w
       (record {
         side = record {
           recorded = ap (λ (s : SessionState R). s.recorded) same;

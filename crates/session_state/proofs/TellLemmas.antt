@@ -19,8 +19,8 @@ pieces_in-append (entry.Took event ∷ xs) ys = pieces_in-append xs ys
 pieces_in-append (entry.Gave conn bytes gone ∷ xs) ys = ap (λ ps. record { conn = conn; bytes = bytes; gone = gone } ∷ ps) (pieces_in-append xs ys)
 
 -- what a link told grew twice
-pub tells_on : (a b c : Told) (xs ys : List Entry) → Tells a b xs → Tells b c ys → Tells a c (xs ++ ys)
-tells_on a b c xs ys first second = record {
+pub tells_on : {a b c : Told} {xs ys : List Entry} → Tells a b xs → Tells b c ys → Tells a c (xs ++ ys)
+tells_on {a = a} {b = b} {c = c} {xs = xs} {ys = ys} first second = record {
   events = subst (Grew a.events c.events) (sym (events_in-append xs ys)) (grew_on a.events b.events c.events (events_in xs) (events_in ys) first.events second.events);
   pieces = subst (Grew a.pieces c.pieces) (sym (pieces_in-append xs ys)) (grew_on a.pieces b.pieces c.pieces (pieces_in xs) (pieces_in ys) first.pieces second.pieces);
   journal = grew_on a.journal b.journal c.journal xs ys first.journal second.journal;
@@ -31,5 +31,5 @@ grew_same : {T : Type 0} (a : Option (List T)) → Grew a a []
 grew_same None = tt
 grew_same (Some a) = sym (append-nil a)
 
-pub tells_same : (told : Told) → Tells told told []
-tells_same told = record { events = grew_same told.events; pieces = grew_same told.pieces; journal = grew_same told.journal }
+pub tells_same : {told : Told} → Tells told told []
+tells_same {told = told} = record { events = grew_same told.events; pieces = grew_same told.pieces; journal = grew_same told.journal }

@@ -1,11 +1,19 @@
 -- What a session records of its run's answers of malloc.
-use Rattle.std.specs.Prelude.{◌≡◌, ℕ, ◌+◌, ◌-◌, List, take, drop, Option, Result, Ok, Err}
+use Rattle.std.specs.Prelude.{◌≡◌, ℕ, ◌+◌, ◌-◌, List, take, drop, Result, Ok, Err, IfOk}
 use Rattle.block_book.specs.declared.choice.Choice.{Choice}
 use Rattle.links.specs.Links.{Grew}
+use Rattle.rx_io.specs.Faults.{HasCause}
 use Rattle.rx_io.specs.declared.fault.IoFault.{IoFault}
+use Rattle.session_notes.specs.Noting.{Shown}
 
 -- Of the answers behind the first recorded ones those up to the first safe ones were noted, and left the list. Where noting failed nothing changed.
-abbrev pub NotesUpTo : ℕ → ℕ → List Choice → Option (List Choice) → Option (List Choice) → ℕ → List Choice → Result (Unit {0}) IoFault → Type 0
+abbrev pub NotesUpTo : ℕ → ℕ → List Choice → Shown → Shown → ℕ → List Choice → Result (Unit {0}) IoFault → Type 0
 NotesUpTo safe recorded choices before now later left (Ok done) =
-    Grew before now (take (safe - recorded) choices) × (later ≡ recorded + (safe - recorded)) × (left ≡ drop (safe - recorded) choices)
-NotesUpTo safe recorded choices before now later left (Err fault) = (now ≡ before) × (later ≡ recorded) × (left ≡ choices)
+    Grew before.told.choices now.told.choices (take (safe - recorded) choices) × (later ≡ recorded + (safe - recorded)) × (left ≡ drop (safe - recorded) choices)
+NotesUpTo safe recorded choices before now later left (Err fault) = (now.told.choices ≡ before.told.choices) × (later ≡ recorded) × (left ≡ choices)
+
+-- noting answers of malloc notes no episode; notes that worked work still, unless it failed; and no fault comes without its cause
+pub record KeepsNotes (before now : Shown) (result : Result (Unit {0}) IoFault) : Type 0 where
+  pub episodes : now.told.episodes ≡ before.told.episodes
+  pub works : IfOk result (λ _. now.works ≡ before.works)
+  pub cause : HasCause before.faults now.faults result

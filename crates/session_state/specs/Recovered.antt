@@ -1,9 +1,10 @@
 -- What a session leaves that recovered its program.
-use Rattle.std.specs.Prelude.{◌≡◌, ◌≢◌, ◌⊎◌, ℕ, ◌+◌, ◌-◌, ◌<◌, ◌≤◌, List, [], ◌∷◌, ◌++◌, length, map, sum, take, drop, Bool, Option, None}
+use Rattle.std.specs.Prelude.{◌≡◌, ◌≢◌, ◌⊎◌, ℕ, ◌+◌, ◌-◌, ◌<◌, ◌≤◌, List, [], ◌∷◌, ◌++◌, length, map, sum, take, drop, Option, None}
 use Rattle.session_history.specs.Heeding.{items_in}
 use Rattle.session_history.specs.Passing.{passed_in}
 use Rattle.block_book.specs.declared.choice.Choice.{Choice}
-use Rattle.links.specs.Links.{Told, Coming, Grew}
+use Rattle.links.specs.Links.{Told, Grew}
+use Rattle.links.specs.Seen.{Seen}
 use Rattle.elf_image.specs.declared.image.Image.{Image}
 use Rattle.links.specs.declared.journal.Entry.{Entry}
 use Rattle.run_history.specs.declared.answer.Answer.{Answer}
@@ -76,9 +77,9 @@ pub record HasNoted (before now : Noted) (end : Answer) (choices : List Choice) 
 -- adopted behind a failure, whose ring was that of the checkpoints that the requests before it left. It gives up only where no trial from its
 -- checkpoints survives. Each instruction was counted: those of the survivors, and those of all trials. Its notes tell of its answers of malloc
 -- and of each recovery.
-pub record HasRecovered (rules : Rules) (image : Image) (keeping : Keeping) (began now : Told) (coming : Option Coming) (takes : Bool) (end : Answer) (noted_before noted_now : Noted) (recorded : ℕ) (tail : List Choice) (taken steps before after : ℕ) : Type 0 where
+pub record HasRecovered (rules : Rules) (image : Image) (keeping : Keeping) (began : Told) (seen : Seen) (end : Answer) (noted_before noted_now : Noted) (recorded : ℕ) (tail : List Choice) (taken steps before after : ℕ) : Type 0 where
   pub choices : List Choice
-  pub served : HasServed rules image began now coming takes end choices taken steps
+  pub served : HasServed rules image began seen end choices taken steps
   pub recoveries : List Recovery
   pub recovered : AreRecovered rules image [] (first_survivor image) served.session.earlier recoveries served.session.survivor
   pub ringed : HaveRings rules image keeping served.session.earlier recoveries
@@ -117,7 +118,7 @@ pub record AreAllTables (rules : Rules) (image : Image) (keeping : Keeping) (ear
   pub behind_right : AreLastTables rules image keeping earlier since recoveries survivor trials last end behind
 
 -- A session that was watched has served and has recovered, and its watch, where it tells its tables, has told those of its recoveries more.
-pub record HasWatched (rules : Rules) (image : Image) (keeping : Keeping) (began now : Told) (coming : Option Coming) (takes : Bool) (end : Answer) (noted_before noted_now : Noted) (recorded : ℕ) (tail : List Choice) (taken steps before after : ℕ) (tables_before tables : Option (List (List Try))) : Type 0 where
-  pub recovered : HasRecovered rules image keeping began now coming takes end noted_before noted_now recorded tail taken steps before after
+pub record HasWatched (rules : Rules) (image : Image) (keeping : Keeping) (began : Told) (seen : Seen) (end : Answer) (noted_before noted_now : Noted) (recorded : ℕ) (tail : List Choice) (taken steps before after : ℕ) (tables_before tables : Option (List (List Try))) : Type 0 where
+  pub recovered : HasRecovered rules image keeping began seen end noted_before noted_now recorded tail taken steps before after
   pub watched : TellsMore tables_before tables
       (AreAllTables rules image keeping recovered.served.session.earlier recovered.served.session.since recovered.served.session.survivor recovered.recoveries recovered.trials recovered.last end)

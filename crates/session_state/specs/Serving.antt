@@ -1,25 +1,27 @@
 -- What the parts of a session's code make of it.
 use Rattle.std.specs.declared.alloc.AllocError.{AllocError}
-use Rattle.std.specs.Prelude.{◌≡◌, ◌≢◌, ◌⊎◌, ℕ, ◌+◌, ◌<◌, ◌≤◌, List, length, Bool, true, false, Option, None, Some, IsSome, option_map, [], ◌∷◌, Result, Ok, Err, IsErrOf}
+use Rattle.std.specs.Prelude.{◌≡◌, ◌≢◌, ◌⊎◌, ℕ, ◌+◌, ◌<◌, ◌≤◌, List, length, Bool, true, false, Option, None, Some, IsSome, option_map, [], ◌∷◌, Result, Ok, Err, IfOk, IsErrOf}
 use Rattle.links.specs.declared.journal.Entry.{Entry}
 use Rattle.rx_io.specs.Faults.{Rose}
 use Rattle.rx_io.specs.declared.fault.IoFault.{IoFault}
 use Rattle.rx_io.specs.declared.fault.IoFault.TheVariants as note
-use Rattle.links.specs.Links.{Phases, Told, Grew, Coming, Counts}
+use Rattle.links.specs.Links.{Grew, Coming, Counts}
+use Rattle.links.specs.Seen.{Seen, but_given}
+use Rattle.link_gate.specs.Passing.{CanGive}
 use Rattle.rx_io.specs.Sends.{Send}
 use Rattle.elf_image.specs.declared.image.Image.{Image}
 use Rattle.item_log.specs.Log as logs
-use Rattle.reply_ledger.specs.Ledger.{Ledger, is_open}
+use Rattle.reply_ledger.specs.Ledger.{Ledger, is_open, IsOpened}
 use Rattle.reply_ledger.specs.Parts.{next_part}
 use Rattle.run_history.specs.declared.answer.Answer.{Answer}
 use Rattle.run_history.specs.declared.answer.Cause.{Cause}
 use Rattle.run_history.specs.declared.answer.Answer.TheVariants as answer
-use Rattle.block_book.specs.declared.choice.Choice.{Choice}
 use Rattle.guest_cpu.specs.declared.event.Event.{Event}
 use Rattle.guest_cpu.specs.declared.event.Event.TheVariants as step
 use Rattle.guest_cpu.specs.Cpus.{live_of, with_live}
 use Rattle.guest_runs.specs.Writing.{RunsWriting}
 use Rattle.session_history.specs.Heeding.{Bounds, items_in, received}
+use Rattle.session_history.specs.Answering.{HasAnswerCause}
 use Rattle.session_history.specs.Passing.{passed_in, AreInOrder}
 use Rattle.session_history.specs.Lawful.{Rules}
 use Rattle.session_history.specs.Keeping.{KeepsReplies}
@@ -29,16 +31,18 @@ use Rattle.link_gate.specs.declared.pass_fault.PassFault.{PassFault}
 use Rattle.link_gate.specs.declared.pass_fault.PassFault.TheVariants as fault
 use Rattle.link_gate.specs.declared.heard.HearFault.{HearFault}
 use Rattle.link_gate.specs.declared.heard.HearFault.TheVariants as hear
-use Rattle.recovery.specs.declared.recovering.Adopted.{Adopted}
+use Rattle.recovery.specs.declared.walking.Adopted.{Adopted}
 use Rattle.recovery.specs.declared.recovering.Recovered.{Recovered}
-use Rattle.session_notes.specs.Noting.{Noted}
+use Rattle.session_notes.specs.Noting.{Noted, Shown}
 use Rattle.session_notes.specs.declared.episode.Try.{Try}
 use Rattle.session_state.specs.declared.stop.Stop.{Stop}
 use Rattle.session_state.specs.declared.stop.Stop.TheVariants as stop
 use Rattle.session_state.specs.Sessions.{SessionState, IsBegun}
 use Rattle.session_state.specs.Recovered.{IsNoteFault}
-use Rattle.session_state.specs.Leaving.{keeping_of}
-use Rattle.session_state.specs.Standing.{Since, Story, entries, moment, sends, then_story, IsTold, HasPassed, HasPassedDue, IsGoing, IsBetween, IsAsking, IsWaitingFor, IsFailing, IsEnding, IsBrokenOff, HasNotedMore}
+use Rattle.session_state.specs.Leaving.{keeping_of, IsHandled, IsRecorded, IsTrimmed, KeepsOldest, HoldsCheckpoints}
+use Rattle.session_state.specs.Options.{rules_of}
+use Rattle.block_book.specs.Heap.{Heap}
+use Rattle.session_state.specs.Standing.{Since, Story, entries, moment, sends, then_story, IsTold, AnswersFor, HasPassed, HasPassedDue, IsGoing, IsBetween, IsAsking, IsWaitingFor, IsFailing, IsEnding, IsBrokenOff, HasNotedMore}
 
 -- a fault of passing is this answer
 abbrev pub IsAnswerTo : PassFault → Answer → Type 0
@@ -49,13 +53,6 @@ IsAnswerTo fault.Memory end = end ≡ answer.Memory
 abbrev pub IsOkOrMemory : Result (Unit {0}) Stop → Type 0
 IsOkOrMemory (Ok done) = Unit {0}
 IsOkOrMemory (Err why) = why ≡ stop.Breaks answer.Memory
-
--- no count of failed calls of a link falls, and a fault is answered only where its own rose
-pub record HasAnswerCause (before now : Counts) (end : Answer) : Type 0 where
-  pub takes : before.takes ≤ now.takes
-  pub gives : before.gives ≤ now.gives
-  pub read_fault : end ≡ answer.ReadFault → Rose before.takes now.takes
-  pub write_fault : end ≡ answer.WriteFault → Rose before.gives now.gives
 
 -- a fault of notes is this answer
 abbrev pub IsNoteAnswer : IoFault → Answer → Type 0
@@ -76,9 +73,12 @@ abbrev pub end_of : ℕ → Cause → Option Adopted → Option Answer
 end_of point cause None = Some (answer.GaveUp point cause)
 end_of point cause (Some adopted) = option_map answer.Exited adopted.code
 
-abbrev pub HasNoteRest : ℕ → ℕ → Result (Unit {0}) Answer → Type 0
-HasNoteRest before now (Ok done) = before ≤ now
-HasNoteRest before now (Err end) = HasNoteCause before now end
+-- so it is where the rest of the answers of malloc was noted, or wasn't; no episode is noted
+pub record HasNoteRest (before now : Shown) (result : Result (Unit {0}) Answer) : Type 0 where
+  pub episodes : now.told.episodes ≡ before.told.episodes
+  pub works : IfOk result (λ _. now.works ≡ before.works)
+  pub later : before.faults ≤ now.faults
+  pub file_fault : IsErrOf result answer.FileFault → Rose before.faults now.faults
 
 -- what an event that wasn't heard means for a session
 abbrev pub IsStopAt : HearFault → Stop → Type 0
@@ -88,17 +88,6 @@ IsStopAt (hear.TooLong conn) why = why ≡ stop.Ends (answer.MessageTooLong conn
 IsStopAt hear.LimitItems why = why ≡ stop.Ends answer.LimitItems
 IsStopAt hear.ReadFault why = why ≡ stop.Breaks answer.ReadFault
 IsStopAt hear.Memory why = why ≡ stop.Breaks answer.Memory
-
--- a link gives, and to each connection that a ledger has as open
-pub record CanGive (gives : Bool) (gives_to : ℕ → Bool) (ledger : Ledger) : Type 0 where
-  pub gives_still : gives ≡ true
-  pub connected : (conn : ℕ) → is_open ledger.connections conn ≡ true → gives_to conn ≡ true
-
--- giving changes nothing else of a link
-pub record OnlyGives (old new : Phases) (takes still : Bool) (coming later : Option Coming) : Type 0 where
-  pub phases : (conn : ℕ) → new conn ≡ old conn
-  pub takes_still : still ≡ takes
-  pub coming_still : later ≡ coming
 
 -- no count of failed calls falls, and a fault is answered only where its own rose
 pub record HasStopCause {X : Type 0} (before now : Counts) (result : Result X Stop) : Type 0 where
@@ -180,6 +169,57 @@ BreaksOnce old new gives (Ok done) = Unit {0}
 BreaksOnce old new gives (Err (stop.Ends end)) = Unit {0}
 BreaksOnce old new gives (Err (stop.Breaks end)) = BreaksAt old new gives end
 
+-- a session that goes on: events may be taken from its link, and pieces given to it
+pub record MayServe (seen : Seen) (ledger : Ledger) : Type 0 where
+  pub takes : seen.takes ≡ true
+  pub gives : CanGive seen ledger
+
+-- What a link shows behind a part of serving: it may be served on, unless the session was broken off; what it has next is told still; no call
+-- failed but one, and no count of failed calls fell.
+pub record LinkServes {X : Type 0} (old new : Seen) (ledger : Ledger) (result : Result X Stop) : Type 0 where
+  pub takes : TakesBy new.takes result
+  pub gives : UnlessBroken result (CanGive new ledger)
+  pub known : UnlessBroken result (StaysKnown old.coming new.coming)
+  pub once : BreaksOnce old.coming new.coming new.gives result
+  pub cause : HasStopCause old.counts new.counts result
+
+-- what it shows where pieces alone were passed
+pub record LinkPasses (old new : Seen) (ledger : Ledger) (result : Result (Unit {0}) Stop) : Type 0 where
+  pub gives : IfOk result (λ _. CanGive new ledger)
+  pub rest : new ≡ but_given old new
+  pub broken : BreaksPassing result
+  pub cause : HasStopCause old.counts new.counts result
+
+-- what a link shows at a session's answer
+pub record LinkAnswers (old new : Seen) (end : Answer) : Type 0 where
+  pub takes : TakesAtEnd new.takes end
+  pub gives : IsEnd end → new.gives ≡ true
+  pub known : IsEnd end → StaysKnown old.coming new.coming
+  pub once : BreaksAt old.coming new.coming new.gives end
+  pub cause : HasAnswerCause old.counts new.counts end
+
+-- what it shows where an end was finished: pieces alone were passed
+pub record LinkFinishes (old new : Seen) (end result : Answer) : Type 0 where
+  pub takes : TakesAtEnd old.takes end → TakesAtEnd new.takes result
+  pub gives : IsEnd result → new.gives ≡ true
+  pub rest : new ≡ but_given old new
+  pub once : BreaksAt old.coming new.coming new.gives result
+  pub cause : HasAnswerCause old.counts new.counts result
+
+-- What notes show behind a part of serving: those that worked work still, unless noting failed; and FileFault has its cause.
+pub record NotesServe (old new : Shown) (result : Result (Unit {0}) Stop) : Type 0 where
+  pub works : UnlessNoteStop result (new.works ≡ old.works)
+  pub cause : HasNoteStop old.faults new.faults result
+
+-- what they show at a session's answer
+pub record NotesAnswer (old new : Shown) (end : Answer) : Type 0 where
+  pub works : UnlessNoteFault end (new.works ≡ old.works)
+  pub cause : HasNoteCause old.faults new.faults end
+
+-- the same connections are open
+abbrev pub HasSameOpen : Ledger → Ledger → Type 0
+HasSameOpen old new = (conn : ℕ) → is_open new.connections conn ≡ is_open old.connections conn
+
 module _ {R : Type 0} where
   -- a ledger has the replies of a journal, of which the log has as many items
   pub record CanPass (session : SessionState R) : Type 0 where
@@ -192,38 +232,49 @@ module _ {R : Type 0} where
     pub ordered : AreInOrder (received bounds entries) (passed_in bounds entries)
     pub received_are : logs.received session.log ≡ received bounds entries
 
+  -- a session is told so, and its log has as many items as were received
+  pub record IsToldBy (rules : Rules) (image : Image) (began : Since) (seen : Seen) (story : Story) (session : SessionState R) : Type 0 where
+    pub told : IsTold rules image began seen.told story
+    pub answers : AnswersFor began story session
+    pub holds : HoldsCheckpoints rules image story.earlier (entries story) story.recoveries story.survivor session
+    pub received_are : logs.received session.log ≡ received rules.bounds (entries story)
+
+  -- what a session allows its guest and its link, by how its access rule is read
+  abbrev pub rules_by : (R → Heap → ℕ → ℕ → Bool) → SessionState R → Rules
+  rules_by permits session = rules_of session.options (permits session.cpu.rule)
+
   -- A session came to one of its ends, or was broken off. Where events may not be taken any more, one was asked for.
-  abbrev pub StopsBy : Rules → Image → Since → Told → Option Coming → Bool → SessionState R → Stop → Type 0
-  StopsBy rules image began now coming takes session (stop.Ends end) = (ending : IsEnding rules image began now coming session end) × (takes ≡ false → IsAsking rules ending.story)
-  StopsBy rules image began now coming takes session (stop.Breaks end) = (off : IsBrokenOff rules image began now coming session end) × (takes ≡ false → WasAsked rules off.account)
+  abbrev pub StopsBy : Rules → Image → Since → Seen → SessionState R → Stop → Type 0
+  StopsBy rules image began seen session (stop.Ends end) = (ending : IsEnding rules image began seen session end) × (seen.takes ≡ false → IsAsking rules ending.story)
+  StopsBy rules image began seen session (stop.Breaks end) = (off : IsBrokenOff rules image began seen session end) × (seen.takes ≡ false → WasAsked rules off.account)
 
   -- it was broken off
-  abbrev pub BreaksBy : Rules → Image → Since → Told → Option Coming → SessionState R → Stop → Type 0
-  BreaksBy rules image began now coming session (stop.Ends end) = ⊥
-  BreaksBy rules image began now coming session (stop.Breaks end) = IsBrokenOff rules image began now coming session end
+  abbrev pub BreaksBy : Rules → Image → Since → Seen → SessionState R → Stop → Type 0
+  BreaksBy rules image began seen session (stop.Ends end) = ⊥
+  BreaksBy rules image began seen session (stop.Breaks end) = IsBrokenOff rules image began seen session end
 
   -- pieces were passed, up to where nothing is left of what was sent with so many items taken; or the session was broken off
-  abbrev pub PassesStory : Rules → Image → Since → Told → Option Coming → Story → ℕ → SessionState R → Result (Unit {0}) Stop → Type 0
-  PassesStory rules image began now coming story until session (Ok done) =
-      (more : List Entry) × AreGiven more × IsTold rules image began now (then_story story more)
+  abbrev pub PassesStory : Rules → Image → Since → Seen → Story → ℕ → SessionState R → Result (Unit {0}) Stop → Type 0
+  PassesStory rules image began seen story until session (Ok done) =
+      (more : List Entry) × AreGiven more × IsTold rules image began seen.told (then_story story more)
       × KeepsReplies rules.bounds (entries (then_story story more)) None (sends story) session.replies × (next_part session.replies until ≡ None)
-  PassesStory rules image began now coming story until session (Err why) = BreaksBy rules image began now coming session why
+  PassesStory rules image began seen story until session (Err why) = BreaksBy rules image began seen session why
 
   -- all that is due was passed, or the session was broken off
-  abbrev pub PassesDue : Rules → Image → Since → Told → Option Coming → Story → SessionState R → Result (Unit {0}) Stop → Type 0
-  PassesDue rules image began now coming story session (Ok done) =
-      (more : List Entry) × AreGiven more × IsTold rules image began now (then_story story more) × HasPassed rules (then_story story more) session.replies × HasPassedDue rules (then_story story more)
-  PassesDue rules image began now coming story session (Err why) = BreaksBy rules image began now coming session why
+  abbrev pub PassesDue : Rules → Image → Since → Seen → Story → SessionState R → Result (Unit {0}) Stop → Type 0
+  PassesDue rules image began seen story session (Ok done) =
+      (more : List Entry) × AreGiven more × IsTold rules image began seen.told (then_story story more) × HasPassed rules (then_story story more) session.replies × HasPassedDue rules (then_story story more)
+  PassesDue rules image began seen story session (Err why) = BreaksBy rules image began seen session why
 
   -- the guest still waits for an item
-  abbrev pub WaitsBy : Rules → Image → Since → Told → Phases → Option Coming → Bool → SessionState R → Result (Unit {0}) Stop → Type 0
-  WaitsBy rules image began now phases coming takes session (Ok done) = IsWaitingFor rules image began now phases session
-  WaitsBy rules image began now phases coming takes session (Err why) = StopsBy rules image began now coming takes session why
+  abbrev pub WaitsBy : Rules → Image → Since → Seen → SessionState R → Result (Unit {0}) Stop → Type 0
+  WaitsBy rules image began seen session (Ok done) = IsWaitingFor rules image began seen session
+  WaitsBy rules image began seen session (Err why) = StopsBy rules image began seen session why
 
   -- the session stands between two events of its guest
-  abbrev pub ComesBetween : Rules → Image → Since → Told → Phases → Option Coming → Bool → SessionState R → Result (Unit {0}) Stop → Type 0
-  ComesBetween rules image began now phases coming takes session (Ok done) = IsBetween rules image began now phases session
-  ComesBetween rules image began now phases coming takes session (Err why) = StopsBy rules image began now coming takes session why
+  abbrev pub ComesBetween : Rules → Image → Since → Seen → SessionState R → Result (Unit {0}) Stop → Type 0
+  ComesBetween rules image began seen session (Ok done) = IsBetween rules image began seen session
+  ComesBetween rules image began seen session (Err why) = StopsBy rules image began seen session why
 
   -- its guest is where it was, and so are the answers of malloc, and what it answers for; and nothing more was given up
   pub record HasSameGuest (old new : SessionState R) : Type 0 where
@@ -239,56 +290,73 @@ module _ {R : Type 0} where
     pub keeping : keeping_of new ≡ keeping_of old
 
   -- its guest ran from where the session stood between two events to this event, and its flags of pages say which ones it wrote on the way
-  pub record HasRun (rules : Rules) (image : Image) (began : Since) (now : Told) (phases : Phases) (happened : Event) (session : SessionState R) : Type 0 where
+  pub record HasRun (rules : Rules) (image : Image) (began : Since) (seen : Seen) (happened : Event) (session : SessionState R) : Type 0 where
     pub before : SessionState R
-    pub between : IsBetween rules image began now phases before
+    pub between : IsBetween rules image began seen before
     pub same : session ≡ record before { cpu = session.cpu }
     pub cpu : session.cpu ≡ with_live (live_of session.cpu) before.cpu
     pub runs : RunsWriting rules.limits (items_in rules.bounds (entries between.going.story)) between.going.story.survivor.plan before.cpu.base between.going.story.survivor.now before.cpu.written (Ok happened) (live_of session.cpu)
 
   -- it stands so for some image, since some time, where its watch tells these tables
-  pub record StandsBetween (rules : Rules) (now : Told) (phases : Phases) (tables : Option (List (List Try))) (session : SessionState R) : Type 0 where
+  pub record StandsBetween (rules : Rules) (seen : Seen) (tables : Option (List (List Try))) (session : SessionState R) : Type 0 where
     pub image : Image
     pub began : Since
     pub tables_are : began.tables ≡ tables
-    pub is : IsBetween rules image began now phases session
+    pub is : IsBetween rules image began seen session
+    pub may : MayServe seen session.replies
 
-  pub record StandsWaiting (rules : Rules) (now : Told) (phases : Phases) (session : SessionState R) : Type 0 where
+  pub record StandsWaiting (rules : Rules) (seen : Seen) (session : SessionState R) : Type 0 where
     pub image : Image
     pub began : Since
-    pub is : IsWaitingFor rules image began now phases session
+    pub is : IsWaitingFor rules image began seen session
 
-  pub record StandsEmitting (rules : Rules) (now : Told) (phases : Phases) (conn : ℕ) (bytes : List ℕ) (session : SessionState R) : Type 0 where
+  pub record StandsEmitting (rules : Rules) (seen : Seen) (conn : ℕ) (bytes : List ℕ) (session : SessionState R) : Type 0 where
     pub image : Image
     pub began : Since
-    pub is : HasRun rules image began now phases (step.Emits conn bytes) session
+    pub is : HasRun rules image began seen (step.Emits conn bytes) session
+    pub gives : CanGive seen session.replies
 
-  pub record StandsEnding (rules : Rules) (now : Told) (coming : Option Coming) (end : Answer) (session : SessionState R) : Type 0 where
+  pub record StandsEnding (rules : Rules) (seen : Seen) (end : Answer) (session : SessionState R) : Type 0 where
     pub image : Image
     pub began : Since
-    pub is : IsEnding rules image began now coming session end
+    pub is : IsEnding rules image began seen session end
+    pub gives : CanGive seen session.replies
 
-  pub record StandsFailing (rules : Rules) (now : Told) (phases : Phases) (tables : Option (List (List Try))) (cause : Cause) (session : SessionState R) : Type 0 where
+  pub record StandsFailing (rules : Rules) (seen : Seen) (tables : Option (List (List Try))) (cause : Cause) (session : SessionState R) : Type 0 where
     pub image : Image
     pub began : Since
     pub tables_are : began.tables ≡ tables
-    pub is : IsFailing rules image began now phases cause session
+    pub is : IsFailing rules image began seen cause session
+    pub may : MayServe seen session.replies
 
   -- it has heard the close of this connection, for some rules and some image, since some time
-  pub record StandsClosing (now : Told) (conn : ℕ) (session : SessionState R) : Type 0 where
+  pub record StandsClosing (seen : Seen) (conn : ℕ) (session : SessionState R) : Type 0 where
     pub rules : Rules
     pub image : Image
     pub began : Since
     pub story : Story
-    pub told : IsTold rules image began now story
+    pub told : IsTold rules image began seen.told story
     pub received_are : logs.received session.log ≡ received rules.bounds (entries story)
     pub closing : IsClosing rules (sends story) (moment story) conn session.replies
     pub no_trial : session.replies.trial ≡ None
+    pub opened : IsOpened session.replies conn
+    pub gives : CanGive seen session.replies
 
   -- its counts are those of its guest
   pub record IsCounted (session : SessionState R) : Type 0 where
     pub taken : session.taken ≡ session.cpu.slots.live.guest.machine.taken
     pub steps : session.steps ≡ session.cpu.slots.live.steps
+
+  -- it may pass, and its link gives
+  pub record StandsPassing (seen : Seen) (session : SessionState R) : Type 0 where
+    pub can : CanPass session
+    pub gives : CanGive seen session.replies
+
+  -- passing changes its replies alone: it gives up none, and no trial is under way
+  pub record OnlyReplies (old new : SessionState R) : Type 0 where
+    pub same : new ≡ record old { replies = new.replies }
+    pub no_trial : new.replies.trial ≡ None
+    pub first : new.replies.first ≡ old.replies.first
 
   -- its options and its access rule stay
   pub record HasSameFrame (old new : SessionState R) : Type 0 where
@@ -296,9 +364,9 @@ module _ {R : Type 0} where
     pub rule : new.cpu.rule ≡ old.cpu.rule
 
   -- the rest of the answers of malloc was noted, if there were any; or noting failed, and nothing changed
-  abbrev pub NotesRest : Option (List Choice) → Option (List Choice) → SessionState R → SessionState R → Result (Unit {0}) Answer → Type 0
-  NotesRest before now old new (Ok done) = Grew before now old.choices × (new ≡ record old { recorded = old.recorded + length old.choices; choices = [] })
-  NotesRest before now old new (Err end) = (now ≡ before) × (new ≡ old) × IsNoteFault end
+  abbrev pub NotesRest : Shown → Shown → SessionState R → SessionState R → Result (Unit {0}) Answer → Type 0
+  NotesRest before now old new (Ok done) = Grew before.told.choices now.told.choices old.choices × (new ≡ record old { recorded = old.recorded + length old.choices; choices = [] })
+  NotesRest before now old new (Err end) = (now.told.choices ≡ before.told.choices) × (new ≡ old) × IsNoteFault end
 
   -- it was begun for some image
   pub record IsReadyToServe (session : SessionState R) : Type 0 where
@@ -315,20 +383,140 @@ module _ {R : Type 0} where
   GoesFurther old new = ((new.until ≡ old.until) × (old.cpu.slots.live.steps < new.cpu.slots.live.steps)) ⊎ IsAdoptedLater old new
 
   -- what a recovery makes of a session: it goes on as a trial, of which what is due has to be passed; or it came to this end
-  abbrev pub AdoptsTo : Rules → Image → Since → Told → Phases → Option Coming → SessionState R → Option Answer → Type 0
-  AdoptsTo rules image began now phases coming session None = IsGoing rules image began now phases session
-  AdoptsTo rules image began now phases coming session (Some end) = IsEnding rules image began now coming session end
+  abbrev pub AdoptsTo : Rules → Image → Since → Seen → SessionState R → Option Answer → Type 0
+  AdoptsTo rules image began seen session None = IsGoing rules image began seen session
+  AdoptsTo rules image began seen session (Some end) = IsEnding rules image began seen session end
 
   -- so it is once the episode is noted. And where noting it fails, the session is broken off
-  pub record Adopting (rules : Rules) (image : Image) (began : Since) (now : Told) (phases : Phases) (coming : Option Coming) (point : ℕ) (cause : Cause) (session : SessionState R) (recovered : Recovered) : Type 0 where
-    pub goes : (noted : Noted) → HasNotedMore began.noted noted [] (recovered.episode ∷ []) → AdoptsTo rules image (record began { noted = noted }) now phases coming session (end_of point cause recovered.adopted)
-    pub breaks : (end : Answer) → IsNoteFault end → IsBrokenOff rules image began now coming session end
+  pub record Adopting (rules : Rules) (image : Image) (began : Since) (seen : Seen) (point : ℕ) (cause : Cause) (session : SessionState R) (recovered : Recovered) : Type 0 where
+    pub goes : (noted : Noted) → HasNotedMore began.noted noted [] (recovered.episode ∷ []) → AdoptsTo rules image (record began { noted = noted }) seen session (end_of point cause recovered.adopted)
+    pub breaks : (end : Answer) → IsNoteFault end → IsBrokenOff rules image began seen session end
 
   -- or memory ran out
-  abbrev pub AdoptsBy : Rules → Image → Since → Told → Phases → Option Coming → ℕ → Cause → SessionState R → Result Recovered AllocError → Type 0
-  AdoptsBy rules image began now phases coming point cause session (Ok recovered) = Adopting rules image began now phases coming point cause session recovered
-  AdoptsBy rules image began now phases coming point cause session (Err fault) = IsBrokenOff rules image began now coming session answer.Memory
+  abbrev pub AdoptsBy : Rules → Image → Since → Seen → ℕ → Cause → SessionState R → Result Recovered AllocError → Type 0
+  AdoptsBy rules image began seen point cause session (Ok recovered) = Adopting rules image began seen point cause session recovered
+  AdoptsBy rules image began seen point cause session (Err fault) = IsBrokenOff rules image began seen session answer.Memory
 
--- the same connections are open
-abbrev pub HasSameOpen : Ledger → Ledger → Type 0
-HasSameOpen old new = (conn : ℕ) → is_open new.connections conn ≡ is_open old.connections conn
+module _ {R : Type 0} where
+  -- what one more event of the link makes of a session beside its story
+  pub record KeepsHearing (before seen : Seen) (old new : SessionState R) (result : Result (Unit {0}) Stop) : Type 0 where
+    pub link : LinkServes before seen new.replies result
+    pub same : HasSameGuest old new
+    pub unnoted : IsUnnoted result
+
+  -- what an item makes of it that the guest waited for: it came and was taken, and one instruction more was done at least
+  pub record KeepsReceiving (before seen : Seen) (old new : SessionState R) (result : Result (Unit {0}) Stop) : Type 0 where
+    pub link : LinkServes before seen new.replies result
+    pub until : new.until ≡ old.until
+    pub frame : HasSameFrame old new
+    pub oldest : KeepsOldest old new
+    pub marked : IsCounted new
+    pub later : IfOk result (λ _. old.cpu.slots.live.steps < new.cpu.slots.live.steps)
+    pub unnoted : IsUnnoted result
+
+  -- so a request, with what is noted and given up at it
+  pub record KeepsAsking (before seen : Seen) (shown now : Shown) (old new : SessionState R) (result : Result (Unit {0}) Stop) : Type 0 where
+    pub link : LinkServes before seen new.replies result
+    pub notes : NotesServe shown now result
+    pub until : new.until ≡ old.until
+    pub frame : HasSameFrame old new
+    pub keeping : keeping_of new ≡ keeping_of old
+    pub trimmed : UnlessNoteStop result (IsTrimmed new)
+    pub marked : IsCounted new
+    pub later : IfOk result (λ _. old.cpu.slots.live.steps < new.cpu.slots.live.steps)
+
+  -- the item that is there
+  pub record KeepsItem (old new : SessionState R) : Type 0 where
+    pub until : new.until ≡ old.until
+    pub frame : HasSameFrame old new
+    pub oldest : KeepsOldest old new
+    pub replies : new.replies ≡ old.replies
+    pub marked : IsCounted new
+    pub one : new.cpu.slots.live.steps ≡ old.cpu.slots.live.steps + 1
+
+  -- what a send makes of it
+  pub record KeepsSending (old new : SessionState R) (result : Result (Unit {0}) Stop) : Type 0 where
+    pub until : new.until ≡ old.until
+    pub options : new.options ≡ old.options
+    pub cpu : new.cpu ≡ old.cpu
+    pub oldest : UnlessNoteStop result (KeepsOldest old new)
+    pub keeping : keeping_of new ≡ keeping_of old
+    pub marked : UnlessMemory result (IsCounted new)
+    pub low : old.steps ≤ old.cpu.slots.live.steps → new.steps ≤ new.cpu.slots.live.steps
+
+  -- what an answer of malloc makes of it
+  pub record KeepsChoosing (old new : SessionState R) (result : Result (Unit {0}) Stop) : Type 0 where
+    pub until : new.until ≡ old.until
+    pub options : new.options ≡ old.options
+    pub cpu : new.cpu ≡ old.cpu
+    pub oldest : KeepsOldest old new
+    pub replies : new.replies ≡ old.replies
+    pub marked : UnlessMemory result (IsCounted new)
+    pub low : old.steps ≤ old.cpu.slots.live.steps → new.steps ≤ new.cpu.slots.live.steps
+    pub broken : IsOkOrMemory result
+
+  -- what an adoption makes of it, before its episode is noted; or memory ran out
+  pub record KeepsAdopting (cause : Cause) (old new : SessionState R) (result : Result Recovered AllocError) : Type 0 where
+    pub frame : HasSameFrame old new
+    pub oldest : IfOk result (λ _. KeepsOldest old new)
+    pub keeping : keeping_of new ≡ keeping_of old
+    pub opened : IfOk result (λ _. HasSameOpen old.replies new.replies)
+    pub marked : IfOk result (λ recovered. end_of old.taken cause recovered.adopted ≡ None → IsCounted new)
+    pub later : IfOk result (λ recovered. end_of old.taken cause recovered.adopted ≡ None → IsAdoptedLater old new)
+
+  -- what a recovery makes of it
+  pub record KeepsRecovering (before seen : Seen) (shown now : Shown) (old new : SessionState R) (result : Result (Unit {0}) Stop) : Type 0 where
+    pub link : LinkServes before seen new.replies result
+    pub notes : NotesServe shown now result
+    pub frame : HasSameFrame old new
+    pub oldest : UnlessNoteStop result (KeepsOldest old new)
+    pub keeping : keeping_of new ≡ keeping_of old
+    pub marked : IfOk result (λ _. IsCounted new)
+    pub later : IfOk result (λ _. IsAdoptedLater old new)
+
+  -- what a turn makes of it
+  pub record KeepsTurning (before seen : Seen) (shown now : Shown) (old new : SessionState R) (result : Result (Unit {0}) Stop) : Type 0 where
+    pub link : LinkServes before seen new.replies result
+    pub notes : NotesServe shown now result
+    pub frame : HasSameFrame old new
+    pub keeping : keeping_of new ≡ keeping_of old
+    pub trimmed : IsTrimmed old → UnlessNoteStop result (IsTrimmed new)
+    pub marked : IfOk result (λ _. IsCounted new)
+    pub later : IfOk result (λ _. GoesFurther old new)
+
+module _ {R : Type 0} where
+  -- the guest waits for an item, its counts are right, and the session may be served on
+  pub record StandsAsking (rules : Rules) (seen : Seen) (session : SessionState R) : Type 0 where
+    pub waits : StandsWaiting rules seen session
+    pub marked : IsCounted session
+    pub may : MayServe seen session.replies
+
+  -- so it is once its request was handled
+  pub record StandsHearing (rules : Rules) (seen : Seen) (session : SessionState R) : Type 0 where
+    pub waits : StandsWaiting rules seen session
+    pub handled : IsHandled session
+    pub may : MayServe seen session.replies
+
+  -- it waits so for some link
+  pub record StandsSomewhere (rules : Rules) (session : SessionState R) : Type 0 where
+    pub seen : Seen
+    pub waits : StandsWaiting rules seen session
+
+  -- a checkpoint is saved where one is due; guest and rule stay
+  pub record KeepsSaving (old new : SessionState R) : Type 0 where
+    pub same : new ≡ record old { cpu = new.cpu; ring = new.ring }
+    pub live : new.cpu.slots.live ≡ old.cpu.slots.live
+    pub rule : new.cpu.rule ≡ old.cpu.rule
+    pub keeping : keeping_of new ≡ keeping_of old
+
+  -- answers of malloc are noted up to the oldest checkpoint, or noting failed
+  pub record KeepsNoting (old new : SessionState R) (result : Result (Unit {0}) Stop) : Type 0 where
+    pub same : new ≡ record old { recorded = new.recorded; choices = new.choices }
+    pub recorded : IfOk result (λ _. IsRecorded new)
+    pub broken : BreaksNoting result
+
+  -- items and replies are given up that no trial needs
+  pub record KeepsForgetting (old new : SessionState R) : Type 0 where
+    pub same : new ≡ record old { log = new.log; replies = new.replies }
+    pub trimmed : IsRecorded old → IsTrimmed new
+    pub opened : HasSameOpen old.replies new.replies

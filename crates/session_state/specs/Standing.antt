@@ -1,7 +1,8 @@
 -- Where a session stands between two events of its guest.
 use Rattle.std.specs.Prelude.{◌≡◌, ◌≢◌, ◌⊎◌, ℕ, ◌+◌, ◌<◌, ◌≤◌, List, [], ◌++◌, length, map, take, drop, true, false, Option, None, Some}
 use Rattle.links.specs.declared.journal.Entry.{Entry}
-use Rattle.links.specs.Links.{Phases, Told, Tells, Coming, Grew, events_in}
+use Rattle.links.specs.Links.{Phases, Told, Tells, Grew, events_in}
+use Rattle.links.specs.Seen.{Seen}
 use Rattle.rx_io.specs.Sends.{Send}
 use Rattle.elf_image.specs.declared.image.Image.{Image}
 use Rattle.reply_ledger.specs.Ledger.{Ledger}
@@ -149,44 +150,44 @@ IsAsking rules story = IsWaiting rules (entries story) story.survivor × OwesNot
 
 module _ {R : Type 0} where
   -- a session that goes on, of which what is due may still have to be passed
-  pub record IsGoing (rules : Rules) (image : Image) (began : Since) (now : Told) (phases : Phases) (session : SessionState R) : Type 0 where
+  pub record IsGoing (rules : Rules) (image : Image) (began : Since) (seen : Seen) (session : SessionState R) : Type 0 where
     pub story : Story
-    pub told : IsTold rules image began now story
+    pub told : IsTold rules image began seen.told story
     pub answers : AnswersFor began story session
-    pub goes : GoesWith rules story session phases
+    pub goes : GoesWith rules story session seen.phases
     pub saved : KeepsCheckpoints rules image story session
     pub passed : HasPassed rules story session.replies
     pub latest : IsLatestBefore rules (moment story) story.survivor.now.state.machine.taken
 
   -- between two events of the guest: what is due was passed
-  pub record IsBetween (rules : Rules) (image : Image) (began : Since) (now : Told) (phases : Phases) (session : SessionState R) : Type 0 where
-    pub going : IsGoing rules image began now phases session
+  pub record IsBetween (rules : Rules) (image : Image) (began : Since) (seen : Seen) (session : SessionState R) : Type 0 where
+    pub going : IsGoing rules image began seen session
     pub due : HasPassedDue rules going.story
 
   -- where the guest waits for an item, of which what is due may still have to be passed
-  pub record IsHearing (rules : Rules) (image : Image) (began : Since) (now : Told) (phases : Phases) (session : SessionState R) : Type 0 where
+  pub record IsHearing (rules : Rules) (image : Image) (began : Since) (seen : Seen) (session : SessionState R) : Type 0 where
     pub story : Story
-    pub told : IsTold rules image began now story
+    pub told : IsTold rules image began seen.told story
     pub answers : AnswersFor began story session
-    pub goes : GoesWith rules story session phases
+    pub goes : GoesWith rules story session seen.phases
     pub saved : KeepsCheckpoints rules image story session
     pub passed : HasPassed rules story session.replies
     pub asks : AsksFor rules.limits story.survivor.plan story.survivor.now story.survivor.now.state.machine.taken
     pub latest : IsLatestBefore rules (moment story) (story.survivor.now.state.machine.taken + 1)
 
   -- where it waits for an item, and what is due was passed
-  pub record IsWaitingFor (rules : Rules) (image : Image) (began : Since) (now : Told) (phases : Phases) (session : SessionState R) : Type 0 where
-    pub hearing : IsHearing rules image began now phases session
+  pub record IsWaitingFor (rules : Rules) (image : Image) (began : Since) (seen : Seen) (session : SessionState R) : Type 0 where
+    pub hearing : IsHearing rules image began seen session
     pub due : HasPassedDue rules hearing.story
 
   -- where its guest fails at its next instruction, and what is due was passed
-  pub record IsFailing (rules : Rules) (image : Image) (began : Since) (now : Told) (phases : Phases) (cause : Cause) (session : SessionState R) : Type 0 where
-    pub going : IsGoing rules image began now phases session
+  pub record IsFailing (rules : Rules) (image : Image) (began : Since) (seen : Seen) (cause : Cause) (session : SessionState R) : Type 0 where
+    pub going : IsGoing rules image began seen session
     pub due : HasPassedDue rules going.story
     pub fails : FailsBy rules.limits going.story.survivor.plan going.story.survivor.now cause
 
   -- at one of its ends, before what is left is passed
-  pub record IsEnding (rules : Rules) (image : Image) (began : Since) (now : Told) (coming : Option Coming) (session : SessionState R) (end : Answer) : Type 0 where
+  pub record IsEnding (rules : Rules) (image : Image) (began : Since) (seen : Seen) (session : SessionState R) (end : Answer) : Type 0 where
     pub story : Story
     pub trials : List Trial
     pub lost : ℕ
@@ -194,7 +195,7 @@ module _ {R : Type 0} where
     pub noted : Noted
     pub last : List Episode
     pub last_noted : HasNotedMore noted began.noted [] last
-    pub told : IsTold rules image (unwatched (record began { lost = lost; noted = noted })) now story
+    pub told : IsTold rules image (unwatched (record began { lost = lost; noted = noted })) seen.told story
     pub tables : TellsMore began.tables_before began.tables (AreAllTables rules image (keeping_of session) story.earlier story.since story.survivor story.recoveries trials last end)
     pub answers : AnswersFor (record began { lost = lost; noted = noted }) story session
     pub received_are : logs.received session.log ≡ received rules.bounds (entries story)
@@ -205,16 +206,16 @@ module _ {R : Type 0} where
     pub handled : IsAtRequest end → HasHandled rules image (keeping_of session) story.earlier (entries story) story.recoveries story.survivor (story.survivor.now.state.machine.taken + 1) (stands_of session.cpu.slots.saved)
     pub live : UnlessGaveUp end (session.cpu.slots.live ≡ standing_of story.survivor.now)
     pub is_end : IsEnd end
-    pub stands : StandsAt rules (entries story) coming story.survivor end
+    pub stands : StandsAt rules (entries story) seen.coming story.survivor end
     pub tried : AreLastTrials rules image (keeping_of session) story.earlier story.since story.recoveries story.survivor trials last
     pub gave_up : GivesUpBy rules image (keeping_of session) story.earlier story.since story.recoveries story.survivor trials end
 
   -- a session that was broken off, by no end of its own
-  pub record IsBrokenOff (rules : Rules) (image : Image) (began : Since) (now : Told) (coming : Option Coming) (session : SessionState R) (end : Answer) : Type 0 where
+  pub record IsBrokenOff (rules : Rules) (image : Image) (began : Since) (seen : Seen) (session : SessionState R) (end : Answer) : Type 0 where
     pub account : Session
-    pub tells : Tells began.told now (journal_of account)
+    pub tells : Tells began.told seen.told (journal_of account)
     pub is_account : IsAccount rules image account false
-    pub ends : EndsBy rules coming account end
+    pub ends : EndsBy rules seen.coming account end
     pub pieces : AreGiven account.ending
     pub no_end : IsEnd end → ⊥
     pub recoveries : List Recovery

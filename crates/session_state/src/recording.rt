@@ -1,7 +1,6 @@
 // What a session records of its run's answers of malloc.
-ghost use Rattle.std.specs.Prelude.{◌≡◌, ◌-◌, ◌≤◌, length, IfOk};
-ghost use Rattle.rx_io.specs.Faults.{HasCause};
-ghost use Rattle.session_state.specs.Recording.{NotesUpTo};
+ghost use Rattle.std.specs.Prelude.{◌≡◌, ◌-◌, ◌≤◌, length};
+ghost use Rattle.session_state.specs.Recording.{NotesUpTo, KeepsNotes};
 
 use block_book::Choice;
 use rx_io::IoFault;
@@ -20,11 +19,9 @@ pub fn note_up_to<N: Notes>(
     choices: &mut Vec<Choice>,
 ) -> Result<(), IoFault>
     requires { safe - recorded.old ≤ length choices.old.items }
-    ensures noted { NotesUpTo safe recorded.old choices.old.items (N.told_choices notes.old) (N.told_choices notes.new) recorded.new choices.new.items result }
-    ensures episodes { N.told_episodes notes.new ≡ N.told_episodes notes.old }
-    ensures works { IfOk result (λ _. N.works notes.new ≡ N.works notes.old) }
+    ensures noted { NotesUpTo safe recorded.old choices.old.items (N.shown notes.old) (N.shown notes.new) recorded.new choices.new.items result }
+    ensures keeps { KeepsNotes (N.shown notes.old) (N.shown notes.new) result }
     ensures fixed { N.fixed notes.new ≡ N.fixed notes.old }
-    ensures cause { HasCause (N.faults notes.old) (N.faults notes.new) result }
 {
     if safe <= *recorded {
         return Ok(());

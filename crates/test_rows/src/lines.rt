@@ -1,7 +1,7 @@
 // A line of events, and the line of a journal.
-ghost use Rattle.std.specs.Prelude.{◌≡◌, true, IfOk};
-ghost use Rattle.links.specs.Links.{IsFresh};
-ghost use Rattle.links.specs.MemoryLinks.{link_phases, link_takes, link_gives};
+ghost use Rattle.std.specs.Prelude.{IfOk};
+ghost use Rattle.links.specs.MemoryLinks.{seen_in};
+ghost use Rattle.links.specs.Seen.{IsFreshLink};
 
 use links::{Entry, LinkEvent, MemoryLink};
 use rx_io::Bytes;
@@ -44,9 +44,7 @@ pub fn link_of(
     fails: &[u64],
     gones: &[(u64, usize)],
 ) -> Result<MemoryLink, Fail>
-    ensures fresh { IfOk result (λ link. IsFresh (link_phases link)) }
-    ensures takes { IfOk result (λ link. link_takes link ≡ true) }
-    ensures gives { IfOk result (λ link. link_gives link ≡ true) }
+    ensures { IfOk result (λ link. IsFreshLink (seen_in link)) }
 {
     let events = events_of(alloc, line)?;
     let fails = fails.to_vec(alloc)?;

@@ -1,9 +1,11 @@
 // Plays a row: a session over a link in memory with notes in memory, both of which may run out of memory.
-ghost use Rattle.std.specs.Prelude.{◌≡◌, ◌<◌, true, false, if◌then◌else◌, IfOk};
-ghost use Rattle.links.specs.Links.{IsFresh};
-ghost use Rattle.links.specs.MemoryLinks.{link_phases, link_takes, link_gives};
+ghost use Rattle.std.specs.Prelude.{◌≡◌, ◌<◌, IfOk};
+ghost use Rattle.links.specs.MemoryLinks.{seen_in};
+ghost use Rattle.links.specs.Seen.{IsFreshLink};
 ghost use Rattle.session_state.specs.Options.{AreInRange};
+ghost use Rattle.session_history.specs.Answering.{MayBegin};
 ghost use Rattle.session_state.specs.Serving.{IsReadyToServe};
+ghost use Rattle.test_rows.specs.ShortLinks.{IsFreshShort};
 
 use crate::failure_count::FailureCount;
 use crate::link_of;
@@ -67,9 +69,7 @@ fn begin(alloc: Global, image: &Image, row: &Row<'_>) -> Result<Session<AllMappe
 
 // The link of a row, without its want of memory. Its events are a word.
 fn whole_link(alloc: Global, row: &Row<'_>) -> Result<MemoryLink, Fail>
-    ensures fresh { IfOk result (λ link. IsFresh (link_phases link)) }
-    ensures takes { IfOk result (λ link. link_takes link ≡ true) }
-    ensures gives { IfOk result (λ link. link_gives link ≡ true) }
+    ensures { IfOk result (λ link. IsFreshLink (seen_in link)) }
 {
     let events = text_of(alloc, row.events)?;
     let fails = calls_of(alloc, row.given, "fail")?;
@@ -83,9 +83,7 @@ fn whole_link(alloc: Global, row: &Row<'_>) -> Result<MemoryLink, Fail>
 
 // The link of a row.
 fn link_played(alloc: Global, row: &Row<'_>) -> Result<ShortLink<MemoryLink>, Fail>
-    ensures fresh { IfOk result (λ short. IsFresh (link_phases short.link)) }
-    ensures takes { IfOk result (λ short. (if short.takes then link_takes short.link else false) ≡ true) }
-    ensures gives { IfOk result (λ short. (if short.gives then link_gives short.link else false) ≡ true) }
+    ensures { IfOk result (λ short. IsFreshShort short) }
 {
     let calls_left = large_number_of(row.given, "memory", u64::MAX)?;
     Ok(ShortLink {
@@ -117,9 +115,7 @@ fn serve_counted<K: Link, N: Notes, W: Watch, L: Ledger>(
     requires parts { blank.parts ≡ L.parts }
     requires some { 0 < blank.parts }
     requires begun { IsReadyToServe session.old }
-    requires fresh { IsFresh (K.phases link.old) }
-    requires takes { K.takes link.old ≡ true }
-    requires gives { K.gives link.old ≡ true }
+    requires may { MayBegin (K.seen link.old) }
 {
     let mut steps = Steps::<L>::start(blank);
     session.serve_watched(link, notes, watch, &mut steps)
@@ -133,9 +129,7 @@ fn serve_row(
     watch: &mut FailureCount,
 ) -> Answer
     requires begun { IsReadyToServe session.old }
-    requires fresh { IsFresh (link_phases link.old.link) }
-    requires takes { (if link.old.takes then link_takes link.old.link else false) ≡ true }
-    requires gives { (if link.old.gives then link_gives link.old.link else false) ≡ true }
+    requires fresh { IsFreshShort link.old }
 {
     serve_counted::<ShortLink<MemoryLink>, ShortNotes<NoteList>, FailureCount, Brand>(
         session,
@@ -154,9 +148,7 @@ fn play(
     mut notes: ShortNotes<NoteList>,
 ) -> Result<String, Fail>
     requires begun { IsReadyToServe session }
-    requires fresh { IsFresh (link_phases link.link) }
-    requires takes { (if link.takes then link_takes link.link else false) ≡ true }
-    requires gives { (if link.gives then link_gives link.link else false) ≡ true }
+    requires fresh { IsFreshShort link }
 {
     let mut watch = FailureCount { failures: 0 };
     let answer = serve_row(&mut session, &mut link, &mut notes, &mut watch);

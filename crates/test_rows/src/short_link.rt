@@ -13,27 +13,11 @@ pub struct ShortLink<K: Link> {
 impl<K: Link> Link for ShortLink<K> {
     ghost use Rattle.std.specs.Prelude.{false, None, if◌then◌else◌};
 
-    ghost told = { λ s. record { events = None; pieces = None; journal = None } };
+    ghost seen = { λ s. record (K.seen s.link) { told = record { events = None; pieces = None; journal = None }; coming = None; handed = None; takes = if s.takes then (K.seen s.link).takes else false; gives = if s.gives then (K.seen s.link).gives else false } };
 
-    ghost phases = { λ s. K.phases s.link };
-
-    ghost coming = { λ s. None };
-
-    ghost handed = { λ s. None };
-
-    ghost gives_to = { λ s. K.gives_to s.link };
-
-    ghost takes = { λ s. if s.takes then K.takes s.link else false };
-
-    ghost gives = { λ s. if s.gives then K.gives s.link else false };
-
-    ghost counts = { λ s. K.counts s.link };
+    ghost sound = { λ s. record { gives_open = (K.sound s.link).gives_open; below = (K.sound s.link).below } };
 
     ghost Went = { λ old new. K.Went old.link new.link };
-
-    ghost gives_open = { λ s. K.gives_open s.link };
-
-    ghost below = { λ s. K.below s.link };
 
     ghost went_same = { λ s. K.went_same s.link };
 

@@ -11,13 +11,7 @@ pub struct ShortNotes<N: Notes> {
 }
 
 impl<N: Notes> Notes for ShortNotes<N> {
-    ghost told_choices = { λ s. N.told_choices s.notes };
-
-    ghost told_episodes = { λ s. N.told_episodes s.notes };
-
-    ghost faults = { λ s. N.faults s.notes };
-
-    ghost works = { λ s. N.works s.notes };
+    ghost shown = { λ s. N.shown s.notes };
 
     ghost Fixed = { N.Fixed };
 

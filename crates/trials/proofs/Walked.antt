@@ -1,15 +1,16 @@
 -- What trials over a table fix.
-use Rattle.std.proofs.Common.{◌≡◌, ℕ, zero, suc, Bool, true, false, cond, List, [], ◌∷◌, ◌++◌, map, Some, None, refl, sym, ◌∙◌, ap, subst}
+use Rattle.std.proofs.Common.{◌≡◌, ◌⊎◌, inl, inr, ℕ, zero, suc, Bool, true, false, cond, List, [], ◌∷◌, ◌++◌, map, Some, None, refl, sym, ◌∙◌, ap, subst}
 use Rattle.std.specs.Prelude.{slice_get, MatchBool}
 use Rattle.std.proofs.lemmas.Option.{none-some, same_Some}
 use Rattle.rx_io.specs.declared.bytes.Item.{Item}
 use Rattle.rx_io.specs.Sends.{Send}
+use Rattle.alloc_env.specs.declared.env.Env.{Env}
 use Rattle.run_history.specs.Served.{Limits, Override, Path}
 use Rattle.session_history.specs.Passing.{AreBetween}
 use Rattle.session_notes.specs.declared.episode.Tried.{Tried}
 use Rattle.session_notes.specs.Survival.{survives}
 use Rattle.trials.specs.Trials.{plan_of_trial, IsTrial}
-use Rattle.trials.specs.Tables.{Chance, table, Trial, IsRight, WalksOver, survivor_in}
+use Rattle.trials.specs.Tables.{Chance, chances_at, environments, table, Trial, IsRight, WalksOver, survivor_in}
 use Rattle.trials.specs.Laws.{NoneSurvives, OneWalk, WalkAdopts, WalkGivesUp}
 use Rattle.trials.proofs.Results.{one_result}
 
@@ -17,16 +18,27 @@ use Rattle.trials.proofs.Results.{one_result}
 abbrev IsTimed : Path → Type 0
 IsTimed checkpoint = AreBetween 0 checkpoint.state.machine.taken checkpoint.state.sends
 
+-- an element of two lists is one of the first or of the second
+of_both : {X : Type 0} (xs ys : List X) (index : ℕ) (x : X) → slice_get (xs ++ ys) index ≡ Some x → (slice_get xs index ≡ Some x) ⊎ ((place : ℕ) × (slice_get ys place ≡ Some x))
+of_both [] ys index x here = inr (index, here)
+of_both (first ∷ xs) ys zero x here = inl here
+of_both (first ∷ xs) ys (suc index) x here = of_both xs ys index x here
+
+-- a chance at a checkpoint begins there
+begins_there : (checkpoint : Path) (envs : List Env) (index : ℕ) (chance : Chance) → slice_get (chances_at checkpoint envs) index ≡ Some chance → checkpoint ≡ chance.checkpoint
+begins_there checkpoint [] index chance here = absurd (none-some chance here)
+begins_there checkpoint (env ∷ envs) zero chance here = ap (λ (c : Chance). c.checkpoint) (same_Some _ chance here)
+begins_there checkpoint (env ∷ envs) (suc index) chance here = begins_there checkpoint envs index chance here
+
 -- a chance of a table begins at a checkpoint of its ring
 pub chance_of : (ring : List Path) (index : ℕ) (chance : Chance) → slice_get (table ring) index ≡ Some chance → (place : ℕ) × (slice_get ring place ≡ Some chance.checkpoint)
 chance_of [] index chance here = absurd (none-some chance here)
-chance_of (newest ∷ older) zero chance here = (0, ap (λ (c : Chance). Some c.checkpoint) (same_Some _ chance here))
-chance_of (newest ∷ older) (suc zero) chance here = (0, ap (λ (c : Chance). Some c.checkpoint) (same_Some _ chance here))
-chance_of (newest ∷ older) (suc (suc zero)) chance here = (0, ap (λ (c : Chance). Some c.checkpoint) (same_Some _ chance here))
-chance_of (newest ∷ older) (suc (suc (suc zero))) chance here = (0, ap (λ (c : Chance). Some c.checkpoint) (same_Some _ chance here))
-chance_of (newest ∷ older) (suc (suc (suc (suc zero)))) chance here = (0, ap (λ (c : Chance). Some c.checkpoint) (same_Some _ chance here))
-chance_of (newest ∷ older) (suc (suc (suc (suc (suc index))))) chance here =
-    let rest = chance_of older index chance here in (suc rest.0, rest.1)
+chance_of (newest ∷ older) index chance here = by (of_both (chances_at newest environments) (table older) index chance here) (chance_of older)
+  where
+    by : (slice_get (chances_at newest environments) index ≡ Some chance) ⊎ ((place : ℕ) × (slice_get (table older) place ≡ Some chance))
+        → ((at : ℕ) (other : Chance) → slice_get (table older) at ≡ Some other → (place : ℕ) × (slice_get older place ≡ Some other.checkpoint)) → (place : ℕ) × (slice_get (newest ∷ older) place ≡ Some chance.checkpoint)
+    by (inl there) rest = (0, ap (λ (c : Path). Some c) (begins_there newest environments index chance there))
+    by (inr there) rest = let later = rest there.0 chance there.1 in (suc later.0, later.1)
 
 pub all_timed : (ring : List Path) → ((checkpoint : Path) (index : ℕ) → slice_get ring index ≡ Some checkpoint → IsTimed checkpoint) → (chance : Chance) (index : ℕ) → slice_get (table ring) index ≡ Some chance → IsTimed chance.checkpoint
 all_timed ring timed chance index here =

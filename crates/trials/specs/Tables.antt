@@ -1,5 +1,5 @@
 -- In which order trials are made after a failure.
-use Rattle.std.specs.Prelude.{◌≡◌, ℕ, List, [], ◌∷◌, ◌++◌, map, true, Option, None, Some, slice_get, MatchBool, if◌then◌else◌}
+use Rattle.std.specs.Prelude.{◌≡◌, ℕ, List, [], ◌∷◌, ◌++◌, map, true, Option, None, Some, option_map, slice_get, MatchBool, if◌then◌else◌}
 use Rattle.rx_io.specs.declared.bytes.Item.{Item}
 use Rattle.rx_io.specs.Sends.{Send}
 use Rattle.alloc_env.specs.declared.env.Env.{Env}
@@ -26,6 +26,10 @@ chances_at checkpoint envs = map (λ env. record { checkpoint = checkpoint; env 
 abbrev pub table : List Path → List Chance
 table [] = []
 table (newest ∷ older) = chances_at newest environments ++ table older
+
+-- the chance at a checkpoint of a ring, counted from the newest, and in an environment
+abbrev pub chance_at : List Path → ℕ → Env → Option Chance
+chance_at ring index env = option_map (λ checkpoint. record { checkpoint = checkpoint; env = env }) (slice_get ring index)
 
 -- a trial as data: what was tried, where it has come, and with what result
 pub record Trial : Type 0 where

@@ -10,7 +10,9 @@ use Rattle.trunk_wire.specs.CallLaws.{reads_nothing, reads_more, writes_nothing,
 use Rattle.trunk_wire.specs.Calls.{Reads, Writes, count_after}
 use Rattle.trunk_wire.specs.Frames.{AreFramesOf, piece_frame, frames}
 use Rattle.trunk_wire.specs.Going.{AreInOrder, phases_behind, Intake, IsTail, TookFrames, TakesOn, Output, IsFramed, IsCut, WroteFrames, GivesOn}
-use Rattle.trunk_wire.specs.TrunkLinks.{TrunkWent, intake_of, output_of}
+use Rattle.links.specs.Seen.{IsSound}
+use Rattle.links.specs.TableLaws.{open_gives, open_below}
+use Rattle.trunk_wire.specs.TrunkLinks.{TrunkWent, seen_of, intake_of, output_of}
 use Rattle.trunk_wire.specs.declared.trunk_link.TrunkLink.{TrunkLink}
 
 are_frames-append : (events more : List LinkEvent) (bytes behind : List ℕ) → AreFramesOf events bytes → AreFramesOf more behind → AreFramesOf (events ++ more) (bytes ++ behind)
@@ -109,6 +111,9 @@ gives_on true true first second third first_is second_is one two = wrote_frames 
 gives_on true false first second third first_is second_is one two = subst (WroteFrames first) (sym two) one
 gives_on false true first second third first_is second_is one two = let same : second.gives ≡ first.gives = ap (λ output. output.gives) one in cc
 gives_on false false first second third first_is second_is one two = two ∙ one
+
+pub trunk_sound : {S K : Type 0} (source_told : S → Option Stream) (source_faults : S → ℕ) (sink_told : K → Option (List ℕ)) (sink_faults : K → ℕ) (link : TrunkLink S K) → IsSound (seen_of source_told source_faults sink_told sink_faults link)
+trunk_sound source_told source_faults sink_told sink_faults link = record { gives_open = open_gives link.table; below = open_below link.table }
 
 module _ {S K F G : Type 0} (source_fixed : S → F) (source_told : S → Option Stream) (sink_fixed : K → G) (sink_told : K → Option (List ℕ)) where
   pub trunk_same : (link : TrunkLink S K) → TrunkWent source_fixed source_told sink_fixed sink_told link link

@@ -23,22 +23,15 @@ pub struct TrunkLink<S, K> {
 }
 
 impl<S: Source, K: Sink> TrunkLink<S, K> {
-    ghost use Rattle.std.specs.Prelude.{◌≡◌, None, true};
-    ghost use Rattle.links.specs.Links.{IsFresh};
-    ghost use Rattle.trunk_wire.specs.TrunkLinks.{source_of, sink_of, took_of, wrote_of, trunk_phases, trunk_handed, trunk_takes, trunk_gives, trunk_refused, told_of};
+    ghost use Rattle.std.specs.Prelude.{◌≡◌};
+    ghost use Rattle.links.specs.Seen.{IsFreshLink};
+    ghost use Rattle.trunk_wire.specs.TrunkLinks.{source_of, sink_of, seen_of, told_of, IsFreshTrunk};
     ghost use Rattle.trunk_wire.specs.Tellings.{told_nothing};
 
     /// No byte was taken and none was written. It takes no memory; `alloc` is for the payloads to come.
     pub fn make(alloc: Global, source: S, sink: K) -> TrunkLink<S, K>
-        ensures source { source_of result ≡ source }
-        ensures sink { sink_of result ≡ sink }
-        ensures took { took_of result ≡ 0 }
-        ensures wrote { wrote_of result ≡ 0 }
-        ensures phases { IsFresh (trunk_phases result) }
-        ensures handed { trunk_handed result ≡ None }
-        ensures takes { trunk_takes result ≡ true }
-        ensures refused { trunk_refused result ≡ None }
-        ensures gives { trunk_gives result ≡ true }
+        ensures fresh { IsFreshTrunk source sink result }
+        ensures shows { IsFreshLink (seen_of S.told S.faults K.told K.faults result) }
         ensures told { told_of S.told K.told result ≡ told_nothing (S.told source) (K.told sink) }
     {
         TrunkLink {
@@ -67,34 +60,14 @@ impl<S: Source, K: Sink> TrunkLink<S, K> {
 }
 
 impl<S: Source, K: Sink> Link for TrunkLink<S, K> {
-    ghost use Rattle.std.specs.Prelude.{◌≡◌, ◌<◌, ◌^◌, ℕ, Some, true, length, is_ok};
-    ghost use Rattle.links.specs.Links.{Nexts, Enters, GoesBy, StillComes, StaysTold, HasTakeCause, GivesAtClose, Gives, TellsHanded, HasGiveCause};
-    ghost use Rattle.links.specs.LinkForms.{gives_below_4096, handed_by};
-    ghost use Rattle.links.specs.TableLaws.{open_gives, open_below};
-    ghost use Rattle.trunk_wire.specs.Calls.{TakesFrame, WritesFrame, HasOffset};
-    ghost use Rattle.trunk_wire.specs.TrunkLinks.{source_of, sink_of, took_of, wrote_of, trunk_phases, trunk_handed, trunk_takes, trunk_gives, trunk_refused, told_of, coming_of, counts_of, TrunkWent};
-    ghost use Rattle.trunk_wire.specs.Tellings.{refusal_in};
-    ghost use Rattle.trunk_wire.specs.GoingLaws.{trunk_same, trunk_on};
+    ghost use Rattle.std.specs.Prelude.{◌≡◌, ◌<◌, ◌^◌, true, length};
+    ghost use Rattle.links.specs.Seen.{NextShows, GiveShows};
+    ghost use Rattle.trunk_wire.specs.TrunkLinks.{seen_of, NextTakes, GiveWrites, TrunkWent};
+    ghost use Rattle.trunk_wire.specs.GoingLaws.{trunk_sound, trunk_same, trunk_on};
 
-    ghost told = { told_of S.told K.told };
+    ghost seen = { seen_of S.told S.faults K.told K.faults };
 
-    ghost phases = { trunk_phases };
-
-    ghost coming = { coming_of S.told };
-
-    ghost handed = { trunk_handed };
-
-    ghost gives_to = { λ link. gives_below_4096 };
-
-    ghost takes = { trunk_takes };
-
-    ghost gives = { trunk_gives };
-
-    ghost counts = { counts_of S.faults K.faults };
-
-    ghost gives_open = { λ link. open_gives link.table };
-
-    ghost below = { λ link. open_below link.table };
+    ghost sound = { trunk_sound S.told S.faults K.told K.faults };
 
     ghost Went = { TrunkWent S.fixed S.told K.fixed K.told };
 
@@ -105,23 +78,10 @@ impl<S: Source, K: Sink> Link for TrunkLink<S, K> {
     /// Takes the next frame, and no byte behind it: at an event the whole frame, at a refused header its five bytes, at a frame
     /// that is cut short all that is left. After a fault of the source or want of memory a part of one frame was taken.
     fn next(&mut self) -> Result<LinkEvent, LinkFault>
-        requires { trunk_takes self.old ≡ true }
-        ensures told { Nexts (told_of S.told K.told self.old) (told_of S.told K.told self.new) result }
-        ensures order { Enters (trunk_phases self.old) (trunk_phases self.new) result }
-        ensures grammar { GoesBy (coming_of S.told self.old) result }
-        ensures last { StillComes (coming_of S.told self.new) result }
-        ensures coming { StaysTold (coming_of S.told self.old) (coming_of S.told self.new) result }
-        ensures cause { HasTakeCause (counts_of S.faults K.faults self.old) (counts_of S.faults K.faults self.new) result }
-        ensures closing { GivesAtClose gives_below_4096 result }
-        ensures handed { trunk_handed self.new ≡ trunk_handed self.old }
-        ensures takes { trunk_takes self.new ≡ is_ok result }
-        ensures gives { trunk_gives self.new ≡ trunk_gives self.old }
-        ensures frame { TakesFrame (trunk_phases self.old) (S.told (source_of self.old)) (S.told (source_of self.new)) (took_of self.old) (took_of self.new) result }
-        ensures offset { HasOffset (took_of self.old) result }
-        ensures sink { sink_of self.new ≡ sink_of self.old }
-        ensures wrote { wrote_of self.new ≡ wrote_of self.old }
-        ensures refused { trunk_refused self.new ≡ refusal_in result }
+        requires { (seen_of S.told S.faults K.told K.faults self.old).takes ≡ true }
+        ensures shows { NextShows (seen_of S.told S.faults K.told K.faults self.old) (seen_of S.told S.faults K.told K.faults self.new) result }
         ensures went { TrunkWent S.fixed S.told K.fixed K.told self.old self.new }
+        ensures frame { NextTakes S.told self.old self.new result }
     {
         let answer = take_event(
             self.alloc,
@@ -136,24 +96,13 @@ impl<S: Source, K: Sink> Link for TrunkLink<S, K> {
 
     /// Gives a piece as one frame. After an `Err` a first part of the frame was written, perhaps none or all of it.
     fn give(&mut self, conn: u16, bytes: &[u8]) -> Result<Given, LinkFault>
-        requires may { trunk_gives self.old ≡ true }
-        requires connected { gives_below_4096 conn ≡ true }
+        requires may { (seen_of S.told S.faults K.told K.faults self.old).gives ≡ true }
+        requires connected { (seen_of S.told S.faults K.told K.faults self.old).gives_to conn ≡ true }
         requires some { 0 < length bytes.now }
         requires few { length bytes.now < 2 ^ 16 }
-        ensures told { Gives (told_of S.told K.told self.old) (told_of S.told K.told self.new) conn bytes.now result }
-        ensures handed { TellsHanded (told_of S.told K.told self.new) (trunk_handed self.new) conn bytes.now }
-        ensures cause { HasGiveCause (counts_of S.faults K.faults self.old) (counts_of S.faults K.faults self.new) result }
-        ensures phases { (other : ℕ) → trunk_phases self.new other ≡ trunk_phases self.old other }
-        ensures gives_to { (other : ℕ) → gives_below_4096 other ≡ gives_below_4096 other }
-        ensures coming { coming_of S.told self.new ≡ coming_of S.told self.old }
-        ensures takes { trunk_takes self.new ≡ trunk_takes self.old }
-        ensures gives { trunk_gives self.new ≡ is_ok result }
-        ensures frame { WritesFrame (K.told (sink_of self.old)) (K.told (sink_of self.new)) (wrote_of self.old) (wrote_of self.new) conn bytes.now result }
-        ensures last { trunk_handed self.new ≡ handed_by (Some (conn, length bytes.now)) }
-        ensures source { source_of self.new ≡ source_of self.old }
-        ensures took { took_of self.new ≡ took_of self.old }
-        ensures refused { trunk_refused self.new ≡ trunk_refused self.old }
+        ensures shows { GiveShows (seen_of S.told S.faults K.told K.faults self.old) (seen_of S.told S.faults K.told K.faults self.new) conn bytes.now result }
         ensures went { TrunkWent S.fixed S.told K.fixed K.told self.old self.new }
+        ensures frame { GiveWrites K.told self.old self.new conn bytes.now result }
     {
         self.handed = Some((conn, bytes.len()));
         let answer = write_frame(&mut self.sink, &mut self.wrote, conn, bytes);

@@ -2,12 +2,12 @@
 #![tactic(auto)]
 
 #[cfg(test)]
-mod item_log_tests;
+mod framing_rows;
 #[cfg(test)]
-mod memory_link_tests;
-#[cfg(test)]
-mod msg_frame_tests;
+mod link_rows;
 #[cfg(test)]
 mod reply_ledger_tests;
 #[cfg(test)]
-mod trunk_wire_tests;
+mod row_tests;
+#[cfg(test)]
+mod rows;

@@ -1,4 +1,4 @@
 use Rattle.execution_tests.proofs.guest_cpu_tests.a_restored_guest_does_the_same_again.Given as goal
 
-abbrev pub ghosts-try_stores : goal.ghosts-try_stores
-ghosts-try_stores g a = record { name = a.blank.name; parts = a.blank.parts }
+abbrev pub ghosts-play : goal.ghosts-play
+ghosts-play g a = record { name = a.blank.name; parts = a.blank.parts }

@@ -1,4 +1,4 @@
 use Rattle.execution_tests.proofs.guest_cpu_tests.each_environment_answers_a_guest.Given as goal
 
-abbrev pub ghosts-try_all : goal.ghosts-try_all
-ghosts-try_all g a = record { name = a.blank.name; parts = a.blank.parts }
+abbrev pub ghosts-play : goal.ghosts-play
+ghosts-play g a = record { name = a.blank.name; parts = a.blank.parts }

@@ -1,7 +1,3 @@
-use Rattle.std.proofs.Common.{◌≡◌}
-use Rattle.std.specs.Prelude.{None}
-use Rattle.run_history.specs.Machine.{Wants}
-use Rattle.run_history.specs.Run.{does}
 use Rattle.execution_tests.specs.Checkpoints.{HasRing, KeepsSaved}
 use Rattle.execution_tests.proofs.guest_cpu_tests.run_on.Given as goal
 
@@ -9,5 +5,4 @@ abbrev pub invariant-loop-word : goal.invariant-loop-word
 invariant-loop-word g l = record {
   ring : HasRing l.cpu l.ring;
   kept : KeepsSaved l.fn.cpu l.cpu;
-  asks : does None None l.cpu.slots.live.guest.machine ≡ Wants;
 }

@@ -5,25 +5,21 @@ use Rattle.session_history.specs.Heeding.{received}
 use Rattle.session_history.specs.Owing.{Moment, journal}
 use Rattle.session_history.specs.Lawful.{Rules}
 use Rattle.session_history.specs.Giving.{IsClosing}
-use Rattle.link_gate.specs.Faults.{AreStampedBy, HasSameSends}
+use Rattle.link_gate.specs.Passing.{AreStampedBy, HasSameSends}
 use Rattle.link_gate.proofs.GoingLemmas.{Going}
-use Rattle.link_gate.proofs.NotingLemmas.{HasNoCause, left}
+use Rattle.link_gate.proofs.NotingLemmas.{HasGiven, left}
 use Rattle.link_gate.proofs.passing.pass_rest.Given as goal
 
 -- all that was given so far was due, and the ledger is as far
 abbrev pub invariant-pieces : goal.invariant-pieces
 invariant-pieces g l = record {
   going : (rules : Rules) (sends : List Send) (moment : Moment) → received rules.bounds (journal moment) ≡ l.stamp → IsClosing rules sends moment l.conn l.fn.replies
-      → Going rules sends moment (λ here. IsClosing rules sends here l.conn l.replies) (g.K.Link.told l.fn.link) (g.K.Link.told l.link);
+      → Going rules sends moment (λ here. IsClosing rules sends here l.conn l.replies) (g.K.Link.seen l.fn.link).told (g.K.Link.seen l.link).told;
   sends : HasSameSends l.fn.replies l.replies;
   stamped : AreStampedBy l.stamp l.replies;
   opened : IsOpened l.replies l.conn;
-  connected : (other : ℕ) → is_open l.replies.connections other ≡ true → g.K.Link.gives_to l.link other ≡ true;
-  cause : HasNoCause (g.K.Link.counts l.fn.link) (g.K.Link.counts l.link);
-  phases : (other : ℕ) → g.K.Link.phases l.link other ≡ g.K.Link.phases l.fn.link other;
-  coming : g.K.Link.coming l.link ≡ g.K.Link.coming l.fn.link;
-  takes : g.K.Link.takes l.link ≡ g.K.Link.takes l.fn.link;
-  gives : g.K.Link.gives l.link ≡ true;
+  connected : (other : ℕ) → is_open l.replies.connections other ≡ true → (g.K.Link.seen l.link).gives_to other ≡ true;
+  given : HasGiven (g.K.Link.seen l.fn.link) (g.K.Link.seen l.link);
   went : g.K.Link.Went l.fn.link l.link;
 }
 

@@ -3,7 +3,7 @@ use Rattle.reply_ledger.proofs.PartLemmas.{first_fits, opened_known}
 use Rattle.reply_ledger.specs.Parts.{shown_part, next_part}
 use Rattle.session_history.specs.Keeping.{AreSendable}
 use Rattle.link_gate.proofs.FoundLemmas.{next_found, none_found, first_some, first_few, until_moves, until_breaks, until_ends}
-use Rattle.link_gate.proofs.NotingLemmas.{no_cause_then, sends_again, noted_sends, noted_stamps, noted_open, noted_less, noted_gives}
+use Rattle.link_gate.proofs.NotingLemmas.{given_then, given_stopped, given_done, still_given, sends_again, noted_sends, noted_stamps, noted_open, noted_less, noted_gives}
 use Rattle.link_gate.proofs.passing.pass_until.Goals as goal
 
 pub give-given-requires-clause-connected : goal.give-given-requires-clause-connected
@@ -44,18 +44,14 @@ pieces-preserved g c =
     let count = length c.in-Some.bytes.now in
     record {
       going = (λ rules sends moment received ready.
-          until_moves rules sends moment c.args.until c.in-Some.conn c.args.stamp c.pieces.replies c.note.new.replies c.in-Some.bytes.now (g.K.Link.told c.args.link.now) (g.K.Link.told c.pieces.link) (g.K.Link.told c.give-given.new.self) c.give-given.result c.in-Ok.field-0
-          (c.pieces.invariant.going rules sends moment received ready) received next c.give-given.ensures.told c.in-Ok.ensures);
+          until_moves rules sends moment c.args.until c.in-Some.conn c.args.stamp c.pieces.replies c.note.new.replies c.in-Some.bytes.now (g.K.Link.seen c.args.link.now).told (g.K.Link.seen c.pieces.link).told (g.K.Link.seen c.give-given.new.self).told c.give-given.result c.in-Ok.field-0
+          (c.pieces.invariant.going rules sends moment received ready) received next c.give-given.ensures.shows.told c.in-Ok.ensures);
       sends = sends_again c.args.replies.now c.pieces.replies c.note.new.replies c.pieces.invariant.sends (noted_sends c.args.stamp c.in-Some.conn count c.pieces.replies c.note.new.replies c.give-given.result c.note.result c.note.ensures);
       stamped = noted_stamps c.args.stamp c.in-Some.conn count c.pieces.replies c.note.new.replies c.give-given.result c.in-Ok.field-0 known c.in-Ok.ensures c.pieces.invariant.stamped;
       connected = (λ other opened.
-          c.give-given.ensures.gives_to other
+          still_given c.give-given.ensures.shows other
           ∙ c.pieces.invariant.connected other (noted_open c.args.stamp c.in-Some.conn count c.pieces.replies c.note.new.replies c.give-given.result c.note.result other c.note.ensures opened));
-      cause = no_cause_then (g.K.Link.counts c.args.link.now) (g.K.Link.counts c.pieces.link) (g.K.Link.counts c.give-given.new.self) c.give-given.result c.pieces.invariant.cause c.give-given.ensures.cause;
-      phases = (λ other. c.give-given.ensures.phases other ∙ c.pieces.invariant.phases other);
-      coming = c.give-given.ensures.coming ∙ c.pieces.invariant.coming;
-      takes = c.give-given.ensures.takes ∙ c.pieces.invariant.takes;
-      gives = c.give-given.ensures.gives ∙ noted_gives c.args.stamp c.in-Some.conn count c.pieces.replies c.note.new.replies c.give-given.result c.in-Ok.field-0 c.in-Ok.ensures;
+      given = given_then c.pieces.invariant.given c.give-given.ensures.shows (noted_gives c.args.stamp c.in-Some.conn count c.pieces.replies c.note.new.replies c.give-given.result c.in-Ok.field-0 c.in-Ok.ensures);
       went = g.met.K.Link.went_on c.args.link.now c.pieces.link c.give-given.new.self c.pieces.invariant.went c.give-given.ensures.went;
     }
 
@@ -63,11 +59,31 @@ pub returns-in-Err-clause-passes : goal.returns-in-Err-clause-passes
 returns-in-Err-clause-passes g c =
     let next = next_found c.pieces.replies c.args.until c.in-Some.conn c.in-Some.bytes.now c.sound.ensures.lawful.times c.in-Some.ensures in
     (λ rules sends moment received ready.
-    until_breaks rules sends moment c.args.until c.in-Some.conn c.pieces.replies c.note.new.replies c.in-Some.bytes.now (g.K.Link.told c.args.link.now) (g.K.Link.told c.pieces.link) (g.K.Link.told c.give-given.new.self) c.give-given.result c.in-Err.fault
-    (c.pieces.invariant.going rules sends moment received ready) next c.give-given.ensures.told)
+    until_breaks rules sends moment c.args.until c.in-Some.conn c.pieces.replies c.note.new.replies c.in-Some.bytes.now (g.K.Link.seen c.args.link.now).told (g.K.Link.seen c.pieces.link).told (g.K.Link.seen c.give-given.new.self).told c.give-given.result c.in-Err.fault
+    (c.pieces.invariant.going rules sends moment received ready) next c.give-given.ensures.shows.told)
 
 pub returns-clause-passes : goal.returns-clause-passes
 returns-clause-passes g c =
     (λ rules sends moment received ready.
-    until_ends rules sends moment c.args.until c.pieces.replies (g.K.Link.told c.args.link.now) (g.K.Link.told c.pieces.link) (c.pieces.invariant.going rules sends moment received ready)
+    until_ends rules sends moment c.args.until c.pieces.replies (g.K.Link.seen c.args.link.now).told (g.K.Link.seen c.pieces.link).told (c.pieces.invariant.going rules sends moment received ready)
     (none_found shown_part (next_part c.pieces.replies c.args.until) c.in_default.ensures))
+
+pub returns-clause-keeps : goal.returns-clause-keeps
+returns-clause-keeps g c = record {
+  shows = given_done c.pieces.invariant.given;
+  sends = c.pieces.invariant.sends;
+  stamped = c.pieces.invariant.stamped;
+  connected = c.pieces.invariant.connected;
+}
+
+pub returns-in-Err-clause-keeps : goal.returns-in-Err-clause-keeps
+returns-in-Err-clause-keeps g c =
+    let count = length c.in-Some.bytes.now in
+    record {
+      shows = given_stopped c.args.stamp count c.pieces.replies c.note.new.replies c.give-given.result c.in-Err.fault c.pieces.invariant.given c.give-given.ensures.shows c.in-Err.ensures;
+      sends = sends_again c.args.replies.now c.pieces.replies c.note.new.replies c.pieces.invariant.sends (noted_sends c.args.stamp c.in-Some.conn count c.pieces.replies c.note.new.replies c.give-given.result c.note.result c.note.ensures);
+      stamped = tt;
+      connected = (λ other opened.
+          still_given c.give-given.ensures.shows other
+          ∙ c.pieces.invariant.connected other (noted_open c.args.stamp c.in-Some.conn count c.pieces.replies c.note.new.replies c.give-given.result c.note.result other c.note.ensures opened));
+    }

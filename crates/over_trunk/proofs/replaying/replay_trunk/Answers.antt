@@ -1,7 +1,10 @@
 use Rattle.std.proofs.Common.{◌≡◌, ℕ, ◌+◌, ◌∙◌, arith, rules, sym}
+use Rattle.links.specs.LinkForms.{handed_by}
 use Rattle.trunk_wire.specs.Tellings.{told_nothing}
 use Rattle.trunk_wire.specs.TrunkLinks.{intake_of, output_of}
+use Rattle.session_history.specs.Answering.{HasAnswerCause}
 use Rattle.over_trunk.specs.Replaying.{ReplaysTrunk}
+use Rattle.over_trunk.specs.Serving.{trunk_counts}
 use Rattle.over_trunk.proofs.FrontLemmas.{broken_off}
 use Rattle.over_trunk.proofs.TrunkLemmas.{replays}
 use Rattle.over_trunk.proofs.replaying.replay_trunk.Goals as goal
@@ -10,18 +13,19 @@ pub returns-clause-replayed : goal.returns-clause-replayed
 returns-clause-replayed g c =
     let went = c.replay_by.ensures.went in
     let made = c.make-link.ensures in
-    let told_at_first = made.told ∙ (λ i. told_nothing (g.S.Source.told ((sym made.source) i).now) (g.K.Sink.told ((sym made.sink) i).now)) in
+    let told_at_first = made.told ∙ (λ i. told_nothing (g.S.Source.told ((sym made.fresh.source_is) i).now) (g.K.Sink.told ((sym made.fresh.sink_is) i).now)) in
     let replayed : (counted : ℕ) → c.replay_by.new.steps ≡ c.args.steps.now + counted → ReplaysTrunk c.args.image.now c.args.recorded.now (g.S.Source.told c.make-link.result.source.now) (g.S.Source.told c.replay_by.new.link.source.now)
     (g.K.Sink.told c.make-link.result.sink.now) (g.K.Sink.told c.replay_by.new.link.sink.now) c.replay_by.result counted =
     λ counted count.
     replays c.args.image.now c.args.recorded.now (intake_of (λ s. g.S.Source.told s.now) c.make-link.result) (intake_of (λ s. g.S.Source.told s.now) c.replay_by.new.link)
-    (output_of (λ s. g.K.Sink.told s.now) c.make-link.result) (output_of (λ s. g.K.Sink.told s.now) c.replay_by.new.link) _ c.replay_by.result c.args.steps.now c.replay_by.new.steps counted
-    made.phases made.took made.wrote made.takes made.gives (g.met.S.Source.countable c.replay_by.new.link.source.now) (g.met.K.Sink.countable c.replay_by.new.link.sink.now)
-    told_at_first went.taken went.given c.replay_by.ensures.leaves
+    (output_of (λ s. g.K.Sink.told s.now) c.make-link.result) (output_of (λ s. g.K.Sink.told s.now) c.replay_by.new.link) (handed_by c.make-link.result.handed) (handed_by c.replay_by.new.link.handed) _ _ c.replay_by.result
+    c.args.steps.now c.replay_by.new.steps counted made.shows.phases made.fresh.took made.fresh.wrote made.shows.takes made.shows.gives (g.met.S.Source.countable c.replay_by.new.link.source.now)
+    (g.met.K.Sink.countable c.replay_by.new.link.sink.now) told_at_first went.taken went.given c.replay_by.ensures.link.leaves
     (record {
       replayed = c.replay_by.ensures.replayed.replayed;
       given = c.replay_by.ensures.replayed.given;
-      last = λ no. broken_off _ (λ s. g.S.Source.told s.now) _ (λ s. g.K.Sink.told s.now) c.make-link.result c.replay_by.new.link _ made.wrote made.gives (λ sink. g.met.K.Sink.countable sink.now) told_at_first (c.replay_by.ensures.replayed.last no);
+      last = λ no. broken_off _ (λ s. g.S.Source.told s.now) _ _ (λ s. g.K.Sink.told s.now) _ c.make-link.result c.replay_by.new.link _ made.fresh.wrote made.shows.gives (λ sink. g.met.K.Sink.countable sink.now) told_at_first
+          (c.replay_by.ensures.replayed.last no);
     }) count in
     search (rules, replayed)
 
@@ -29,3 +33,8 @@ pub returns-clause-counted_more : goal.returns-clause-counted_more
 returns-clause-counted_more g c =
     let all = c.replay_by.ensures.replayed.replayed.counted in
     omega (arith, all)
+
+pub returns-clause-cause : goal.returns-clause-cause
+returns-clause-cause g c =
+    let cause : HasAnswerCause (trunk_counts (g.S.Source.faults c.make-link.result.source.now) (g.K.Sink.faults c.make-link.result.sink.now)) (trunk_counts (g.S.Source.faults c.replay_by.new.link.source.now) (g.K.Sink.faults c.replay_by.new.link.sink.now)) c.replay_by.result = c.replay_by.ensures.link.cause in
+    search (rules, cause)

@@ -1,7 +1,8 @@
-use Rattle.std.proofs.Common.{◌<◌, length, Bool, List, [], refl, sym, ◌∙◌, subst, arith}
+use Rattle.std.proofs.Common.{◌<◌, length, Option, List, [], refl, sym, ◌∙◌, subst, arith}
 use Rattle.std.specs.Prelude.{Ok}
 use Rattle.session_notes.specs.declared.episode.Try.{Try}
-use Rattle.recovery.specs.Walking.{AllBy, LedgerBy, StandsBy, FailedSome}
+use Rattle.recovery.specs.declared.walking.Adopted.{Adopted}
+use Rattle.recovery.specs.Walking.{AllBy, LedgerBy, FailedSome}
 use Rattle.recovery.proofs.Starting.{failed_still}
 use Rattle.recovery.proofs.Running.{saved_on}
 use Rattle.recovery.proofs.Ending.{under_saved, checkpoint_there, ring_length}
@@ -10,15 +11,15 @@ use Rattle.recovery.proofs.walking.try_ring.Goals as goal
 
 pub checkpoints-init : goal.checkpoints-init
 checkpoints-init g c = record {
-  saved = same_saved c.args.cpu.now;
+  saved = same_saved;
   ledger = refl;
-  tried = λ failure under failed. subst (λ (all : List Try). FailedSome failure c.args.point [] [] all c.args.steps.now c.args.steps.now) (sym c.requires.none) (failed_none failure c.args.point [] c.args.steps.now);
+  tried = λ failure under failed. subst (λ (all : List Try). FailedSome failure c.args.point [] [] all c.args.steps.now c.args.steps.now) (sym c.requires.none) (failed_none);
   least = omega arith;
 }
 
 pub try_all-requires-clause-failed : goal.try_all-requires-clause-failed
 try_all-requires-clause-failed g c =
-    can_still_try g.R.AccessRule.rule c.args.budget c.args.point c.args.items.now c.args.cpu.now c.checkpoints.cpu c.args.replies.now c.checkpoints.replies c.checkpoints.invariant.saved c.checkpoints.invariant.ledger c.requires.failed
+    can_still_try g.R.AccessRule.rule c.checkpoints.invariant.saved c.checkpoints.invariant.ledger c.requires.failed
 
 pub checkpoints-preserved : goal.checkpoints-preserved
 checkpoints-preserved g c =
@@ -26,35 +27,35 @@ checkpoints-preserved g c =
     let test = c.checkpoints-test.true in
     let end = c.len-count.ensures in
     let less : c.checkpoints.index < length c.args.ring.now.standing = omega (arith, test, end) in
-    let ledger = subst (λ (b : Bool). LedgerBy c.checkpoints.replies c.try_all.new.replies (Ok b)) c.in-Ok-false.field-0-test c.in-Ok-false.ensures.ledger in
+    let ledger = subst (λ (o : Option Adopted). LedgerBy c.checkpoints.replies c.try_all.new.replies (Ok o)) c.in-Ok-None.field-0-is c.in-Ok-None.ensures.ledger in
     record {
-      saved = saved_on c.args.cpu.now c.checkpoints.cpu c.try_all.new.cpu inv.saved c.in-Ok-false.ensures.saved;
+      saved = saved_on c.args.cpu.now c.checkpoints.cpu c.try_all.new.cpu inv.saved c.in-Ok-None.ensures.saved;
       ledger = ledger ∙ inv.ledger;
       tried = λ failure under failed.
           let f = checkpoint_there c.args.cpu.now.slots.saved c.args.ring.now.standing failure.ring c.checkpoints.index failed.has.as_many c.requires.same less in
-          failed_checkpoint failure c.args.point c.checkpoints.index f.0 [] c.checkpoints.tries.items c.try_all.new.tries.items c.args.steps.now c.checkpoints.steps c.try_all.new.steps f.1 (inv.tried failure under failed)
-          (subst (λ (b : Bool). AllBy failure c.args.point f.0 c.try_all.new.cpu c.try_all.new.choices.items c.try_all.new.replies c.checkpoints.tries.items c.try_all.new.tries.items c.checkpoints.steps c.try_all.new.steps (Ok b)) c.in-Ok-false.field-0-test
-          (c.in-Ok-false.ensures.tries failure f.0 (under_saved g.R.AccessRule.rule c.args.budget c.args.cpu.now c.checkpoints.cpu failure inv.saved under)
+          failed_checkpoint c.checkpoints.index f.1 (inv.tried failure under failed)
+          (subst (λ (o : Option Adopted). AllBy failure c.args.point f.0 c.try_all.new.cpu c.try_all.new.choices.items c.try_all.new.replies c.checkpoints.tries.items c.try_all.new.tries.items c.checkpoints.steps c.try_all.new.steps (Ok o)) c.in-Ok-None.field-0-is
+          (c.in-Ok-None.ensures.tries failure f.0 (under_saved g.R.AccessRule.rule c.args.budget c.args.cpu.now c.checkpoints.cpu failure inv.saved under)
           (failed_still c.args.point failure c.args.cpu.now c.checkpoints.cpu c.args.items.now c.args.replies.now c.checkpoints.replies inv.saved inv.ledger failed) f.1));
-      least = let low = inv.least in let more = c.in-Ok-false.ensures.least in omega (arith, low, more);
+      least = let low = inv.least in let more = c.in-Ok-None.ensures.least in omega (arith, low, more);
     }
 
-pub returns-in-Ok-true-clause-walks : goal.returns-in-Ok-true-clause-walks
-returns-in-Ok-true-clause-walks g c failure under failed =
+pub returns-in-Ok-Some-clause-walks : goal.returns-in-Ok-Some-clause-walks
+returns-in-Ok-Some-clause-walks g c failure under failed =
     let inv = c.checkpoints.invariant in
     let test = c.checkpoints-test.true in
     let end = c.len-count.ensures in
     let less : c.checkpoints.index < length c.args.ring.now.standing = omega (arith, test, end) in
     let f = checkpoint_there c.args.cpu.now.slots.saved c.args.ring.now.standing failure.ring c.checkpoints.index failed.has.as_many c.requires.same less in
-    walked_found failure c.args.point c.checkpoints.index f.0 c.try_all.new.cpu c.try_all.new.choices.items c.args.replies.now c.try_all.new.replies c.args.steps.now c.checkpoints.steps c.try_all.new.steps c.checkpoints.tries.items c.try_all.new.tries.items f.1
-    (subst (λ (b : Bool). StandsBy c.try_all.new.cpu c.checkpoints.index (Ok b)) c.in-Ok-true.field-0-test c.in-Ok-true.ensures.stands) (inv.tried failure under failed)
-    (subst (λ (b : Bool). AllBy failure c.args.point f.0 c.try_all.new.cpu c.try_all.new.choices.items c.try_all.new.replies c.checkpoints.tries.items c.try_all.new.tries.items c.checkpoints.steps c.try_all.new.steps (Ok b)) c.in-Ok-true.field-0-test
-    (c.in-Ok-true.ensures.tries failure f.0 (under_saved g.R.AccessRule.rule c.args.budget c.args.cpu.now c.checkpoints.cpu failure inv.saved under)
+    walked_found c.checkpoints.index f.1
+    (inv.tried failure under failed)
+    (subst (λ (o : Option Adopted). AllBy failure c.args.point f.0 c.try_all.new.cpu c.try_all.new.choices.items c.try_all.new.replies c.checkpoints.tries.items c.try_all.new.tries.items c.checkpoints.steps c.try_all.new.steps (Ok o)) c.in-Ok-Some.field-0-is
+    (c.in-Ok-Some.ensures.tries failure f.0 (under_saved g.R.AccessRule.rule c.args.budget c.args.cpu.now c.checkpoints.cpu failure inv.saved under)
     (failed_still c.args.point failure c.args.cpu.now c.checkpoints.cpu c.args.items.now c.args.replies.now c.checkpoints.replies inv.saved inv.ledger failed) f.1))
 
-pub returns-in-Ok-true-clause-ledger : goal.returns-in-Ok-true-clause-ledger
-returns-in-Ok-true-clause-ledger g c =
-    same_bytes_on c.args.replies.now c.checkpoints.replies c.try_all.new.replies c.checkpoints.invariant.ledger (subst (λ (b : Bool). LedgerBy c.checkpoints.replies c.try_all.new.replies (Ok b)) c.in-Ok-true.field-0-test c.in-Ok-true.ensures.ledger)
+pub returns-in-Ok-Some-clause-ledger : goal.returns-in-Ok-Some-clause-ledger
+returns-in-Ok-Some-clause-ledger g c =
+    same_bytes_on c.checkpoints.invariant.ledger (subst (λ (o : Option Adopted). LedgerBy c.checkpoints.replies c.try_all.new.replies (Ok o)) c.in-Ok-Some.field-0-is c.in-Ok-Some.ensures.ledger)
 
 pub returns-clause-walks : goal.returns-clause-walks
 returns-clause-walks g c failure under failed =
@@ -62,8 +63,8 @@ returns-clause-walks g c failure under failed =
     let test = c.checkpoints-test.false in
     let end = c.len-count.ensures in
     let all = ring_length c.args.cpu.now.slots.saved c.args.ring.now.standing failure.ring failed.has.as_many c.requires.same in
-    walked_none failure c.args.point c.checkpoints.cpu c.checkpoints.choices.items c.args.replies.now c.discard.new.self c.args.steps.now c.checkpoints.steps c.checkpoints.tries.items
-    (failed_all failure c.args.point c.checkpoints.index [] c.checkpoints.tries.items c.args.steps.now c.checkpoints.steps (omega (arith, test, end, all)) (inv.tried failure under failed)) (c.discard.ensures ∙ inv.ledger)
+    walked_none
+    (failed_all (omega (arith, test, end, all)) (inv.tried failure under failed)) (c.discard.ensures ∙ inv.ledger)
 
 pub returns-clause-ledger : goal.returns-clause-ledger
-returns-clause-ledger g c = same_bytes_discarded c.args.replies.now c.discard.new.self (c.discard.ensures ∙ c.checkpoints.invariant.ledger)
+returns-clause-ledger g c = same_bytes_discarded (c.discard.ensures ∙ c.checkpoints.invariant.ledger)

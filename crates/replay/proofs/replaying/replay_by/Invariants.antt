@@ -3,9 +3,7 @@ use Rattle.replay.proofs.LoopLemmas.{HasTurned}
 use Rattle.replay.proofs.replaying.replay_by.Given as goal
 
 abbrev pub invariant-turns : goal.invariant-turns
-invariant-turns g l =
-    HasTurned (g.K.Link.Went l.fn.link l.link) l.fn.image l.fn.recorded (g.K.Link.told l.fn.link) (g.K.Link.told l.link) (g.K.Link.phases l.link) (g.K.Link.coming l.fn.link) (g.K.Link.coming l.link) (g.K.Link.counts l.fn.link) (g.K.Link.counts l.link)
-    (g.K.Link.takes l.link) (g.K.Link.gives l.link) l.fn.steps l.steps l.player
+invariant-turns g l = HasTurned (g.K.Link.Went l.fn.link l.link) l.fn.image l.fn.recorded (g.K.Link.seen l.fn.link) (g.K.Link.seen l.link) l.fn.steps l.steps l.player
 
 -- how many instructions a record may have
 abbrev pub decreases-turns : goal.decreases-turns

@@ -11,7 +11,7 @@ use Rattle.rx_serve.proofs.noting.serve_noted.Goals as goal
 pub returns-clause-serves : goal.returns-clause-serves
 returns-clause-serves g c =
     let made = c.make-notes.ensures in
-    let kept = c.serve_trunk-answer.ensures.notes in
+    let kept = c.serve_trunk-answer.ensures.outside.2 in
     let more = c.serve_trunk-answer.ensures.counted_at_least in
     let counted : ℕ = c.serve_trunk-answer.new.steps - c.args.steps.now in
     let count : c.serve_trunk-answer.new.steps ≡ c.args.steps.now + counted = omega (arith, more) in
@@ -23,5 +23,5 @@ returns-clause-serves g c =
     λ image begun.
     serves_noted (run_shown c.args.run.now) _ _ _ _ _ _ _ _ _ _ _ made.choices made.episodes made.left count (c.serve_trunk-answer.ensures.served image begun counted count)
     (ap (λ k. k.1.0) kept ∙ made.names) (ap (λ k. k.1.1.0) kept ∙ made.form ∙ c.report_form.ensures)
-    (ap (λ k. k.1.1.1) kept ∙ made.before) c.is_whole.ensures.stands c.serve_trunk-answer.ensures.works in
+    (ap (λ k. k.1.1.1) kept ∙ made.before) c.is_whole.ensures.stands c.serve_trunk-answer.ensures.notes.works in
     search (rules, serves)

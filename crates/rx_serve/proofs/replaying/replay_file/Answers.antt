@@ -21,6 +21,6 @@ returns-clause-faults g c =
     let more = c.replay_trunk.ensures.counted_more in
     record {
       file_fault = λ is. absurd (no_file_fault (c.replay_trunk.ensures.replayed (c.replay_trunk.new.steps - c.args.steps.now) (omega (arith, more))) is);
-      read_fault = c.replay_trunk.ensures.read_fault;
-      write_fault = c.replay_trunk.ensures.write_fault;
+      read_fault = c.replay_trunk.ensures.cause.read_fault;
+      write_fault = c.replay_trunk.ensures.cause.write_fault;
     }

@@ -2,4 +2,4 @@ use Rattle.over_trunk.proofs.FrontLemmas.{gave_first}
 use Rattle.over_trunk.proofs.frame_giver.FrameGiverGiverTrunkLink.give.Goals as goal
 
 pub returns-clause-gave : goal.returns-clause-gave
-returns-clause-gave g c = gave_first _ _ _ _ c.args.conn c.args.bytes.now c.give.result c.give.ensures.frame
+returns-clause-gave g c = gave_first _ _ _ _ c.args.conn c.args.bytes.now c.give.result c.give.ensures.frame.frame

@@ -3,7 +3,6 @@ use Rattle.item_log.specs.Log.{IsItemOf}
 use Rattle.guest_cpu.specs.declared.marks.Marks.{Marks}
 use Rattle.guest_cpu.specs.Standing.{Live}
 use Rattle.guest_cpu.specs.Receiving.{taken_standing}
-use Rattle.replay.specs.Playing.{stage_of}
 use Rattle.replay.proofs.TakeLemmas.{item_short, takes_item}
 use Rattle.replay.proofs.player.Player.ask.Goals as goal
 
@@ -12,13 +11,11 @@ take_item-requires-clause-short g c =
     let k = c.requires.waits in
     let item : IsItemOf c.await_item.new.self.log c.await_item.new.self.cpu.slots.live.guest.machine.taken c.item.result.now =
     subst (λ (n : ℕ). IsItemOf c.await_item.new.self.log n c.item.result.now) (ap (λ (marks : Marks). marks.taken) c.marks-taken.ensures) c.item.ensures.of_events in
-    item_short k.image c.args.recorded.now k.began (g.K.Link.told c.await_item.new.link) (g.K.Link.phases c.await_item.new.link) (stage_of c.await_item.new.self) (c.in_default.ensures.hears k.image c.args.recorded.now k.began k.is)
-    c.item.result.now item
+    item_short (c.in_default.ensures.hears k.image c.args.recorded.now k.began k.is) item
 
 pub returns-clause-turns : goal.returns-clause-turns
 returns-clause-turns g c image began waiting =
     let item : IsItemOf c.await_item.new.self.log c.await_item.new.self.cpu.slots.live.guest.machine.taken c.item.result.now =
     subst (λ (n : ℕ). IsItemOf c.await_item.new.self.log n c.item.result.now) (ap (λ (marks : Marks). marks.taken) c.marks-taken.ensures) c.item.ensures.of_events in
     let left : c.take_item.new.self.slots.live ≡ taken_standing c.item.result.now c.await_item.new.self.cpu.slots.live = ap (λ (live : Live). live.standing) c.take_item.ensures.live in
-    takes_item image c.args.recorded.now began (g.K.Link.told c.await_item.new.link) (g.K.Link.phases c.await_item.new.link) (stage_of c.await_item.new.self) (c.in_default.ensures.hears image c.args.recorded.now began waiting)
-    c.item.result.now c.take_item.new.self.slots.live item left
+    takes_item (c.in_default.ensures.hears image c.args.recorded.now began waiting) item left

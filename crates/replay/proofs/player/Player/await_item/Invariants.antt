@@ -3,9 +3,7 @@ use Rattle.replay.proofs.LoopLemmas.{HasAwaited}
 use Rattle.replay.proofs.player.Player.await_item.Given as goal
 
 abbrev pub invariant-waits : goal.invariant-waits
-invariant-waits g l =
-    HasAwaited (g.K.Link.Went l.fn.link l.link) (g.K.Link.told l.fn.link) (g.K.Link.told l.link) (g.K.Link.phases l.fn.link) (g.K.Link.phases l.link) (g.K.Link.coming l.fn.link) (g.K.Link.coming l.link) (g.K.Link.counts l.fn.link) (g.K.Link.counts l.link)
-    (g.K.Link.takes l.link) (g.K.Link.gives l.fn.link) (g.K.Link.gives l.link) l.fn.self l.self
+invariant-waits g l = HasAwaited (g.K.Link.Went l.fn.link l.link) (g.K.Link.seen l.fn.link) (g.K.Link.seen l.link) l.fn.self l.self
 
 -- how many events may still come
 abbrev pub decreases-waits : goal.decreases-waits

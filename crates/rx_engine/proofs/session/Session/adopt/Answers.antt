@@ -1,10 +1,10 @@
 use Rattle.std.specs.Prelude.{slice_get}
 use Rattle.session_state.specs.Leaving.{keeping_of}
 use Rattle.session_state.proofs.HeldLemmas.{slots_oldest}
-use Rattle.std.proofs.Common.{◌∙◌, ◌≡◌, ◌+◌, ◌^◌, ◌<◌, ◌≤◌, refl, sym, ap, subst, arith}
+use Rattle.std.proofs.Common.{◌∙◌, ◌≡◌, ◌+◌, ◌^◌, ◌<◌, ◌≤◌, refl, sym, ap, subst, arith, rules}
 use Rattle.rv_exec.specs.Stepping.{limits_of}
 use Rattle.recovery.specs.Recovering.{HasToRecover}
-use Rattle.session_state.specs.Options.{rules_of}
+use Rattle.session_state.specs.Serving.{rules_by}
 use Rattle.session_state.specs.Sessions.{SessionState}
 use Rattle.session_state.specs.Standing.{Since}
 use Rattle.session_state.proofs.AdoptLemmas.{counts_seen, adopting_in, failure_of, failing_moved, to_recover, adopt_none, adopting_at, adopt_some, adopt_least, adopt_breaks, adopted_later}
@@ -12,112 +12,123 @@ use Rattle.rx_engine.proofs.session.Session.adopt.Goals as goal
 
 pub recover-requires : goal.recover-requires
 recover-requires g c =
-    let rules = rules_of c.args.self.now.options (g.R.AccessRule.rule c.args.self.now.cpu.rule) in
-    let f = failing_moved (sym c.self.view_is) c.requires.fails.2.is in
+    let the_rules = rules_by g.R.AccessRule.rule c.args.self.now in
+    let f = failing_moved (sym c.self.view_is) c.requires.fails.1.is in
     let under = ap (λ (s : SessionState _). limits_of s.options.budget (g.R.AccessRule.rule s.cpu.rule)) (sym c.self.view_is) in
     let budget = subst (λ (s : SessionState _). s.options.budget ≤ 2 ^ 24) c.self.view_is c.self.invariant.few_budget in
     let items = subst (λ (s : SessionState _). s.options.max_items ≤ 2 ^ 20) c.self.view_is c.self.invariant.few_items in
-    let has = subst (λ n. HasToRecover c.self.inside.taken c.args.cause n (failure_of rules c.requires.fails.2.image f.going.story f.going.saved.paths) c.self.inside.cpu c.self.inside.ring c.self.inside.recorded c.self.inside.choices.items c.self.inside.log c.self.inside.replies) (sym c.pc-pc.ensures)
-    (to_recover rules c.requires.fails.2.image c.requires.fails.2.began c.requires.fails.0 c.requires.fails.1 c.args.cause _ f budget items) in
-    record { can = record { failure = failure_of rules c.requires.fails.2.image f.going.story f.going.saved.paths; under = under; has = has } }
+    let has = subst (λ n. HasToRecover (record { point = c.self.inside.taken; cause = c.args.cause; pc = n }) (failure_of the_rules c.requires.fails.1.image f.going.story f.going.saved.paths) c.self.inside.cpu c.self.inside.ring c.self.inside.recorded c.self.inside.choices.items c.self.inside.log c.self.inside.replies) (sym c.pc-pc.ensures)
+    (to_recover f budget items) in
+    record { can = record { failure = failure_of the_rules c.requires.fails.1.image f.going.story f.going.saved.paths; under = under; has = has } }
 
 pub returns-in-Some-clause-adopts : goal.returns-in-Some-clause-adopts
-returns-in-Some-clause-adopts g c image began now phases coming lost fails counts =
+returns-in-Some-clause-adopts g c image began seen lost fails counts =
     let before : Since = record began { tables = g.W.Watch.tables c.args.watch.now } in
-    let rules = rules_of c.args.self.now.options (g.R.AccessRule.rule c.args.self.now.cpu.rule) in
+    let the_rules = rules_by g.R.AccessRule.rule c.args.self.now in
     let f = failing_moved (sym c.self.view_is) fails in
     let under = ap (λ (s : SessionState _). limits_of s.options.budget (g.R.AccessRule.rule s.cpu.rule)) (sym c.self.view_is) in
     let budget = subst (λ (s : SessionState _). s.options.budget ≤ 2 ^ 24) c.self.view_is c.self.invariant.few_budget in
     let items = subst (λ (s : SessionState _). s.options.max_items ≤ 2 ^ 20) c.self.view_is c.self.invariant.few_items in
-    let has = subst (λ n. HasToRecover c.self.inside.taken c.args.cause n (failure_of rules image f.going.story f.going.saved.paths) c.self.inside.cpu c.self.inside.ring c.self.inside.recorded c.self.inside.choices.items c.self.inside.log c.self.inside.replies) (sym c.pc-pc.ensures)
-    (to_recover rules image before now phases c.args.cause _ f budget items) in
-    let h = c.in-Ok.ensures.recovers (failure_of rules image f.going.story f.going.saved.paths) f.going.story.survivor.begun under has in
+    let has = subst (λ n. HasToRecover (record { point = c.self.inside.taken; cause = c.args.cause; pc = n }) (failure_of the_rules image f.going.story f.going.saved.paths) c.self.inside.cpu c.self.inside.ring c.self.inside.recorded c.self.inside.choices.items c.self.inside.log c.self.inside.replies) (sym c.pc-pc.ensures)
+    (to_recover f budget items) in
+    let h = c.in-Ok.ensures.recovers (failure_of the_rules image f.going.story f.going.saved.paths) f.going.story.survivor.begun under has in
     let steps : c.count_run.new.self.steps ≡ c.recover.new.cpu.slots.live.steps = ap (λ (s : SessionState _). s.steps) c.count_run.ensures in
-    let seen : c.args.self.now.steps ≡ c.self.inside.steps = sym (ap (λ (s : SessionState _). s.steps) c.self.view_is) in
+    let counted : c.args.self.now.steps ≡ c.self.inside.steps = sym (ap (λ (s : SessionState _). s.steps) c.self.view_is) in
     adopting_in (sym c.count_run.ensures)
     (adopting_at (ap (λ (s : SessionState _). s.taken) c.self.view_is)
-    (adopt_some rules image before now phases coming c.args.cause _ c.recover.new.cpu c.recover.new.ring c.recover.new.replies c.recover.new.choices.items c.in-Ok.recovered c.in-Some.adopted lost _ _ _ f h c.in-Ok.ensures.slots (c.in-Ok.ensures.keeping c.self.inside.options.every) c.in-Ok.ensures.ledger c.in-Some.is
-    (counts_seen lost began.lost c.count_run.new.self.steps c.recover.new.cpu.slots.live.steps c.args.self.now.steps c.self.inside.steps _ _ counts steps seen) (c.in-Ok.ensures.watched (failure_of rules image f.going.story f.going.saved.paths) under has)))
+    (adopt_some f h c.in-Ok.ensures.rest.slots (c.in-Ok.ensures.keeping c.self.inside.options.every) c.in-Ok.ensures.rest.bytes c.in-Some.is
+    (counts_seen lost began.lost _ _ counts steps counted) (c.in-Ok.ensures.watched (failure_of the_rules image f.going.story f.going.saved.paths) under has)))
 
 pub returns-in-None-clause-adopts : goal.returns-in-None-clause-adopts
-returns-in-None-clause-adopts g c image began now phases coming lost fails counts =
+returns-in-None-clause-adopts g c image began seen lost fails counts =
     let before : Since = record began { tables = g.W.Watch.tables c.args.watch.now } in
-    let rules = rules_of c.args.self.now.options (g.R.AccessRule.rule c.args.self.now.cpu.rule) in
+    let the_rules = rules_by g.R.AccessRule.rule c.args.self.now in
     let f = failing_moved (sym c.self.view_is) fails in
     let under = ap (λ (s : SessionState _). limits_of s.options.budget (g.R.AccessRule.rule s.cpu.rule)) (sym c.self.view_is) in
     let budget = subst (λ (s : SessionState _). s.options.budget ≤ 2 ^ 24) c.self.view_is c.self.invariant.few_budget in
     let items = subst (λ (s : SessionState _). s.options.max_items ≤ 2 ^ 20) c.self.view_is c.self.invariant.few_items in
-    let has = subst (λ n. HasToRecover c.self.inside.taken c.args.cause n (failure_of rules image f.going.story f.going.saved.paths) c.self.inside.cpu c.self.inside.ring c.self.inside.recorded c.self.inside.choices.items c.self.inside.log c.self.inside.replies) (sym c.pc-pc.ensures)
-    (to_recover rules image before now phases c.args.cause _ f budget items) in
-    let h = c.in-Ok.ensures.recovers (failure_of rules image f.going.story f.going.saved.paths) f.going.story.survivor.begun under has in
-    let seen : c.args.self.now.steps ≡ c.self.inside.steps = sym (ap (λ (s : SessionState _). s.steps) c.self.view_is) in
+    let has = subst (λ n. HasToRecover (record { point = c.self.inside.taken; cause = c.args.cause; pc = n }) (failure_of the_rules image f.going.story f.going.saved.paths) c.self.inside.cpu c.self.inside.ring c.self.inside.recorded c.self.inside.choices.items c.self.inside.log c.self.inside.replies) (sym c.pc-pc.ensures)
+    (to_recover f budget items) in
+    let h = c.in-Ok.ensures.recovers (failure_of the_rules image f.going.story f.going.saved.paths) f.going.story.survivor.begun under has in
+    let counted : c.args.self.now.steps ≡ c.self.inside.steps = sym (ap (λ (s : SessionState _). s.steps) c.self.view_is) in
     adopting_at (ap (λ (s : SessionState _). s.taken) c.self.view_is)
-    (adopt_none rules image before now phases coming c.args.cause _ c.recover.new.cpu c.recover.new.ring c.recover.new.replies c.recover.new.choices.items c.in-Ok.recovered lost _ _ _ f h c.in-Ok.ensures.slots (c.in-Ok.ensures.keeping c.self.inside.options.every) c.in-None.is
-    (counts_seen lost began.lost c.self.inside.steps c.self.inside.steps c.args.self.now.steps c.self.inside.steps _ _ counts refl seen) (c.in-Ok.ensures.watched (failure_of rules image f.going.story f.going.saved.paths) under has))
+    (adopt_none f h c.in-Ok.ensures.rest.slots (c.in-Ok.ensures.keeping c.self.inside.options.every) c.in-None.is
+    (counts_seen lost began.lost _ _ counts refl counted) (c.in-Ok.ensures.watched (failure_of the_rules image f.going.story f.going.saved.paths) under has))
 
 pub returns-in-Some-clause-least : goal.returns-in-Some-clause-least
 returns-in-Some-clause-least g c =
-    let rules = rules_of c.args.self.now.options (g.R.AccessRule.rule c.args.self.now.cpu.rule) in
-    let f = failing_moved (sym c.self.view_is) c.requires.fails.2.is in
+    let the_rules = rules_by g.R.AccessRule.rule c.args.self.now in
+    let f = failing_moved (sym c.self.view_is) c.requires.fails.1.is in
     let under = ap (λ (s : SessionState _). limits_of s.options.budget (g.R.AccessRule.rule s.cpu.rule)) (sym c.self.view_is) in
     let budget = subst (λ (s : SessionState _). s.options.budget ≤ 2 ^ 24) c.self.view_is c.self.invariant.few_budget in
     let items = subst (λ (s : SessionState _). s.options.max_items ≤ 2 ^ 20) c.self.view_is c.self.invariant.few_items in
-    let has = subst (λ n. HasToRecover c.self.inside.taken c.args.cause n (failure_of rules c.requires.fails.2.image f.going.story f.going.saved.paths) c.self.inside.cpu c.self.inside.ring c.self.inside.recorded c.self.inside.choices.items c.self.inside.log c.self.inside.replies) (sym c.pc-pc.ensures)
-    (to_recover rules c.requires.fails.2.image c.requires.fails.2.began c.requires.fails.0 c.requires.fails.1 c.args.cause _ f budget items) in
-    let h = c.in-Ok.ensures.recovers (failure_of rules c.requires.fails.2.image f.going.story f.going.saved.paths) f.going.story.survivor.begun under has in
-    let least = adopt_least rules c.requires.fails.2.image c.requires.fails.2.began c.requires.fails.0 c.requires.fails.1 c.args.cause _ c.recover.new.cpu c.recover.new.ring c.recover.new.replies c.recover.new.choices.items c.in-Ok.recovered c.in-Some.adopted _ _ f h c.in-Some.is in
+    let has = subst (λ n. HasToRecover (record { point = c.self.inside.taken; cause = c.args.cause; pc = n }) (failure_of the_rules c.requires.fails.1.image f.going.story f.going.saved.paths) c.self.inside.cpu c.self.inside.ring c.self.inside.recorded c.self.inside.choices.items c.self.inside.log c.self.inside.replies) (sym c.pc-pc.ensures)
+    (to_recover f budget items) in
+    let h = c.in-Ok.ensures.recovers (failure_of the_rules c.requires.fails.1.image f.going.story f.going.saved.paths) f.going.story.survivor.begun under has in
+    let least = adopt_least f h c.in-Some.is in
     let steps : c.count_run.new.self.steps ≡ c.recover.new.cpu.slots.live.steps = ap (λ (s : SessionState _). s.steps) c.count_run.ensures in
     let before : c.self.inside.steps ≡ c.args.self.now.steps = ap (λ (s : SessionState _). s.steps) c.self.view_is in
     omega (arith, least, steps, before)
 
-pub returns-in-Some-clause-later : goal.returns-in-Some-clause-later
-returns-in-Some-clause-later g c = λ goes.
-    let later = adopted_later _ _ _ _ _ _ _ c.requires.fails.2.is in
-    let until : c.count_run.new.self.until ≡ c.self.inside.taken + 4 = ap (λ (s : SessionState _). s.until) c.count_run.ensures in
-    let taken : c.self.inside.taken ≡ c.args.self.now.taken = ap (λ (s : SessionState _). s.taken) c.self.view_is in
-    let past : c.args.self.now.until < c.args.self.now.taken + 4 = later.0 in
-    let few : c.args.self.now.taken ≤ c.args.self.now.options.max_items = later.1 in
-    record { past = omega (arith, until, taken, past); most = omega (arith, until, taken, few) }
-
 pub returns-in-Err-clause-adopts : goal.returns-in-Err-clause-adopts
-returns-in-Err-clause-adopts g c image began now phases coming lost fails none =
+returns-in-Err-clause-adopts g c image began seen lost fails none =
     let before : Since = record began { tables = g.W.Watch.tables c.args.watch.now } in
-    let rules = rules_of c.args.self.now.options (g.R.AccessRule.rule c.args.self.now.cpu.rule) in
+    let the_rules = rules_by g.R.AccessRule.rule c.args.self.now in
     let f = failing_moved (sym c.self.view_is) fails in
     let under = ap (λ (s : SessionState _). limits_of s.options.budget (g.R.AccessRule.rule s.cpu.rule)) (sym c.self.view_is) in
     let budget = subst (λ (s : SessionState _). s.options.budget ≤ 2 ^ 24) c.self.view_is c.self.invariant.few_budget in
     let items = subst (λ (s : SessionState _). s.options.max_items ≤ 2 ^ 20) c.self.view_is c.self.invariant.few_items in
-    let has = subst (λ n. HasToRecover c.self.inside.taken c.args.cause n (failure_of rules image f.going.story f.going.saved.paths) c.self.inside.cpu c.self.inside.ring c.self.inside.recorded c.self.inside.choices.items c.self.inside.log c.self.inside.replies) (sym c.pc-pc.ensures)
-    (to_recover rules image before now phases c.args.cause _ f budget items) in
-    adopt_breaks rules image before now phases coming c.args.cause _ c.recover.new.cpu c.recover.new.ring c.recover.new.replies c.recover.new.choices.items lost _ f (c.in-Err.ensures.keeping c.self.inside.options.every) c.in-Err.ensures.fault.1
-    (c.in-Err.ensures.watched (failure_of rules image f.going.story f.going.saved.paths) under has)
+    let has = subst (λ n. HasToRecover (record { point = c.self.inside.taken; cause = c.args.cause; pc = n }) (failure_of the_rules image f.going.story f.going.saved.paths) c.self.inside.cpu c.self.inside.ring c.self.inside.recorded c.self.inside.choices.items c.self.inside.log c.self.inside.replies) (sym c.pc-pc.ensures)
+    (to_recover f budget items) in
+    adopt_breaks f (c.in-Err.ensures.keeping c.self.inside.options.every) c.in-Err.ensures.rest.1
+    (c.in-Err.ensures.watched (failure_of the_rules image f.going.story f.going.saved.paths) under has)
 
-pub returns-in-Some-clause-oldest : goal.returns-in-Some-clause-oldest
-returns-in-Some-clause-oldest g c = record {
-  oldest =
-      ap (λ (s : SessionState _). slice_get s.cpu.slots.saved 0) c.count_run.ensures
-      ∙ (slots_oldest c.in-Ok.recovered.adopted c.self.inside.cpu c.recover.new.cpu c.in-Ok.ensures.slots ∙ ap (λ (s : SessionState _). slice_get s.cpu.slots.saved 0) c.self.view_is);
-  first = ap (λ (s : SessionState _). s.log.first) c.count_run.ensures ∙ ap (λ (s : SessionState _). s.log.first) c.self.view_is;
-  recorded = ap (λ (s : SessionState _). s.recorded) c.count_run.ensures ∙ ap (λ (s : SessionState _). s.recorded) c.self.view_is;
-  sends = ap (λ (s : SessionState _). s.replies.first) c.count_run.ensures ∙ (c.in-Ok.ensures.ledger.first ∙ ap (λ (s : SessionState _). s.replies.first) c.self.view_is);
-  keeping = ap (λ (s : SessionState _). keeping_of s) c.count_run.ensures ∙ (c.in-Ok.ensures.keeping c.self.inside.options.every ∙ ap (λ (s : SessionState _). keeping_of s) c.self.view_is);
-}
+pub returns-in-Some-clause-keeps : goal.returns-in-Some-clause-keeps
+returns-in-Some-clause-keeps g c =
+    let later = adopted_later c.requires.fails.1.is in
+    let until : c.count_run.new.self.until ≡ c.self.inside.taken + 4 = ap (λ (s : SessionState _). s.until) c.count_run.ensures in
+    let taken : c.self.inside.taken ≡ c.args.self.now.taken = ap (λ (s : SessionState _). s.taken) c.self.view_is in
+    let past : c.args.self.now.until < c.args.self.now.taken + 4 = later.0 in
+    let few : c.args.self.now.taken ≤ c.args.self.now.options.max_items = later.1 in
+    record {
+      frame = search rules;
+      oldest = record {
+        oldest =
+            ap (λ (s : SessionState _). slice_get s.cpu.slots.saved 0) c.count_run.ensures
+            ∙ (slots_oldest c.in-Ok.recovered.adopted c.self.inside.cpu c.recover.new.cpu c.in-Ok.ensures.rest.slots ∙ ap (λ (s : SessionState _). slice_get s.cpu.slots.saved 0) c.self.view_is);
+        first = ap (λ (s : SessionState _). s.log.first) c.count_run.ensures ∙ ap (λ (s : SessionState _). s.log.first) c.self.view_is;
+        recorded = ap (λ (s : SessionState _). s.recorded) c.count_run.ensures ∙ ap (λ (s : SessionState _). s.recorded) c.self.view_is;
+        sends = ap (λ (s : SessionState _). s.replies.first) c.count_run.ensures ∙ (c.in-Ok.ensures.rest.bytes.first ∙ ap (λ (s : SessionState _). s.replies.first) c.self.view_is);
+        keeping = ap (λ (s : SessionState _). keeping_of s) c.count_run.ensures ∙ (c.in-Ok.ensures.keeping c.self.inside.options.every ∙ ap (λ (s : SessionState _). keeping_of s) c.self.view_is);
+      };
+      keeping = ap (λ (s : SessionState _). keeping_of s) c.count_run.ensures ∙ (c.in-Ok.ensures.keeping c.self.inside.options.every ∙ ap (λ (s : SessionState _). keeping_of s) c.self.view_is);
+      opened = search rules;
+      marked = search rules;
+      later = λ goes. record { past = omega (arith, until, taken, past); most = omega (arith, until, taken, few) };
+    }
 
-pub returns-in-None-clause-oldest : goal.returns-in-None-clause-oldest
-returns-in-None-clause-oldest g c = record {
-  oldest = slots_oldest c.in-Ok.recovered.adopted c.self.inside.cpu c.recover.new.cpu c.in-Ok.ensures.slots ∙ ap (λ (s : SessionState _). slice_get s.cpu.slots.saved 0) c.self.view_is;
-  first = ap (λ (s : SessionState _). s.log.first) c.self.view_is;
-  recorded = ap (λ (s : SessionState _). s.recorded) c.self.view_is;
-  sends = c.in-Ok.ensures.ledger.first ∙ ap (λ (s : SessionState _). s.replies.first) c.self.view_is;
+pub returns-in-None-clause-keeps : goal.returns-in-None-clause-keeps
+returns-in-None-clause-keeps g c = record {
+  frame = search rules;
+  oldest = record {
+    oldest = slots_oldest c.in-Ok.recovered.adopted c.self.inside.cpu c.recover.new.cpu c.in-Ok.ensures.rest.slots ∙ ap (λ (s : SessionState _). slice_get s.cpu.slots.saved 0) c.self.view_is;
+    first = ap (λ (s : SessionState _). s.log.first) c.self.view_is;
+    recorded = ap (λ (s : SessionState _). s.recorded) c.self.view_is;
+    sends = c.in-Ok.ensures.rest.bytes.first ∙ ap (λ (s : SessionState _). s.replies.first) c.self.view_is;
+    keeping = c.in-Ok.ensures.keeping c.self.inside.options.every ∙ ap (λ (s : SessionState _). keeping_of s) c.self.view_is;
+  };
   keeping = c.in-Ok.ensures.keeping c.self.inside.options.every ∙ ap (λ (s : SessionState _). keeping_of s) c.self.view_is;
+  opened = search rules;
+  marked = search rules;
+  later = search rules;
 }
 
-pub returns-in-Err-clause-keeping : goal.returns-in-Err-clause-keeping
-returns-in-Err-clause-keeping g c = c.in-Err.ensures.keeping c.self.inside.options.every ∙ ap (λ (s : SessionState _). keeping_of s) c.self.view_is
-
-pub returns-in-Some-clause-keeping : goal.returns-in-Some-clause-keeping
-returns-in-Some-clause-keeping g c =
-    ap (λ (s : SessionState _). keeping_of s) c.count_run.ensures ∙ (c.in-Ok.ensures.keeping c.self.inside.options.every ∙ ap (λ (s : SessionState _). keeping_of s) c.self.view_is)
-
-pub returns-in-None-clause-keeping : goal.returns-in-None-clause-keeping
-returns-in-None-clause-keeping g c = c.in-Ok.ensures.keeping c.self.inside.options.every ∙ ap (λ (s : SessionState _). keeping_of s) c.self.view_is
+pub returns-in-Err-clause-keeps : goal.returns-in-Err-clause-keeps
+returns-in-Err-clause-keeps g c = record {
+  frame = search rules;
+  oldest = search rules;
+  keeping = c.in-Err.ensures.keeping c.self.inside.options.every ∙ ap (λ (s : SessionState _). keeping_of s) c.self.view_is;
+  opened = search rules;
+  marked = search rules;
+  later = search rules;
+}

@@ -1,84 +1,99 @@
-use Rattle.std.proofs.Common.{None, sym, ◌∙◌, subst}
-use Rattle.session_history.specs.Lawful.{Rules}
-use Rattle.session_notes.specs.Noting.{noted}
-use Rattle.session_state.specs.Options.{rules_of}
+use Rattle.std.proofs.Common.{None, sym, ◌∙◌, ap, subst, rules}
+use Rattle.session_state.specs.Serving.{MayServe}
 use Rattle.session_state.specs.Standing.{Since}
-use Rattle.session_state.specs.Serving.{StopsBy}
 use Rattle.session_state.proofs.FrameLemmas.{saved_frame, same_rules, noted_frame, forgot_frame}
 use Rattle.session_state.proofs.HearingLemmas.{waits_under, stops_under}
-use Rattle.session_state.proofs.KnownLemmas.{noted_still}
 use Rattle.session_state.proofs.ChoiceLemmas.{waits_untold}
 use Rattle.session_state.proofs.TurnLemmas.{comes_under}
+use Rattle.session_state.proofs.ServingLemmas.{noting_serves, asking_notes, unless_noting, unless_note_stop}
+use Rattle.session_state.proofs.RecoverLemmas.{gives_same}
+use Rattle.session_state.proofs.HeldLemmas.{trimmed_still}
+use Rattle.session_state.specs.Leaving.{keeping_of, IsHandled}
+use Rattle.session_state.specs.Sessions.{SessionState}
+use Rattle.reply_ledger.specs.Ledger.{Ledger, is_open}
 use Rattle.rx_engine.proofs.session.Session.ask.Goals as goal
+
+pub save-requires : goal.save-requires
+save-requires g c = record { seen = g.K.Link.seen c.args.link.now; waits = c.requires.waits }
 
 pub note_choices-requires : goal.note_choices-requires
 note_choices-requires g c =
-    let rules : Rules = rules_of c.args.self.now.options (g.R.AccessRule.rule c.args.self.now.cpu.rule) in
-    let saved : Rules = rules_of c.save.new.self.options (g.R.AccessRule.rule c.save.new.self.cpu.rule) in
-    let same = same_rules g.R.AccessRule.rule c.args.self.now c.save.new.self (saved_frame c.args.self.now c.save.new.self c.save.ensures.same c.save.ensures.rule) in
+    let same = same_rules g.R.AccessRule.rule (saved_frame {old = c.args.self.now} c.save.ensures.keeps.same c.save.ensures.keeps.rule) in
     let w = c.requires.waits in
-    let at_first = waits_under rules saved (sym same) (c.save.ensures.waits w.image w.began _ _ w.is) in
-    record { waits = (g.K.Link.told c.args.link.now, g.K.Link.phases c.args.link.now, record { image = w.image; began = w.began; is = at_first }) }
+    record { seen = g.K.Link.seen c.args.link.now; waits = record { image = w.image; began = w.began; is = waits_under (sym same) (c.save.ensures.waits w.image w.began _ w.is) } }
 
 pub returns-in-Err-clause-turns : goal.returns-in-Err-clause-turns
 returns-in-Err-clause-turns g c image began waits =
-    let rules : Rules = rules_of c.args.self.now.options (g.R.AccessRule.rule c.args.self.now.cpu.rule) in
-    let saved : Rules = rules_of c.save.new.self.options (g.R.AccessRule.rule c.save.new.self.cpu.rule) in
-    let same = same_rules g.R.AccessRule.rule c.args.self.now c.save.new.self (saved_frame c.args.self.now c.save.new.self c.save.ensures.same c.save.ensures.rule) in
-    let after : Since = record began { noted = noted (g.N.Notes.told_choices c.note_choices.new.notes) (g.N.Notes.told_episodes c.note_choices.new.notes) } in
-    let before : Since = record began { noted = noted (g.N.Notes.told_choices c.args.notes.now) (g.N.Notes.told_episodes c.args.notes.now) } in
-    stops_under image after (g.K.Link.told c.args.link.now) (g.K.Link.coming c.args.link.now) (g.K.Link.takes c.args.link.now) c.note_choices.new.self c.in-Err.stop saved rules same
-    (subst (λ b. StopsBy saved image after (g.K.Link.told c.args.link.now) (g.K.Link.coming c.args.link.now) b c.note_choices.new.self c.in-Err.stop) (sym c.requires.takes)
-    (c.in-Err.ensures.waits image began (g.K.Link.told c.args.link.now) (g.K.Link.phases c.args.link.now) (g.K.Link.coming c.args.link.now) (waits_under rules saved (sym same) (c.save.ensures.waits image before _ _ waits))))
+    let same = same_rules g.R.AccessRule.rule (saved_frame {old = c.args.self.now} c.save.ensures.keeps.same c.save.ensures.keeps.rule) in
+    let after : Since = record began { noted = (g.N.Notes.shown c.note_choices.new.notes).told } in
+    let before : Since = record began { noted = (g.N.Notes.shown c.args.notes.now).told } in
+    stops_under image after (g.K.Link.seen c.args.link.now) c.note_choices.new.self c.in-Err.stop same
+    (c.in-Err.ensures.waits image began (g.K.Link.seen c.args.link.now) c.requires.may.takes (waits_under (sym same) (c.save.ensures.waits image before _ waits)))
+
+pub returns-in-Err-clause-keeps : goal.returns-in-Err-clause-keeps
+returns-in-Err-clause-keeps g c = record {
+  link = noting_serves c.in-Err.stop
+      (subst (λ (l : Ledger). MayServe (g.K.Link.seen c.args.link.now) l) (sym (ap (λ (s : SessionState _). s.replies) c.note_choices.ensures.keeps.same ∙ ap (λ (s : SessionState _). s.replies) c.save.ensures.keeps.same)) c.requires.may) c.in-Err.ensures.keeps.broken;
+  notes = c.in-Err.ensures.shows;
+  until = search rules;
+  frame = search rules;
+  keeping = ap (λ (s : SessionState _). keeping_of s) c.note_choices.ensures.keeps.same ∙ c.save.ensures.keeps.keeping;
+  trimmed = unless_noting c.in-Err.stop _ c.in-Err.ensures.keeps.broken;
+  marked = search rules;
+  later = search rules;
+}
 
 pub forget-requires : goal.forget-requires
 forget-requires g c =
-    let rules : Rules = rules_of c.args.self.now.options (g.R.AccessRule.rule c.args.self.now.cpu.rule) in
-    let saved : Rules = rules_of c.save.new.self.options (g.R.AccessRule.rule c.save.new.self.cpu.rule) in
-    let same = same_rules g.R.AccessRule.rule c.args.self.now c.save.new.self (saved_frame c.args.self.now c.save.new.self c.save.ensures.same c.save.ensures.rule) in
-    let noting : Rules = rules_of c.note_choices.new.self.options (g.R.AccessRule.rule c.note_choices.new.self.cpu.rule) in
-    let then = same_rules g.R.AccessRule.rule c.save.new.self c.note_choices.new.self (noted_frame c.save.new.self c.note_choices.new.self c.in_default.ensures.same) in
+    let same = same_rules g.R.AccessRule.rule (saved_frame {old = c.args.self.now} c.save.ensures.keeps.same c.save.ensures.keeps.rule) in
+    let then = same_rules g.R.AccessRule.rule (noted_frame {old = c.save.new.self} c.in_default.ensures.keeps.same) in
     let w = c.requires.waits in
-    let began : Since = record w.began { noted_before = noted None None } in
-    let first = waits_untold rules w.image w.began _ _ c.args.self.now (noted (g.N.Notes.told_choices c.args.notes.now) (g.N.Notes.told_episodes c.args.notes.now)) w.is in
-    let stood = waits_under rules saved (sym same) (c.save.ensures.waits w.image (record began { noted = noted (g.N.Notes.told_choices c.args.notes.now) (g.N.Notes.told_episodes c.args.notes.now) }) _ _ first) in
-    let after : Since = record began { noted = noted (g.N.Notes.told_choices c.note_choices.new.notes) (g.N.Notes.told_episodes c.note_choices.new.notes) } in
-    let told = waits_under saved noting (sym then) (c.in_default.ensures.waits w.image began (g.K.Link.told c.args.link.now) (g.K.Link.phases c.args.link.now) (g.K.Link.coming c.args.link.now) stood) in
-    record { waits = (g.K.Link.told c.args.link.now, g.K.Link.phases c.args.link.now, record { image = w.image; began = after; is = told }) }
+    let began : Since = record w.began { noted_before = record { choices = None; episodes = None } } in
+    let stood = waits_under (sym same) (c.save.ensures.waits w.image (record began { noted = (g.N.Notes.shown c.args.notes.now).told }) _ (waits_untold w.is)) in
+    let after : Since = record began { noted = (g.N.Notes.shown c.note_choices.new.notes).told } in
+    let told = waits_under (sym then) (c.in_default.ensures.waits w.image began (g.K.Link.seen c.args.link.now) c.requires.may.takes stood) in
+    record { seen = g.K.Link.seen c.args.link.now; waits = record { image = w.image; began = after; is = told } }
 
-pub receive-requires-clause-waits : goal.receive-requires-clause-waits
-receive-requires-clause-waits g c =
-    let rules : Rules = rules_of c.args.self.now.options (g.R.AccessRule.rule c.args.self.now.cpu.rule) in
-    let saved : Rules = rules_of c.save.new.self.options (g.R.AccessRule.rule c.save.new.self.cpu.rule) in
-    let same = same_rules g.R.AccessRule.rule c.args.self.now c.save.new.self (saved_frame c.args.self.now c.save.new.self c.save.ensures.same c.save.ensures.rule) in
-    let noting : Rules = rules_of c.note_choices.new.self.options (g.R.AccessRule.rule c.note_choices.new.self.cpu.rule) in
-    let then = same_rules g.R.AccessRule.rule c.save.new.self c.note_choices.new.self (noted_frame c.save.new.self c.note_choices.new.self c.in_default.ensures.same) in
+pub receive-requires-clause-stands : goal.receive-requires-clause-stands
+receive-requires-clause-stands g c =
+    let same = same_rules g.R.AccessRule.rule (saved_frame {old = c.args.self.now} c.save.ensures.keeps.same c.save.ensures.keeps.rule) in
+    let then = same_rules g.R.AccessRule.rule (noted_frame {old = c.save.new.self} c.in_default.ensures.keeps.same) in
     let w = c.requires.waits in
-    let began : Since = record w.began { noted_before = noted None None } in
-    let first = waits_untold rules w.image w.began _ _ c.args.self.now (noted (g.N.Notes.told_choices c.args.notes.now) (g.N.Notes.told_episodes c.args.notes.now)) w.is in
-    let stood = waits_under rules saved (sym same) (c.save.ensures.waits w.image (record began { noted = noted (g.N.Notes.told_choices c.args.notes.now) (g.N.Notes.told_episodes c.args.notes.now) }) _ _ first) in
-    let after : Since = record began { noted = noted (g.N.Notes.told_choices c.note_choices.new.notes) (g.N.Notes.told_episodes c.note_choices.new.notes) } in
-    let told = waits_under saved noting (sym then) (c.in_default.ensures.waits w.image began (g.K.Link.told c.args.link.now) (g.K.Link.phases c.args.link.now) (g.K.Link.coming c.args.link.now) stood) in
-    let forgot : Rules = rules_of c.forget.new.self.options (g.R.AccessRule.rule c.forget.new.self.cpu.rule) in
-    let last = same_rules g.R.AccessRule.rule c.note_choices.new.self c.forget.new.self (forgot_frame c.note_choices.new.self c.forget.new.self c.forget.ensures.same) in
-    record { image = w.image; began = after; is = waits_under noting forgot (sym last) (c.forget.ensures.waits w.image after _ _ told) }
+    let began : Since = record w.began { noted_before = record { choices = None; episodes = None } } in
+    let stood = waits_under (sym same) (c.save.ensures.waits w.image (record began { noted = (g.N.Notes.shown c.args.notes.now).told }) _ (waits_untold w.is)) in
+    let after : Since = record began { noted = (g.N.Notes.shown c.note_choices.new.notes).told } in
+    let told = waits_under (sym then) (c.in_default.ensures.waits w.image began (g.K.Link.seen c.args.link.now) c.requires.may.takes stood) in
+    let last = same_rules g.R.AccessRule.rule (forgot_frame {old = c.note_choices.new.self} c.forget.ensures.keeps.same) in
+    record {
+      waits = record { image = w.image; began = after; is = waits_under (sym last) (c.forget.ensures.waits w.image after _ told) };
+      handled = subst (λ (s : SessionState _). IsHandled s) (sym c.forget.ensures.keeps.same) (subst (λ (s : SessionState _). IsHandled s) (sym c.note_choices.ensures.keeps.same) c.save.ensures.handled);
+      may = record {
+        takes = c.requires.may.takes;
+        gives = gives_same (λ conn. c.forget.ensures.keeps.opened conn
+            ∙ (ap (λ (s : SessionState _). is_open s.replies.connections conn) c.note_choices.ensures.keeps.same ∙ ap (λ (s : SessionState _). is_open s.replies.connections conn) c.save.ensures.keeps.same)) c.requires.may.gives;
+      };
+    }
 
 pub returns-clause-turns : goal.returns-clause-turns
 returns-clause-turns g c image began waits =
-    let rules : Rules = rules_of c.args.self.now.options (g.R.AccessRule.rule c.args.self.now.cpu.rule) in
-    let saved : Rules = rules_of c.save.new.self.options (g.R.AccessRule.rule c.save.new.self.cpu.rule) in
-    let same = same_rules g.R.AccessRule.rule c.args.self.now c.save.new.self (saved_frame c.args.self.now c.save.new.self c.save.ensures.same c.save.ensures.rule) in
-    let noting : Rules = rules_of c.note_choices.new.self.options (g.R.AccessRule.rule c.note_choices.new.self.cpu.rule) in
-    let then = same_rules g.R.AccessRule.rule c.save.new.self c.note_choices.new.self (noted_frame c.save.new.self c.note_choices.new.self c.in_default.ensures.same) in
-    let forgot : Rules = rules_of c.forget.new.self.options (g.R.AccessRule.rule c.forget.new.self.cpu.rule) in
-    let last = same_rules g.R.AccessRule.rule c.note_choices.new.self c.forget.new.self (forgot_frame c.note_choices.new.self c.forget.new.self c.forget.ensures.same) in
-    let after : Since = record began { noted = noted (g.N.Notes.told_choices c.note_choices.new.notes) (g.N.Notes.told_episodes c.note_choices.new.notes) } in
-    let before : Since = record began { noted = noted (g.N.Notes.told_choices c.args.notes.now) (g.N.Notes.told_episodes c.args.notes.now) } in
-    let stood = waits_under rules saved (sym same) (c.save.ensures.waits image before _ _ waits) in
-    let told = waits_under saved noting (sym then) (c.in_default.ensures.waits image began (g.K.Link.told c.args.link.now) (g.K.Link.phases c.args.link.now) (g.K.Link.coming c.args.link.now) stood) in
-    let kept = waits_under noting forgot (sym last) (c.forget.ensures.waits image after _ _ told) in
-    comes_under image after (g.K.Link.told c.receive.new.link) (g.K.Link.phases c.receive.new.link) (g.K.Link.coming c.receive.new.link) (g.K.Link.takes c.receive.new.link) c.receive.new.self c.receive.result forgot rules (last ∙ (then ∙ same))
-    (c.receive.ensures.turns image after kept)
+    let same = same_rules g.R.AccessRule.rule (saved_frame {old = c.args.self.now} c.save.ensures.keeps.same c.save.ensures.keeps.rule) in
+    let then = same_rules g.R.AccessRule.rule (noted_frame {old = c.save.new.self} c.in_default.ensures.keeps.same) in
+    let last = same_rules g.R.AccessRule.rule (forgot_frame {old = c.note_choices.new.self} c.forget.ensures.keeps.same) in
+    let after : Since = record began { noted = (g.N.Notes.shown c.note_choices.new.notes).told } in
+    let before : Since = record began { noted = (g.N.Notes.shown c.args.notes.now).told } in
+    let stood = waits_under (sym same) (c.save.ensures.waits image before _ waits) in
+    let told = waits_under (sym then) (c.in_default.ensures.waits image began (g.K.Link.seen c.args.link.now) c.requires.may.takes stood) in
+    let kept = waits_under (sym last) (c.forget.ensures.waits image after _ told) in
+    comes_under image after (g.K.Link.seen c.receive.new.link) c.receive.new.self c.receive.result (last ∙ (then ∙ same)) (c.receive.ensures.turns image after kept)
 
-pub returns-clause-noted : goal.returns-clause-noted
-returns-clause-noted g c = noted_still (g.N.Notes.faults c.args.notes.now) (g.N.Notes.faults c.note_choices.new.notes) c.receive.result c.in_default.ensures.noted.later c.receive.ensures.unnoted
+pub returns-clause-keeps : goal.returns-clause-keeps
+returns-clause-keeps g c = record {
+  link = c.receive.ensures.keeps.link;
+  notes = asking_notes c.receive.result c.in_default.ensures.shows c.receive.ensures.keeps.unnoted;
+  until = search rules;
+  frame = search rules;
+  keeping = c.receive.ensures.keeps.oldest.keeping ∙ (ap (λ (s : SessionState _). keeping_of s) c.forget.ensures.keeps.same ∙ (ap (λ (s : SessionState _). keeping_of s) c.note_choices.ensures.keeps.same ∙ c.save.ensures.keeps.keeping));
+  trimmed = unless_note_stop c.receive.result _ (trimmed_still c.receive.ensures.keeps.oldest (c.forget.ensures.keeps.trimmed c.in_default.ensures.keeps.recorded));
+  marked = c.receive.ensures.keeps.marked;
+  later = search rules;
+}

@@ -1,5 +1,5 @@
-use Rattle.std.proofs.Common.{true, [], ◌∷◌, ◌++◌, refl, sym, ◌∙◌, ap, subst}
-use Rattle.session_state.specs.Options.{rules_of}
+use Rattle.std.proofs.Common.{[], ◌∷◌, ◌++◌, refl, sym, ◌∙◌, ap, subst}
+use Rattle.session_state.specs.Serving.{rules_by}
 use Rattle.session_state.specs.Leaving.{keeping_of}
 use Rattle.session_state.specs.Sessions.{SessionState}
 use Rattle.session_state.specs.Standing.{IsBetween}
@@ -8,14 +8,14 @@ use Rattle.session_state.proofs.ServeLemmas.{run_breaks, run_chooses}
 use Rattle.rx_engine.proofs.session.Session.choose.Goals as goal
 
 pub returns-in-Err-clause-turns : goal.returns-in-Err-clause-turns
-returns-in-Err-clause-turns g c image began now phases coming h = (
-  run_breaks _ image began now phases coming _ c.args.self.now _ h (ap (λ (s : SessionState _). keeping_of s) c.self.view_is) (ap (λ (s : SessionState _). s.recorded) c.self.view_is) (c.in-Err.ensures.items ∙ ap (λ (s : SessionState _). s.choices) c.self.view_is) (ap (λ (s : SessionState _). s.taken) c.self.view_is)
+returns-in-Err-clause-turns g c image began seen takes h = (
+  run_breaks h (ap (λ (s : SessionState _). keeping_of s) c.self.view_is) (ap (λ (s : SessionState _). s.recorded) c.self.view_is) (c.in-Err.ensures.items ∙ ap (λ (s : SessionState _). s.choices) c.self.view_is) (ap (λ (s : SessionState _). s.taken) c.self.view_is)
       (ap (λ (s : SessionState _). s.steps) c.self.view_is),
-  λ none. still_takes true _ refl none,
+  λ none. still_takes _ takes none,
 )
 
 pub returns-clause-turns : goal.returns-clause-turns
-returns-clause-turns g c image began now phases coming h =
-    subst (λ (s : SessionState _). IsBetween (rules_of c.args.self.now.options (g.R.AccessRule.rule c.args.self.now.cpu.rule)) image began now phases s) (sym c.count_run.ensures)
-    (run_chooses _ image began now phases c.args.choice c.args.self.now _ h (ap (λ (s : SessionState _). record s { replies = c.self.inside.replies; choices = c.push.new.self.items; taken = c.self.inside.cpu.slots.live.guest.machine.taken; steps = c.self.inside.cpu.slots.live.steps }) c.self.view_is)
+returns-clause-turns g c image began seen takes h =
+    subst (λ (s : SessionState _). IsBetween (rules_by g.R.AccessRule.rule c.args.self.now) image began seen s) (sym c.count_run.ensures)
+    (run_chooses h (ap (λ (s : SessionState _). record s { replies = c.self.inside.replies; choices = c.push.new.self.items; taken = c.self.inside.cpu.slots.live.guest.machine.taken; steps = c.self.inside.cpu.slots.live.steps }) c.self.view_is)
     (ap (λ (s : SessionState _). s.replies) c.self.view_is) (c.in_default.ensures.items ∙ ap (λ (s : SessionState _). s.choices ++ c.args.choice ∷ []) c.self.view_is) (record { taken = refl; steps = refl }))

@@ -1,9 +1,7 @@
-use Rattle.std.proofs.Common.{◌≡◌, true, Err, sym, subst}
+use Rattle.std.proofs.Common.{◌≡◌, Err, sym, subst, rules}
 use Rattle.std.specs.Prelude.{IfSome, slice_get}
-use Rattle.session_notes.specs.Noting.{noted}
 use Rattle.recovery.proofs.ForgetLemmas.{behind_marks}
-use Rattle.session_state.specs.Options.{rules_of}
-use Rattle.session_state.specs.Sessions.{SessionState}
+use Rattle.session_state.specs.Serving.{rules_by}
 use Rattle.session_state.specs.Standing.{Since, entries}
 use Rattle.session_state.specs.declared.stop.Stop.TheVariants as stop
 use Rattle.session_state.proofs.ChoiceLemmas.{waits_told, waits_unnoted, waits_left}
@@ -11,41 +9,48 @@ use Rattle.session_state.proofs.FaultLemmas.{note_answered}
 use Rattle.session_state.proofs.HearingLemmas.{moved}
 use Rattle.session_state.proofs.LeavingLemmas.{noted_up, noted_low}
 use Rattle.session_state.proofs.RecordingLemmas.{up_to_safe, waits_up_to, waits_same}
+use Rattle.session_state.proofs.ServingLemmas.{notes_stopped, notes_noted}
 use Rattle.rx_engine.proofs.session.Session.note_choices.Goals as goal
 
 pub note_up_to-requires : goal.note_up_to-requires
 note_up_to-requires g c =
-    let w = moved (sym c.self.view_is) c.requires.waits.2.is in
+    let w = moved (sym c.self.view_is) c.requires.waits.is in
     let h = w.hearing in
-    let marks = behind_marks _ c.requires.waits.2.image (entries h.story) h.story.survivor.plan h.story.survivor.now h.saved.paths _ _ _ _ c.oldest_marks-safe.result c.oldest_marks-safe.ensures h.saved.ring in
-    waits_left _ _ _ _ _ _ c.oldest_marks-safe.result.choices w marks.1
+    let marks = behind_marks _ c.requires.waits.image (entries h.story) h.story.survivor.plan h.story.survivor.now h.saved.paths _ _ _ _ c.oldest_marks-safe.result c.oldest_marks-safe.ensures h.saved.ring in
+    waits_left w marks.1
 
 pub returns-in-Err-clause-waits : goal.returns-in-Err-clause-waits
-returns-in-Err-clause-waits g c image began now phases coming waits =
-    let rules = rules_of c.args.self.now.options (g.R.AccessRule.rule c.args.self.now.cpu.rule) in
-    let told : Since = record began { noted = noted (g.N.Notes.told_choices c.note_up_to.new.notes) (g.N.Notes.told_episodes c.note_up_to.new.notes) } in
-    waits_same rules image told now phases coming true _ c.note_up_to.new.recorded c.note_up_to.new.choices.items (Err (stop.Breaks c.note_answer.result)) c.in-Err.ensures.noted.1 c.in-Err.ensures.noted.2
-    (waits_unnoted rules image told now phases coming _ c.note_answer.result
-    (moved (sym c.self.view_is)
-    (waits_told rules image began now phases (g.N.Notes.told_choices c.args.notes.now) (g.N.Notes.told_choices c.note_up_to.new.notes) (g.N.Notes.told_episodes c.args.notes.now) (g.N.Notes.told_episodes c.note_up_to.new.notes) c.args.self.now
-    c.in-Err.ensures.noted.0 c.note_up_to.ensures.episodes waits))
-    (note_answered c.in-Err.fault c.note_answer.result c.note_answer.ensures))
+returns-in-Err-clause-waits g c image began seen takes waits =
+    let told : Since = record began { noted = (g.N.Notes.shown c.note_up_to.new.notes).told } in
+    waits_same (rules_by g.R.AccessRule.rule c.args.self.now) image told seen _ (Err (stop.Breaks c.note_answer.result)) c.in-Err.ensures.noted.1 c.in-Err.ensures.noted.2
+    (waits_unnoted (moved (sym c.self.view_is) (waits_told began c.in-Err.ensures.noted.0 c.in-Err.ensures.keeps.episodes waits)) takes (note_answered c.in-Err.fault c.note_answer.result c.note_answer.ensures))
 
 pub returns-clause-waits : goal.returns-clause-waits
-returns-clause-waits g c image began now phases coming waits =
-    let rules = rules_of c.args.self.now.options (g.R.AccessRule.rule c.args.self.now.cpu.rule) in
+returns-clause-waits g c image began seen takes waits =
     let w = moved (sym c.self.view_is) waits in
     let h = w.hearing in
-    let marks = behind_marks rules image (entries h.story) h.story.survivor.plan h.story.survivor.now h.saved.paths _ _ _ _ c.oldest_marks-safe.result c.oldest_marks-safe.ensures h.saved.ring in
-    waits_up_to rules image began now phases (g.N.Notes.told_choices c.args.notes.now) (g.N.Notes.told_choices c.note_up_to.new.notes) (g.N.Notes.told_episodes c.args.notes.now) (g.N.Notes.told_episodes c.note_up_to.new.notes) _
-    c.oldest_marks-safe.result.choices c.note_up_to.new.recorded c.note_up_to.new.choices.items w marks.0 marks.1
-    (noted_low rules image (entries h.story) h.story.survivor.plan h.story.survivor.now h.saved.paths _ _ _ _ c.oldest_marks-safe.result c.self.inside.recorded c.oldest_marks-safe.ensures h.saved.ring h.saved.early)
-    c.in_default.ensures.noted c.note_up_to.ensures.episodes
+    let marks = behind_marks (rules_by g.R.AccessRule.rule c.args.self.now) image (entries h.story) h.story.survivor.plan h.story.survivor.now h.saved.paths _ _ _ _ c.oldest_marks-safe.result c.oldest_marks-safe.ensures h.saved.ring in
+    waits_up_to began (g.N.Notes.shown c.args.notes.now) (g.N.Notes.shown c.note_up_to.new.notes) w marks.0 marks.1
+    (noted_low c.oldest_marks-safe.result c.oldest_marks-safe.ensures h.saved.ring h.saved.early)
+    c.in_default.ensures.noted c.in_default.ensures.keeps.episodes
 
-pub returns-clause-recorded : goal.returns-clause-recorded
-returns-clause-recorded g c =
-    let w = moved (sym c.self.view_is) c.requires.waits.2.is in
+pub returns-clause-keeps : goal.returns-clause-keeps
+returns-clause-keeps g c =
+    let w = moved (sym c.self.view_is) c.requires.waits.is in
     let h = w.hearing in
-    let up = noted_up _ c.requires.waits.2.image (entries h.story) h.story.survivor.plan h.story.survivor.now h.saved.paths _ _ _ _ c.oldest_marks-safe.result c.oldest_marks-safe.ensures h.saved.ring in
-    let low = noted_low _ c.requires.waits.2.image (entries h.story) h.story.survivor.plan h.story.survivor.now h.saved.paths _ _ _ _ c.oldest_marks-safe.result c.self.inside.recorded c.oldest_marks-safe.ensures h.saved.ring h.saved.early in
-    subst (λ n. IfSome (slice_get c.self.inside.cpu.slots.saved 0) (λ oldest. n ≡ oldest.state.guest.machine.allocations)) (up_to_safe c.oldest_marks-safe.result.choices c.self.inside.recorded c.note_up_to.new.recorded low c.in_default.ensures.noted.1) up
+    let up = noted_up c.oldest_marks-safe.result c.oldest_marks-safe.ensures h.saved.ring in
+    let low = noted_low c.oldest_marks-safe.result c.oldest_marks-safe.ensures h.saved.ring h.saved.early in
+    record {
+      same = search rules;
+      recorded = subst (λ n. IfSome (slice_get c.self.inside.cpu.slots.saved 0) (λ oldest. n ≡ oldest.state.guest.machine.allocations)) (up_to_safe low c.in_default.ensures.noted.1) up;
+      broken = search rules;
+    }
+
+pub returns-in-Err-clause-keeps : goal.returns-in-Err-clause-keeps
+returns-in-Err-clause-keeps g c = record { same = search rules; recorded = search rules; broken = note_answered c.in-Err.fault c.note_answer.result c.note_answer.ensures }
+
+pub returns-clause-shows : goal.returns-clause-shows
+returns-clause-shows g c = notes_noted c.in_default.ensures.keeps
+
+pub returns-in-Err-clause-shows : goal.returns-in-Err-clause-shows
+returns-in-Err-clause-shows g c = notes_stopped c.in-Err.fault c.note_answer.result c.in-Err.ensures.keeps c.note_answer.ensures

@@ -1,70 +1,76 @@
-use Rattle.std.proofs.Common.{sym, ◌∙◌, ap, subst}
+use Rattle.std.proofs.Common.{sym, ◌∙◌, ap, subst, rules}
+use Rattle.links.specs.Seen.{Seen}
 use Rattle.session_state.specs.declared.options.Options.{Options}
-use Rattle.session_state.specs.Options.{rules_of}
-use Rattle.session_state.specs.Standing.{IsGoing, IsWaitingFor, entries}
-use Rattle.session_state.proofs.GuestLemmas.{received_is}
-use Rattle.session_state.proofs.NeedLemmas.{going_can}
-use Rattle.session_state.proofs.HeldLemmas.{held_of, guest_oldest, passed_oldest, oldest_then}
-use Rattle.session_state.proofs.DueLemmas.{comes_between, unless_due}
+use Rattle.session_state.specs.Serving.{rules_by}
+use Rattle.session_state.specs.Standing.{IsGoing, IsWaitingFor}
+use Rattle.session_state.proofs.NeedLemmas.{going_can, going_told}
+use Rattle.session_state.proofs.HeldLemmas.{guest_oldest, passed_oldest, oldest_then}
+use Rattle.link_gate.specs.Passing.{CanGive}
+use Rattle.reply_ledger.specs.Ledger.{Ledger}
+use Rattle.session_state.proofs.HearingLemmas.{handled_same}
+use Rattle.session_state.proofs.DueLemmas.{comes_between}
 use Rattle.session_state.proofs.FrameLemmas.{guest_frame, same_rules}
-use Rattle.session_state.proofs.KnownLemmas.{known_on, counted_same, takes_given, once_given}
+use Rattle.session_state.proofs.KnownLemmas.{counted_same, unnoted_passing}
+use Rattle.session_state.proofs.ServingLemmas.{serves_then, passing_serves}
 use Rattle.rx_engine.proofs.session.Session.receive.Goals as goal
 
 pub take-requires-clause-waits : goal.take-requires-clause-waits
 take-requires-clause-waits g c =
-    let same = same_rules g.R.AccessRule.rule c.args.self.now c.await_item.new.self (guest_frame c.args.self.now c.await_item.new.self c.await_item.ensures.same) in
-    let waits = subst (λ rules. IsWaitingFor rules c.requires.waits.image c.requires.waits.began (g.K.Link.told c.await_item.new.link) (g.K.Link.phases c.await_item.new.link) c.await_item.new.self) (sym same)
-    (c.in_default.ensures.hears c.requires.waits.image c.requires.waits.began c.requires.waits.is) in
-    (g.K.Link.told c.await_item.new.link, g.K.Link.phases c.await_item.new.link, record { image = c.requires.waits.image; began = c.requires.waits.began; is = waits })
+    let k = c.requires.stands.waits in
+    let same = same_rules g.R.AccessRule.rule (guest_frame c.await_item.ensures.keeps.same) in
+    record {
+      seen = g.K.Link.seen c.await_item.new.link;
+      waits = record {
+        image = k.image;
+        began = k.began;
+        is = subst (λ any. IsWaitingFor any k.image k.began (g.K.Link.seen c.await_item.new.link) c.await_item.new.self) (sym same) (c.in_default.ensures.hears k.image k.began k.is);
+      };
+    }
 
-pub pass_due-requires-clause-can : goal.pass_due-requires-clause-can
-pass_due-requires-clause-can g c =
-    let same = same_rules g.R.AccessRule.rule c.args.self.now c.await_item.new.self (guest_frame c.args.self.now c.await_item.new.self c.await_item.ensures.same) in
-    let waits = subst (λ rules. IsWaitingFor rules c.requires.waits.image c.requires.waits.began (g.K.Link.told c.await_item.new.link) (g.K.Link.phases c.await_item.new.link) c.await_item.new.self) (sym same)
-    (c.in_default.ensures.hears c.requires.waits.image c.requires.waits.began c.requires.waits.is) in
-    going_can (rules_of c.await_item.new.self.options (g.R.AccessRule.rule c.await_item.new.self.cpu.rule)) _ _ _ _ c.take.new.self (c.take.ensures.going _ _ _ _ waits)
+pub take-requires-clause-handled : goal.take-requires-clause-handled
+take-requires-clause-handled g c = handled_same c.await_item.ensures.keeps.same c.requires.stands.handled
+
+pub pass_due-requires : goal.pass_due-requires
+pass_due-requires g c =
+    let k = c.requires.stands.waits in
+    let same = same_rules g.R.AccessRule.rule (guest_frame c.await_item.ensures.keeps.same) in
+    let waits = subst (λ any. IsWaitingFor any k.image k.began (g.K.Link.seen c.await_item.new.link) c.await_item.new.self) (sym same) (c.in_default.ensures.hears k.image k.began k.is) in
+    record {
+      can = going_can (c.take.ensures.going _ _ _ waits);
+      gives = subst (λ (l : Ledger). CanGive (g.K.Link.seen c.await_item.new.link) l) (sym c.take.ensures.keeps.replies) c.in_default.ensures.keeps.link.gives;
+    }
 
 pub returns-clause-turns : goal.returns-clause-turns
 returns-clause-turns g c image began w =
-    let same = same_rules g.R.AccessRule.rule c.args.self.now c.await_item.new.self (guest_frame c.args.self.now c.await_item.new.self c.await_item.ensures.same) in
-    let rules = rules_of c.args.self.now.options (g.R.AccessRule.rule c.args.self.now.cpu.rule) in
-    let waits = subst (λ rules. IsWaitingFor rules image began (g.K.Link.told c.await_item.new.link) (g.K.Link.phases c.await_item.new.link) c.await_item.new.self) (sym same) (c.in_default.ensures.hears image began w) in
-    let going = subst (λ rules. IsGoing rules image began (g.K.Link.told c.await_item.new.link) (g.K.Link.phases c.await_item.new.link) c.take.new.self) same (c.take.ensures.going image began _ _ waits) in
-    let hold = sym (ap (λ (o : Options). o.hold) (c.take.ensures.frame.options ∙ c.await_item.ensures.same.options)) in
-    comes_between rules image began (g.K.Link.told c.await_item.new.link) (g.K.Link.told c.pass_due.new.link) (g.K.Link.phases c.await_item.new.link) (g.K.Link.phases c.pass_due.new.link) (g.K.Link.coming c.pass_due.new.link) (g.K.Link.takes c.pass_due.new.link)
-    c.take.new.self c.pass_due.new.self going c.pass_due.result c.pass_due.ensures.same c.pass_due.ensures.first c.pass_due.ensures.only.phases (c.pass_due.ensures.only.takes_still ∙ c.in_default.ensures.takes)
-    (c.pass_due.ensures.passes rules image began going.story hold going.told going.answers (held_of rules image going.story _ going.saved) (received_is rules.bounds (entries going.story) c.take.new.self.log going.goes.items) going.passed)
+    let the_rules = rules_by g.R.AccessRule.rule c.args.self.now in
+    let same = same_rules g.R.AccessRule.rule (guest_frame c.await_item.ensures.keeps.same) in
+    let waits = subst (λ any. IsWaitingFor any image began (g.K.Link.seen c.await_item.new.link) c.await_item.new.self) (sym same) (c.in_default.ensures.hears image began w) in
+    let going = subst (λ any. IsGoing any image began (g.K.Link.seen c.await_item.new.link) c.take.new.self) same (c.take.ensures.going image began _ waits) in
+    let hold = sym (ap (λ (o : Options). o.hold) (c.take.ensures.keeps.frame.options ∙ c.await_item.ensures.keeps.same.options)) in
+    comes_between (g.K.Link.seen c.pass_due.new.link) going c.pass_due.result c.pass_due.ensures.only.same c.pass_due.ensures.only.first (λ conn. ap (λ (s : Seen). s.phases conn) c.pass_due.ensures.shows.rest)
+    (ap (λ (s : Seen). s.takes) c.pass_due.ensures.shows.rest ∙ c.in_default.ensures.keeps.link.takes)
+    (c.pass_due.ensures.passes the_rules image began going.story hold (going_told going) going.passed)
 
-pub returns-clause-gives : goal.returns-clause-gives
-returns-clause-gives g c =
-    let same = same_rules g.R.AccessRule.rule c.args.self.now c.await_item.new.self (guest_frame c.args.self.now c.await_item.new.self c.await_item.ensures.same) in
-    let rules = rules_of c.args.self.now.options (g.R.AccessRule.rule c.args.self.now.cpu.rule) in
-    let image = c.requires.waits.image in
-    let began = c.requires.waits.began in
-    let waits = subst (λ rules. IsWaitingFor rules image began (g.K.Link.told c.await_item.new.link) (g.K.Link.phases c.await_item.new.link) c.await_item.new.self) (sym same) (c.in_default.ensures.hears image began c.requires.waits.is) in
-    let going = subst (λ rules. IsGoing rules image began (g.K.Link.told c.await_item.new.link) (g.K.Link.phases c.await_item.new.link) c.take.new.self) same (c.take.ensures.going image began _ _ waits) in
-    let hold = sym (ap (λ (o : Options). o.hold) (c.take.ensures.frame.options ∙ c.await_item.ensures.same.options)) in
-    unless_due rules image began (g.K.Link.told c.pass_due.new.link) (g.K.Link.coming c.pass_due.new.link) going.story c.pass_due.new.self c.pass_due.result _
-    (c.pass_due.ensures.passes rules image began going.story hold going.told going.answers (held_of rules image going.story _ going.saved) (received_is rules.bounds (entries going.story) c.take.new.self.log going.goes.items) going.passed) c.pass_due.ensures.gives
+pub returns-clause-keeps : goal.returns-clause-keeps
+returns-clause-keeps g c =
+    let serves = c.in_default.ensures.keeps.link in
+    record {
+      link = serves_then serves.known serves.cause.takes serves.cause.gives (passing_serves c.pass_due.result serves.takes c.pass_due.ensures.shows);
+      until = search rules;
+      frame = search rules;
+      oldest = oldest_then (guest_oldest c.await_item.ensures.keeps.same) (oldest_then c.take.ensures.keeps.oldest (passed_oldest c.pass_due.ensures.only.same c.pass_due.ensures.only.first));
+      marked = search rules;
+      later = search rules;
+      unnoted = unnoted_passing c.pass_due.result c.pass_due.ensures.shows.broken;
+    }
 
-pub returns-clause-coming : goal.returns-clause-coming
-returns-clause-coming g c =
-    known_on (g.K.Link.coming c.args.link.now) (g.K.Link.coming c.await_item.new.link) (g.K.Link.coming c.pass_due.new.link) c.pass_due.result c.in_default.ensures.coming c.pass_due.ensures.only.coming_still
-
-pub returns-in-Err-clause-marked : goal.returns-in-Err-clause-marked
-returns-in-Err-clause-marked g c = counted_same c.args.self.now c.await_item.new.self c.await_item.ensures.same c.requires.marked
-
-pub returns-clause-takes : goal.returns-clause-takes
-returns-clause-takes g c = takes_given (g.K.Link.takes c.await_item.new.link) (g.K.Link.takes c.pass_due.new.link) c.pass_due.result c.in_default.ensures.takes c.pass_due.ensures.only.takes_still c.pass_due.ensures.broken
-
-pub returns-clause-once : goal.returns-clause-once
-returns-clause-once g c =
-    once_given (g.K.Link.coming c.args.link.now) (g.K.Link.coming c.await_item.new.link) (g.K.Link.coming c.pass_due.new.link) (g.K.Link.gives c.pass_due.new.link) c.pass_due.result c.in_default.ensures.coming c.pass_due.ensures.only.coming_still c.pass_due.ensures.broken
-
-pub returns-in-Err-clause-oldest : goal.returns-in-Err-clause-oldest
-returns-in-Err-clause-oldest g c = guest_oldest c.args.self.now c.await_item.new.self c.await_item.ensures.same
-
-pub returns-clause-oldest : goal.returns-clause-oldest
-returns-clause-oldest g c =
-    oldest_then c.args.self.now c.await_item.new.self c.pass_due.new.self (guest_oldest c.args.self.now c.await_item.new.self c.await_item.ensures.same)
-    (oldest_then c.await_item.new.self c.take.new.self c.pass_due.new.self c.take.ensures.oldest (passed_oldest c.take.new.self c.pass_due.new.self c.pass_due.ensures.same c.pass_due.ensures.first))
+pub returns-in-Err-clause-keeps : goal.returns-in-Err-clause-keeps
+returns-in-Err-clause-keeps g c = record {
+  link = c.in-Err.ensures.keeps.link;
+  until = c.in-Err.ensures.keeps.same.until;
+  frame = guest_frame c.await_item.ensures.keeps.same;
+  oldest = guest_oldest c.await_item.ensures.keeps.same;
+  marked = counted_same c.await_item.ensures.keeps.same c.requires.marked;
+  later = search rules;
+  unnoted = c.in-Err.ensures.keeps.unnoted;
+}

@@ -1,85 +1,140 @@
-use Rattle.std.proofs.Common.{◌≡◌, ℕ, ◌+◌, None, Some, Err, refl, sym, ◌∙◌, ap}
+use Rattle.std.proofs.Common.{◌≡◌, ℕ, ◌+◌, None, Some, Err, refl, sym, ◌∙◌, ap, rules}
+use Rattle.links.specs.Seen.{Seen}
+use Rattle.run_history.specs.declared.answer.Answer.TheVariants as answer
+use Rattle.session_state.specs.Leaving.{keeping_of}
 use Rattle.session_state.specs.declared.options.Options.{Options}
-use Rattle.session_notes.specs.Noting.{noted}
 use Rattle.session_state.specs.declared.stop.Stop.TheVariants as stop
-use Rattle.session_state.specs.Options.{rules_of}
+use Rattle.session_state.specs.Serving.{rules_by}
 use Rattle.session_state.specs.Sessions.{SessionState}
-use Rattle.session_state.specs.Standing.{Since, entries}
+use Rattle.session_state.specs.Standing.{Since}
 use Rattle.session_state.specs.Serving.{end_of}
-use Rattle.session_state.proofs.GuestLemmas.{received_is}
-use Rattle.session_state.proofs.NeedLemmas.{going_can}
-use Rattle.session_state.proofs.HeldLemmas.{held_of}
+use Rattle.session_state.proofs.NeedLemmas.{going_can, going_told}
+use Rattle.session_state.proofs.HeldLemmas.{oldest_then, passed_oldest}
 use Rattle.session_state.proofs.DueLemmas.{comes_between}
+use Rattle.session_state.proofs.HearingLemmas.{if_ok}
+use Rattle.session_state.proofs.FrameLemmas.{passed_frame, passed_counted, passed_adopted}
 use Rattle.session_state.proofs.FaultLemmas.{note_answered}
 use Rattle.session_state.proofs.StartLemmas.{lost_then, lost_counts}
 use Rattle.session_state.proofs.StoryLemmas.{still_takes}
-use Rattle.session_state.proofs.RecoverLemmas.{failing_told, broken_told, ends_adopted, goes_adopted, comes_lost, lost_behind, noted_episode, one_more}
+use Rattle.session_state.proofs.RecoverLemmas.{failing_told, broken_told, ends_adopted, goes_adopted, comes_lost, lost_behind, noted_episode, one_more, gives_same}
+use Rattle.session_state.proofs.KnownLemmas.{unnoted_passing}
+use Rattle.session_state.proofs.ServingLemmas.{memory_serves, unnoted_serves, noting_serves, unless_noting, unless_note_stop, episode_stopped, adopted_serves, passing_serves, asking_notes}
 use Rattle.rx_engine.proofs.session.Session.recover.Goals as goal
 
 pub returns-in-Err-clause-turns : goal.returns-in-Err-clause-turns
 returns-in-Err-clause-turns g c image began lost fails counts =
-    let before : Since = record began { tables = g.W.Watch.tables c.args.watch.now; noted = noted (g.N.Notes.told_choices c.args.notes.now) (g.N.Notes.told_episodes c.args.notes.now) } in
-    (c.in-Err.ensures.adopts image before (g.K.Link.told c.args.link.now) (g.K.Link.phases c.args.link.now) (g.K.Link.coming c.args.link.now) lost fails tt, λ none. still_takes (g.K.Link.takes c.args.link.now) _ c.requires.takes none)
+    let before : Since = record began { tables = g.W.Watch.tables c.args.watch.now; noted = (g.N.Notes.shown c.args.notes.now).told } in
+    (c.in-Err.ensures.adopts image before (g.K.Link.seen c.args.link.now) lost fails tt, λ none. still_takes _ c.requires.fails.may.takes none)
 
 pub returns-in-Err-episode-clause-turns : goal.returns-in-Err-episode-clause-turns
 returns-in-Err-episode-clause-turns g c image began lost fails counts =
-    let rules = rules_of c.args.self.now.options (g.R.AccessRule.rule c.args.self.now.cpu.rule) in
-    let before : Since = record began { tables = g.W.Watch.tables c.args.watch.now; noted = noted (g.N.Notes.told_choices c.args.notes.now) (g.N.Notes.told_episodes c.args.notes.now) } in
+    let the_rules = rules_by g.R.AccessRule.rule c.args.self.now in
+    let before : Since = record began { tables = g.W.Watch.tables c.args.watch.now; noted = (g.N.Notes.shown c.args.notes.now).told } in
     let more : ℕ = lost_then began.lost c.args.self.now.steps c.adopt.new.self.steps (g.W.Watch.ran c.adopt.new.watch + c.args.steps.now) (g.W.Watch.ran c.args.watch.now + c.adopt.new.steps) in
     let all = lost_counts began.lost c.args.self.now.steps c.adopt.new.self.steps (g.W.Watch.ran c.adopt.new.watch + c.args.steps.now) (g.W.Watch.ran c.args.watch.now + c.adopt.new.steps) c.in-Ok.ensures.least in
-    let adopting = c.in-Ok.ensures.adopts image before (g.K.Link.told c.args.link.now) (g.K.Link.phases c.args.link.now) (g.K.Link.coming c.args.link.now) more fails all in
-    let told = noted (g.N.Notes.told_choices c.episode.new.self) (g.N.Notes.told_episodes c.episode.new.self) in
+    let adopting = c.in-Ok.ensures.adopts image before (g.K.Link.seen c.args.link.now) more fails all in
+    let told = (g.N.Notes.shown c.episode.new.self).told in
     let later : Since = record began { lost = more; tables = g.W.Watch.tables c.adopt.new.watch; noted = told } in
-    let off = broken_told rules image (record began { lost = more; tables = g.W.Watch.tables c.adopt.new.watch }) (g.K.Link.told c.args.link.now) (g.K.Link.coming c.args.link.now) (g.N.Notes.told_choices c.args.notes.now) (g.N.Notes.told_choices c.episode.new.self) (g.N.Notes.told_episodes c.args.notes.now)
-    (g.N.Notes.told_episodes c.episode.new.self) c.adopt.new.self c.note_answer.result c.in-Err-episode.ensures.choices c.in-Err-episode.ensures.noted
+    let off = broken_told (record began { lost = more; tables = g.W.Watch.tables c.adopt.new.watch }) c.in-Err-episode.ensures.shows.choices c.in-Err-episode.ensures.shows.noted
     (adopting.breaks c.note_answer.result (note_answered c.in-Err-episode.fault c.note_answer.result c.note_answer.ensures)) in
-    comes_lost rules image later (g.K.Link.told c.args.link.now) (g.K.Link.phases c.args.link.now) (g.K.Link.coming c.args.link.now) (g.K.Link.takes c.args.link.now) c.adopt.new.self (Err (stop.Breaks c.note_answer.result)) lost
-    (λ others. lost_behind lost more (began.lost + c.args.self.now.steps + (g.W.Watch.ran c.args.watch.now + c.adopt.new.steps)) c.adopt.new.self.steps c.adopt.new.self.steps (g.W.Watch.ran c.adopt.new.watch + c.args.steps.now) (counts others) all refl)
-    (off, λ none. still_takes (g.K.Link.takes c.args.link.now) _ c.requires.takes none)
+    comes_lost the_rules image later (g.K.Link.seen c.args.link.now) c.adopt.new.self (Err (stop.Breaks c.note_answer.result))
+    (λ others. lost_behind (g.W.Watch.ran c.adopt.new.watch + c.args.steps.now) (counts others) all refl)
+    (off, λ none. still_takes _ c.requires.fails.may.takes none)
 
 pub returns-in-Some-clause-turns : goal.returns-in-Some-clause-turns
 returns-in-Some-clause-turns g c image began lost fails counts =
-    let rules = rules_of c.args.self.now.options (g.R.AccessRule.rule c.args.self.now.cpu.rule) in
-    let before : Since = record began { tables = g.W.Watch.tables c.args.watch.now; noted = noted (g.N.Notes.told_choices c.args.notes.now) (g.N.Notes.told_episodes c.args.notes.now) } in
+    let the_rules = rules_by g.R.AccessRule.rule c.args.self.now in
+    let before : Since = record began { tables = g.W.Watch.tables c.args.watch.now; noted = (g.N.Notes.shown c.args.notes.now).told } in
     let more : ℕ = lost_then began.lost c.args.self.now.steps c.adopt.new.self.steps (g.W.Watch.ran c.adopt.new.watch + c.args.steps.now) (g.W.Watch.ran c.args.watch.now + c.adopt.new.steps) in
     let all = lost_counts began.lost c.args.self.now.steps c.adopt.new.self.steps (g.W.Watch.ran c.adopt.new.watch + c.args.steps.now) (g.W.Watch.ran c.args.watch.now + c.adopt.new.steps) c.in-Ok.ensures.least in
-    let adopting = c.in-Ok.ensures.adopts image before (g.K.Link.told c.args.link.now) (g.K.Link.phases c.args.link.now) (g.K.Link.coming c.args.link.now) more fails all in
-    let told = noted (g.N.Notes.told_choices c.episode.new.self) (g.N.Notes.told_episodes c.episode.new.self) in
+    let adopting = c.in-Ok.ensures.adopts image before (g.K.Link.seen c.args.link.now) more fails all in
+    let told = (g.N.Notes.shown c.episode.new.self).told in
     let later : Since = record began { lost = more; tables = g.W.Watch.tables c.adopt.new.watch; noted = told } in
-    let with_episode = noted_episode (g.N.Notes.told_choices c.args.notes.now) (g.N.Notes.told_choices c.episode.new.self) (g.N.Notes.told_episodes c.args.notes.now) (g.N.Notes.told_episodes c.episode.new.self) c.in-Ok.recovered.episode c.in_default.ensures.choices c.in_default.ensures.noted in
+    let with_episode = noted_episode c.in_default.ensures.shows.choices c.in_default.ensures.shows.noted in
     let found : end_of c.args.self.now.taken c.args.cause c.in-Ok.recovered.adopted ≡ Some c.in-Some.end = ap (λ n. end_of n c.args.cause c.in-Ok.recovered.adopted) (sym (ap (λ (s : SessionState _). s.taken) c.self.view_is)) ∙ (sym c.end_of.ensures ∙ c.in-Some.is) in
-    comes_lost rules image later (g.K.Link.told c.args.link.now) (g.K.Link.phases c.args.link.now) (g.K.Link.coming c.args.link.now) (g.K.Link.takes c.args.link.now) c.adopt.new.self (Err (stop.Ends c.in-Some.end)) lost
-    (λ others. lost_behind lost more (began.lost + c.args.self.now.steps + (g.W.Watch.ran c.args.watch.now + c.adopt.new.steps)) c.adopt.new.self.steps c.adopt.new.self.steps (g.W.Watch.ran c.adopt.new.watch + c.args.steps.now) (counts others) all refl)
-    (ends_adopted rules image later (g.K.Link.told c.args.link.now) (g.K.Link.phases c.args.link.now) (g.K.Link.coming c.args.link.now) (g.K.Link.takes c.args.link.now) c.adopt.new.self _ c.in-Some.end c.requires.takes found (adopting.goes told with_episode))
+    comes_lost the_rules image later (g.K.Link.seen c.args.link.now) c.adopt.new.self (Err (stop.Ends c.in-Some.end))
+    (λ others. lost_behind (g.W.Watch.ran c.adopt.new.watch + c.args.steps.now) (counts others) all refl)
+    (ends_adopted _ c.requires.fails.may.takes found (adopting.goes told with_episode))
 
-pub pass_due-requires-clause-can : goal.pass_due-requires-clause-can
-pass_due-requires-clause-can g c =
-    let rules = rules_of c.args.self.now.options (g.R.AccessRule.rule c.args.self.now.cpu.rule) in
+pub pass_due-requires : goal.pass_due-requires
+pass_due-requires g c =
+    let the_rules = rules_by g.R.AccessRule.rule c.args.self.now in
     let f = c.requires.fails in
     let lost : ℕ = lost_then f.began.lost c.args.self.now.steps c.adopt.new.self.steps (g.W.Watch.ran c.adopt.new.watch + c.args.steps.now) (g.W.Watch.ran c.args.watch.now + c.adopt.new.steps) in
     let counts = lost_counts f.began.lost c.args.self.now.steps c.adopt.new.self.steps (g.W.Watch.ran c.adopt.new.watch + c.args.steps.now) (g.W.Watch.ran c.args.watch.now + c.adopt.new.steps) c.in-Ok.ensures.least in
-    let adopting = c.in-Ok.ensures.adopts f.image f.began (g.K.Link.told c.args.link.now) (g.K.Link.phases c.args.link.now) (g.K.Link.coming c.args.link.now) lost (failing_told f.tables_are f.is) counts in
+    let adopting = c.in-Ok.ensures.adopts f.image f.began (g.K.Link.seen c.args.link.now) lost (failing_told f.tables_are f.is) counts in
     let none : end_of c.args.self.now.taken c.args.cause c.in-Ok.recovered.adopted ≡ None = ap (λ n. end_of n c.args.cause c.in-Ok.recovered.adopted) (sym (ap (λ (s : SessionState _). s.taken) c.self.view_is)) ∙ (sym c.end_of.ensures ∙ c.in_default-end_of.is) in
-    let then = one_more f.began c.in-Ok.recovered.episode in
-    going_can rules f.image (record f.began { lost = lost; tables = g.W.Watch.tables c.adopt.new.watch; noted = then.0 }) (g.K.Link.told c.args.link.now) (g.K.Link.phases c.args.link.now) c.adopt.new.self
-    (goes_adopted rules f.image (record f.began { lost = lost; tables = g.W.Watch.tables c.adopt.new.watch; noted = then.0 }) (g.K.Link.told c.args.link.now) (g.K.Link.phases c.args.link.now) (g.K.Link.coming c.args.link.now) c.adopt.new.self _ none (adopting.goes then.0 then.1))
+    let then = one_more f.began in
+    record {
+      can = going_can (goes_adopted _ none (adopting.goes then.0 then.1));
+      gives = gives_same c.in-Ok.ensures.keeps.opened c.requires.fails.may.gives;
+    }
 
 pub returns-clause-turns : goal.returns-clause-turns
 returns-clause-turns g c image began lost fails counts =
-    let rules = rules_of c.args.self.now.options (g.R.AccessRule.rule c.args.self.now.cpu.rule) in
-    let before : Since = record began { tables = g.W.Watch.tables c.args.watch.now; noted = noted (g.N.Notes.told_choices c.args.notes.now) (g.N.Notes.told_episodes c.args.notes.now) } in
+    let the_rules = rules_by g.R.AccessRule.rule c.args.self.now in
+    let before : Since = record began { tables = g.W.Watch.tables c.args.watch.now; noted = (g.N.Notes.shown c.args.notes.now).told } in
     let more : ℕ = lost_then began.lost c.args.self.now.steps c.adopt.new.self.steps (g.W.Watch.ran c.adopt.new.watch + c.args.steps.now) (g.W.Watch.ran c.args.watch.now + c.adopt.new.steps) in
     let all = lost_counts began.lost c.args.self.now.steps c.adopt.new.self.steps (g.W.Watch.ran c.adopt.new.watch + c.args.steps.now) (g.W.Watch.ran c.args.watch.now + c.adopt.new.steps) c.in-Ok.ensures.least in
-    let adopting = c.in-Ok.ensures.adopts image before (g.K.Link.told c.args.link.now) (g.K.Link.phases c.args.link.now) (g.K.Link.coming c.args.link.now) more fails all in
-    let told = noted (g.N.Notes.told_choices c.episode.new.self) (g.N.Notes.told_episodes c.episode.new.self) in
+    let adopting = c.in-Ok.ensures.adopts image before (g.K.Link.seen c.args.link.now) more fails all in
+    let told = (g.N.Notes.shown c.episode.new.self).told in
     let later : Since = record began { lost = more; tables = g.W.Watch.tables c.adopt.new.watch; noted = told } in
-    let with_episode = noted_episode (g.N.Notes.told_choices c.args.notes.now) (g.N.Notes.told_choices c.episode.new.self) (g.N.Notes.told_episodes c.args.notes.now) (g.N.Notes.told_episodes c.episode.new.self) c.in-Ok.recovered.episode c.in_default.ensures.choices c.in_default.ensures.noted in
+    let with_episode = noted_episode c.in_default.ensures.shows.choices c.in_default.ensures.shows.noted in
     let none : end_of c.args.self.now.taken c.args.cause c.in-Ok.recovered.adopted ≡ None = ap (λ n. end_of n c.args.cause c.in-Ok.recovered.adopted) (sym (ap (λ (s : SessionState _). s.taken) c.self.view_is)) ∙ (sym c.end_of.ensures ∙ c.in_default-end_of.is) in
-    let going = goes_adopted rules image later (g.K.Link.told c.args.link.now) (g.K.Link.phases c.args.link.now) (g.K.Link.coming c.args.link.now) c.adopt.new.self _ none (adopting.goes told with_episode) in
-    let hold = sym (ap (λ (o : Options). o.hold) c.in-Ok.ensures.frame.options) in
-    let steps : c.pass_due.new.self.steps ≡ c.adopt.new.self.steps = ap (λ (s : SessionState _). s.steps) c.pass_due.ensures.same in
-    comes_lost rules image later (g.K.Link.told c.pass_due.new.link) (g.K.Link.phases c.pass_due.new.link) (g.K.Link.coming c.pass_due.new.link) (g.K.Link.takes c.pass_due.new.link) c.pass_due.new.self c.pass_due.result lost
-    (λ others. lost_behind lost more (began.lost + c.args.self.now.steps + (g.W.Watch.ran c.args.watch.now + c.adopt.new.steps)) c.pass_due.new.self.steps c.adopt.new.self.steps (g.W.Watch.ran c.adopt.new.watch + c.args.steps.now) (counts others) all steps)
-    (comes_between rules image later (g.K.Link.told c.args.link.now) (g.K.Link.told c.pass_due.new.link) (g.K.Link.phases c.args.link.now) (g.K.Link.phases c.pass_due.new.link) (g.K.Link.coming c.pass_due.new.link) (g.K.Link.takes c.pass_due.new.link)
-    c.adopt.new.self c.pass_due.new.self going c.pass_due.result c.pass_due.ensures.same c.pass_due.ensures.first c.pass_due.ensures.only.phases (c.pass_due.ensures.only.takes_still ∙ c.requires.takes)
-    (c.pass_due.ensures.passes rules image later going.story hold going.told going.answers (held_of rules image going.story _ going.saved) (received_is rules.bounds (entries going.story) c.adopt.new.self.log going.goes.items) going.passed))
+    let going = goes_adopted _ none (adopting.goes told with_episode) in
+    let hold = sym (ap (λ (o : Options). o.hold) c.in-Ok.ensures.keeps.frame.options) in
+    let steps : c.pass_due.new.self.steps ≡ c.adopt.new.self.steps = ap (λ (s : SessionState _). s.steps) c.pass_due.ensures.only.same in
+    comes_lost the_rules image later (g.K.Link.seen c.pass_due.new.link) c.pass_due.new.self c.pass_due.result
+    (λ others. lost_behind (g.W.Watch.ran c.adopt.new.watch + c.args.steps.now) (counts others) all steps)
+    (comes_between (g.K.Link.seen c.pass_due.new.link) going c.pass_due.result c.pass_due.ensures.only.same c.pass_due.ensures.only.first (λ conn. ap (λ (s : Seen). s.phases conn) c.pass_due.ensures.shows.rest) (ap (λ (s : Seen). s.takes) c.pass_due.ensures.shows.rest ∙ c.requires.fails.may.takes)
+    (c.pass_due.ensures.passes the_rules image later going.story hold (going_told going) going.passed))
+
+pub returns-in-Err-clause-keeps : goal.returns-in-Err-clause-keeps
+returns-in-Err-clause-keeps g c = record {
+  link = memory_serves c.requires.fails.may.gives.gives_still;
+  notes = unnoted_serves (Err (stop.Breaks answer.Memory)) tt;
+  frame = c.in-Err.ensures.keeps.frame;
+  oldest = tt;
+  keeping = c.in-Err.ensures.keeps.keeping;
+  marked = search rules;
+  later = search rules;
+}
+
+pub returns-in-Err-episode-clause-keeps : goal.returns-in-Err-episode-clause-keeps
+returns-in-Err-episode-clause-keeps g c =
+    let note = note_answered c.in-Err-episode.fault c.note_answer.result c.note_answer.ensures in
+    record {
+      link = noting_serves (stop.Breaks c.note_answer.result) (record { takes = c.requires.fails.may.takes; gives = gives_same c.in-Ok.ensures.keeps.opened c.requires.fails.may.gives }) note;
+      notes = episode_stopped c.in-Err-episode.fault c.note_answer.result c.in-Err-episode.ensures.shows c.note_answer.ensures;
+      frame = c.in-Ok.ensures.keeps.frame;
+      oldest = unless_noting (stop.Breaks c.note_answer.result) _ note;
+      keeping = c.in-Ok.ensures.keeps.keeping;
+      marked = search rules;
+      later = search rules;
+    }
+
+pub returns-in-Some-clause-keeps : goal.returns-in-Some-clause-keeps
+returns-in-Some-clause-keeps g c =
+    let found : end_of c.args.self.now.taken c.args.cause c.in-Ok.recovered.adopted ≡ Some c.in-Some.end = ap (λ n. end_of n c.args.cause c.in-Ok.recovered.adopted) (sym (ap (λ (s : SessionState _). s.taken) c.self.view_is)) ∙ (sym c.end_of.ensures ∙ c.in-Some.is) in
+    record {
+      link = adopted_serves c.args.self.now.taken c.args.cause c.in-Ok.recovered.adopted (record { takes = c.requires.fails.may.takes; gives = gives_same c.in-Ok.ensures.keeps.opened c.requires.fails.may.gives }) found;
+      notes = record { works = c.in_default.ensures.shows.works; cause = record { later = c.in_default.ensures.shows.cause.later; file_fault = λ is. absurd (let never : ⊥ = cc in never) } };
+      frame = c.in-Ok.ensures.keeps.frame;
+      oldest = c.in-Ok.ensures.keeps.oldest;
+      keeping = c.in-Ok.ensures.keeps.keeping;
+      marked = search rules;
+      later = search rules;
+    }
+
+pub returns-clause-keeps : goal.returns-clause-keeps
+returns-clause-keeps g c =
+    let none : end_of c.args.self.now.taken c.args.cause c.in-Ok.recovered.adopted ≡ None = ap (λ n. end_of n c.args.cause c.in-Ok.recovered.adopted) (sym (ap (λ (s : SessionState _). s.taken) c.self.view_is)) ∙ (sym c.end_of.ensures ∙ c.in_default-end_of.is) in
+    record {
+      link = passing_serves c.pass_due.result c.requires.fails.may.takes c.pass_due.ensures.shows;
+      notes = asking_notes c.pass_due.result (record { works = c.in_default.ensures.shows.works; cause = record { later = c.in_default.ensures.shows.cause.later; file_fault = λ is. absurd (let never : ⊥ = cc in never) } }) (unnoted_passing c.pass_due.result c.pass_due.ensures.shows.broken);
+      frame = passed_frame c.pass_due.ensures.only.same c.in-Ok.ensures.keeps.frame;
+      oldest = unless_note_stop c.pass_due.result _ (oldest_then c.in-Ok.ensures.keeps.oldest (passed_oldest c.pass_due.ensures.only.same c.pass_due.ensures.only.first));
+      keeping = ap (λ (s : SessionState _). keeping_of s) c.pass_due.ensures.only.same ∙ c.in-Ok.ensures.keeps.keeping;
+      marked = if_ok _ c.pass_due.result (passed_counted c.pass_due.ensures.only.same (c.in-Ok.ensures.keeps.marked none));
+      later = if_ok _ c.pass_due.result (passed_adopted c.pass_due.ensures.only.same (c.in-Ok.ensures.keeps.later none));
+    }

@@ -1,4 +1,4 @@
-use Rattle.std.proofs.Common.{◌≡◌, sym, ◌∙◌, ap}
+use Rattle.std.proofs.Common.{◌≡◌, sym, ◌∙◌, ap, rules}
 use Rattle.item_log.specs.Log.{Log}
 use Rattle.reply_ledger.specs.Ledger.{Ledger}
 use Rattle.session_state.specs.Sessions.{SessionState}
@@ -10,18 +10,26 @@ use Rattle.session_state.specs.Leaving.{keeping_of}
 use Rattle.session_state.proofs.StartLemmas.{starts_at, starts_none}
 use Rattle.rx_engine.proofs.session.Session.save_start.Goals as goal
 
-pub returns-clause-keeps : goal.returns-clause-keeps
-returns-clause-keeps g c rules image begun =
-    c.begin_ring.ensures.keeps rules image c.args.self.now.log c.args.self.now.replies (ap (λ (s : SessionState _). s.cpu.slots.live) c.self.view_is ∙ starts_at image c.args.self.now begun)
-    (ap (λ (s : SessionState _). s.cpu.base) c.self.view_is ∙ begun.cpu.base_is) (ap (λ (log : Log). log.first) begun.log)
-    (ap (λ (ledger : Ledger). ledger.first) begun.replies)
+pub returns-clause-rings : goal.returns-clause-rings
+returns-clause-rings g c any image begun =
+    c.begin_ring.ensures.keeps any image c.args.self.now.log c.args.self.now.replies
+    (record {
+      live = ap (λ (s : SessionState _). s.cpu.slots.live) c.self.view_is ∙ starts_at begun;
+      window = ap (λ (s : SessionState _). s.cpu.base) c.self.view_is ∙ begun.cpu.base_is;
+      items = ap (λ (log : Log). log.first) begun.log;
+      sends = ap (λ (ledger : Ledger). ledger.first) begun.replies;
+    })
 
 pub returns-clause-first : goal.returns-clause-first
 returns-clause-first g c =
-    let b = c.requires.begun in
-    let none : taken_in c.self.inside.cpu.slots.live ≡ 0 = ap (λ (s : SessionState _). taken_in s.cpu.slots.live) c.self.view_is ∙ starts_none b.image c.args.self.now b.begun in
+    let b = c.requires in
+    let none : taken_in c.self.inside.cpu.slots.live ≡ 0 = ap (λ (s : SessionState _). taken_in s.cpu.slots.live) c.self.view_is ∙ starts_none b.begun in
     c.begin_ring.ensures.first ∙ (ap (λ n. alone n c.self.inside.cpu.slots.pages) none ∙ ap (λ (slots : Slots Standing). alone 0 slots.pages) (sym c.begin_ring.ensures.saved.1))
 
-pub returns-clause-keeping : goal.returns-clause-keeping
-returns-clause-keeping g c =
-    (λ i. keeping_by (c.begin_ring.ensures.capacity i) c.self.inside.options.every (c.begin_ring.ensures.saved.1 i)) ∙ ap (λ (s : SessionState _). keeping_of s) c.self.view_is
+pub returns-clause-keeps : goal.returns-clause-keeps
+returns-clause-keeps g c = record {
+  same = search rules;
+  live = search rules;
+  rule = search rules;
+  keeping = (λ i. keeping_by (c.begin_ring.ensures.frame.capacity i) c.self.inside.options.every (c.begin_ring.ensures.saved.1 i)) ∙ ap (λ (s : SessionState _). keeping_of s) c.self.view_is;
+}

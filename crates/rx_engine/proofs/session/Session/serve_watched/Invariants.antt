@@ -1,13 +1,11 @@
 use Rattle.std.proofs.Common.{◌≡◌, ◌+◌, ◌-◌, ◌*◌}
-use Rattle.session_notes.specs.Noting.{noted}
 use Rattle.session_state.proofs.StartLemmas.{HasTurned}
 use Rattle.rx_engine.proofs.session.Session.serve_watched.Given as goal
 
 abbrev pub invariant-turns : goal.invariant-turns
 invariant-turns g l =
-    HasTurned (g.K.Link.Went l.fn.link l.link) (g.N.Notes.fixed l.notes ≡ g.N.Notes.fixed l.fn.notes) (g.N.Notes.works l.notes ≡ g.N.Notes.works l.fn.notes) g.R.AccessRule.rule (g.K.Link.told l.fn.link) (g.K.Link.told l.link)
-    (noted (g.N.Notes.told_choices l.fn.notes) (g.N.Notes.told_episodes l.fn.notes)) (noted (g.N.Notes.told_choices l.notes) (g.N.Notes.told_episodes l.notes)) (g.W.Watch.tables l.fn.watch) (g.W.Watch.tables l.watch) (g.N.Notes.faults l.fn.notes) (g.N.Notes.faults l.notes) (g.K.Link.phases l.link) (g.K.Link.coming l.fn.link) (g.K.Link.coming l.link) (g.K.Link.counts l.fn.link) (g.K.Link.counts l.link) (g.K.Link.takes l.link) (g.K.Link.gives l.link)
-    (g.K.Link.gives_to l.link) (g.W.Watch.ran l.watch + l.fn.steps) (g.W.Watch.ran l.fn.watch + l.steps) l.fn.self l.self
+    HasTurned (g.K.Link.Went l.fn.link l.link × (g.N.Notes.fixed l.notes ≡ g.N.Notes.fixed l.fn.notes)) g.R.AccessRule.rule (g.K.Link.seen l.fn.link) (g.K.Link.seen l.link) (g.N.Notes.shown l.fn.notes) (g.N.Notes.shown l.notes)
+    (g.W.Watch.tables l.fn.watch) (g.W.Watch.tables l.watch) (g.W.Watch.ran l.watch + l.fn.steps) (g.W.Watch.ran l.fn.watch + l.steps) l.fn.self l.self
 
 -- each failure has more items taken than the one before it; and between two of them there are so many instructions at most
 abbrev pub decreases-turns : goal.decreases-turns

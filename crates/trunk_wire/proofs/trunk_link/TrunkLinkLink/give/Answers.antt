@@ -1,4 +1,4 @@
-use Rattle.std.proofs.Common.{arith, refl}
+use Rattle.std.proofs.Common.{arith, refl, rules}
 use Rattle.std.proofs.lemmas.Bool.{ltb-true}
 use Rattle.trunk_wire.specs.GoingLaws.{takes_same}
 use Rattle.trunk_wire.specs.TrunkLinks.{intake_of}
@@ -7,10 +7,15 @@ use Rattle.trunk_wire.proofs.GoingLemmas.{give_wrote}
 use Rattle.trunk_wire.proofs.trunk_link.TrunkLinkLink.give.Goals as goal
 use Rattle.links.specs.declared.connection_table.TheConstants.{CONNECTIONS}
 
-pub returns-clause-told : goal.returns-clause-told
-returns-clause-told g c =
-    rw (c.requires.may, c.is_ok-self.ensures.value)
-    (give_told _ _ _ _ _ c.args.conn c.args.bytes.now c.write_frame-answer.result (g.met.K.Sink.countable c.write_frame-answer.new.sink) (omega (arith, c.ranges.conn)) c.requires.some c.requires.few c.write_frame-answer.ensures.frame)
+pub returns-clause-shows : goal.returns-clause-shows
+returns-clause-shows g c = record {
+  told = rw (c.requires.may, c.is_ok-self.ensures.value)
+      (give_told _ _ _ _ _ c.args.conn c.args.bytes.now c.write_frame-answer.result (g.met.K.Sink.countable c.write_frame-answer.new.sink) (omega (arith, c.ranges.conn)) c.requires.some c.requires.few c.write_frame-answer.ensures.frame);
+  handed = search rules;
+  cause = search rules;
+  gives = search rules;
+  rest = search rules;
+}
 
 pub returns-clause-went : goal.returns-clause-went
 returns-clause-went g c = record {

@@ -1,4 +1,0 @@
-use Rattle.program_tests.proofs.rx_serve_tests.outcome_of.Given as goal
-
-abbrev pub ghosts-run_counted : goal.ghosts-run_counted
-ghosts-run_counted a = record { name = a.blank.name; parts = a.blank.parts }

@@ -1,0 +1,355 @@
+// A row is a command over files and streams in memory: what is played to it, and what is expected.
+//
+// A block of rows begins with a line for their program: the name of an example guest or a text, which is assembled, or what the file `p` has in its place,
+// `bytes=` or `text=`. A line with `#` is a comment.
+//
+// The cells of a row stand between `;`, each a name, `=` and a value. A `/` in a text is a line feed. Bytes are pairs of hexadecimal digits, between
+// which blanks may stand; `78*39` is a pair so many times.
+//
+// What is played: `words` of the command, or `options` behind the usual ones; `before`, what `r` and `t` have, which else aren't there; `in`,
+// the input; `files`, `source` and `sink`, the numbers of the calls on them that fail; `takes` and `gives`, how many bytes a call on the source
+// and on the sink moves at most.
+//
+// What is expected, where it stands: `end`, the answer, the status, how many choices are recorded, those behind them, the instructions and the
+// items taken, or `answer` alone; `out`, all that stands in the sink; `left`, what the source gives in one call more; `record` and `report`, the
+// texts of `r` and `t`, `none` where they aren't there; `written`, the bytes of `o`, and `o`, its text.
+ghost use Rattle.std.specs.Prelude.{◌≡◌, ◌<◌};
+
+use example_guests::source_of;
+use rx_io::{MemoryFiles, MemorySink, MemorySource, Sink, Source, Steps, TameListener};
+use rx_serve::{End, run_rx};
+use std::alloc::{AllocError, Global};
+use std::marker::Brand;
+use std::process::Abort;
+use std::sync::ledger::{Blank, Ledger};
+use std::test::Fail;
+
+/// The words of a command that runs the program `p`.
+pub const RUN: &str = "run p --record r --report t";
+
+// A command of a row: its words, and what the file `p` has.
+#[derive(Drop)]
+struct Played<'a> {
+    alloc: Global,
+    words: &'a str,
+    program: &'a [u8],
+    row: &'a str,
+}
+
+// How a command ended, its files, all that stands in the sink, and what the source gives in one call more.
+#[derive(Drop)]
+struct Outcome {
+    end: End,
+    files: MemoryFiles,
+    output: Vec<u8>,
+    left: Vec<u8>,
+}
+
+// The names that cells may have.
+const NAMES: [&str; 17] = [
+    "words", "options", "before", "in", "files", "source", "sink", "takes", "gives", "end",
+    "answer", "out", "left", "record", "report", "written", "o",
+];
+
+fn expect_known(name: &str) -> Result<(), Fail> {
+    for known in NAMES {
+        if name == known {
+            return Ok(());
+        }
+    }
+    Err(Fail::new("no such name of a cell"))
+}
+
+// Each cell has a name that one may have.
+fn expect_cells(row: &str) -> Result<(), Fail> {
+    for cell in row.split(';') {
+        let (name, _) = cell.split_once('=').ok_or("no value is given")?;
+        expect_known(name.trim())?;
+    }
+    Ok(())
+}
+
+// The value of a cell.
+fn cell_of<'a>(row: &'a str, name: &str) -> Option<&'a str> {
+    for cell in row.split(';') {
+        if let Some((key, value)) = cell.split_once('=') {
+            if key.trim() == name {
+                return Some(value);
+            }
+        }
+    }
+    None
+}
+
+// The number of a cell, or another one.
+fn number_of(row: &str, name: &str, usual: usize) -> Result<usize, Fail> {
+    match cell_of(row, name) {
+        Some(value) => Ok(value.parse::<usize>()?),
+        None => Ok(usual),
+    }
+}
+
+// The text of a cell.
+fn text_of(alloc: Global, value: &str) -> Result<String, AllocError> {
+    value.replace(alloc, "/", "\n")
+}
+
+// Adds the bytes of pairs of digits.
+fn push_pairs(bytes: &mut Vec<u8>, digits: &str) -> Result<(), Fail> {
+    for pair in digits.as_bytes().chunks(2) {
+        let pair = std::str::from_utf8(pair).ok().ok_or("no pair")?;
+        bytes.push(u8::from_str_radix(pair, 16)?)?;
+    }
+    Ok(())
+}
+
+// The bytes of a cell; none where it isn't there.
+fn bytes_of(alloc: Global, value: &str) -> Result<Vec<u8>, Fail> {
+    let mut bytes = Vec::new(alloc);
+    for word in value.split_whitespace() {
+        let (digits, times) = word.split_once('*').unwrap_or((word, "1"));
+        let digits = digits.repeat(alloc, times.parse::<usize>()?)?;
+        push_pairs(&mut bytes, digits.as_str())?;
+    }
+    Ok(bytes)
+}
+
+/// Runs a command over these files and streams with a counter of its own. It is generic over its ledger, and is handed the
+/// blank of which the counter is made.
+pub fn run_over<L: Ledger, S: Source, K: Sink>(
+    alloc: Global,
+    line: &str,
+    files: &mut MemoryFiles,
+    source: &mut S,
+    sink: &mut K,
+    blank: Blank,
+) -> Result<End, Fail>
+    requires name { blank.name ≡ L.name }
+    requires parts { blank.parts ≡ L.parts }
+    requires some { 0 < blank.parts }
+{
+    let mut words = Vec::new(alloc);
+    for word in line.split(' ') {
+        words.push(String::from_str(alloc, word)?)?;
+    }
+    let mut listener = TameListener::make(alloc, Vec::new(alloc), 1);
+    let mut steps = Steps::<L>::start(blank);
+    Ok(run_rx(
+        alloc,
+        words.as_slice(),
+        files,
+        source,
+        sink,
+        &mut listener,
+        &mut steps,
+    ))
+}
+
+/// Files in memory with the file `p`, and with `r` and `t` where a row says what they have.
+pub fn files_of(alloc: Global, program: &[u8], row: &str) -> Result<MemoryFiles, Fail> {
+    let mut held = Vec::new(alloc);
+    held.push((String::from_str(alloc, "p")?, program.to_vec(alloc)?))?;
+    if let Some(before) = cell_of(row, "before") {
+        for name in ["r", "t"] {
+            let text = text_of(alloc, before)?;
+            held.push((String::from_str(alloc, name)?, text.into_bytes()))?;
+        }
+    }
+    let fails = number_of(row, "files", 0)? as u64;
+    Ok(MemoryFiles::make(alloc, held, [fails].to_vec(alloc)?))
+}
+
+// The source of a row.
+fn source_in(alloc: Global, row: &str) -> Result<MemorySource, Fail> {
+    let input = bytes_of(alloc, cell_of(row, "in").unwrap_or(""))?;
+    let fails = number_of(row, "source", 0)? as u64;
+    let most = number_of(row, "takes", 10_000)?.max(1);
+    Ok(MemorySource::make(input, [fails].to_vec(alloc)?, most))
+}
+
+// The sink of a row.
+fn sink_in(alloc: Global, row: &str) -> Result<MemorySink, Fail> {
+    let fails = number_of(row, "sink", 0)? as u64;
+    let most = number_of(row, "gives", 10_000)?.max(1);
+    Ok(MemorySink::make(alloc, [fails].to_vec(alloc)?, most))
+}
+
+// What a source gives in one call, none where that fails.
+fn left_in(alloc: Global, source: &mut MemorySource) -> Result<Vec<u8>, AllocError> {
+    let mut buffer = [0u8; 64].to_vec(alloc)?;
+    let count = source.take(buffer.as_mut_slice()).unwrap_or(0);
+    buffer.truncate(count);
+    Ok(buffer)
+}
+
+// Runs a command with a counter of its own.
+fn run_counted<L: Ledger>(played: &Played<'_>, blank: Blank) -> Result<Outcome, Fail>
+    requires name { blank.name ≡ L.name }
+    requires parts { blank.parts ≡ L.parts }
+    requires some { 0 < blank.parts }
+{
+    let alloc = played.alloc;
+    let words = played.words;
+    let mut files = files_of(alloc, played.program, played.row)?;
+    let mut source = source_in(alloc, played.row)?;
+    let mut sink = sink_in(alloc, played.row)?;
+    let end = run_over::<L, _, _>(alloc, words, &mut files, &mut source, &mut sink, blank)?;
+    Ok(Outcome {
+        end,
+        files,
+        output: sink.bytes().to_vec(alloc)?,
+        left: left_in(alloc, &mut source)?,
+    })
+}
+
+// Runs a command with a file `p`, and with what a row says of the others and of the streams.
+fn outcome_of(played: &Played<'_>) -> Result<Outcome, Fail> {
+    run_counted::<Brand>(played, Blank::new(1))
+}
+
+// The text of a program, by its name or itself.
+fn program_text(alloc: Global, program: &str) -> Result<String, AllocError> {
+    match source_of(program) {
+        Some(text) => String::from_str(alloc, text),
+        None => text_of(alloc, program),
+    }
+}
+
+/// The executable of a program.
+pub fn executable_of(alloc: Global, program: &str) -> Result<Vec<u8>, Fail> {
+    let text = program_text(alloc, program)?;
+    let outcome = outcome_of(&Played {
+        alloc,
+        words: "asm p o",
+        program: text.as_bytes(),
+        row: "",
+    })?;
+    let bytes = outcome.files.bytes_of("o").ok_or("not assembled")?;
+    Ok(bytes.to_vec(alloc)?)
+}
+
+// The file `p` of a block.
+fn program_in(alloc: Global, line: &str) -> Result<Vec<u8>, Fail> {
+    if let Some(bytes) = cell_of(line, "bytes") {
+        return bytes_of(alloc, bytes);
+    }
+    match cell_of(line, "text") {
+        Some(text) => Ok(program_text(alloc, text)?.into_bytes()),
+        None => executable_of(alloc, line),
+    }
+}
+
+// The words of a row's command.
+fn words_in(alloc: Global, row: &str) -> Result<String, AllocError> {
+    if let Some(words) = cell_of(row, "words") {
+        return String::from_str(alloc, words);
+    }
+    match cell_of(row, "options") {
+        Some(options) => format!(in alloc; "{RUN} {options}"),
+        None => String::from_str(alloc, RUN),
+    }
+}
+
+/// All fields of an end.
+pub fn shown(alloc: Global, end: &End) -> Result<String, AllocError> {
+    format!(in alloc;
+        "{:?} {} {} {:?} {} {}",
+        end.answer,
+        end.status,
+        end.recorded,
+        end.tail.as_slice(),
+        end.steps,
+        end.taken
+    )
+}
+
+// Compares a text with a cell, if it stands there.
+fn expect_text(
+    rt: &impl Abort,
+    alloc: Global,
+    row: &str,
+    name: &str,
+    seen: &str,
+) -> Result<(), Fail> {
+    if let Some(wanted) = cell_of(row, name) {
+        let wanted = text_of(alloc, wanted)?;
+        assert_eq!(rt; seen, wanted.as_str(), "{name} of {row}");
+    }
+    Ok(())
+}
+
+// Compares bytes with a cell, if it stands there.
+fn expect_bytes(
+    rt: &impl Abort,
+    alloc: Global,
+    row: &str,
+    name: &str,
+    seen: &[u8],
+) -> Result<(), Fail> {
+    if let Some(wanted) = cell_of(row, name) {
+        let wanted = bytes_of(alloc, wanted)?;
+        assert_eq!(rt; seen, wanted.as_slice(), "{name} of {row}");
+    }
+    Ok(())
+}
+
+// Compares the text of a file, `none` where it isn't there.
+fn expect_file(
+    rt: &impl Abort,
+    alloc: Global,
+    row: &str,
+    name: &str,
+    file: Option<&[u8]>,
+) -> Result<(), Fail> {
+    let text = String::from_utf8_lossy(alloc, file.unwrap_or(b"none"))?;
+    expect_text(rt, alloc, row, name, text.as_str())
+}
+
+// Compares how a command ended with a row.
+fn expect_outcome(rt: &impl Abort, alloc: Global, row: &str, seen: &Outcome) -> Result<(), Fail> {
+    let end = shown(alloc, &seen.end)?;
+    expect_text(rt, alloc, row, "end", end.as_str())?;
+    let answer = format!(in alloc; "{:?}", seen.end.answer)?;
+    expect_text(rt, alloc, row, "answer", answer.as_str())?;
+    expect_bytes(rt, alloc, row, "out", seen.output.as_slice())?;
+    expect_bytes(rt, alloc, row, "left", seen.left.as_slice())?;
+    expect_file(rt, alloc, row, "record", seen.files.bytes_of("r"))?;
+    expect_file(rt, alloc, row, "report", seen.files.bytes_of("t"))?;
+    expect_file(rt, alloc, row, "o", seen.files.bytes_of("o"))?;
+    let written = seen.files.bytes_of("o").unwrap_or(&[]);
+    expect_bytes(rt, alloc, row, "written", written)
+}
+
+// Plays a row, and compares.
+fn play_row(rt: &impl Abort, alloc: Global, program: &[u8], row: &str) -> Result<(), Fail> {
+    expect_cells(row)?;
+    let words = words_in(alloc, row)?;
+    let outcome = outcome_of(&Played {
+        alloc,
+        words: words.as_str(),
+        program,
+        row,
+    })?;
+    expect_outcome(rt, alloc, row, &outcome)
+}
+
+// Plays the rows of a block.
+fn play_block(rt: &impl Abort, alloc: Global, block: &str) -> Result<(), Fail> {
+    let (first, rows) = block.trim().split_once('\n').ok_or("no rows")?;
+    let program = program_in(alloc, first)?;
+    for row in rows.lines() {
+        let row = row.trim();
+        if !row.starts_with('#') {
+            play_row(rt, alloc, program.as_slice(), row)?;
+        }
+    }
+    Ok(())
+}
+
+/// Plays blocks of rows, which blank lines part.
+pub fn play_rows(rt: &impl Abort, alloc: Global, blocks: &str) -> Result<(), Fail> {
+    for block in blocks.split("\n\n") {
+        play_block(rt, alloc, block)?;
+    }
+    Ok(())
+}

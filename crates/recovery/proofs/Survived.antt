@@ -1,0 +1,149 @@
+-- What a walk leaves: none of its trials survived, or the last one is adopted.
+use Rattle.std.proofs.Common.{◌≡◌, ℕ, zero, suc, ◌+◌, ◌-◌, ◌≤◌, List, [], ◌∷◌, ◌++◌, length, take, drop, Option, Some, None, refl, sym, ◌∙◌, ap, subst, arith, length-append, length-drop}
+use Rattle.std.specs.Prelude.{slice_get, option_map}
+use Rattle.std.proofs.lemmas.Option.{same_Some, none-some}
+use Rattle.std.proofs.Math.Seq.{take-append_seam}
+use Rattle.rx_io.specs.declared.bytes.Item.{Item}
+use Rattle.rx_io.specs.Sends.{Send}
+use Rattle.elf_image.specs.declared.image.Image.{Image}
+use Rattle.alloc_env.specs.declared.env.Env.{Env}
+use Rattle.block_book.specs.declared.choice.Choice.{Choice}
+use Rattle.reply_ledger.specs.Ledger.{Ledger}
+use Rattle.reply_ledger.specs.Trials.{discarded}
+use Rattle.run_history.specs.Machine.{start, start_machine}
+use Rattle.run_history.specs.Served.{Limits, Override, Path, origin, Served, AsksFor}
+use Rattle.run_history.proofs.Serves.{IsUsed, served_follows}
+use Rattle.guest_cpu.specs.Cpus.{CpuState}
+use Rattle.session_notes.specs.declared.episode.Tried.{Tried}
+use Rattle.session_notes.specs.declared.episode.Tried.TheVariants as tried
+use Rattle.session_notes.specs.declared.episode.Try.{Try}
+use Rattle.trials.specs.Trials.{ComesTo}
+use Rattle.trials.specs.Tables.{Chance, Trial, chance_at, IsRight, survivor_in}
+use Rattle.trials.specs.Chains.{AreChained}
+use Rattle.trials.proofs.Asking.{asks_under_all}
+use Rattle.trials.proofs.Chained.{chained_at}
+use Rattle.trials.proofs.Walked.{walk_adopts}
+use Rattle.recovery.specs.Sessions.{Failure, items_of, pieces_of}
+use Rattle.recovery.specs.Trying.{steps_of, adopted_of, IsAdopted, LeavesBy, HasWalked}
+use Rattle.recovery.specs.declared.walking.Adopted.{Adopted}
+use Rattle.recovery.specs.Rings.{AreBehind}
+use Rattle.recovery.proofs.WalkLemmas.{steps_of-more}
+
+-- the chance at an index is one at its checkpoint
+chance_from : (ring : List Path) (index : ℕ) {env : Env} {chance : Chance} → chance_at ring index env ≡ Some chance → (slice_get ring index ≡ Some chance.checkpoint) × (env ≡ chance.env)
+chance_from ring index {env = env} {chance = chance} is = by (slice_get ring index) is
+  where
+    by : (o : Option Path) → option_map (λ (checkpoint : Path). record { checkpoint = checkpoint; env = env }) o ≡ Some chance → (o ≡ Some chance.checkpoint) × (env ≡ chance.env)
+    by None is = absurd (none-some chance is)
+    by (Some checkpoint) is =
+        let same = same_Some (record { checkpoint = checkpoint; env = env }) chance is in
+        (ap (λ (one : Chance). Some one.checkpoint) same, ap (λ (one : Chance). one.env) same)
+
+-- the last of some trials did no more instructions than all of them
+steps_last : (failing : List Trial) (trial : Trial) {trials : List Trial} → trials ≡ failing ++ trial ∷ [] → trial.path.steps - trial.chance.checkpoint.steps ≤ steps_of trials
+steps_last failing trial {trials = trials} is =
+    let all : steps_of trials ≡ steps_of failing + (trial.path.steps - trial.chance.checkpoint.steps) = ap steps_of is ∙ steps_of-more failing trial in
+    omega (arith, all)
+
+module _ {R : Type 0} where
+  -- the trial that was adopted, and what its walk says of it
+  pub record HasSurvived (failure : Failure) (point : ℕ) (trials : List Trial) (adopted : Adopted) (cpu : CpuState R) (choices : List Choice) (ledger : Ledger) : Type 0 where
+    pub trial : Trial
+    pub survivor : survivor_in trials ≡ Some trial
+    pub adopts : IsAdopted failure trial adopted cpu choices ledger
+    pub from : slice_get failure.ring adopted.index ≡ Some trial.chance.checkpoint
+    pub env_is : adopted.env ≡ trial.chance.env
+    pub right : IsRight failure.rules.limits (items_of failure) failure.plan (pieces_of failure) point trial
+    pub least : trial.path.steps - trial.chance.checkpoint.steps ≤ steps_of trials
+
+  pub has_survived : {failure : Failure} {point : ℕ} {cpu : CpuState R} {choices : List Choice} {old new : Ledger} {before now : ℕ} {tries : List Try} {adopted : Option Adopted} {one : Adopted} (w : HasWalked failure point cpu choices old new before now tries adopted)
+      → adopted ≡ Some one → HasSurvived failure point w.trials one cpu choices new
+  has_survived {failure = failure} {point = point} {cpu = cpu} {choices = choices} {old = old} {new = new} {one = one} w is =
+      let leaves = subst (λ (a : Option Adopted). LeavesBy failure w.trials cpu choices old new a) is w.leaves in
+      let it = walk_adopts failure.rules.limits (items_of failure) failure.plan (pieces_of failure) point failure.ring w.trials leaves.0 w.walks leaves.1 in
+      let chance = chance_from failure.ring one.index leaves.2.chance_is in
+      record {
+        trial = leaves.0;
+        survivor = leaves.1;
+        adopts = leaves.2;
+        from = chance.0;
+        env_is = chance.1;
+        right = it.right;
+        least = steps_last it.failing leaves.0 it.last;
+      }
+
+  -- or none survived
+  pub none_survived : {failure : Failure} {point : ℕ} {cpu : CpuState R} {choices : List Choice} {old new : Ledger} {before now : ℕ} {tries : List Try} {adopted : Option Adopted} (w : HasWalked failure point cpu choices old new before now tries adopted)
+      → adopted ≡ None → (survivor_in w.trials ≡ None) × (new ≡ discarded old)
+  none_survived {failure = failure} {cpu = cpu} {choices = choices} {old = old} {new = new} w is = subst (λ (a : Option Adopted). LeavesBy failure w.trials cpu choices old new a) is w.leaves
+
+-- by what is adopted of a trial it asks for the next item, or has ended itself
+pub adopted_asks : {limits : Limits} (items : List Item) (plan : List Override) (checkpoint : Path) (pieces : List Send) {point : ℕ} {path : Path} (index : ℕ) (env : Env) (result : Tried) {adopted : Adopted} → adopted_of index env result ≡ Some adopted
+    → ComesTo limits items plan checkpoint pieces point path result → (adopted.code ≡ path.state.ended) × (path.state.ended ≡ None → AsksFor limits [] path point)
+adopted_asks {limits = limits} items plan checkpoint pieces {point = point} {path = path} index env tried.Asks {adopted = adopted} is comes =
+    let same = same_Some (record { index = index; env = env; code = None }) adopted is in
+    (sym (ap (λ (a : Adopted). a.code) same) ∙ sym comes.1.lives, λ lives. asks_under_all limits plan [] path point comes.1)
+adopted_asks items plan checkpoint pieces index env (tried.Exits code) {adopted = adopted} is comes =
+    let same = same_Some (record { index = index; env = env; code = Some code }) adopted is in
+    (sym (ap (λ (a : Adopted). a.code) same) ∙ sym comes.1, λ lives. absurd (none-some code (sym lives ∙ comes.1)))
+adopted_asks items plan checkpoint pieces index env (tried.Failed cause) {adopted = adopted} is comes = absurd (none-some adopted is)
+adopted_asks items plan checkpoint pieces index env tried.Contradicts {adopted = adopted} is comes = absurd (none-some adopted is)
+adopted_asks items plan checkpoint pieces index env tried.Behind {adopted = adopted} is comes = absurd (none-some adopted is)
+
+-- the start used no answer of malloc
+start_used : (image : Image) → IsUsed (origin image)
+unfolding start start_machine
+start_used image = refl
+
+-- The answers of malloc of a run that goes on from a checkpoint, behind the first ones, which were used before it: those of a later run up to
+-- there, and its own.
+pub record OwnAnswers (recorded : ℕ) (later path : Path) (own : List Choice) : Type 0 where
+  pub few : recorded + length own ≤ path.state.machine.allocations
+  pub first : path.state.machine.allocations ≤ recorded + length (drop recorded later.choices) + length own
+  pub low : recorded ≤ length path.choices
+  pub front : take recorded path.choices ≡ take recorded later.choices
+  pub joins : take (path.state.machine.allocations - length own - recorded) (drop recorded later.choices) ++ own ≡ drop recorded path.choices
+
+-- a checkpoint of a ring has used so many
+pub behind_at : (count : ℕ) (ring : List Path) (index : ℕ) (checkpoint : Path) → AreBehind count ring → slice_get ring index ≡ Some checkpoint → count ≤ length checkpoint.choices
+behind_at count [] index checkpoint behind found = absurd (cc)
+behind_at count (newest ∷ older) zero checkpoint behind found = subst (λ (path : Path). count ≤ length path.choices) (same_Some newest checkpoint found) behind.0
+behind_at count (newest ∷ older) (suc index) checkpoint behind found = behind_at count older index checkpoint behind.1 found
+
+-- of some first elements, and others, those behind the first ones
+joined_behind : {X : Type 0} (count : ℕ) (first others own : List X) → count ≤ length first → take (length first - count) (drop count (first ++ others)) ++ own ≡ drop count (first ++ own)
+joined_behind zero first others own few =
+    let all : length first - 0 ≡ length first = omega arith in
+    ap (λ n. take n (first ++ others) ++ own) all ∙ ap (λ xs. xs ++ own) (take-append_seam first others)
+joined_behind (suc count) [] others own few = absurd (omega (arith, few))
+joined_behind (suc count) (x ∷ first) others own few =
+    let less : length (x ∷ first) - suc count ≡ length first - count = omega arith in
+    ap (λ n. take n (drop count (first ++ others)) ++ own) less ∙ joined_behind count first others own (omega (arith, few))
+
+taken_front : {X : Type 0} (count : ℕ) (first others : List X) → count ≤ length first → take count (first ++ others) ≡ take count first
+taken_front zero first others few = refl
+taken_front (suc count) [] others few = absurd (omega (arith, few))
+taken_front (suc count) (x ∷ first) others few = ap (λ xs. x ∷ xs) (taken_front count first others (omega (arith, few)))
+
+pub own_answers : {recorded : ℕ} {limits : Limits} {items : List Item} (plan : List Override) {other : List Override} (image : Image) {later path : Path} (ring : List Path) (index : ℕ) {checkpoint : Path} {own : List Choice} → AreBehind recorded ring
+    → AreChained limits items plan image later ring → slice_get ring index ≡ Some checkpoint → Served limits items other checkpoint path → path.choices ≡ checkpoint.choices ++ own → OwnAnswers recorded later path own
+own_answers {recorded = recorded} {limits = limits} {items = items} plan {other = other} image {later = later} {path = path} ring index {checkpoint = checkpoint} {own = own} behind chain found served chose =
+    let there = chained_at limits items plan image later ring index checkpoint chain found in
+    let at_checkpoint = served_follows limits items plan (origin image) checkpoint there.1.more (start_used image) there.1.ran in
+    let to_later = served_follows limits items plan checkpoint later there.0.more at_checkpoint.used there.0.ran in
+    let to_path = served_follows limits items other checkpoint path served.more at_checkpoint.used served.ran in
+    let used : path.state.machine.allocations ≡ length path.choices = to_path.used in
+    let count : length path.choices ≡ length checkpoint.choices + length own = ap length chose ∙ length-append checkpoint.choices own in
+    let whole : length later.choices ≡ length checkpoint.choices + length to_later.others = ap length to_later.chose ∙ length-append checkpoint.choices to_later.others in
+    let low : recorded ≤ length checkpoint.choices = behind_at recorded ring index checkpoint behind found in
+    let front : path.state.machine.allocations - length own - recorded ≡ length checkpoint.choices - recorded = omega (arith, used, count, low) in
+    let left : length (drop recorded later.choices) ≡ length later.choices - recorded = length-drop recorded later.choices in
+    record {
+      few = omega (arith, used, count, low);
+      first = omega (arith, used, count, whole, left, low);
+      low = omega (arith, count, low);
+      front = (ap (take recorded) chose ∙ taken_front recorded checkpoint.choices own low) ∙ sym (ap (take recorded) to_later.chose ∙ taken_front recorded checkpoint.choices to_later.others low);
+      joins =
+          ap (λ n. take n (drop recorded later.choices) ++ own) front ∙ (ap (λ (cs : List Choice). take (length checkpoint.choices - recorded) (drop recorded cs) ++ own) to_later.chose
+          ∙ (joined_behind recorded checkpoint.choices to_later.others own low ∙ sym (ap (drop recorded) chose)));
+    }
