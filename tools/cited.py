@@ -2,8 +2,9 @@
 """Which definitions of specs/ a definition rests on: those that it cites, those that these cite, and so on.
 
 For docs/DEFINITIONS.md, whose reading lists say what to read for a promise. A definition is named by its crate, its file and
-its name. A line is printed for each file, with what is cited there and, behind a bar, what isn't. Types of the code are
-followed through their ghost fields. Words of the standard library aren't followed.
+its name. A line is printed for each file, with what is cited there and, behind a bar, what isn't; and at the end, how many
+lines of specs/ have that, without blank ones and comments. Types of the code are followed through their ghost fields. Words
+of the standard library aren't followed.
 
 usage: cited.py CRATE.FILE.NAME ..
 as cited.py rx_serve.Commands.RunEnds
@@ -18,8 +19,8 @@ import sys
 CRATES = os.path.join(os.path.dirname(os.path.abspath(__file__)), "..", "crates")
 
 # `use Rattle.CRATE.specs.FILE.{A, B as C}`, and the same of a type of the code: `declared.FILE.TYPE` in place of FILE
-IMPORT = re.compile(r"^(?:pub |ghost )*use Rattle\.(\w+)\.specs\.(\w+)\.\{([^}]*)\}", re.M)
-TYPE_IMPORT = re.compile(r"^(?:pub |ghost )*use Rattle\.(\w+)\.specs\.declared\.(\w+)\.(\w+)(?:\.TheVariants)?(?:\.\{([^}]*)\}| as (\w+))", re.M)
+IMPORT = re.compile(r"^(?:pub |ghost |unfoldable )*use Rattle\.(\w+)\.specs\.(\w+)\.\{([^}]*)\}", re.M)
+TYPE_IMPORT = re.compile(r"^(?:pub |ghost |unfoldable )*use Rattle\.(\w+)\.specs\.declared\.(\w+)\.(\w+)(?:\.TheVariants)?(?:\.\{([^}]*)\}| as (\w+))", re.M)
 BEGIN = re.compile(r"^(?:(?:abbrev|unfoldable|pub|record|data)\s+)+(?!use\s)([^\s:({]+)")
 STRUCT = re.compile(r"^pub struct (\w+) \{\n(.*?)^\}", re.M | re.S)
 NAME = re.compile(r"[A-Za-z_]\w*|>>=")
@@ -113,12 +114,15 @@ def main():
             if place not in seen:
                 seen.add(place)
                 waiting.append(place)
+    lines = 0
     for crate, file in sorted({place[:2] for place in seen}):
         cited = sorted(name for name in (place[2] for place in seen if place[:2] == (crate, file)))
         texts = [] if file.startswith("src/") else list(files[crate, file].texts)
         ordered = [name for name in texts if name in cited] or cited
         others = [name for name in texts if name not in cited]
+        lines += sum(len([line for line in files[crate, file].texts[name].splitlines() if line.strip()]) for name in texts if name in cited)
         print("%s/%s: %s%s" % (crate, file, " ".join(ordered), " | " + " ".join(others) if others else ""))
+    print("%d lines of definitions" % lines)
 
 
 if __name__ == "__main__":

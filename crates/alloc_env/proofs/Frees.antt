@@ -1,21 +1,9 @@
 -- What a free leaves.
-use Rattle.std.proofs.Common.{◌≡◌, ℕ, Bool, true, false, not, cond, ◌||◌, ◌&&◌, List, [], ◌∷◌, Option, Some, None, sym, ◌∙◌, subst, ap, refl, inl, inr, eqb, if◌then◌else◌}
 use Rattle.std.specs.List.{find, list_any}
-use Rattle.std.proofs.lemmas.Bool.{cases_Bool, and_parts, or_parts, eqb-true, eq-eqb, ne_eqb}
 use Rattle.std.proofs.lemmas.Option.{same_Some}
 use Rattle.block_book.specs.declared.block.Block.{Block}
-use Rattle.block_book.specs.declared.standing.Standing.{Standing}
-use Rattle.block_book.specs.declared.standing.Standing.TheVariants.{Nothing, Live, Delayed}
-use Rattle.block_book.specs.Block.{extent_end}
-use Rattle.block_book.specs.Heap.{Heap, IsHeap, StandWithin, with_delayed, without_block, standing_of, standing_at, is_live_at}
-use Rattle.block_book.specs.Answer.{live_blocks, without_live}
-use Rattle.block_book.proofs.Sound.{sound-filter, sound-delayed}
 use Rattle.block_book.proofs.Searches.{IsAbout, at-is-about, any-above}
-use Rattle.block_book.proofs.Live.{live-without, live-delayed, live-front, live-front_delayed, kept-front}
-use Rattle.alloc_env.specs.declared.env.Env.{Env}
-use Rattle.alloc_env.specs.Treatment.{treatment_of}
-use Rattle.alloc_env.specs.Serving.{freed, freed_by, served_free}
-use Rattle.alloc_env.specs.Laws.{Follows}
+use Rattle.alloc_env.proofs.Terms.{Bool, List, None, Option, Some, [], ap, cond, eqb, false, if◌then◌else◌, inl, inr, not, refl, subst, sym, true, ℕ, ◌&&◌, ◌||◌, ◌∙◌, ◌∷◌, ◌≡◌, and_parts, cases_Bool, eq-eqb, eqb-true, ne_eqb, or_parts, Standing, Delayed, Live, Nothing, kept-front, live-delayed, live-front, live-front_delayed, live-without, sound-delayed, sound-filter, live_blocks, without_live, extent_end, Heap, IsHeap, StandWithin, is_live_at, standing_at, standing_of, with_delayed, without_block, Env, treatment_of, freed, freed_by, served_free, Follows}
 
 -- a live block of that address stands among blocks
 abbrev is_live : ℕ → Block → Bool

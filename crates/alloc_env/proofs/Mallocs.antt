@@ -1,19 +1,5 @@
 -- The answers of malloc.
-use Rattle.std.proofs.Common.{◌≡◌, ℕ, ◌%◌, ◌≤◌, Bool, true, false, not, ◌&&◌, Option, Some, None, arith, sym, ◌∙◌, subst, ap, refl, eqb, if◌then◌else◌}
-use Rattle.std.specs.Option.{option_or, option_map_or}
-use Rattle.std.proofs.lemmas.Bool.{ne_eqb, or_right}
-use Rattle.block_book.specs.declared.choice.Choice.{Choice}
-use Rattle.block_book.specs.Block.{live_block}
-use Rattle.block_book.specs.Heap.{Heap, IsHeap, with_block, recycled}
-use Rattle.block_book.specs.Placement.{placement}
-use Rattle.block_book.specs.Answer.{live_blocks, is_clear, is_allowed, insert_live}
-use Rattle.block_book.proofs.Sound.{sound-filter}
-use Rattle.block_book.proofs.Live.{placement-clear, placement-sound, placement-positive, live-insert_block, live-recycled}
-use Rattle.alloc_env.specs.declared.env.Env.{Env}
-use Rattle.alloc_env.specs.declared.env.Env.TheVariants.{Plain, Pad, Zero, Isolate, Delay, All}
-use Rattle.alloc_env.specs.Treatment.{treatment_of}
-use Rattle.alloc_env.specs.Serving.{Served, spot, middle, served_at, served_null, served_malloc, live_with}
-use Rattle.alloc_env.specs.Laws.{Serves}
+use Rattle.alloc_env.proofs.Terms.{Bool, None, Option, Some, ap, arith, eqb, false, if◌then◌else◌, not, refl, subst, sym, true, ℕ, ◌%◌, ◌&&◌, ◌∙◌, ◌≡◌, ◌≤◌, ne_eqb, or_right, option_map_or, option_or, Choice, live-insert_block, live-recycled, placement-clear, placement-positive, placement-sound, sound-filter, insert_live, is_allowed, is_clear, live_blocks, live_block, Heap, IsHeap, recycled, with_block, placement, Env, All, Delay, Isolate, Pad, Plain, Zero, treatment_of, Served, live_with, middle, served_at, served_malloc, served_null, spot, Serves}
 
 side-multiple : (env : Env) → (treatment_of env).side % 16 ≡ 0
 side-multiple Plain = refl

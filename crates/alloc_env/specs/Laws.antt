@@ -1,7 +1,6 @@
 -- What holds of the answers in every environment.
 use Rattle.std.specs.Prelude.{◌≡◌, ℕ, true, not, ◌&&◌, Some, ◌==◌}
-use Rattle.block_book.specs.Heap.{Heap, IsHeap}
-use Rattle.block_book.specs.Answer.{live_blocks, is_allowed, without_live}
+use Rattle.alloc_env.specs.Terms.{is_allowed, live_blocks, without_live, Heap, IsHeap}
 use Rattle.alloc_env.specs.declared.env.Env.{Env}
 use Rattle.alloc_env.specs.Treatment.{treatment_of}
 use Rattle.alloc_env.specs.Serving.{Served, served_malloc, served_free, live_with}
@@ -19,6 +18,7 @@ pub record Serves (env : Env) (heap : Heap) (size : ℕ) (served : Served) : Typ
   -- the block is live from now on, and nothing else changes among the live ones
   pub live : live_blocks served.heap.blocks ≡ live_with served.choice size (live_blocks heap.blocks)
 
+-- that is so of malloc in each environment and in each heap
 abbrev pub MallocServes : Type 0
 MallocServes = (env : Env) (heap : Heap) (size : ℕ) → IsHeap heap → Serves env heap size (served_malloc env heap size)
 
@@ -30,5 +30,6 @@ pub record Follows (heap : Heap) (at : ℕ) (after : Heap) : Type 0 where
   -- the block isn't live any more, if it was
   pub live : live_blocks after.blocks ≡ without_live at (live_blocks heap.blocks)
 
+-- that is so of each free that isn't refused
 abbrev pub FreeFollows : Type 0
 FreeFollows = (env : Env) (heap after : Heap) (at : ℕ) → IsHeap heap → served_free env heap at ≡ Some after → Follows heap at after

@@ -1,3 +1,4 @@
+pub mod Terms
 pub mod Treatment
 pub mod Serving
 pub mod Laws

@@ -1,13 +1,6 @@
 -- The answers of malloc and free in an environment, as functions.
 use Rattle.std.specs.Prelude.{◌≡◌, ℕ, ◌+◌, ◌-◌, ◌/◌, false, List, Option, Some, None, Result, Ok, Err, ◌==◌, if◌then◌else◌}
-use Rattle.std.specs.Option.{option_or, option_map_or}
-use Rattle.block_book.specs.declared.choice.Choice.{Choice}
-use Rattle.block_book.specs.declared.standing.Standing.{Standing}
-use Rattle.block_book.specs.declared.standing.Standing.TheVariants.{Nothing, Live, Delayed}
-use Rattle.block_book.specs.Block.{live_block}
-use Rattle.block_book.specs.Heap.{Heap, with_block, without_block, with_delayed, recycled, standing_at}
-use Rattle.block_book.specs.Placement.{placement}
-use Rattle.block_book.specs.Answer.{insert_live}
+use Rattle.alloc_env.specs.Terms.{option_map_or, option_or, Choice, Standing, Delayed, Live, Nothing, insert_live, live_block, Heap, recycled, standing_at, with_block, with_delayed, without_block, placement}
 use Rattle.alloc_env.specs.declared.env.Env.{Env}
 use Rattle.alloc_env.specs.declared.bad_free.BadFree.{BadFree}
 use Rattle.alloc_env.specs.Treatment.{treatment_of}

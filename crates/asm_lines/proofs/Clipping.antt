@@ -1,6 +1,5 @@
 -- Numbers as far as they are told.
-use Rattle.std.proofs.Common.{◌≡◌, ℕ, ◌<◌, List, [], ◌∷◌, length, arith, refl}
-use Rattle.asm_lines.specs.Numbers.{decimal_from, hexadecimal_from, clipped, signed_decimal, number_of}
+use Rattle.asm_lines.proofs.Terms.{List, [], arith, length, refl, ℕ, ◌<◌, ◌∷◌, ◌≡◌, clipped, decimal_from, hexadecimal_from, number_of, signed_decimal}
 
 -- what a loop over decimal digits has found: a number, which it tells as far as that goes
 pub record IsDecimalSoFar (digits rest : List ℕ) (told : ℕ) : Type 0 where

@@ -1,9 +1,6 @@
 -- Parts that are cut out of some bytes.
-use Rattle.std.proofs.Common.{◌≡◌, ℕ, suc, ◌+◌, ◌<◌, ◌≤◌, Bool, true, false, cond, List, [], ◌∷◌, ◌++◌, Option, Some, None, option_map, length, take, drop, get_or, ◌==◌, refl, ap, sym, ◌∙◌, arith, eq-eqb, ◌-◌}
 use Rattle.std.proofs.lemmas.List.{at_drop_more, take_more, take_all, append-nil}
-use Rattle.asm_lines.specs.Bytes.{is_blank, before_blanks, strip_blanks, cut, onto}
-use Rattle.asm_lines.specs.Lines.{lines_from, lines_of}
-use Rattle.asm_lines.specs.Statements.{pieces}
+use Rattle.asm_lines.proofs.Terms.{Bool, List, None, Option, Some, [], ap, arith, cond, drop, eq-eqb, false, get_or, length, option_map, refl, suc, sym, take, true, ℕ, ◌++◌, ◌+◌, ◌-◌, ◌<◌, ◌==◌, ◌∙◌, ◌∷◌, ◌≡◌, ◌≤◌, before_blanks, cut, is_blank, onto, strip_blanks, lines_from, lines_of, pieces}
 
 -- a cut of what stands behind some bytes, as a cut of both
 abbrev pub behind_front : List ℕ → Option (List ℕ × List ℕ) → Option (List ℕ × List ℕ)

@@ -1,9 +1,5 @@
 -- The definitions of lines at values that were worked out by hand from the assembler's rules.
-use Rattle.std.proofs.Common.{◌≡◌, [], ◌∷◌, ◌++◌, Some, None, refl}
-use Rattle.std.specs.Prelude.{pos, negsuc, codes}
-use Rattle.asm_lines.specs.Lines.{lines_of, code_of}
-use Rattle.asm_lines.specs.Numbers.{decimal, hexadecimal, signed_decimal, number_of}
-use Rattle.asm_lines.specs.Registers.{register_table, register_of}
+use Rattle.asm_lines.proofs.Terms.{None, Some, [], refl, ◌++◌, ◌∷◌, ◌≡◌, codes, negsuc, pos, code_of, lines_of, decimal, hexadecimal, number_of, signed_decimal, register_of, register_table}
 
 -- lines, with and without the last line feed
 pub lines_split : lines_of (codes "a" ++ 10 ∷ 10 ∷ codes "bc") ∷ lines_of (codes "a" ++ 10 ∷ []) ∷ lines_of (10 ∷ []) ∷ lines_of [] ∷ []

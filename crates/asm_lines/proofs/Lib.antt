@@ -1,3 +1,4 @@
+pub mod Terms
 mod Examples
 pub mod Cutting
 pub mod Clipping

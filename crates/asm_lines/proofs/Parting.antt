@@ -1,10 +1,5 @@
 -- Operands, by where commas stand.
-use Rattle.std.proofs.Common.{◌≡◌, ◌≢◌, ℕ, true, false, List, [], ◌∷◌, Option, Some, None, Ok, Err, length, map, refl, ap, sym, ◌∙◌, arith}
-use Rattle.std.specs.Prelude.{is_some}
-use Rattle.asm_lines.specs.declared.flaw.Flaw.TheVariants.{BadOperand}
-use Rattle.asm_lines.specs.Bytes.{trimmed, cut}
-use Rattle.asm_lines.specs.Statements.{pieces, operands_of, one, two, three, lone_statement}
-use Rattle.asm_lines.specs.declared.statement.Statement.{Statement}
+use Rattle.asm_lines.proofs.Terms.{Err, List, None, Ok, Option, Some, [], ap, arith, false, length, map, refl, sym, true, ℕ, ◌∙◌, ◌∷◌, ◌≡◌, ◌≢◌, is_some, BadOperand, Statement, cut, trimmed, lone_statement, one, operands_of, pieces, three, two}
 use Rattle.asm_lines.proofs.Cutting.{pieces-cut, pieces-uncut}
 
 abbrev parts_of : List ℕ → List (List ℕ)

@@ -1,14 +1,5 @@
 -- What a search says of the whole heap.
-use Rattle.std.proofs.Common.{◌≡◌, ℕ, zero, suc, ◌+◌, ◌^◌, ◌<◌, ◌≤◌, true, false, not, ◌&&◌, List, [], ◌∷◌, length, slice_get, Some, None, arith, sym, ◌∙◌, subst, ap, eqb, nat_le, leb}
-use Rattle.std.specs.List.{AllWithin}
-use Rattle.std.proofs.lemmas.Bool.{eqb-true, leb-true, lt-leb, eq-eqb, ne_eqb, and_parts, and_right}
-use Rattle.std.proofs.lemmas.Option.{slice_get_within}
-use Rattle.std.proofs.lemmas.List.Sums.{prefix_len_is}
-use Rattle.block_book.specs.declared.block.Block.{Block}
-use Rattle.block_book.specs.declared.standing.Standing.TheVariants.{Nothing}
-use Rattle.block_book.specs.Block.{reserved_size, extent_start, extent_end, lies_in}
-use Rattle.block_book.specs.Heap.{Heap, IsHeap, StandWithin, standing_at, standing_of, is_live_at, is_held, is_reserved}
-use Rattle.block_book.specs.Search.{passed, FindsLive}
+use Rattle.block_book.proofs.Terms.{List, None, Some, [], ap, arith, eqb, false, leb, length, nat_le, not, slice_get, subst, suc, sym, true, zero, ℕ, ◌&&◌, ◌+◌, ◌<◌, ◌^◌, ◌∙◌, ◌∷◌, ◌≡◌, ◌≤◌, and_parts, and_right, eq-eqb, eqb-true, leb-true, lt-leb, ne_eqb, prefix_len_is, slice_get_within, AllWithin, Block, Nothing, extent_end, extent_start, lies_in, reserved_size, Heap, IsHeap, StandWithin, is_held, is_live_at, is_reserved, standing_at, standing_of, FindsLive, passed}
 use Rattle.block_book.proofs.Rising.{stand-ordered}
 use Rattle.block_book.proofs.Searches.{IsAbout, at-is-about, any-some, any-none, find-some, find-no_block}
 

@@ -1,14 +1,6 @@
 -- The least address that fits, and how a walk over the blocks finds it.
-use Rattle.std.proofs.Common.{◌≡◌, ℕ, zero, suc, ◌+◌, ◌*◌, ◌/◌, ◌%◌, ◌<◌, ◌≤◌, Bool, true, false, cond, ◌&&◌, List, [], ◌∷◌, length, get_or, Option, Some, None, arith, sym, ◌∙◌, subst, ap, refl, inl, inr, ◌⊎◌, nat_le, eqb, max}
-use Rattle.std.specs.Option.{MatchOption}
-use Rattle.std.specs.List.{find, list_all, range_with_len}
 use Rattle.std.proofs.lemmas.List.{get_or_default}
-use Rattle.std.proofs.lemmas.Option.{MatchOption-at_some}
-use Rattle.std.proofs.lemmas.Bool.{cases_Bool, cases_lt, cases_order, leb-true, le-leb, eqb-true, eq-eqb, and_parts, and_from, or_left, or_right, or_cases, false_from_ne_true, both_ways}
-use Rattle.block_book.specs.declared.block.Block.{Block}
-use Rattle.block_book.specs.Block.{extent_start, extent_end, is_apart, lies_in, IsAligned}
-use Rattle.block_book.specs.Heap.{Heap, StandWithin, IsHeap}
-use Rattle.block_book.specs.Placement.{fits, fit}
+use Rattle.block_book.proofs.Terms.{Bool, List, None, Option, Some, [], ap, arith, cond, eqb, false, get_or, inl, inr, length, max, nat_le, refl, subst, suc, sym, true, zero, ℕ, ◌%◌, ◌&&◌, ◌*◌, ◌+◌, ◌/◌, ◌<◌, ◌∙◌, ◌∷◌, ◌≡◌, ◌≤◌, ◌⊎◌, and_from, and_parts, both_ways, cases_Bool, cases_lt, cases_order, eq-eqb, eqb-true, false_from_ne_true, le-leb, leb-true, or_cases, or_left, or_right, MatchOption-at_some, find, list_all, range_with_len, MatchOption, Block, IsAligned, extent_end, extent_start, is_apart, lies_in, Heap, IsHeap, StandWithin, fit, fits}
 use Rattle.block_book.proofs.Sizes.{reserved-multiple}
 use Rattle.block_book.proofs.Rising.{stand-starts, stand-ends, stand-aligned, extent-rises}
 

@@ -1,14 +1,5 @@
 -- The live blocks of a heap, and what a placement is to them.
-use Rattle.std.proofs.Common.{◌≡◌, ℕ, ◌+◌, ◌*◌, ◌%◌, ◌<◌, ◌≤◌, true, false, not, cond, ◌&&◌, List, [], ◌∷◌, length, map, filter, Option, Some, None, arith, sym, ◌∙◌, subst, ap, refl, inl, inr, eqb, nat_lt, nat_le, if◌then◌else◌}
-use Rattle.std.specs.Option.{option_map}
-use Rattle.std.specs.List.{list_all}
-use Rattle.std.proofs.lemmas.Bool.{cases_lt, cases_Bool, leb-true, le-leb, ltb-true, lt-ltb, and_parts, and_from, or_cases, or_left, or_right, eq-eqb}
-use Rattle.std.proofs.lemmas.Option.{same_Some}
-use Rattle.block_book.specs.declared.block.Block.{Block}
-use Rattle.block_book.specs.Block.{reserved_size, touched, extent_start, extent_end, is_apart, lies_in, live_block}
-use Rattle.block_book.specs.Heap.{Heap, IsHeap, StandWithin, insert_block, delayed_at, with_block, most_blocks}
-use Rattle.block_book.specs.Placement.{fit, placement}
-use Rattle.block_book.specs.Answer.{live_blocks, is_clear, insert_live, without_live}
+use Rattle.block_book.proofs.Terms.{List, None, Option, Some, [], ap, arith, cond, eqb, false, filter, if◌then◌else◌, inl, inr, length, map, nat_le, nat_lt, not, refl, subst, sym, true, ℕ, ◌%◌, ◌&&◌, ◌*◌, ◌+◌, ◌<◌, ◌∙◌, ◌∷◌, ◌≡◌, ◌≤◌, and_from, and_parts, cases_Bool, cases_lt, eq-eqb, le-leb, leb-true, lt-ltb, ltb-true, or_cases, or_left, or_right, same_Some, list_all, option_map, Block, extent_end, extent_start, is_apart, lies_in, live_block, reserved_size, touched, Heap, IsHeap, StandWithin, delayed_at, insert_block, most_blocks, with_block, fit, placement, insert_live, is_clear, live_blocks, without_live}
 use Rattle.block_book.proofs.Sizes.{reserved-least, reserved-touched}
 use Rattle.block_book.proofs.Rising.{extent-rises}
 use Rattle.block_book.proofs.Fitting.{FitsAt, fit-fits}

@@ -1,11 +1,5 @@
 -- Blocks that stand in rising order.
-use Rattle.std.proofs.Common.{◌≡◌, ℕ, zero, suc, ◌+◌, ◌-◌, ◌<◌, ◌≤◌, Bool, true, false, cond, List, [], ◌∷◌, length, get_or, map, filter, arith, sym, subst, ap, refl, nat_lt, nat_le, inl, inr, if◌then◌else◌, eqb}
-use Rattle.std.specs.List.{list_all}
-use Rattle.std.specs.List.Sorted.{IsNonDecreasingBy}
-use Rattle.std.proofs.lemmas.Bool.{cases_Bool, leb-true, ltb-true, ltb-false, or_cases, and_parts}
-use Rattle.block_book.specs.declared.block.Block.{Block}
-use Rattle.block_book.specs.Block.{extent_start, extent_end, is_apart, IsAligned}
-use Rattle.block_book.specs.Heap.{StandWithin, insert_block, delayed_at}
+use Rattle.block_book.proofs.Terms.{Bool, List, [], ap, arith, cond, eqb, false, filter, get_or, if◌then◌else◌, inl, inr, length, map, nat_le, nat_lt, refl, subst, suc, sym, true, zero, ℕ, ◌+◌, ◌-◌, ◌<◌, ◌∷◌, ◌≡◌, ◌≤◌, and_parts, cases_Bool, leb-true, ltb-false, ltb-true, or_cases, list_all, IsNonDecreasingBy, Block, IsAligned, extent_end, extent_start, is_apart, StandWithin, delayed_at, insert_block}
 use Rattle.block_book.proofs.Sizes.{reserved-least}
 
 -- an extent has at least 16 bytes

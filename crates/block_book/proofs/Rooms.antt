@@ -1,14 +1,5 @@
 -- A block that is to be added has room among the others.
-use Rattle.std.proofs.Common.{◌≡◌, ℕ, ◌+◌, ◌-◌, ◌*◌, ◌%◌, ◌<◌, ◌≤◌, Bool, true, false, not, cond, ◌||◌, ◌&&◌, List, [], ◌∷◌, length, map, filter, None, arith, sym, ◌∙◌, subst, ap, refl, inl, inr, eqb, nat_lt, nat_le, if◌then◌else◌}
-use Rattle.std.specs.Option.{option_map}
-use Rattle.std.specs.List.{list_all}
-use Rattle.std.proofs.lemmas.Bool.{leb-true, le-leb, eqb-true, lt-ltb, le-ltb, and_parts, and_from, or_cases, or_left, or_right}
-use Rattle.block_book.specs.declared.block.Block.{Block}
-use Rattle.block_book.specs.Block.{reserved_size, touched, extent_start, extent_end, is_apart, lies_in, live_block}
-use Rattle.block_book.specs.Heap.{Heap, IsHeap, StandWithin, insert_block, is_bare, most_blocks}
-use Rattle.block_book.specs.Placement.{fit, placement}
-use Rattle.block_book.specs.Answer.{live_blocks, is_clear}
-use Rattle.block_book.specs.Search.{HasRoom}
+use Rattle.block_book.proofs.Terms.{Bool, List, None, [], ap, arith, cond, eqb, false, filter, if◌then◌else◌, inl, inr, length, map, nat_le, nat_lt, not, refl, subst, sym, true, ℕ, ◌%◌, ◌&&◌, ◌*◌, ◌+◌, ◌-◌, ◌<◌, ◌||◌, ◌∙◌, ◌∷◌, ◌≡◌, ◌≤◌, and_from, and_parts, eqb-true, le-leb, le-ltb, leb-true, lt-ltb, or_cases, or_left, or_right, All-filter, AllPass-from_list_all, list_all-from_AllPass, list_all, option_map, Block, extent_end, extent_start, is_apart, lies_in, live_block, reserved_size, touched, Heap, IsHeap, StandWithin, insert_block, is_bare, most_blocks, fit, placement, is_clear, live_blocks, HasRoom}
 use Rattle.block_book.proofs.Sizes.{reserved-within}
 use Rattle.block_book.proofs.Fitting.{FitsAt}
 
@@ -111,11 +102,6 @@ bare-insert at size (block ∷ blocks) h =
     ]
 
 pub bare-filter : (test : Block → Bool) (blocks : List Block) → list_all (λ block. (eqb block.side 0) && not block.delayed) blocks ≡ true → list_all (λ block. (eqb block.side 0) && not block.delayed) (filter test blocks) ≡ true
-bare-filter test [] h = refl
-bare-filter test (block ∷ blocks) h =
-    let p = and_parts ((eqb block.side 0) && not block.delayed) (list_all (λ block. (eqb block.side 0) && not block.delayed) blocks) h in
-    let rest = bare-filter test blocks p.1 in
-    elim (test block) as (λ b. list_all (λ block. (eqb block.side 0) && not block.delayed) (cond b (block ∷ filter test blocks) (filter test blocks)) ≡ true) [
-      | true ↦ and_from ((eqb block.side 0) && not block.delayed) (list_all (λ block. (eqb block.side 0) && not block.delayed) (filter test blocks)) p.0 rest
-      | false ↦ rest
-    ]
+bare-filter test blocks h =
+    let bare : Block → Bool = λ block. (eqb block.side 0) && not block.delayed in
+    list_all-from_AllPass bare (filter test blocks) (All-filter test (λ block. bare block ≡ true) blocks (AllPass-from_list_all bare blocks h))

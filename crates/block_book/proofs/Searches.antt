@@ -1,11 +1,5 @@
 -- A search among blocks in order stops at the one block that can be meant.
-use Rattle.std.proofs.Common.{◌≡◌, ℕ, suc, ◌+◌, ◌-◌, ◌<◌, ◌≤◌, Bool, true, false, not, cond, ◌||◌, List, [], ◌∷◌, set, map, filter, slice_get, Some, None, arith, sym, ◌∙◌, subst, ap, refl, inl, inr, nat_lt, nat_le, eqb, if◌then◌else◌}
-use Rattle.std.specs.List.{find, list_any, list_all, insert, remove}
-use Rattle.std.proofs.lemmas.Bool.{cases_Bool, leb-true, leb-false, le-ltb, lt-ltb, eqb-true, eq-eqb, ne_eqb, and_parts, or_cases, or_parts, false_from_ne_true}
-use Rattle.block_book.specs.declared.block.Block.{Block}
-use Rattle.block_book.specs.Block.{extent_start, extent_end, is_apart, IsAligned}
-use Rattle.block_book.specs.Heap.{StandWithin, insert_block, delayed_at}
-use Rattle.block_book.specs.Search.{passed}
+use Rattle.block_book.proofs.Terms.{Bool, List, None, Some, [], ap, arith, cond, eqb, false, filter, if◌then◌else◌, inl, inr, map, nat_le, nat_lt, not, refl, set, slice_get, subst, suc, sym, true, ℕ, ◌+◌, ◌-◌, ◌<◌, ◌||◌, ◌∙◌, ◌∷◌, ◌≡◌, ◌≤◌, and_parts, cases_Bool, eq-eqb, eqb-true, false_from_ne_true, le-ltb, leb-false, leb-true, lt-ltb, ne_eqb, or_cases, or_parts, find, insert, list_all, list_any, remove, Block, IsAligned, extent_end, extent_start, is_apart, StandWithin, delayed_at, insert_block, passed}
 use Rattle.block_book.proofs.Sizes.{reserved-least}
 use Rattle.block_book.proofs.Rising.{extent-rises}
 

@@ -1,6 +1,5 @@
 -- Of reserved sizes.
-use Rattle.std.proofs.Common.{◌≡◌, ℕ, ◌+◌, ◌%◌, ◌≤◌, arith}
-use Rattle.block_book.specs.Block.{reserved_size, touched}
+use Rattle.block_book.proofs.Terms.{arith, ℕ, ◌%◌, ◌+◌, ◌≡◌, ◌≤◌, reserved_size, touched}
 
 pub reserved-multiple : (size : ℕ) → reserved_size size % 16 ≡ 0
 unfolding reserved_size

@@ -1,11 +1,5 @@
 -- Every change of a heap's blocks leaves a heap.
-use Rattle.std.proofs.Common.{◌≡◌, ℕ, suc, Bool, true, not, List, [], ◌∷◌, length, map, filter, set, slice_get, Some, arith, sym, ◌∙◌, subst, ap, refl, eqb}
-use Rattle.std.specs.List.{insert, remove}
-use Rattle.std.proofs.lemmas.Option.{same_Some}
-use Rattle.std.proofs.lemmas.List.Sums.{length-filter, count_by-le-length}
-use Rattle.block_book.specs.declared.block.Block.{Block}
-use Rattle.block_book.specs.Heap.{Heap, IsHeap, insert_block, with_block, with_delayed, delayed_at}
-use Rattle.block_book.specs.Search.{passed, HasRoom, FindsLive}
+use Rattle.block_book.proofs.Terms.{Bool, List, Some, [], ap, arith, eqb, filter, length, map, not, refl, set, slice_get, subst, suc, sym, true, ℕ, ◌∙◌, ◌∷◌, ◌≡◌, count_by-le-length, length-filter, same_Some, insert, remove, Block, Heap, IsHeap, delayed_at, insert_block, with_block, with_delayed, FindsLive, HasRoom, passed}
 use Rattle.block_book.proofs.Rising.{stand-filter, stand-delayed, stand-insert, length-insert_block}
 use Rattle.block_book.proofs.Searches.{insert-passed, remove-found, set-found}
 

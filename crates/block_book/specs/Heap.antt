@@ -30,6 +30,7 @@ pub record IsHeap (heap : Heap) : Type 0 where
   pub standing : StandWithin heap.start heap.blocks heap.end
   pub few : length heap.blocks ≤ most_blocks
 
+-- the heap of an area, with these blocks in it
 abbrev pub heap_of : ℕ → ℕ → List Block → Heap
 heap_of start end blocks = record { start = start; end = end; blocks = blocks }
 
@@ -71,6 +72,7 @@ abbrev pub standing_of : Option Block → Standing
 standing_of None = Nothing
 standing_of (Some block) = if block.delayed then Delayed block.size else Live block.size
 
+-- what stands at an address of a heap
 abbrev pub standing_at : Heap → ℕ → Standing
 standing_at heap at = standing_of (find (λ block. block.at == at) heap.blocks)
 

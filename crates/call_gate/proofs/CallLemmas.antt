@@ -1,21 +1,6 @@
 -- What a machine does at a call, by the call that its registers make and by what the check of its buffer says.
-use Rattle.std.proofs.Common.{◌≡◌, inl, inr, ℕ, ◌≤◌, Bool, true, false, cond, eqb, ltb, not, List, Option, Some, None, Result, Ok, Err, refl, sym, ap, ◌∙◌, subst, arith}
-use Rattle.std.specs.Prelude.{◌⊎◌, ◌&&◌, ◌||◌}
-use Rattle.std.proofs.lemmas.Bool.{cases_Bool, cond_both, eqb-true, true≢false}
-use Rattle.rx_io.specs.declared.bytes.Item.{Item}
-use Rattle.block_book.specs.declared.choice.Choice.{Choice}
-use Rattle.block_book.specs.Heap.{Heap}
-use Rattle.run_history.specs.declared.answer.Cause.{Cause}
-use Rattle.run_history.specs.declared.answer.Cause.TheVariants.{AssertFailed, BadAccess, BadCall}
-use Rattle.elf_image.specs.Memory.{Area, write, read, permitted, bytes_at}
-use Rattle.run_history.specs.Machine.{Machine, register, Effect, Goes, Emits, Ends, Fails}
-use Rattle.run_history.specs.Call.{takes, recv, answered, may_send, send, malloc, free, call}
-use Rattle.run_history.specs.Touching.{Range, buffer, call_buffer}
-use Rattle.run_history.specs.Served.{Request, Malloc, Free, Nothing, Limits, is_refused}
-use Rattle.call_gate.specs.declared.call.Call.{Call}
+use Rattle.call_gate.proofs.Terms.{Bool, Err, List, None, Ok, Option, Result, Some, ap, cond, eqb, false, inl, inr, ltb, not, refl, subst, sym, true, ℕ, ◌∙◌, ◌≡◌, cases_Bool, cond_both, eqb-true, true≢false, ◌&&◌, ◌||◌, ◌⊎◌, Item, Choice, Heap, Area, bytes_at, permitted, read, write, Cause, AssertFailed, BadAccess, BadCall, answered, call, free, malloc, may_send, recv, send, takes, Effect, Emits, Ends, Fails, Goes, Machine, register, Free, Limits, Malloc, Nothing, Request, is_refused, Range, buffer, call_buffer, Call, called, Buffer, buffer_of, checked, is_permitted}
 use Rattle.call_gate.specs.declared.call.Call.TheVariants as kind
-use Rattle.call_gate.specs.Calls.{called}
-use Rattle.call_gate.specs.Checks.{Buffer, buffer_of, is_permitted, checked}
 
 -- what the call of a number asks of the allocator
 abbrev pub request_at : ℕ → Machine → Request
@@ -172,13 +157,6 @@ recv_takes m at len is may item =
 pub send_sends : (m : Machine) (conn at len : ℕ) → called m.registers ≡ Ok (kind.Send conn at len) → areas_permit m.memory (buffer_of m.connections (kind.Send conn at len)) ≡ true → send m ≡ sends m conn at len
 send_sends m conn at len is may =
     let c = call_is m _ is in send_as m conn at len c.0 c.1 c.2 ∙ sent_by m conn at len (ltb 65535 len) (not (may_send m conn)) true may
-
--- the areas permit the bytes of a send that isn't answered before they are looked at
-pub send_permitted : (m : Machine) (conn at len : ℕ) → areas_permit m.memory (buffer_of m.connections (kind.Send conn at len)) ≡ true → len ≤ 65535 → may_send m conn ≡ true → permitted read m.memory at len ≡ true
-send_permitted m conn at len h few open_one =
-    let small : ltb 65535 len ≡ false = grind arith in
-    let late : (ltb 65535 len || not (may_send m conn)) ≡ false = rw (small, open_one) refl in
-    rw late at h
 
 -- what the check of a call says: that its buffer may be touched, or else why not
 abbrev pub CheckSays : Limits → Heap → Machine → Call → Result (Unit {0}) Cause → Type 0

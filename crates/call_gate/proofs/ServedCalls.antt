@@ -1,27 +1,12 @@
 -- What a guest does next in an environment, where its next instruction is a call.
-use Rattle.std.proofs.Common.{◌≡◌, inl, inr, ◌<◌, Bool, true, false, cond, leb, Option, Some, None, Result, Ok, Err, refl, sym, ap, ◌∙◌, arith}
-use Rattle.std.specs.Prelude.{option_and_then, option_map}
-use Rattle.std.proofs.lemmas.Option.{none-some}
-use Rattle.rx_io.specs.declared.bytes.Item.{Item}
 use Rattle.rv_isa.specs.declared.instr.Instr.{Instr}
 use Rattle.rv_isa.specs.declared.instr.Instr.TheVariants.{Ecall}
 use Rattle.rv_isa.specs.Table.{row}
-use Rattle.block_book.specs.declared.choice.Choice.{Choice}
-use Rattle.block_book.specs.Heap.{Heap}
 use Rattle.alloc_env.specs.declared.env.Env.{Env}
 use Rattle.alloc_env.specs.Serving.{served_malloc, served_free}
-use Rattle.elf_image.specs.Memory.{execute, permitted}
-use Rattle.run_history.specs.declared.answer.Cause.{Cause}
-use Rattle.run_history.specs.declared.answer.Cause.TheVariants.{AssertFailed, BadAccess, BadFree}
-use Rattle.run_history.specs.Machine.{Machine, register, Effect, Ends, Fails}
-use Rattle.run_history.specs.Call.{takes, malloc, free, call}
 use Rattle.run_history.specs.Run.{instruction, executed, word_at, does}
-use Rattle.run_history.specs.Touching.{touched_by, touched, call_buffer, instruction_at}
-use Rattle.run_history.specs.Served.{Limits, Guest, Request, Malloc, Free, Nothing, request_of, Grant, granted, grant, is_refused, does_with, serves}
-use Rattle.call_gate.specs.declared.call.Call.{Call}
+use Rattle.call_gate.proofs.Terms.{Bool, Err, None, Ok, Option, Result, Some, ap, arith, cond, false, inl, inr, leb, refl, sym, true, ◌<◌, ◌∙◌, ◌≡◌, none-some, option_and_then, option_map, Item, Choice, Heap, execute, permitted, Cause, AssertFailed, BadAccess, BadFree, call, free, malloc, takes, Effect, Ends, Fails, Machine, register, Free, Grant, Guest, Limits, Malloc, Nothing, Request, does_with, grant, granted, is_refused, request_of, serves, call_buffer, instruction_at, touched, touched_by, Call, called, checked}
 use Rattle.call_gate.specs.declared.call.Call.TheVariants as kind
-use Rattle.call_gate.specs.Calls.{called}
-use Rattle.call_gate.specs.Checks.{checked}
 use Rattle.call_gate.proofs.CallLemmas.{call_is, CheckSays, check_says, recv_takes, sends, send_sends}
 
 -- an ECALL that may be fetched is done by its number
@@ -143,7 +128,7 @@ refused_call limits env item guest made cause stands (why, inr (r, fails)) asks 
 abbrev allowed : Result (Unit {0}) Cause
 allowed = Ok tt
 
-allowed_never : (cause : Cause) → allowed ≡ Err cause → ⊥
+pub allowed_never : (cause : Cause) → allowed ≡ Err cause → ⊥
 allowed_never cause e = cc
 
 -- a guest at a call whose check fails

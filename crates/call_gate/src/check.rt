@@ -9,8 +9,8 @@ use block_book::Book;
 use guest_space::{AccessRule, GuestSpace};
 use run_history::Cause;
 
-// At most so many bytes are sent at once.
-const MOST_SENT: u32 = 65535;
+/// At most so many bytes are sent at once.
+pub const MOST_SENT: u32 = 65535;
 
 /// Whether the bytes that a call looks at may be touched. A recv's buffer has to be writable. The bytes of a send have to be
 /// readable, unless it is answered by 2 (more than 65,535 bytes) or by 1 (no connection that may be sent to). Of at least one

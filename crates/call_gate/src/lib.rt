@@ -11,5 +11,5 @@ mod check;
 mod connections;
 
 pub use call::{Call, read_call};
-pub use check::check_call;
+pub use check::{MOST_SENT, check_call};
 pub use connections::ConnSet;

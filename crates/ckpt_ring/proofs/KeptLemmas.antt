@@ -1,13 +1,6 @@
 -- The longest end of a list that passes a test is what its name says.
-use Rattle.std.proofs.Common.{◌≡◌, ℕ, ◌≤◌, Bool, true, false, zero, suc, List, [], ◌∷◌, length, map, drop, refl, ap, ◌∙◌, inl, inr, ⊎_elim, arith, length-drop}
-use Rattle.std.specs.Prelude.{◌⊎◌}
-use Rattle.ckpt_ring.specs.Rings.{longest_end}
+use Rattle.ckpt_ring.proofs.Terms.{Bool, List, [], ap, arith, drop, inl, inr, length, length-drop, map, refl, suc, true, zero, ℕ, ⊎_elim, ◌∙◌, ◌∷◌, ◌≡◌, ◌≤◌, cases_Bool, ◌⊎◌, longest_end}
 use Rattle.ckpt_ring.proofs.RingLemmas.{longest_end-passing, longest_end-failing}
-
--- a test passes or fails
-either : (b : Bool) → (b ≡ true) ⊎ (b ≡ false)
-either true = inl refl
-either false = inr refl
 
 module _ {X : Type 0} (test : List X → Bool) where
   -- it is an end
@@ -16,7 +9,7 @@ module _ {X : Type 0} (test : List X → Bool) where
   longest_end_drops (one ∷ list) =
       ⊎_elim (λ passes. (0, longest_end-passing test (one ∷ list) passes))
       (λ fails. (suc (longest_end_drops list).0, longest_end-failing test one list fails ∙ (longest_end_drops list).1))
-      (either (test (one ∷ list)))
+      (cases_Bool (test (one ∷ list)))
 
   -- it passes, or none does
   pub longest_end_passes : (list : List X) → (longest_end test list ≡ []) ⊎ (test (longest_end test list) ≡ true)
@@ -25,7 +18,7 @@ module _ {X : Type 0} (test : List X → Bool) where
       ⊎_elim (λ passes. inr (ap test (longest_end-passing test (one ∷ list) passes) ∙ passes))
       (λ fails. ⊎_elim (λ none. inl (longest_end-failing test one list fails ∙ none))
       (λ passes. inr (ap test (longest_end-failing test one list fails) ∙ passes)) (longest_end_passes list))
-      (either (test (one ∷ list)))
+      (cases_Bool (test (one ∷ list)))
 
   -- no end that passes is longer
   pub longest_end_longest : (list : List X) (count : ℕ) → test (drop count list) ≡ true → length (drop count list) ≤ length (longest_end test list)
@@ -34,11 +27,11 @@ module _ {X : Type 0} (test : List X → Bool) where
   longest_end_longest (one ∷ list) (suc count) passes =
       ⊎_elim (λ whole. rw (longest_end-passing test (one ∷ list) whole) (omega (arith, length-drop count list)))
       (λ fails. rw (longest_end-failing test one list fails) (longest_end_longest list count passes))
-      (either (test (one ∷ list)))
+      (cases_Bool (test (one ∷ list)))
 
 module _ {X Y : Type 0} (f : X → Y) (test : List Y → Bool) where
   -- it is the same of the elements as of what is read of them
   pub map-longest_end : (list : List X) → map f (longest_end (λ end. test (map f end)) list) ≡ longest_end test (map f list)
   map-longest_end [] = refl
   map-longest_end (one ∷ list) =
-      ⊎_elim (λ passes. rw passes refl) (λ fails. rw fails (map-longest_end list)) (either (test (f one ∷ map f list)))
+      ⊎_elim (λ passes. rw passes refl) (λ fails. rw fails (map-longest_end list)) (cases_Bool (test (f one ∷ map f list)))

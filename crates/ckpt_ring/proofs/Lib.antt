@@ -1,3 +1,4 @@
+pub mod Terms
 pub mod KeptLemmas
 pub mod RingLemmas
 pub mod SlotLemmas

@@ -1,11 +1,5 @@
 -- A save in the slot of the oldest checkpoint.
-use Rattle.std.proofs.Common.{◌≡◌, ℕ, ◌+◌, ◌<◌, ◌≤◌, true, false, suc, List, [], ◌∷◌, length, get_or, Some, refl, sym, ◌∙◌, arith}
-use Rattle.std.specs.Prelude.{nat_eq, Contains, slice_get}
-use Rattle.std.specs.List.{IsDistinct}
-use Rattle.std.proofs.lemmas.Map.Keys.{apart_from_distinct}
-use Rattle.std.proofs.lemmas.Bool.{le-leb, lt-leb, eqb-false}
-use Rattle.ckpt_ring.specs.Slots.{Saved, Slots, AreSound, IsOldest, slot_numbers, newest_slot, all_numbers, used_pages, saved_to, without_oldest, without_first}
-use Rattle.ckpt_ring.specs.Rings.{has_room, saved_in_ring}
+use Rattle.ckpt_ring.proofs.Terms.{List, Some, [], arith, false, get_or, length, refl, suc, sym, true, ℕ, ◌+◌, ◌<◌, ◌∙◌, ◌∷◌, ◌≡◌, ◌≤◌, eqb-false, le-leb, lt-leb, apart_from_distinct, IsDistinct, Contains, nat_eq, slice_get, has_room, saved_in_ring, AreSound, IsOldest, Saved, Slots, all_numbers, newest_slot, saved_to, slot_numbers, used_pages, without_first, without_oldest}
 use Rattle.ckpt_ring.proofs.RingLemmas.{sum-all_numbers, length-all_numbers, has_room_by_used, saved_in_ring-without_oldest, saved_in_ring-room, base-without_oldest}
 use Rattle.ckpt_ring.proofs.SoundLemmas.{sound-without_oldest, used_pages-without_oldest}
 

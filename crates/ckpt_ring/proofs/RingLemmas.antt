@@ -1,18 +1,5 @@
 -- Which checkpoints stand.
-use Rattle.std.proofs.Common.{◌≡◌, ℕ, ◌+◌, ◌-◌, ◌*◌, ◌<◌, ◌≤◌, Bool, true, false, leb, suc, List, [], ◌∷◌, ◌++◌, length, drop, Option, Some, None, refl, ap, sym, ◌∙◌, subst, arith}
-use Rattle.std.proofs.lemmas.Bool.{leb-true, le-leb}
-use Rattle.std.proofs.lemmas.List.Sums.{sum_by-cons}
-use Rattle.std.specs.Prelude.{slice_get, sum, nat_le, IfSome, Contains, MatchOption, ◌&&◌, if◌then◌else◌}
-use Rattle.ckpt_ring.specs.Slots.{Saved, Slots, AreSound, slot_numbers, page_numbers, newest_slot, all_numbers, saved_to, with_whole_oldest, without_oldest, without_first}
-use Rattle.ckpt_ring.specs.Rings.{checkpoints_of, has_room, longest_end, kept, saved_in_ring}
-
-and_first : (a b : Bool) → (a && b) ≡ true → a ≡ true
-and_first true b e = refl
-and_first false b e = e
-
-and_second : (a b : Bool) → (a && b) ≡ true → b ≡ true
-and_second true b e = e
-and_second false b e = cc
+use Rattle.ckpt_ring.proofs.Terms.{Bool, List, None, Option, Some, [], ap, arith, drop, false, length, refl, subst, suc, sym, true, ℕ, ◌++◌, ◌+◌, ◌-◌, ◌∙◌, ◌∷◌, ◌≡◌, ◌≤◌, and_parts, le-leb, leb-true, sum_by-cons, Contains, IfSome, MatchOption, if◌then◌else◌, nat_le, slice_get, sum, has_room, kept, longest_end, saved_in_ring, AreSound, Saved, Slots, all_numbers, newest_slot, page_numbers, saved_to, slot_numbers, with_whole_oldest, without_first, without_oldest}
 
 module _ {X : Type 0} (test : List X → Bool) where
   -- a list that passes stays as it is
@@ -62,18 +49,11 @@ has_room_by_used capacity pages frames used numbers e within = rw (le-leb (lengt
 
 -- what is known where there is room
 pub few_from_room : (capacity pages frames : ℕ) (numbers : List ℕ) → has_room capacity pages frames numbers ≡ true → length numbers ≤ capacity
-few_from_room capacity pages frames numbers e = leb-true (length numbers) capacity (and_first (nat_le (length numbers) capacity) _ e)
+few_from_room capacity pages frames numbers e = leb-true (length numbers) capacity (and_parts (nat_le (length numbers) capacity) _ e).0
 
 pub frames_from_room : (capacity pages frames : ℕ) (numbers : List ℕ) → has_room capacity pages frames numbers ≡ true
     → pages + sum (drop 1 numbers) + pages ≤ frames
-frames_from_room capacity pages frames numbers e = leb-true (pages + sum (drop 1 numbers) + pages) frames (and_second (nat_le (length numbers) capacity) _ e)
-
--- one checkpoint has room
-pub room_for_one : (capacity pages frames number : ℕ) → 1 ≤ capacity → 2 * pages ≤ frames → has_room capacity pages frames (number ∷ []) ≡ true
-room_for_one capacity pages frames number some large =
-    let first : leb 1 capacity ≡ true = le-leb 1 capacity some in
-    let second : leb (pages + 0 + pages) frames ≡ true = le-leb (pages + 0 + pages) frames (omega arith) in
-    rw (first, second) refl
+frames_from_room capacity pages frames numbers e = leb-true (pages + sum (drop 1 numbers) + pages) frames (and_parts (nat_le (length numbers) capacity) _ e).1
 
 module _ {State : Type 0} where
   -- a drop of the oldest leaves what a save makes of the slots
@@ -155,24 +135,3 @@ module _ {State : Type 0} where
   -- the live state stands on the last one, also when the oldest is dropped
   pub base-without_oldest : (slots : Slots State) → slots.base ≡ newest_slot slots.saved → (without_oldest slots).base ≡ newest_slot (without_oldest slots).saved
   base-without_oldest slots e = base_by slots.live slots.saved slots.base slots.written slots.count slots.pages slots.frames e
-
-  same_by : (taken_in : State → ℕ) (live : State) (saved : List (Saved State)) (base : Option ℕ) (written count pages frames : ℕ)
-      → drop 1 (checkpoints_of taken_in saved) ≡ checkpoints_of taken_in (without_first saved (made live saved base written count pages frames)).saved
-  same_by taken_in live [] base written count pages frames = refl
-  same_by taken_in live (one ∷ []) base written count pages frames = refl
-  same_by taken_in live (one ∷ next ∷ later) base written count pages frames = refl
-
-  -- and the checkpoints are those of the slots
-  pub checkpoints_of-without_oldest : (taken_in : State → ℕ) (slots : Slots State)
-      → drop 1 (checkpoints_of taken_in slots.saved) ≡ checkpoints_of taken_in (without_oldest slots).saved
-  checkpoints_of-without_oldest taken_in slots =
-      same_by taken_in slots.live slots.saved slots.base slots.written slots.count slots.pages slots.frames
-
-  -- there is room for a checkpoint where none stands
-  pub some_from_full : (capacity : ℕ) (slots : Slots State) → 1 ≤ capacity → 2 * slots.pages ≤ slots.frames
-      → has_room capacity slots.pages slots.frames (all_numbers slots) ≡ false → 0 < length slots.saved
-  some_from_full capacity slots some large full = some_by capacity slots.pages slots.frames slots.saved slots.written some large full where
-    some_by : (capacity pages frames : ℕ) (saved : List (Saved State)) (written : ℕ) → 1 ≤ capacity → 2 * pages ≤ frames
-        → has_room capacity pages frames (page_numbers saved ++ written ∷ []) ≡ false → 0 < length saved
-    some_by capacity pages frames [] written some large full = let one : has_room capacity pages frames (written ∷ []) ≡ true = room_for_one capacity pages frames written some large in cc
-    some_by capacity pages frames (one ∷ saved) written some large full = omega arith

@@ -1,18 +1,7 @@
 -- Slots, and checkpoints that name them.
-use Rattle.std.proofs.Common.{◌≡◌, ℕ, ◌+◌, ◌-◌, ◌<◌, ◌≤◌, true, false, zero, suc, List, [], ◌∷◌, ◌++◌, length, get_or, take, Option, Some, None, eqb, refl, ap, sym, ◌∙◌, subst, ⊎_elim, arith, length-append}
-use Rattle.std.specs.Prelude.{slice_get, All, Contains, IsSomeAnd}
-use Rattle.std.specs.List.{list_any}
-use Rattle.std.proofs.lemmas.Option.{slice_get_within, get_or_from_slice_get, slice_get-get_or, slice_get-map}
-use Rattle.std.specs.Option.{option_map}
-use Rattle.std.proofs.lemmas.List.{length-take, take-map, take-take}
-use Rattle.circular_buffer.specs.Buffer.{keep_last}
-use Rattle.std.proofs.lemmas.Bool.{cases_lt}
-use Rattle.std.proofs.lemmas.Cmp.{nat_eq_equiv}
 use Rattle.std.proofs.lemmas.Map.Views.{list_any-from_Contains}
 use Rattle.std.proofs.lemmas.Map.Steps.{le-length_from_below}
-use Rattle.ckpt_ring.specs.Slots.{Saved, Slots, restored, slot_numbers, newest_slot}
-use Rattle.ckpt_ring.specs.Rings.{slots_of, checkpoint_of, checkpoints_of, from_newest, without_newer}
-use Rattle.ckpt_ring.specs.declared.checkpoint.Checkpoint.{Checkpoint}
+use Rattle.ckpt_ring.proofs.Terms.{List, None, Option, Some, [], ap, arith, eqb, false, get_or, length, length-append, refl, subst, suc, sym, take, true, zero, ℕ, ⊎_elim, ◌++◌, ◌+◌, ◌-◌, ◌<◌, ◌∙◌, ◌∷◌, ◌≡◌, ◌≤◌, cases_lt, nat_eq_equiv, length-take, take-map, take-take, get_or_from_slice_get, slice_get-get_or, slice_get-map, slice_get_within, list_any, option_map, All, Contains, IsSomeAnd, slice_get, keep_last, Checkpoint, checkpoint_of, checkpoints_of, from_newest, slots_of, without_newer, Saved, Slots, newest_slot, restored, slot_numbers}
 
 module _ {X : Type 0} where
   -- what stands at a place is in the list

@@ -1,23 +1,9 @@
 -- What saves, restores and drops leave is sound. For who implements a Snapshot.
-use Rattle.std.proofs.Common.{◌≡◌, ℕ, ◌+◌, ◌-◌, ◌≤◌, ◌<◌, Bool, true, false, zero, suc, List, [], ◌∷◌, ◌++◌, length, get_or, take, Option, Some, None, eqb, refl, ap, sym, ◌∙◌, subst, inl, inr, ⊎_elim, arith}
-use Rattle.std.specs.Prelude.{◌⊎◌, sum, slice_get, All, Contains, IfSome, IsSomeAnd, MatchOption, nat_eq}
-use Rattle.std.specs.List.{list_any, IsDistinct, AllByRecursion}
-use Rattle.std.proofs.lemmas.Option.{slice_get-get_or, slice_get-map, get_or_from_slice_get}
-use Rattle.std.specs.Option.{option_map}
 use Rattle.std.proofs.lemmas.List.Folds.{list_any_none}
-use Rattle.std.proofs.lemmas.Cmp.{nat_eq_equiv}
-use Rattle.std.proofs.lemmas.List.Sums.{sum_by_push, sum_by-cons, sum_by-take-le}
-use Rattle.std.proofs.lemmas.List.{map-append, take-map, get_or_default, get_or-take, length-take}
-use Rattle.std.proofs.lemmas.Bool.{eqb-true, eqb-false}
-use Rattle.std.proofs.lemmas.List.Elements.{All-append, All-take}
-use Rattle.std.proofs.lemmas.Map.Keys.{IsDistinct-head, IsDistinct-tail, IsDistinct-cons, IsDistinct-push, apart_from_distinct}
-use Rattle.ckpt_ring.specs.Slots.{Saved, Slots, AreSound, used_pages, page_numbers, StandsEarlier, slot_numbers, newest_slot, saved_to, restored, without_newest, without_oldest, without_first}
+use Rattle.std.proofs.lemmas.List.Elements.{All-append, All-take, All-tail}
+use Rattle.ckpt_ring.proofs.Terms.{List, None, Option, Some, [], ap, arith, eqb, false, get_or, length, refl, subst, suc, sym, take, true, zero, ℕ, ⊎_elim, ◌++◌, ◌+◌, ◌-◌, ◌<◌, ◌∙◌, ◌∷◌, ◌≡◌, ◌≤◌, cases_Bool, eqb-false, eqb-true, nat_eq_equiv, get_or-take, get_or_default, length-take, map-append, take-map, sum_by-cons, sum_by-take-le, sum_by_push, IsDistinct-cons, IsDistinct-head, IsDistinct-push, IsDistinct-tail, apart_from_distinct, get_or_from_slice_get, slice_get-get_or, slice_get-map, AllByRecursion, IsDistinct, list_any, option_map, All, Contains, IfSome, IsSomeAnd, MatchOption, nat_eq, slice_get, sum, AreSound, Saved, Slots, StandsEarlier, newest_slot, page_numbers, restored, saved_to, slot_numbers, used_pages, without_first, without_newest, without_oldest}
 use Rattle.ckpt_ring.proofs.SlotLemmas.{contains_at, newest_slot_push, length-slot_numbers}
 use Rattle.ckpt_ring.proofs.RingLemmas.{written_from_none, newest_later, page_numbers_push}
-
-either : (b : Bool) → (b ≡ true) ⊎ (b ≡ false)
-either true = inl refl
-either false = inr refl
 
 module _ {K : Type 0} (P : K → Type 0) where
   at_place : (xs : List K) (i : ℕ) (x : K) → AllByRecursion P xs → slice_get xs i ≡ Some x → P x
@@ -46,12 +32,9 @@ not_found slot numbers absent =
     list_any_none (eqb slot) numbers (λ k d within.
     ⊎_elim (λ (same : eqb slot (get_or numbers k d) ≡ true).
     absurd (absent (k, within, get_or_irrelevant k d within ∙ sym (eqb-true slot (get_or numbers k d) same))))
-    (λ other. other) (either (eqb slot (get_or numbers k d)))) where
+    (λ other. other) (cases_Bool (eqb slot (get_or numbers k d)))) where
       get_or_irrelevant : (k d : ℕ) → k < length numbers → get_or numbers k slot ≡ get_or numbers k d
       get_or_irrelevant k d within = get_or_default numbers k slot d within
-
-all_tail : (P : ℕ → Type 0) (x : ℕ) (xs : List ℕ) → All P (x ∷ xs) → All P xs
-all_tail P x xs all = λ k d within. all (suc k) d (omega arith)
 
 stands_on : (base : Option ℕ) (none : Type 0) (P : ℕ → Type 0) → IsSomeAnd base P → MatchOption base none P
 stands_on (Some slot) none P stands = stands
@@ -149,7 +132,7 @@ module _ {State : Type 0} where
   without_by live (one ∷ next ∷ later) base written count pages frames sound stands =
       record {
         distinct = IsDistinct-tail nat_eq one.slot (slot_numbers (next ∷ later)) sound.distinct;
-        counted = all_tail (λ slot. slot < count) one.slot (slot_numbers (next ∷ later)) sound.counted;
+        counted = All-tail (λ slot. slot < count) one.slot (slot_numbers (next ∷ later)) sound.counted;
         oldest = refl;
         base = newest_in (record next { pages = pages } ∷ later) base _ (omega arith) (stands ∙ newest_later one next later);
         frames = sound.frames;

@@ -1,6 +1,6 @@
 -- What a ring of checkpoints is, and which of them stand after a save.
-use Rattle.std.specs.Prelude.{ℕ, ◌+◌, ◌-◌, ◌&&◌, Bool, List, [], ◌∷◌, ◌++◌, length, map, sum, take, drop, slice_get, nat_le, Option, Some, if◌then◌else◌}
-use Rattle.ckpt_ring.specs.Slots.{Saved, Slots, with_whole_oldest}
+use Rattle.std.specs.Prelude.{◌≡◌, ℕ, ◌+◌, ◌-◌, ◌&&◌, Bool, List, [], ◌∷◌, ◌++◌, length, map, sum, take, drop, slice_get, nat_le, Option, Some, IsSomeAnd, if◌then◌else◌}
+use Rattle.ckpt_ring.specs.Slots.{Saved, Slots, newest_slot, with_whole_oldest}
 use Rattle.ckpt_ring.specs.declared.checkpoint.Checkpoint.{Checkpoint}
 
 -- how many checkpoints may stand, and those that do, the oldest first
@@ -8,6 +8,7 @@ pub record Checkpoints : Type 0 where
   pub capacity : ℕ
   pub standing : List Checkpoint
 
+-- a ring in which so many may stand, and these do
 abbrev pub checkpoints : ℕ → List Checkpoint → Checkpoints
 checkpoints capacity standing = record { capacity = capacity; standing = standing }
 
@@ -43,6 +44,7 @@ module _ {State : Type 0} where
   abbrev pub checkpoint_of : (State → ℕ) → Saved State → Checkpoint
   checkpoint_of taken_in one = record { slot = one.slot; taken = taken_in one.state }
 
+  -- all saved slots as checkpoints
   abbrev pub checkpoints_of : (State → ℕ) → List (Saved State) → List Checkpoint
   checkpoints_of taken_in saved = map (checkpoint_of taken_in) saved
 
@@ -58,3 +60,15 @@ module _ {State : Type 0} where
     base = Some slot;
     written = 0;
   }
+
+  -- ring and slots say the same, and the live state stands on the newest checkpoint
+  pub record StandsOnNewest (taken_in : State → ℕ) (standing : List Checkpoint) (slots : Slots State) : Type 0 where
+    pub same : standing ≡ checkpoints_of taken_in slots.saved
+    pub base : slots.base ≡ newest_slot slots.saved
+
+  -- a ring and its slots before and behind a save: as many may stand, those that had room stand, and the newest has taken what the
+  -- live state had
+  pub record HasSaved (taken_in : State → ℕ) (old new : Checkpoints) (before after : Slots State) : Type 0 where
+    pub capacity : new.capacity ≡ old.capacity
+    pub saved : (slot : ℕ) × (after ≡ saved_in_ring old.capacity slot before)
+    pub newest : IsSomeAnd (from_newest new.standing 0) (λ one. one.taken ≡ taken_in before.live)

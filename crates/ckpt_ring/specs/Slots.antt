@@ -94,6 +94,7 @@ module _ {State : Type 0} where
   without_first (oldest ∷ []) slots = record slots { saved = []; base = None; written = slots.pages }
   without_first (oldest ∷ next ∷ later) slots = record slots { saved = with_whole_oldest slots.pages (next ∷ later) }
 
+  -- the slot that was saved first is gone
   abbrev pub without_oldest : Slots State → Slots State
   without_oldest slots = without_first slots.saved slots
 

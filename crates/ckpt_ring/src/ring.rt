@@ -1,8 +1,8 @@
 // The ring of checkpoints.
 ghost use Rattle.std.specs.Prelude.{◌≡◌, ◌==◌, ◌+◌, ◌<◌, ◌≤◌, ℕ, [], length, drop, true, nat_le, Some, Contains, IfOk, IsSomeAnd};
 ghost use Rattle.std.specs.List.{list_any};
-ghost use Rattle.ckpt_ring.specs.Slots.{AreSound, slot_numbers, newest_slot, restored, without_newest, without_oldest, without_newer_slots, StandsEarlier, all_numbers, used_pages};
-ghost use Rattle.ckpt_ring.specs.Rings.{checkpoints, slots_of, checkpoints_of, has_room, from_newest, without_newer, saved_in_ring};
+ghost use Rattle.ckpt_ring.specs.Slots.{AreSound, slot_numbers, restored, without_newest, without_oldest, without_newer_slots, StandsEarlier, all_numbers, used_pages};
+ghost use Rattle.ckpt_ring.specs.Rings.{checkpoints, slots_of, checkpoints_of, has_room, from_newest, without_newer, saved_in_ring, StandsOnNewest, HasSaved};
 
 use crate::{Checkpoint, Snapshot};
 use circular_buffer::HeapCircularBuffer;
@@ -65,13 +65,9 @@ impl Ring {
     /// too few frames are left.
     pub fn save<T: Snapshot>(&mut self, t: &mut T)
         requires count { self.old.capacity ≤ (T.slots t.old).count }
-        requires same { self.old.standing ≡ checkpoints_of T.taken_in (T.slots t.old).saved }
-        requires base { (T.slots t.old).base ≡ newest_slot (T.slots t.old).saved }
-        ensures capacity { self.new.capacity ≡ self.old.capacity }
-        ensures same { self.new.standing ≡ checkpoints_of T.taken_in (T.slots t.new).saved }
-        ensures saved { (slot : ℕ) × (T.slots t.new ≡ saved_in_ring self.old.capacity slot (T.slots t.old)) }
-        ensures base { (T.slots t.new).base ≡ newest_slot (T.slots t.new).saved }
-        ensures newest { IsSomeAnd (from_newest self.new.standing 0) (λ one. one.taken ≡ T.taken_in (T.slots t.old).live) }
+        requires stands { StandsOnNewest T.taken_in self.old.standing (T.slots t.old) }
+        ensures saves { HasSaved T.taken_in self.old self.new (T.slots t.old) (T.slots t.new) }
+        ensures stands { StandsOnNewest T.taken_in self.new.standing (T.slots t.new) }
         ensures fixed { T.fixed t.new ≡ T.fixed t.old }
         ensures sound { AreSound (T.slots t.new) }
     {
@@ -108,8 +104,7 @@ impl Ring {
         ensures saved { T.slots t.new ≡ without_newer_slots index (T.slots t.old) }
         ensures written { T.written t.new ≡ T.written t.old }
         ensures fixed { T.fixed t.new ≡ T.fixed t.old }
-        ensures same { self.new.standing ≡ checkpoints_of T.taken_in (T.slots t.new).saved }
-        ensures base { (T.slots t.new).base ≡ newest_slot (T.slots t.new).saved }
+        ensures stands { StandsOnNewest T.taken_in self.new.standing (T.slots t.new) }
     {
         for _ in 0..index {
             self.drop_newest(t);
@@ -130,16 +125,11 @@ impl Ring {
     /// Saves a state as the newest checkpoint in the slot of the oldest one, which is dropped.
     fn replace_oldest<T: Snapshot>(&mut self, t: &mut T)
         requires full { length self.old.standing ≡ self.old.capacity }
-        requires some { 1 ≤ self.old.capacity }
         requires room { used_pages (T.slots t.old) + (T.slots t.old).pages ≤ (T.slots t.old).frames }
-        requires same { self.old.standing ≡ checkpoints_of T.taken_in (T.slots t.old).saved }
-        requires base { (T.slots t.old).base ≡ newest_slot (T.slots t.old).saved }
+        requires stands { StandsOnNewest T.taken_in self.old.standing (T.slots t.old) }
         requires sound { AreSound (T.slots t.old) }
-        ensures capacity { self.new.capacity ≡ self.old.capacity }
-        ensures same { self.new.standing ≡ checkpoints_of T.taken_in (T.slots t.new).saved }
-        ensures saved { (slot : ℕ) × (T.slots t.new ≡ saved_in_ring self.old.capacity slot (T.slots t.old)) }
-        ensures base { (T.slots t.new).base ≡ newest_slot (T.slots t.new).saved }
-        ensures newest { IsSomeAnd (from_newest self.new.standing 0) (λ one. one.taken ≡ T.taken_in (T.slots t.old).live) }
+        ensures saves { HasSaved T.taken_in self.old self.new (T.slots t.old) (T.slots t.new) }
+        ensures stands { StandsOnNewest T.taken_in self.new.standing (T.slots t.new) }
         ensures fixed { T.fixed t.new ≡ T.fixed t.old }
         ensures sound { AreSound (T.slots t.new) }
     {
@@ -156,11 +146,9 @@ impl Ring {
 
     /// Drops the oldest checkpoints until one more has room.
     fn make_room<T: Snapshot>(&mut self, t: &mut T)
-        requires same { self.old.standing ≡ checkpoints_of T.taken_in (T.slots t.old).saved }
-        requires base { (T.slots t.old).base ≡ newest_slot (T.slots t.old).saved }
+        requires { StandsOnNewest T.taken_in self.old.standing (T.slots t.old) }
         ensures capacity { self.new.capacity ≡ self.old.capacity }
-        ensures same { self.new.standing ≡ checkpoints_of T.taken_in (T.slots t.new).saved }
-        ensures base { (T.slots t.new).base ≡ newest_slot (T.slots t.new).saved }
+        ensures stands { StandsOnNewest T.taken_in self.new.standing (T.slots t.new) }
         ensures fixed { T.fixed t.new ≡ T.fixed t.old }
         ensures left { (slot : ℕ) → saved_in_ring self.old.capacity slot (T.slots t.new) ≡ saved_in_ring self.old.capacity slot (T.slots t.old) }
         ensures room { has_room self.old.capacity (T.slots t.new).pages (T.slots t.new).frames (all_numbers (T.slots t.new)) ≡ true }
@@ -173,8 +161,7 @@ impl Ring {
 
     /// Whether one more checkpoint has room beside all that stand.
     fn has_room<T: Snapshot>(&self, t: &T) -> bool
-        requires same { self.now.standing ≡ checkpoints_of T.taken_in (T.slots t.now).saved }
-        requires base { (T.slots t.now).base ≡ newest_slot (T.slots t.now).saved }
+        requires { StandsOnNewest T.taken_in self.now.standing (T.slots t.now) }
         ensures room { result ≡ has_room self.now.capacity (T.slots t.now).pages (T.slots t.now).frames (all_numbers (T.slots t.now)) }
         ensures some { 1 ≤ self.now.capacity }
         ensures sound { AreSound (T.slots t.now) }
@@ -186,8 +173,7 @@ impl Ring {
     /// Drops the oldest checkpoint.
     fn drop_oldest<T: Snapshot>(&mut self, t: &mut T)
         requires some { 0 < length self.old.standing }
-        requires same { self.old.standing ≡ checkpoints_of T.taken_in (T.slots t.old).saved }
-        requires base { (T.slots t.old).base ≡ newest_slot (T.slots t.old).saved }
+        requires stands { StandsOnNewest T.taken_in self.old.standing (T.slots t.old) }
         ensures ring { self.new ≡ checkpoints self.old.capacity (drop 1 self.old.standing) }
         ensures saved { T.slots t.new ≡ without_oldest (T.slots t.old) }
         ensures fixed { T.fixed t.new ≡ T.fixed t.old }

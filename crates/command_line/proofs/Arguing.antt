@@ -1,11 +1,7 @@
 -- clap's rule of an option, as its argument is set step by step.
-use Rattle.std.proofs.Common.{◌≡◌, ◌∙◌, ap, sym, Bor, [], ◌∷◌, Option, Some, None}
-use Rattle.std.specs.Option.{option_map_or}
-use Rattle.clap.specs.Words.{Text, new_rule, rule_of}
-use Rattle.clap.specs.Walk.{Rule}
+use Rattle.clap.specs.Words.{Text}
 use Rattle.clap.specs.declared.builder.arg.Arg.{Arg}
-use Rattle.command_line.specs.Reading.{option_rule}
-use Rattle.command_line.specs.Table.{Takes}
+use Rattle.command_line.proofs.Terms.{Bor, None, Option, Some, [], ap, sym, ◌∙◌, ◌∷◌, ◌≡◌, option_map_or, Rule, new_rule, rule_of, Takes, option_rule}
 
 -- b is a with its id as its long name
 pub named_rule : (a b : Arg) (name : Bor Text) (takes : Takes) (default : Option Text) → rule_of a ≡ new_rule name.now → b ≡ record a { long = Some name } → default ≡ None

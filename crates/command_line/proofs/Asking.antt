@@ -1,13 +1,5 @@
 -- Which command the first word asks for.
-use Rattle.std.proofs.Common.{◌≡◌, ◌∙◌, ◌≤◌, ◌-◌, cond, true, false, ap, refl, sym, arith, List, [], ◌∷◌, take, drop, length, Some, None}
-use Rattle.std.specs.Prelude.{String, string_bytes}
-use Rattle.std.specs.declared.alloc.Global.{Global}
-use Rattle.std.specs.List.{slice_index_or}
-use Rattle.std.specs.Str.{bytes_eq}
-use Rattle.std.proofs.lemmas.List.{take_rest}
-use Rattle.command_line.specs.Texts.{Text}
-use Rattle.command_line.specs.Parts.{Parts, parts, texts_of}
-use Rattle.command_line.specs.Commands.{RunValue, asm, asm_of, asm_value, command_of, is_asm, is_replay, is_run, replay, replay_of, replay_value, run, run_of, run_value, asm_form, replay_form, run_form}
+use Rattle.command_line.proofs.Terms.{Global, List, None, Some, [], ap, arith, cond, drop, false, length, refl, sym, take, true, ◌-◌, ◌∙◌, ◌∷◌, ◌≡◌, ◌≤◌, take_rest, slice_index_or, String, string_bytes, bytes_eq, Text, Parts, parts, texts_of, RunValue, asm, asm_form, asm_of, asm_value, command_of, is_asm, is_replay, is_run, replay, replay_form, replay_of, replay_value, run, run_form, run_of, run_value}
 
 pub first_word : (ws : List (String Global)) (w : String Global) (t : Text) → 1 ≤ length ws → w ≡ slice_index_or ws 0 w → t ≡ string_bytes w
     → texts_of ws ≡ t ∷ texts_of (take (length ws - 1) (drop 1 ws))

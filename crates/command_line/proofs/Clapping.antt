@@ -1,25 +1,17 @@
 -- clap takes the words that our own check takes, and reads their values.
-use Rattle.std.proofs.Common.{◌≡◌, ◌∙◌, ◌<◌, ◌||◌, ℕ, true, false, zero, suc, ap, ap₂, refl, subst, List, [], ◌∷◌, map, length, Some, None, unwrap_or, is_some, fold, arith, eqb-true}
 use Rattle.std.proofs.Math.Nat.{le_refl}
-use Rattle.std.specs.List.{list_all}
-use Rattle.std.specs.Prelude.{slice_get}
-use Rattle.clap.specs.Walk.{Row, Text, finished, first_of, nothing_held, rows_after, rows_of, walk, with_default}
-use Rattle.clap.specs.Matches.{first_value, found_of}
-use Rattle.clap.specs.declared.parser.matches.ArgMatches.{ArgMatches}
+use Rattle.std.proofs.lemmas.Option.{slice_get-get_or, unwrap_or-slice_get}
+use Rattle.clap.specs.Walk.{Row, Text}
 use Rattle.clap.proofs.WalkLemmas.{first_value-rows}
-use Rattle.clap.specs.Simple.{App, argument_words, built, is_simple, label_of, matches_of, names_of}
-use Rattle.clap.specs.Takes.{built_takes, default_passes, is_valid, level_passes, takes}
+use Rattle.clap.specs.Simple.{App, is_simple, matches_of}
+use Rattle.clap.specs.Takes.{takes}
 use Rattle.clap.proofs.TakesLemmas.{leaf_takes}
-use Rattle.command_line.specs.Table.{CommandForm, Row as TableRow}
-use Rattle.command_line.specs.Options.{are_options, given, has_option, has_required, value_of}
-use Rattle.command_line.specs.Parts.{are_positionals, parts}
-use Rattle.command_line.specs.Commands.{fits, positional}
-use Rattle.command_line.specs.Reading.{EachRow}
-use Rattle.command_line.proofs.Numbers.{both}
+use Rattle.command_line.proofs.Terms.{List, None, Some, [], ap, ap₂, eqb-true, false, fold, is_some, length, map, refl, subst, sym, true, unwrap_or, ℕ, ◌<◌, ◌||◌, ◌∙◌, ◌∷◌, ◌≡◌, and_from, and_parts, list_all, slice_get, ArgMatches, first_value, found_of, argument_words, built, label_of, names_of, built_takes, default_passes, is_valid, level_passes, finished, first_of, nothing_held, rows_after, rows_of, walk, with_default, are_positionals, parts, CommandForm, are_options, given, has_option, has_required, value_of, fits, positional, EachRow}
+use Rattle.command_line.specs.Table.{Row as TableRow}
 use Rattle.command_line.proofs.Cutting.{Cut, IsTaken, cut, no_such_option}
 use Rattle.command_line.proofs.Finding.{NameAt, Shows, name_at_the_end, name_shown, option_at_the_end, option_shown}
 use Rattle.command_line.proofs.Pieces.{NoneIn, Optional, Piece, Places, is_row, made}
-use Rattle.command_line.proofs.Walking.{Ends, between, both_on, over_pieces}
+use Rattle.command_line.proofs.Walking.{Ends, between, over_pieces}
 
 -- what clap's command a of a form is, and b, which it is once it is built; found by computing
 pub record IsReadable (f : CommandForm) (a b : App) : Type 0 where
@@ -33,9 +25,7 @@ pub record IsReadable (f : CommandForm) (a b : App) : Type 0 where
   pub valid : (rows : List Row) → is_valid b.top rows false ≡ true
 
 get_within : (xs : List Text) (k : ℕ) → k < length xs → slice_get xs k ≡ Some (unwrap_or (slice_get xs k) [])
-get_within [] k lt = absurd (omega arith)
-get_within (x ∷ xs) zero lt = refl
-get_within (x ∷ xs) (suc k) lt = get_within xs k (omega arith)
+get_within xs k lt = slice_get-get_or xs k [] lt ∙ sym (ap Some (unwrap_or-slice_get xs k []))
 
 each_other : (P Q : TableRow → Type 0) → ((row : TableRow) → P row → Q row) → (rows : List TableRow) → EachRow P rows → EachRow Q rows
 each_other P Q f [] each = tt
@@ -48,13 +38,13 @@ none_in_nothing (p ∷ ps) = (refl, none_in_nothing ps)
 module _ (f : CommandForm) (a b : App) (words : List Text) (readable : IsReadable f a b) (taken : fits f (parts words) ≡ true) where
   checked : IsTaken f.options f.positionals (parts words)
   checked =
-      let names = both (are_positionals (length f.positionals) (parts words).positionals) _ taken in
-      (names.0, (both (are_options f.options (parts words).options) _ names.1).0)
+      let names = and_parts (are_positionals (length f.positionals) (parts words).positionals) _ taken in
+      (names.0, (and_parts (are_options f.options (parts words).options) _ names.1).0)
 
   complete : has_required f.options (parts words).options ≡ true
   complete =
-      let names = both (are_positionals (length f.positionals) (parts words).positionals) _ taken in
-      (both (are_options f.options (parts words).options) _ names.1).1
+      let names = and_parts (are_positionals (length f.positionals) (parts words).positionals) _ taken in
+      (and_parts (are_options f.options (parts words).options) _ names.1).1
 
   pub whole : Cut b.top.rules f.options 1 f.positionals words
   whole = cut (length words) b.top.rules f.options 1 f.positionals words (le_refl (length words)) readable.places readable.options checked
@@ -68,11 +58,11 @@ module _ (f : CommandForm) (a b : App) (words : List Text) (readable : IsReadabl
   all_words = rw readable.all_words refl
 
   level : level_passes b.top [] nothing_held words false ≡ true
-  level = both_on _ _ ends.passes (both_on _ _ ends.settles (both_on _ _ readable.defaults (readable.valid (finished b.top.rules (walk b.top.rules [] nothing_held words).held))))
+  level = and_from _ _ ends.passes (and_from _ _ ends.settles (and_from _ _ readable.defaults (readable.valid (finished b.top.rules (walk b.top.rules [] nothing_held words).held))))
 
   pub clap_takes : takes a words ≡ true
   clap_takes =
-      both_on _ _ readable.simple
+      and_from _ _ readable.simple
       (ap₂ (λ x ws. built_takes x nothing_held ws) readable.built_is all_words ∙ leaf_takes b nothing_held words readable.no_subs level)
 
   pub rows_are : matches_of a words ≡ fold with_default (map made whole.pieces) b.top.rules
@@ -87,7 +77,7 @@ module _ (f : CommandForm) (a b : App) (words : List Text) (readable : IsReadabl
       → EachRow (λ row. first_of row.name (matches_of a words) ≡ Some (value_of row (parts words).options)) rows
   options_from [] each all = tt
   options_from (row ∷ rows) each all =
-      let now = both (is_some row.default || is_some (given row (parts words).options)) _ all in
+      let now = and_parts (is_some row.default || is_some (given row (parts words).options)) _ all in
       let there : Shows row.name (given row (parts words).options) (map made whole.pieces) =
       subst (λ os. Shows row.name (given row os) (map made whole.pieces)) whole.options
       (option_shown row f.positionals whole.pieces whole.listed each.0.1) in (
@@ -101,8 +91,8 @@ module _ (f : CommandForm) (a b : App) (words : List Text) (readable : IsReadabl
   pub name_read : (k : ℕ) (n : Text) → NameAt n f.positionals k → is_row n f.options ≡ false → k < length f.positionals
       → first_of n (matches_of a words) ≡ Some (positional k (parts words))
   name_read k n at apart within =
-      let names = both (are_positionals (length f.positionals) (parts words).positionals) _ taken in
-      let count : length (parts words).positionals ≡ length f.positionals = eqb-true _ _ (both _ _ names.0).0 in
+      let names = and_parts (are_positionals (length f.positionals) (parts words).positionals) _ taken in
+      let count : length (parts words).positionals ≡ length f.positionals = eqb-true _ _ (and_parts _ _ names.0).0 in
       let there = get_within (parts words).positionals k (rw count within) in
       ap (first_of n) rows_are
       ∙ name_at_the_end n (positional k (parts words)) _ b.top.rules

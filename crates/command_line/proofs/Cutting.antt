@@ -1,46 +1,17 @@
 -- Words that our own check takes are pieces that clap's rules know.
-use Rattle.std.proofs.Common.{◌≡◌, ◌∙◌, ◌≤◌, ◌+◌, ◌&&◌, ◌||◌, ℕ, Bool, true, false, true≢false, not, zero, suc, nat_eq, ap, ap₂, refl, sym, subst, List, [], ◌∷◌, min, length, arith, eqb-true, eq-eqb}
-use Rattle.std.specs.Str.{bytes_eq}
-use Rattle.std.specs.List.{list_any}
-use Rattle.std.proofs.lemmas.Bool.Decides.{nat_tests}
-use Rattle.clap.specs.Lexer.{usize_max}
-use Rattle.clap.specs.Walk.{Rule, Text}
-use Rattle.command_line.specs.Texts.{is_dashed, is_name}
+use Rattle.clap.specs.Walk.{Text}
+use Rattle.command_line.proofs.Terms.{Bool, List, [], ap, ap₂, arith, eq-eqb, eqb-true, false, length, min, nat_eq, not, refl, subst, suc, sym, true, true≢false, zero, ℕ, ◌&&◌, ◌+◌, ◌||◌, ◌∙◌, ◌∷◌, ◌≡◌, ◌≤◌, and_parts, not-true, or_from, or_parts, Decides-like, same_from_decides, bytes_eq-Decides, list_any, bytes_eq, usize_max, Rule, is_dashed, is_name, Parts, are_positionals, parts, Options, are_options, has_option, is_for, is_taken, takes_of, EachRow}
 use Rattle.command_line.specs.Table.{Row as TableRow}
-use Rattle.command_line.specs.Reading.{EachRow}
-use Rattle.command_line.specs.Options.{Options, are_options, has_option, is_for, is_taken, takes_of}
-use Rattle.command_line.specs.Parts.{Parts, are_positionals, parts}
-use Rattle.command_line.proofs.Numbers.{both}
 use Rattle.command_line.proofs.Taking.{no_words, option_with, option_without, plain_word}
 use Rattle.command_line.proofs.Pieces.{Apart, Fit, Listed, NoneIn, Optional, Piece, Places, id_of, is_among, is_row, made, name, names_in, option, options_in, words_of}
 
 -- ---- texts
 
 pub equal_text : (a b : Text) → bytes_eq a b ≡ true → a ≡ b
-equal_text [] [] e = refl
-equal_text [] (y ∷ ys) e = absurd (true≢false (sym e))
-equal_text (x ∷ xs) [] e = absurd (true≢false (sym e))
-equal_text (x ∷ xs) (y ∷ ys) e = ap₂ (λ (n : ℕ) (t : Text). n ∷ t) (eqb-true x y (both _ _ e).0) (equal_text xs ys (both _ _ e).1)
-
-swapped_number : (x y : ℕ) → nat_eq x y ≡ nat_eq y x
-swapped_number x y = grind (arith, nat_tests)
+equal_text a b e = (bytes_eq-Decides a b).0 e
 
 pub swapped_text : (a b : Text) → bytes_eq a b ≡ bytes_eq b a
-swapped_text [] [] = refl
-swapped_text [] (y ∷ ys) = refl
-swapped_text (x ∷ xs) [] = refl
-swapped_text (x ∷ xs) (y ∷ ys) = ap₂ (λ p q. p && q) (swapped_number x y) (swapped_text xs ys)
-
-pub neither : (a b : Bool) → (a || b) ≡ false → (a ≡ false) × (b ≡ false)
-neither true b e = absurd (true≢false e)
-neither false b e = (refl, e)
-
-pub off : (b : Bool) → not b ≡ true → b ≡ false
-off true e = absurd (true≢false (sym e))
-off false e = refl
-
-or_off : (a : Bool) → a ≡ false → (a || false) ≡ false
-or_off a e = rw e refl
+swapped_text a b = same_from_decides (bytes_eq a b) (bytes_eq b a) (bytes_eq-Decides a b) (Decides-like (bytes_eq b a) (λ e. sym e) (λ e. sym e) (bytes_eq-Decides b a))
 
 -- ---- rows of the table
 
@@ -54,21 +25,21 @@ row_found P f (r ∷ rs) each e =
 
 pub each_of_none : (n : Text) (rows : List TableRow) → is_row n rows ≡ false → EachRow (λ r. bytes_eq r.name n ≡ false) rows
 each_of_none n [] e = tt
-each_of_none n (r ∷ rs) e = let parts = neither (bytes_eq r.name n) _ e in (parts.0, each_of_none n rs parts.1)
+each_of_none n (r ∷ rs) e = let parts = or_parts (bytes_eq r.name n) _ e in (parts.0, each_of_none n rs parts.1)
 
 fewer_names : (c : List Rule) (n : Text) (ns : List Text) (rows : List TableRow) → EachRow (Optional c (n ∷ ns)) rows → EachRow (Optional c ns) rows
 fewer_names c n ns [] each = tt
-fewer_names c n ns (r ∷ rs) each = ((each.0.0, (neither (bytes_eq r.name n) _ each.0.1).1, each.0.2), fewer_names c n ns rs each.1)
+fewer_names c n ns (r ∷ rs) each = ((each.0.0, (or_parts (bytes_eq r.name n) _ each.0.1).1, each.0.2), fewer_names c n ns rs each.1)
 
 -- no option that is taken has the name of none of the rows
 pub no_such_option : (n : Text) (rows : List TableRow) (os : Options) → is_row n rows ≡ false → are_options rows os ≡ true → has_option (45 ∷ 45 ∷ n) os ≡ false
 no_such_option n rows [] none taken = refl
 no_such_option n rows (o ∷ os) none taken =
-    let named = both (is_name o.1) _ taken in
-    let mine = both (is_taken rows o.0 o.1) _ named.1 in
-    let rest = both (not (has_option o.0 os)) _ mine.1 in
+    let named = and_parts (is_name o.1) _ taken in
+    let mine = and_parts (is_taken rows o.0 o.1) _ named.1 in
+    let rest = and_parts (not (has_option o.0 os)) _ mine.1 in
     let found = row_found (λ r. bytes_eq r.name n ≡ false) (λ row. is_for row o.0 && takes_of row.takes o.1) rows (each_of_none n rows none) mine.0 in
-    let word : o.0 ≡ 45 ∷ 45 ∷ found.0.name = equal_text o.0 _ (both (is_for found.0 o.0) _ found.1).0 in
+    let word : o.0 ≡ 45 ∷ 45 ∷ found.0.name = equal_text o.0 _ (and_parts (is_for found.0 o.0) _ found.1).0 in
     let miss : bytes_eq o.0 (45 ∷ 45 ∷ n) ≡ false = rw word found.2 in
     rw (miss, no_such_option n rows os none rest.1) refl
 
@@ -79,14 +50,14 @@ none_later : (p : Piece) (ns : List Text) (ps : List Piece) → Listed ns ps →
 none_later p ns [] listed among has = tt
 none_later p [] (name id word ∷ ps) listed among has = absurd listed
 none_later p (n ∷ ns) (name id word ∷ ps) listed among has =
-    let miss = neither (bytes_eq (id_of p) n) _ among in
-    (or_off _ (ap (bytes_eq (id_of p)) listed.0 ∙ miss.0), none_later p ns ps listed.1 miss.1 has)
+    let miss = or_parts (bytes_eq (id_of p) n) _ among in
+    (or_from _ false (ap (bytes_eq (id_of p)) listed.0 ∙ miss.0) refl, none_later p ns ps listed.1 miss.1 has)
 none_later p [] (option id value ∷ ps) listed among has =
-    let miss = neither (bytes_eq id (id_of p)) _ has in
-    (or_off _ (swapped_text (id_of p) id ∙ miss.0), none_later p [] ps listed among miss.1)
+    let miss = or_parts (bytes_eq id (id_of p)) _ has in
+    (or_from _ false (swapped_text (id_of p) id ∙ miss.0) refl, none_later p [] ps listed among miss.1)
 none_later p (n ∷ ns) (option id value ∷ ps) listed among has =
-    let miss = neither (bytes_eq id (id_of p)) _ has in
-    (or_off _ (swapped_text (id_of p) id ∙ miss.0), none_later p (n ∷ ns) ps listed among miss.1)
+    let miss = or_parts (bytes_eq id (id_of p)) _ has in
+    (or_from _ false (swapped_text (id_of p) id ∙ miss.0) refl, none_later p (n ∷ ns) ps listed among miss.1)
 
 -- ---- the words cut into pieces
 
@@ -104,7 +75,7 @@ IsTaken rows ns p = (are_positionals (length ns) p.positionals ≡ true) × (are
 
 dashless : (value : Text) → is_name value ≡ true → is_dashed value ≡ false
 dashless [] e = refl
-dashless (x ∷ xs) e = off _ e
+dashless (x ∷ xs) e = not-true _ e
 
 none_left : (n : ℕ) → nat_eq (suc n) 0 ≡ true → ⊥
 none_left n e = let same = eqb-true (suc n) 0 e in omega arith
@@ -117,13 +88,13 @@ with_name : (c : List Rule) (rows : List TableRow) (place : ℕ) (ns : List Text
     → ((n : Text) (more : List Text) → ns ≡ n ∷ more → IsTaken rows more (parts ws) → Cut c rows (min (place + 1) usize_max) more ws) → Cut c rows place ns (w ∷ ws)
 with_name c rows place [] w ws plain places taken cut =
     let t = subst (λ p. IsTaken rows [] p) (plain_word w ws plain) taken in
-    absurd (none_left (length (parts ws).positionals) (both (nat_eq (length (w ∷ (parts ws).positionals)) 0) _ t.0).0)
+    absurd (none_left (length (parts ws).positionals) (and_parts (nat_eq (length (w ∷ (parts ws).positionals)) 0) _ t.0).0)
 with_name c rows place (n ∷ ns) w ws plain places taken cut =
     let shape = plain_word w ws plain in
     let t = subst (λ p. IsTaken rows (n ∷ ns) p) shape taken in
-    let count = both (nat_eq (length (w ∷ (parts ws).positionals)) (length (n ∷ ns))) _ t.0 in
+    let count = and_parts (nat_eq (length (w ∷ (parts ws).positionals)) (length (n ∷ ns))) _ t.0 in
     let fewer = one_less (length (parts ws).positionals) (length ns) count.0 in
-    let all = both (is_name w) _ count.1 in
+    let all = and_parts (is_name w) _ count.1 in
     let rest = cut n ns refl ((λ i. fewer i && all.1 i), t.1) in
     let ids = none_later (name n w) ns rest.pieces rest.listed places.1
     (ap (has_option (45 ∷ 45 ∷ n)) rest.options ∙ no_such_option n rows (parts ws).options places.2 t.1) in
@@ -146,15 +117,15 @@ with_value : (c : List Rule) (rows : List TableRow) (place : ℕ) (ns : List Tex
 with_value c rows place ns w v ws dashed each taken cut =
     let shape = option_with w v ws dashed in
     let t = subst (λ p. IsTaken rows ns p) shape taken in
-    let named = both (is_name v) _ t.1 in
-    let mine = both (is_taken rows w v) _ named.1 in
-    let rest = both (not (has_option w (parts ws).options)) _ mine.1 in
+    let named = and_parts (is_name v) _ t.1 in
+    let mine = and_parts (is_taken rows w v) _ named.1 in
+    let rest = and_parts (not (has_option w (parts ws).options)) _ mine.1 in
     let found = row_found (Optional c ns) (λ row. is_for row w && takes_of row.takes v) rows each mine.0 in
     let id : Text = found.0.name in
-    let word : w ≡ 45 ∷ 45 ∷ id = equal_text w _ (both (is_for found.0 w) _ found.1).0 in
+    let word : w ≡ 45 ∷ 45 ∷ id = equal_text w _ (and_parts (is_for found.0 w) _ found.1).0 in
     let next = cut (t.0, rest.1) in
     let ids = none_later (option id v) ns next.pieces next.listed found.2.1
-    (ap₂ has_option (sym word) next.options ∙ off _ rest.0) in
+    (ap₂ has_option (sym word) next.options ∙ not-true _ rest.0) in
     record {
       pieces = option id v ∷ next.pieces;
       words_are = ap₂ (λ (x : Text) (xs : List Text). x ∷ v ∷ xs) (sym word) next.words_are;
@@ -170,7 +141,7 @@ alone_or_more : (n : ℕ) (c : List Rule) (rows : List TableRow) (place : ℕ) (
     → Cut c rows place ns (w ∷ ws)
 alone_or_more n c rows place ns w [] dashed each taken cut few =
     let t = subst (λ p. IsTaken rows ns p) (option_without w dashed) taken in
-    absurd (true≢false (sym (both false (is_taken rows w [] && (not (has_option w (parts []).options) && are_options rows (parts []).options)) t.1).0))
+    absurd (true≢false (sym (and_parts false (is_taken rows w [] && (not (has_option w (parts []).options) && are_options rows (parts []).options)) t.1).0))
 alone_or_more n c rows place ns w (v ∷ ws) dashed each taken cut few = with_value c rows place ns w v ws dashed each taken (cut ws (omega arith))
 
 -- the words that our own check takes are such pieces; n is at least their number

@@ -1,15 +1,8 @@
 -- What clap's rows say behind a walk over pieces: the value of each, or its default.
-use Rattle.std.proofs.Common.{◌≡◌, ◌∙◌, ◌||◌, ℕ, Bool, cond, true, false, true≢false, zero, suc, ap, refl, sym, List, [], ◌∷◌, ◌++◌, map, Option, Some, None, unwrap_or, is_some, fold, inl, inr, ◌⊎◌}
-use Rattle.std.specs.List.{find}
-use Rattle.std.specs.Option.{option_map}
-use Rattle.std.specs.Prelude.{slice_get}
-use Rattle.std.specs.Str.{bytes_eq}
-use Rattle.clap.specs.Walk.{Row, Rule, Text, arg_by_id, first_of, has_row, more_values, reading_by, with_default}
-use Rattle.clap.specs.declared.parser.matches.ValueSource.TheVariants.{DefaultValue}
+use Rattle.clap.specs.Walk.{Row, Text}
+use Rattle.command_line.proofs.Terms.{Bool, List, None, Option, Some, [], ap, cond, false, fold, inl, inr, is_some, map, refl, suc, sym, true, true≢false, unwrap_or, zero, ℕ, ◌++◌, ◌||◌, ◌∙◌, ◌∷◌, ◌≡◌, ◌⊎◌, or_parts, find, option_map, slice_get, bytes_eq, DefaultValue, Rule, arg_by_id, first_of, has_row, more_values, reading_by, with_default, given, has_option, is_for, defaults_of}
 use Rattle.command_line.specs.Table.{Row as TableRow}
-use Rattle.command_line.specs.Reading.{defaults_of}
-use Rattle.command_line.specs.Options.{given, has_option, is_for}
-use Rattle.command_line.proofs.Cutting.{neither, swapped_text}
+use Rattle.command_line.proofs.Cutting.{swapped_text}
 use Rattle.command_line.proofs.Pieces.{Listed, Piece, is_among, made, name, names_in, option, options_in, plain_rule}
 use Rattle.command_line.proofs.Walking.{at_missing, same_text}
 
@@ -41,7 +34,7 @@ pub option_shown : (row : TableRow) (ns : List Text) (ps : List Piece) → Liste
 option_shown row ns [] listed other = refl
 option_shown row [] (name id word ∷ ps) listed other = absurd listed
 option_shown row (n ∷ ns) (name id word ∷ ps) listed other =
-    let apart = neither (bytes_eq row.name n) _ other in
+    let apart = or_parts (bytes_eq row.name n) _ other in
     let miss : bytes_eq id row.name ≡ false = swapped_text id row.name ∙ ap (bytes_eq row.name) listed.0 ∙ apart.0 in
     shows_past row.name (made (name id word)) (map made ps) (given row (options_in ps)) miss (option_shown row ns ps listed.1 apart.1)
 option_shown row [] (option id value ∷ ps) listed other = here row id value ps (option_shown row [] ps listed other)
@@ -66,7 +59,7 @@ name_shown n (suc k) (m ∷ ns) (name id w ∷ ps) word listed at other is =
     shows_past n (made (name id w)) (map made ps) (Some word) miss (name_shown n k ns ps word listed.1 at.1 other is)
 name_shown n k [] (option id value ∷ ps) word listed at other is = absurd at
 name_shown n k (m ∷ ns) (option id value ∷ ps) word listed at other is =
-    let apart = neither (bytes_eq id n) _ other in
+    let apart = or_parts (bytes_eq id n) _ other in
     shows_past n (made (option id value)) (map made ps) (Some word) apart.0 (name_shown n k (m ∷ ns) ps word listed at apart.1 is)
 
 -- ---- defaults

@@ -1,3 +1,4 @@
+pub mod Terms
 mod Numbers
 mod Listed
 mod Arguing

@@ -1,15 +1,5 @@
 -- A numeral of the words is one that `parse` reads.
-use Rattle.std.proofs.Common.{◌≡◌, ◌<◌, ◌^◌, ◌&&◌, ℕ, Bool, true, false, true≢false, refl, sym, arith, [], ◌∷◌, None, Err, nat_lt, nat_eq, ltb-true}
-use Rattle.std.specs.Char.{is_ascii_digit, digit_value}
-use Rattle.std.specs.List.{list_all}
-use Rattle.std.specs.Str.Parse.{AllDigits, IsNumeral, ParsesUnsigned, digits_value, without_leading_plus}
-use Rattle.std.proofs.lemmas.Bool.Decides.{nat_tests}
-use Rattle.command_line.specs.Texts.{Text, is_numeral, number_of}
-
-pub both : (a b : Bool) → (a && b) ≡ true → (a ≡ true) × (b ≡ true)
-both true true e = (refl, refl)
-both true false e = (refl, e)
-both false b e = absurd (true≢false (sym e))
+use Rattle.command_line.proofs.Terms.{Bool, Err, None, [], arith, false, ltb-true, nat_eq, nat_lt, refl, sym, true, true≢false, ℕ, ◌<◌, ◌^◌, ◌∷◌, ◌≡◌, and_parts, nat_tests, digit_value, is_ascii_digit, list_all, AllDigits, IsNumeral, ParsesUnsigned, digits_value, without_leading_plus, Text, is_numeral, number_of}
 
 digit : (c : ℕ) → is_ascii_digit c ≡ true → digit_value c < 10
 digit c e = grind (arith, nat_tests)
@@ -19,7 +9,7 @@ no_plus c e = grind (arith, nat_tests)
 
 digits : (cs : Text) → list_all is_ascii_digit cs ≡ true → AllDigits 10 cs
 digits [] e = tt
-digits (c ∷ cs) e = let parts = both (is_ascii_digit c) _ e in (digit c parts.0, digits cs parts.1)
+digits (c ∷ cs) e = let parts = and_parts (is_ascii_digit c) _ e in (digit c parts.0, digits cs parts.1)
 
 plain : (first : ℕ) (rest : Text) → is_ascii_digit first ≡ true → without_leading_plus (first ∷ rest) ≡ first ∷ rest
 plain first rest e = rw (no_plus first e) refl
@@ -28,8 +18,8 @@ all_digits : (text : Text) → is_numeral text ≡ true → IsNumeral 10 text ×
 all_digits [] e = absurd (true≢false (sym e))
 all_digits (first ∷ []) e = ((omega arith, (digit first e, tt)), plain first [] e)
 all_digits (first ∷ second ∷ rest) e =
-    let all = (both _ (list_all is_ascii_digit (first ∷ second ∷ rest)) e).1 in
-    ((omega arith, digits (first ∷ second ∷ rest) all), plain first (second ∷ rest) (both (is_ascii_digit first) _ all).0)
+    let all = (and_parts _ (list_all is_ascii_digit (first ∷ second ∷ rest)) e).1 in
+    ((omega arith, digits (first ∷ second ∷ rest) all), plain first (second ∷ rest) (and_parts (is_ascii_digit first) _ all).0)
 
 -- where `parse` refuses a numeral, it is too large
 pub refused : {E : Type 0} (text : Text) (e : E) → is_numeral text ≡ true → ParsesUnsigned {E = E} 32 10 text (Err e) → None ≡ number_of text

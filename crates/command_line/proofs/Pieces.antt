@@ -1,16 +1,10 @@
 -- The words as pieces: names, and options with their values; and what clap's rules have to say of them.
-use Rattle.std.proofs.Common.{◌≡◌, ◌+◌, ℕ, Bool, true, false, List, [], ◌∷◌, min, Option, Some, None}
-use Rattle.std.specs.Str.{bytes_eq}
-use Rattle.clap.specs.Lexer.{long_of_rest, usize_max}
-use Rattle.clap.specs.Walk.{Row, Rule, Text, arg_by_id, arg_by_index, arg_by_long, has_row}
+use Rattle.clap.specs.Walk.{Row, Text}
 use Rattle.clap.specs.declared.builder.action.ArgAction.TheVariants.{Set}
 use Rattle.clap.specs.declared.builder.value_parser.ValueParser.TheVariants.{String}
 use Rattle.clap.specs.declared.builder.value_parser.Reading.TheVariants.{AsWritten}
-use Rattle.clap.specs.declared.parser.matches.ValueSource.TheVariants.{CommandLine}
-use Rattle.std.specs.List.{list_any}
-use Rattle.command_line.specs.Texts.{is_dashed}
+use Rattle.command_line.proofs.Terms.{Bool, List, None, Option, Some, [], false, min, true, ℕ, ◌+◌, ◌∷◌, ◌≡◌, list_any, bytes_eq, CommandLine, long_of_rest, usize_max, Rule, arg_by_id, arg_by_index, arg_by_long, has_row, is_dashed, defaults_of}
 use Rattle.command_line.specs.Table.{Row as TableRow}
-use Rattle.command_line.specs.Reading.{defaults_of}
 
 -- a name under the id of its positional, or an option's name without dashes and its value
 pub data Piece : Type 0 where

@@ -1,21 +1,10 @@
 -- The numbers of words that are taken are in the ranges of their rows. No row of the table is named here.
-use Rattle.std.proofs.Common.{◌≡◌, ◌∙◌, ◌≤◌, ◌&&◌, ◌||◌, ℕ, Bool, cond, true, false, true≢false, not, ap, refl, sym, subst, List, [], ◌∷◌, map, Option, Some, None, unwrap_or, nat_le, length, leb-true}
-use Rattle.std.specs.List.{filter, find, list_all}
-use Rattle.std.specs.Option.{option_map, option_map_or}
-use Rattle.std.specs.Str.{bytes_eq}
-use Rattle.command_line.specs.declared.options.TakesOf.TheVariants.{Name, OneOf, Number}
-use Rattle.command_line.specs.Texts.{Text, is_name, number_of}
-use Rattle.command_line.specs.Table.{Row, Takes}
-use Rattle.command_line.specs.Options.{Options, are_options, default_of, has_option, is_between, is_for, is_taken, number_at, takes_of, value_of}
-use Rattle.command_line.specs.Parts.{Parts, are_positionals}
-use Rattle.command_line.specs.Commands.{fits, is_run, run_value, run_form}
-use Rattle.command_line.specs.Reading.{EachRow}
+use Rattle.command_line.proofs.Terms.{Bool, List, None, Option, Some, [], ap, cond, false, leb-true, length, map, nat_le, not, refl, subst, sym, true, true≢false, unwrap_or, ℕ, ◌&&◌, ◌||◌, ◌∙◌, ◌∷◌, ◌≡◌, ◌≤◌, and_parts, not-true, filter, find, list_all, option_map, option_map_or, bytes_eq, Name, Number, OneOf, Text, is_name, number_of, Parts, are_positionals, Row, Takes, Options, are_options, default_of, has_option, is_between, is_for, is_taken, number_at, takes_of, value_of, fits, is_run, run_form, run_value, EachRow}
 use Rattle.command_line.specs.Ranges.{AreInRange, EachInRange, IsInRange, NumbersOf, RangesOf, takes_numbers}
 use Rattle.command_line.proofs.Asking.{asked_run}
-use Rattle.command_line.proofs.Numbers.{both}
 use Rattle.command_line.proofs.Pieces.{is_row}
 use Rattle.command_line.proofs.Rows.{apart, each_both}
-use Rattle.command_line.proofs.Cutting.{each_of_none, equal_text, off, row_found, swapped_text}
+use Rattle.command_line.proofs.Cutting.{each_of_none, equal_text, row_found, swapped_text}
 
 -- each row of this row's name takes what this row takes
 abbrev pub Alone : Row → List Row → Type 0
@@ -26,11 +15,11 @@ given_taken : (row : Row) (rows : List Row) (os : Options) → Alone row rows �
     → takes_of row.takes (value_of row os) ≡ true
 given_taken row rows [] alone taken default = default
 given_taken row rows (o ∷ os) alone taken default =
-    let named = both (is_name o.1) _ taken in
-    let mine = both (is_taken rows o.0 o.1) _ named.1 in
-    let rest = both (not (has_option o.0 os)) _ mine.1 in
+    let named = and_parts (is_name o.1) _ taken in
+    let mine = and_parts (is_taken rows o.0 o.1) _ named.1 in
+    let rest = and_parts (not (has_option o.0 os)) _ mine.1 in
     let found = row_found (λ r. bytes_eq r.name row.name ≡ true → r.takes ≡ row.takes) (λ r. is_for r o.0 && takes_of r.takes o.1) rows alone mine.0 in
-    let fit = both (is_for found.0 o.0) _ found.1 in
+    let fit = and_parts (is_for found.0 o.0) _ found.1 in
     let word : o.0 ≡ 45 ∷ 45 ∷ found.0.name = equal_text o.0 _ fit.0 in
     elim (is_for row o.0) as (λ b. is_for row o.0 ≡ b
     → takes_of row.takes (unwrap_or (option_map (λ (x : Text × Text). x.1) (cond b (Some o) (find (λ (x : Text × Text). is_for row x.0) os))) (default_of row)) ≡ true) [
@@ -42,7 +31,7 @@ given_taken row rows (o ∷ os) alone taken default =
 number_taken : (least most : ℕ) (o : Option ℕ) → option_map_or (is_between least most) o false ≡ true → (least ≤ unwrap_or o 0) × (unwrap_or o 0 ≤ most)
 number_taken least most None taken = absurd (true≢false (sym taken))
 number_taken least most (Some n) taken =
-    let ends = both (nat_le least n) (nat_le n most) taken in
+    let ends = and_parts (nat_le least n) (nat_le n most) taken in
     (leb-true least n ends.0, leb-true n most ends.1)
 
 -- the number that a row takes is of its range
@@ -63,8 +52,8 @@ each_plain P Q f rows p = each_both P P Q (λ row p q. f row p) rows p p
 each_alone : (rows : List Row) → apart rows ≡ true → EachRow (λ row. Alone row rows) rows
 each_alone [] e = tt
 each_alone (row ∷ rows) e =
-    let tests = both (not (is_row row.name rows)) _ e in
-    let others = each_of_none row.name rows (off _ tests.0) in (
+    let tests = and_parts (not (is_row row.name rows)) _ e in
+    let others = each_of_none row.name rows (not-true _ tests.0) in (
       (λ same. refl, each_plain (λ r. bytes_eq r.name row.name ≡ false) (λ r. bytes_eq r.name row.name ≡ true → r.takes ≡ row.takes) (λ r miss same. absurd (true≢false (sym same ∙ miss))) rows others),
       each_both (λ r. bytes_eq r.name row.name ≡ false) (λ r. Alone r rows) (λ r. Alone r (row ∷ rows))
           (λ r miss alone. (λ same. absurd (true≢false (sym same ∙ swapped_text row.name r.name ∙ miss)), alone)) rows others (each_alone rows tests.1),
@@ -86,7 +75,7 @@ each_in_range : (all : List Row) (os : Options) → are_options all os ≡ true 
     → EachInRange (map (numbered os) (filter is_numeric rows))
 each_in_range all os taken [] alone fit = tt
 each_in_range all os taken (row ∷ rows) alone fit =
-    let fits = both (fits_default row) _ fit in
+    let fits = and_parts (fits_default row) _ fit in
     let rest = each_in_range all os taken rows alone.1 fits.1 in
     elim (is_numeric row) as (λ b. is_numeric row ≡ b → EachInRange (map (numbered os) (cond b (row ∷ filter is_numeric rows) (filter is_numeric rows)))) [
       | true ↦ λ e. (number_ranges row.takes (value_of row os) e (given_taken row all os alone.0 taken (known _ _ e fits.0)), rest)
@@ -98,8 +87,8 @@ each_in_range all os taken (row ∷ rows) alone fit =
 in_ranges : (p : Parts) → is_run p ≡ true → AreInRange (run_value p)
 unfolding is_run run_value run_form
 in_ranges p e =
-    let names = both (are_positionals (length run_form.positionals) p.positionals) _ (both (fits run_form p) _ e).0 in
-    let taken = (both (are_options run_form.options p.options) _ names.1).0 in
+    let names = and_parts (are_positionals (length run_form.positionals) p.positionals) _ (and_parts (fits run_form p) _ e).0 in
+    let taken = (and_parts (are_options run_form.options p.options) _ names.1).0 in
     each_in_range run_form.options p.options taken run_form.options (each_alone run_form.options refl) refl
 
 pub ranges_of : RangesOf

@@ -1,13 +1,8 @@
 -- clap's commands of `run`, of `asm` and of `replay`, computed.
-use Rattle.std.proofs.Common.{◌≡◌, ◌<◌, ℕ, refl, true, false, length, List, Some, None, [], ◌∷◌, codes, arith}
-use Rattle.clap.specs.Matches.{first_value, found_of}
-use Rattle.clap.specs.Simple.{built, matches_of}
+use Rattle.clap.specs.Simple.{matches_of}
 use Rattle.clap.specs.Takes.{takes}
-use Rattle.clap.specs.Walk.{Text, rows_of}
-use Rattle.clap.specs.declared.parser.matches.ArgMatches.{ArgMatches}
-use Rattle.command_line.specs.Commands.{fits, positional, asm_form, replay_form, run_form}
-use Rattle.command_line.specs.Parts.{parts}
-use Rattle.command_line.specs.Reading.{EachName, HasRead, app_of_form}
+use Rattle.clap.specs.Walk.{Text}
+use Rattle.command_line.proofs.Terms.{List, None, Some, [], arith, codes, false, length, refl, true, ℕ, ◌<◌, ◌∷◌, ◌≡◌, ArgMatches, first_value, found_of, built, rows_of, parts, asm_form, fits, positional, replay_form, run_form, EachName, HasRead, app_of_form}
 use Rattle.command_line.proofs.Pieces.{is_row, plain_rule}
 use Rattle.command_line.proofs.Rows.{each_optional}
 use Rattle.command_line.proofs.Clapping.{IsReadable, clap_takes, name_value, options_value}

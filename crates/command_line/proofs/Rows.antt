@@ -1,17 +1,10 @@
 -- Rows of a table of which no two have one name: what clap's rules say of them. No row of the table is named here: what a table
 -- has to be is a test of it, which computes.
-use Rattle.std.proofs.Common.{◌≡◌, ◌∙◌, ◌&&◌, ◌==◌, ◌+◌, ℕ, Bool, true, false, true≢false, not, ap, refl, sym, List, [], ◌∷◌, ◌++◌, map, take, suc, arith, Option, Some, None, is_some}
-use Rattle.std.specs.List.{find, list_any, list_all, before_first}
-use Rattle.std.specs.Option.{option_or}
-use Rattle.std.specs.Str.{bytes_eq}
 use Rattle.std.proofs.lemmas.List.Folds.{find-append}
-use Rattle.clap.specs.Lexer.{has_byte, long_of_rest}
-use Rattle.clap.specs.Walk.{Rule, Text, has_long}
-use Rattle.command_line.specs.Table.{Row}
-use Rattle.command_line.specs.Reading.{EachRow, defaults_of}
-use Rattle.command_line.proofs.Numbers.{both}
+use Rattle.clap.specs.Walk.{Text}
+use Rattle.command_line.proofs.Terms.{Bool, List, None, Option, Some, [], ap, arith, false, is_some, map, not, refl, suc, sym, take, true, true≢false, ℕ, ◌&&◌, ◌++◌, ◌+◌, ◌==◌, ◌∙◌, ◌∷◌, ◌≡◌, and_parts, not-true, or_parts, before_first, find, list_all, list_any, option_or, bytes_eq, has_byte, long_of_rest, Rule, has_long, Row, EachRow, defaults_of}
 use Rattle.command_line.proofs.Walking.{same_text}
-use Rattle.command_line.proofs.Cutting.{each_of_none, neither, off, swapped_text}
+use Rattle.command_line.proofs.Cutting.{each_of_none, swapped_text}
 use Rattle.command_line.proofs.Pieces.{Optional, is_among, is_row, plain_rule}
 
 -- no two rows have one name
@@ -25,7 +18,7 @@ each_both P Q R f (row ∷ rows) p q = (f row p.0 q.0, each_both P Q R f rows p.
 
 each_tested : (test : Row → Bool) (rows : List Row) → list_all test rows ≡ true → EachRow (λ row. test row ≡ true) rows
 each_tested test [] e = tt
-each_tested test (row ∷ rows) e = let tests = both (test row) _ e in (tests.0, each_tested test rows tests.1)
+each_tested test (row ∷ rows) e = let tests = and_parts (test row) _ e in (tests.0, each_tested test rows tests.1)
 
 -- ---- clap's rules of rows
 
@@ -44,8 +37,8 @@ each_found : (T : Text → Rule → Bool) → ((row : Row) → T row.name (optio
     → (rows : List Row) → apart rows ≡ true → EachRow (λ row. find (T row.name) (map option_of rows) ≡ Some (option_of row)) rows
 each_found T hits misses [] e = tt
 each_found T hits misses (row ∷ rows) e =
-    let tests = both (not (is_row row.name rows)) _ e in
-    let others = each_of_none row.name rows (off _ tests.0) in (
+    let tests = and_parts (not (is_row row.name rows)) _ e in
+    let others = each_of_none row.name rows (not-true _ tests.0) in (
       rw (hits row) refl,
       each_both (λ r. bytes_eq r.name row.name ≡ false) (λ r. find (T r.name) (map option_of rows) ≡ Some (option_of r)) (λ r. find (T r.name) (map option_of (row ∷ rows)) ≡ Some (option_of r))
           (λ r miss found. rw (misses row r (swapped_text row.name r.name ∙ miss)) found) rows others (each_found T hits misses rows tests.1),
@@ -75,7 +68,7 @@ take_one_more n x xs = let next : 1 + n ≡ suc n = omega arith in ap (λ k. tak
 
 before_all : (p : ℕ → Bool) (xs : List ℕ) → list_any p xs ≡ false → before_first p xs ≡ xs
 before_all p [] e = refl
-before_all p (x ∷ xs) e = let parts = neither (p x) _ e in rw parts.0 (take_one_more _ x xs ∙ ap (λ (ys : List ℕ). x ∷ ys) (before_all p xs parts.1))
+before_all p (x ∷ xs) e = let parts = or_parts (p x) _ e in rw parts.0 (take_one_more _ x xs ∙ ap (λ (ys : List ℕ). x ∷ ys) (before_all p xs parts.1))
 
 long_name : (name : Text) → bytes_eq name [] ≡ false → has_byte 61 name ≡ false → long_of_rest name ≡ Some (name, None)
 long_name [] some e = absurd (true≢false some)
@@ -92,19 +85,19 @@ stands_behind front names row =
 known : (front tail : List Rule) (names : List Text) (row : Row) → find (has_id row.name) tail ≡ Some (option_of row) → find (is_long row.name) tail ≡ Some (option_of row)
     → stands_behind front names row ≡ true → Optional (front ++ tail) names row
 known front tail names row id long e =
-    let tests = both _ _ e in
-    let fronts = both _ _ tests.0 in
-    let texts = both _ _ tests.1 in
-    let word = both _ _ texts.0 in
+    let tests = and_parts _ _ e in
+    let fronts = and_parts _ _ tests.0 in
+    let texts = and_parts _ _ tests.1 in
+    let word = and_parts _ _ texts.0 in
     let by_id = behind (has_id row.name) front tail (option_of row) fronts.0 id in (
       record {
         defaults = defaults_of row;
         by_long = behind (is_long row.name) front tail (option_of row) fronts.1 long;
         by_id = by_id;
-        some = off _ word.0;
-        long = long_name row.name (off _ word.0) (off _ word.1);
+        some = not-true _ word.0;
+        long = long_name row.name (not-true _ word.0) (not-true _ word.1);
       },
-      off _ texts.1,
+      not-true _ texts.1,
       by_id,
     )
 

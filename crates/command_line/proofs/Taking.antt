@@ -1,12 +1,6 @@
 -- Words taken apart, part by part.
-use Rattle.std.proofs.Common.{◌≡◌, ◌∙◌, ◌<◌, ◌≤◌, ◌-◌, true, false, ap, ap₂, refl, sym, arith, List, [], ◌∷◌, take, drop, length, Bor}
-use Rattle.std.specs.Prelude.{String, string_bytes}
-use Rattle.std.specs.declared.alloc.Global.{Global}
-use Rattle.std.specs.List.{slice_index_or}
-use Rattle.std.proofs.lemmas.List.{take_rest}
-use Rattle.command_line.specs.Texts.{Text, is_dashed}
-use Rattle.command_line.specs.Parts.{StartsWith, nothing, parts, parts_behind, parts_of, texts_of, with_option, with_positional}
-use Rattle.command_line.specs.declared.parts.Part.TheVariants.{Positional, Option as OptionPart}
+use Rattle.command_line.proofs.Terms.{Global, Bor, List, [], ap, ap₂, arith, drop, false, length, refl, sym, take, true, ◌-◌, ◌<◌, ◌∙◌, ◌∷◌, ◌≡◌, ◌≤◌, take_rest, slice_index_or, String, string_bytes, Positional, Text, is_dashed, StartsWith, nothing, parts, parts_behind, parts_of, texts_of, with_option, with_positional}
+use Rattle.command_line.specs.declared.parts.Part.TheVariants.{Option as OptionPart}
 
 pub no_words : parts [] ≡ nothing
 unfolding parts_behind

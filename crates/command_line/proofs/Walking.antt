@@ -1,25 +1,10 @@
 -- clap's walk over words that are pieces.
-use Rattle.std.proofs.Common.{◌≡◌, ◌∙◌, ◌+◌, ◌&&◌, ◌||◌, ℕ, Bool, cond, true, false, nat_eq, ap, refl, sym, List, [], ◌∷◌, ◌++◌, map, min, Option, Some, None, append-nil, append_assoc, fold, arith}
-use Rattle.std.specs.Str.{bytes_eq}
-use Rattle.std.proofs.lemmas.Bool.Decides.{nat_tests}
-use Rattle.clap.specs.Lexer.{short_of, usize_max}
-use Rattle.clap.specs.Walk.{Held, Row, Rule, Text, Walk, at_row, has_row, idle, more_values, option as awaited, settled_rows, walked}
-use Rattle.clap.specs.declared.parser.matches.ValueSource.TheVariants.{CommandLine}
-use Rattle.clap.specs.Simple.{Shape}
-use Rattle.clap.specs.Takes.{settle_passes, turn_passes, walk_passes}
-use Rattle.command_line.specs.Texts.{is_dashed}
+use Rattle.clap.specs.Walk.{Row, Text, option as awaited}
+use Rattle.command_line.proofs.Terms.{Bool, List, None, Option, Some, [], ap, append-nil, append_assoc, cond, false, fold, map, min, nat_eq, refl, sym, true, ℕ, ◌++◌, ◌+◌, ◌||◌, ◌∙◌, ◌∷◌, ◌≡◌, and_from, and_right, bytes_eq-Decides, bytes_eq, CommandLine, short_of, usize_max, Shape, settle_passes, turn_passes, walk_passes, Held, Rule, Walk, at_row, has_row, idle, more_values, settled_rows, walked, is_dashed}
 use Rattle.command_line.proofs.Pieces.{Apart, Fit, IsKnown, IsOption, IsPlace, NoneIn, Piece, id_of, made, name, option, text_of, words_of}
 
 pub same_text : (t : Text) → bytes_eq t t ≡ true
-same_text [] = refl
-same_text (x ∷ xs) = let here : nat_eq x x ≡ true = grind (arith, nat_tests) in rw (here, same_text xs) refl
-
-and_off : (b : Bool) → (b && false) ≡ false
-and_off true = refl
-and_off false = refl
-
-pub both_on : (a b : Bool) → a ≡ true → b ≡ true → (a && b) ≡ true
-both_on a b p q = rw (p, q) refl
+same_text t = (bytes_eq-Decides t t).1 refl
 
 -- ---- rows
 
@@ -107,12 +92,12 @@ module _ (s : Shape) where
     passes = rw (plain, short_none x xs plain, at.by_index) refl;
   }
   name_step rows (Some p) place id [] at plain known = record {
-    comes = rw (at.by_index, and_off (bytes_eq (id_of p) id)) refl;
-    passes = rw (at.by_index, and_off (bytes_eq (id_of p) id)) (settle_ok s.rules s.args_override_self rows (Some p) known);
+    comes = rw (at.by_index, and_right (bytes_eq (id_of p) id) false refl) refl;
+    passes = rw (at.by_index, and_right (bytes_eq (id_of p) id) false refl) (settle_ok s.rules s.args_override_self rows (Some p) known);
   }
   name_step rows (Some p) place id (x ∷ xs) at plain known = record {
-    comes = rw (plain, short_none x xs plain, at.by_index, and_off (bytes_eq (id_of p) id)) refl;
-    passes = rw (plain, short_none x xs plain, at.by_index, and_off (bytes_eq (id_of p) id)) (settle_ok s.rules s.args_override_self rows (Some p) known);
+    comes = rw (plain, short_none x xs plain, at.by_index, and_right (bytes_eq (id_of p) id) false refl) refl;
+    passes = rw (plain, short_none x xs plain, at.by_index, and_right (bytes_eq (id_of p) id) false refl) (settle_ok s.rules s.args_override_self rows (Some p) known);
   }
 
   option_step : (rows : List Row) (last : Option Piece) (place : ℕ) (id : Text) → IsOption s.rules id → IsPending s.rules rows last
@@ -120,7 +105,7 @@ module _ (s : Shape) where
   unfolding walked
   option_step rows last place id at known = record {
     comes = rw (at.some, at.long, at.by_long) refl;
-    passes = rw (at.some, at.long, at.by_long) (both_on _ true (settle_ok s.rules s.args_override_self rows last known) refl);
+    passes = rw (at.some, at.long, at.by_long) (and_from _ true (settle_ok s.rules s.args_override_self rows last known) refl);
   }
 
   value_step : (rows : List Row) (place : ℕ) (id word : Text) → IsOption s.rules id → is_dashed word ≡ false
@@ -149,7 +134,7 @@ module _ (s : Shape) where
   one_more : (w next : Walk) (word : Text) (words : List Text) (rows : List Row) → Steps w word next → Ends next words rows → Ends w (word ∷ words) rows
   unfolding walk_passes
   one_more w next word words rows step rest = record {
-    passes = both_on _ _ step.passes (ap (λ v. walk_passes s [] v words) step.comes ∙ rest.passes);
+    passes = and_from _ _ step.passes (ap (λ v. walk_passes s [] v words) step.comes ∙ rest.passes);
     settles = ap (λ v. settle_passes s.rules s.args_override_self (walked_over v words)) step.comes ∙ rest.settles;
     leaves = ap (λ v. settled_rows s.rules (walked_over v words).pending (walked_over v words).rows) step.comes ∙ rest.leaves;
   }

@@ -1,8 +1,8 @@
 -- The command that words ask for.
 use Rattle.std.specs.Prelude.{◌≡◌, true, ℕ, ◌&&◌, Bool, not, List, [], ◌∷◌, Option, Some, None, if◌then◌else◌, length, slice_get, unwrap_or}
-use Rattle.std.specs.Str.{bytes_eq}
 use Rattle.msg_frame.specs.declared.framing.Framing.{Framing}
 use Rattle.msg_frame.specs.declared.framing.Framing.TheVariants.{Line, Length, Whole}
+use Rattle.command_line.specs.Terms.{bytes_eq}
 use Rattle.command_line.specs.Texts.{Text}
 use Rattle.command_line.specs.Parts.{Parts, are_positionals, parts, parts_of}
 use Rattle.command_line.specs.Options.{are_options, has_required, number_at, value_of}

@@ -1,8 +1,6 @@
 -- The options of a command: which are taken, and the value that one has.
 use Rattle.std.specs.Prelude.{ℕ, ◌&&◌, ◌||◌, Bool, true, false, not, List, [], ◌∷◌, Option, is_some, nat_le, find, option_map, unwrap_or}
-use Rattle.std.specs.List.{list_all, list_any}
-use Rattle.std.specs.Option.{option_map_or}
-use Rattle.std.specs.Str.{bytes_eq}
+use Rattle.command_line.specs.Terms.{list_all, list_any, option_map_or, bytes_eq}
 use Rattle.command_line.specs.Texts.{Text, is_name, number_of}
 use Rattle.command_line.specs.declared.texts.TheConstants.{DASH}
 use Rattle.command_line.specs.declared.options.TakesOf.TheVariants.{Name, OneOf, Number}

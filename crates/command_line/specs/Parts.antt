@@ -1,7 +1,6 @@
 -- The words behind a command, taken apart.
 use Rattle.std.specs.Prelude.{◌≡◌, ℕ, ◌==◌, ◌&&◌, ◌<◌, Bool, List, [], ◌∷◌, Option, Some, None, String, if◌then◌else◌, length, map, string_bytes}
-use Rattle.std.specs.declared.alloc.Global.{Global}
-use Rattle.std.specs.List.{list_all}
+use Rattle.command_line.specs.Terms.{Global, list_all}
 use Rattle.command_line.specs.Texts.{Text, is_dashed, is_name}
 use Rattle.command_line.specs.declared.parts.Part.{Part}
 use Rattle.command_line.specs.declared.parts.Part.TheVariants.{Positional, Option as OptionPart}

@@ -1,10 +1,8 @@
 -- What clap reads of the words of a command.
 use Rattle.std.specs.Prelude.{◌≡◌, ℕ, ◌+◌, true, List, [], ◌∷◌, Some, fold, map}
-use Rattle.std.specs.Option.{option_map_or}
 use Rattle.clap.specs.Words.{first_value, found_of}
-use Rattle.clap.specs.Simple.{App, new_app, new_rule, with_rule}
-use Rattle.clap.specs.Walk.{Rule}
-use Rattle.clap.specs.declared.parser.matches.ArgMatches.{ArgMatches}
+use Rattle.clap.specs.Simple.{App, new_rule, with_rule}
+use Rattle.command_line.specs.Terms.{option_map_or, ArgMatches, new_app, Rule}
 use Rattle.command_line.specs.Texts.{Text}
 use Rattle.command_line.specs.Table.{CommandForm, Row}
 use Rattle.command_line.specs.Parts.{Parts}

@@ -1,8 +1,6 @@
 -- What one word may be: a name, or a number.
 use Rattle.std.specs.Prelude.{ℕ, ◌^◌, ◌==◌, ◌&&◌, Bool, false, not, List, [], ◌∷◌, Option, Some, None, if◌then◌else◌, nat_lt}
-use Rattle.std.specs.Char.{is_ascii_digit}
-use Rattle.std.specs.List.{list_all}
-use Rattle.std.specs.Str.Parse.{digits_value}
+use Rattle.command_line.specs.Terms.{is_ascii_digit, list_all, digits_value}
 use Rattle.command_line.specs.declared.texts.TheConstants.{DASH, ZERO}
 
 abbrev pub Text : Type 0

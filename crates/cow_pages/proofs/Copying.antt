@@ -1,23 +1,9 @@
 -- A page of the live space that moves to a free frame.
-use Rattle.std.proofs.Common.{◌≡◌, ℕ, zero, suc, ◌+◌, ◌*◌, ◌<◌, ◌≤◌, ◌⊎◌, Bool, true, false, ◌||◌, nat_lt, cond, Some, None, List, [], ◌∷◌, ◌++◌, length, map, take, drop, get_or, set, All, refl, sym, ap, subst, ◌∙◌, inl, inr, arith}
-use Rattle.std.proofs.lemmas.Bool.{cases_lt, cases_Bool, cases_eq, lt-ltb, ltb-true, or_parts, false≢true}
-use Rattle.std.proofs.lemmas.List.{get_or-set_same, get_or-set_other, length-set, length-append, take_at}
-use Rattle.std.proofs.lemmas.List.Elements.{All-head, All-tail, All-cons, All-nil}
-use Rattle.cow_pages.specs.Pages.{Pages, has, different, saved_numbers, used_of}
-use Rattle.cow_pages.specs.Writes.{is_shared, IsFree, NumberAfter, Owns}
-use Rattle.cow_pages.specs.Pool.{contents, space_of, slot_space, pages_of, slot_numbers, table_numbers, places, IsStack, IsTable, IsSlot, IsSound}
-use Rattle.cow_pages.specs.declared.slot.Slot.{Slot}
-use Rattle.cow_pages.proofs.Counting.{AreBelow, or_first, or_second, has-append, has-is, places-append, has-get_or, different-append-lt}
+use Rattle.cow_pages.proofs.Terms.{All, Bool, List, None, Some, [], ap, arith, cond, drop, false, get_or, inl, inr, length, map, nat_lt, refl, set, subst, sym, take, true, ℕ, ◌*◌, ◌++◌, ◌+◌, ◌<◌, ◌||◌, ◌∙◌, ◌∷◌, ◌≡◌, ◌≤◌, ◌⊎◌, cases_Bool, cases_eq, cases_lt, false≢true, lt-ltb, ltb-true, or_left, or_parts, or_right, get_or-set_other, get_or-set_same, get_or_append_left, get_or_push, length-append, length-set, take_at, All-cons, All-head, All-nil, All-tail, PAGE, Slot, Pages, different, has, saved_numbers, used_of, IsFree, NumberAfter, Owns, is_shared, IsSlot, IsSound, IsStack, IsTable, contents, pages_of, places, slot_numbers, slot_space, space_of, table_numbers}
+use Rattle.cow_pages.proofs.Counting.{AreBelow, has-append, has-is, places-append, has-get_or, different-append-lt, places-set}
 use Rattle.cow_pages.proofs.Walks.{in_use, places-here, places-there}
 use Rattle.cow_pages.proofs.Frames.{copied, length-copied, copy_within-copied, contents-copied, contents-copied_apart}
 use Rattle.cow_pages.proofs.Stores.{saved_numbers-is, table_below, shared-is, use-has, used-sum}
-use Rattle.cow_pages.specs.declared.frame_copy.TheConstants.{PAGE}
-
--- a list with another number at one place
-pub places-set : (n : ℕ) (xs : List ℕ) (k y : ℕ) → k < length xs → places n (set xs k y) + places n (get_or xs k 0 ∷ []) ≡ places n xs + places n (y ∷ [])
-places-set n [] k y less = absurd (omega arith)
-places-set n (x ∷ xs) zero y less = omega arith
-places-set n (x ∷ xs) (suc k) y less = omega (arith, places-set n xs k y (omega arith))
 
 pub has-set_other : (n : ℕ) (xs : List ℕ) (k y : ℕ) → k < length xs → (get_or xs k 0 ≡ n → ⊥) → (y ≡ n → ⊥) → has n (set xs k y) ≡ has n xs
 has-set_other n xs k y less old new =
@@ -37,20 +23,11 @@ free_there pages frames held pool live counts free reserved slots page so less s
     let held' : different (saved_numbers (map (slot_space pool) slots)) ≡ held = ap different (saved_numbers-is pool slots) ∙ sym so.held_count in
     omega (arith, used-sum pages frames held pool live counts free reserved slots so, so.room, so.live_table.size, fewer, held')
 
-at_end : (rest : List ℕ) (fresh : ℕ) → get_or (rest ++ fresh ∷ []) (length rest) 0 ≡ fresh
-at_end [] fresh = refl
-at_end (x ∷ rest) fresh = at_end rest fresh
-
-before : (rest : List ℕ) (fresh k : ℕ) → k < length rest → get_or (rest ++ fresh ∷ []) k 0 ≡ get_or rest k 0
-before [] fresh k less = absurd (omega arith)
-before (x ∷ rest) fresh zero less = refl
-before (x ∷ rest) fresh (suc k) less = before rest fresh k (omega arith)
-
 -- the frame on top of the stack is in no table
 pub top_below : (counts live rest : List ℕ) (fresh : ℕ) → IsStack counts live (rest ++ fresh ∷ []) → fresh < length counts
 top_below counts live rest fresh so =
     let inside : length rest < length (rest ++ fresh ∷ []) = omega (arith, length-append rest (fresh ∷ [])) in
-    subst (λ n. n < length counts) (at_end rest fresh) (so.below (length rest) inside)
+    subst (λ n. n < length counts) (get_or_push rest fresh 0 (length rest) refl) (so.below (length rest) inside)
 
 free_test : (b : Bool) → 0 < cond b 0 1 → b ≡ false
 free_test true h = absurd (omega arith)
@@ -71,14 +48,14 @@ still counts live page fresh inside counted n other =
     elim (cases_eq (get_or live page 0) n) [
       | inl old ↦
           (let some : nat_lt 0 (get_or counts n 0) ≡ true = subst (λ m. nat_lt 0 (get_or counts m 0) ≡ true) old (lt-ltb 0 (get_or counts (get_or live page 0) 0) counted) in
-          or_first (nat_lt 0 (get_or counts n 0)) (has n (set live page fresh)) some ∙ sym (or_first (nat_lt 0 (get_or counts n 0)) (has n live) some))
+          or_left (nat_lt 0 (get_or counts n 0)) (has n (set live page fresh)) some ∙ sym (or_left (nat_lt 0 (get_or counts n 0)) (has n live) some))
       | inr apart ↦ ap (λ b. nat_lt 0 (get_or counts n 0) || b) (has-set_other n live page fresh inside apart other)
     ]
 
 -- the stack without its top, which a page of the live table has now
 pub stack_taken : (counts live rest : List ℕ) (page fresh : ℕ) → IsStack counts live (rest ++ fresh ∷ []) → page < length live → 0 < get_or counts (get_or live page 0) 0 → IsStack counts (set live page fresh) rest
 stack_taken counts live rest page fresh so inside counted = record {
-  below = λ k less. subst (λ n. n < length counts) (before rest fresh k less) (so.below k (omega (arith, length-append rest (fresh ∷ []))));
+  below = λ k less. subst (λ n. n < length counts) (get_or_append_left rest (fresh ∷ []) 0 k less) (so.below k (omega (arith, length-append rest (fresh ∷ []))));
   each = λ n less.
       let sum : places n (rest ++ fresh ∷ []) ≡ places n rest + places n (fresh ∷ []) = places-append n rest (fresh ∷ []) in
       elim (cases_eq fresh n) [
@@ -87,7 +64,7 @@ stack_taken counts live rest page fresh so inside counted = record {
             (let near : fresh < length counts = top_below counts live rest fresh so in
             let one : places fresh (rest ++ fresh ∷ []) ≡ 1 = so.each fresh near ∙ ap (λ b. cond b 0 1) (top_unused counts live rest fresh so) in
             let gone : places fresh rest ≡ 0 = omega (arith, places-append fresh rest (fresh ∷ []), places-here fresh []) in
-            gone ∙ ap (λ b. cond b 0 1) (sym (or_second (nat_lt 0 (get_or counts fresh 0)) (has fresh (set live page fresh)) (has-set_same live page fresh inside))))
+            gone ∙ ap (λ b. cond b 0 1) (sym (or_right (nat_lt 0 (get_or counts fresh 0)) (has fresh (set live page fresh)) (has-set_same live page fresh inside))))
         | inr other ↦
             (let none : places n (fresh ∷ []) ≡ places n [] = places-there n fresh [] other in
             let same : places n rest ≡ places n (rest ++ fresh ∷ []) = omega arith in

@@ -1,9 +1,6 @@
 -- How many times a number stands in a list, and how many different ones do.
-use Rattle.std.proofs.Common.{◌≡◌, ℕ, zero, suc, ◌+◌, ◌<◌, ◌≤◌, Bool, true, false, ◌||◌, ◌==◌, nat_lt, cond, List, [], ◌∷◌, ◌++◌, length, take, drop, get_or, refl, sym, ap, subst, ◌∙◌, inl, inr, arith}
-use Rattle.std.proofs.lemmas.Bool.{cases_Bool, cases_eq, eq-eqb, ne_eqb, eqb-true, lt-ltb, ltb-true, ltb-false, or_cases, false_from_ne_true}
-use Rattle.std.proofs.lemmas.List.{take-append-drop}
-use Rattle.cow_pages.specs.Pages.{has, different}
-use Rattle.cow_pages.specs.Pool.{places}
+use Rattle.std.proofs.Math.ListN.{set}
+use Rattle.cow_pages.proofs.Terms.{Bool, List, [], ap, arith, cond, drop, false, get_or, inl, inr, length, nat_lt, refl, subst, suc, sym, take, true, zero, ℕ, ◌++◌, ◌+◌, ◌<◌, ◌==◌, ◌||◌, ◌∙◌, ◌∷◌, ◌≡◌, ◌≤◌, cases_Bool, cases_eq, eq-eqb, eqb-true, false_from_ne_true, lt-ltb, ltb-false, ltb-true, ne_eqb, or_cases, or_left, or_right, take-append-drop, different, has, places}
 
 -- each element of a list is below a number
 abbrev pub AreBelow : ℕ → List ℕ → Type 0
@@ -18,14 +15,6 @@ below_head top x xs below = below 0 (omega arith)
 or_assoc : (a b c : Bool) → ((a || b) || c) ≡ (a || (b || c))
 or_assoc true b c = refl
 or_assoc false b c = refl
-
-pub or_first : (a b : Bool) → a ≡ true → (a || b) ≡ true
-or_first true b e = refl
-or_first false b e = cc
-
-pub or_second : (a b : Bool) → b ≡ true → (a || b) ≡ true
-or_second true b e = refl
-or_second false b e = e
 
 pub has-append : (n : ℕ) (xs ys : List ℕ) → has n (xs ++ ys) ≡ (has n xs || has n ys)
 has-append n [] ys = refl
@@ -47,9 +36,6 @@ has-is n (x ∷ xs) =
       | false ↦ (let e : 0 + places n xs ≡ places n xs = omega arith in has-is n xs ∙ ap (nat_lt 0) (sym e))
     ]
 
-pub has-none : (n : ℕ) (xs : List ℕ) → places n xs ≡ 0 → has n xs ≡ false
-has-none n xs none = has-is n xs ∙ ap (nat_lt 0) none
-
 pub has-some : (n : ℕ) (xs : List ℕ) → 0 < places n xs → has n xs ≡ true
 has-some n xs some = has-is n xs ∙ lt-ltb 0 (places n xs) some
 
@@ -62,8 +48,8 @@ places-some n xs some = ltb-true 0 (places n xs) (sym (has-is n xs) ∙ some)
 -- an element stands in its list
 pub has-get_or : (xs : List ℕ) (k : ℕ) → k < length xs → has (get_or xs k 0) xs ≡ true
 has-get_or [] k less = absurd (omega arith)
-has-get_or (x ∷ xs) zero less = or_first (x == x) (has x xs) (eq-eqb x x refl)
-has-get_or (x ∷ xs) (suc k) less = or_second (x == get_or xs k 0) (has (get_or xs k 0) xs) (has-get_or xs k (omega arith))
+has-get_or (x ∷ xs) zero less = or_left (x == x) (has x xs) (eq-eqb x x refl)
+has-get_or (x ∷ xs) (suc k) less = or_right (x == get_or xs k 0) (has (get_or xs k 0) xs) (has-get_or xs k (omega arith))
 
 -- a number that is in a list stands at some place
 pub has-at : (n : ℕ) (xs : List ℕ) → has n xs ≡ true → (k : ℕ) × (k < length xs) × (get_or xs k 0 ≡ n)
@@ -77,18 +63,6 @@ has-at n (x ∷ xs) is =
 -- a number that stands at no place of a list isn't in it
 pub has-nowhere : (n : ℕ) (xs : List ℕ) → ((k : ℕ) → k < length xs → get_or xs k 0 ≡ n → ⊥) → has n xs ≡ false
 has-nowhere n xs nowhere = false_from_ne_true (has n xs) (λ is. let found = has-at n xs is in nowhere found.0 found.1 found.2)
-
--- a list whose elements are all below has no other number
-pub below-has : (top n : ℕ) (xs : List ℕ) → AreBelow top xs → has n xs ≡ true → n < top
-below-has top n xs below is = let found = has-at n xs is in subst (λ m. m < top) found.2 (below found.0 found.1)
-
-pub places-le-length : (n : ℕ) (xs : List ℕ) → places n xs ≤ length xs
-places-le-length n [] = omega arith
-places-le-length n (x ∷ xs) =
-    elim (x == n) as (λ b. cond b 1 0 + places n xs ≤ suc (length xs)) [
-      | true ↦ omega (arith, places-le-length n xs)
-      | false ↦ omega (arith, places-le-length n xs)
-    ]
 
 -- a list whose elements stand at one place each has no number twice
 pub places-le-one : (n : ℕ) (xs : List ℕ) → ((k j : ℕ) → k < length xs → j < length xs → get_or xs k 0 ≡ get_or xs j 0 → k ≡ j) → places n xs ≤ 1
@@ -139,7 +113,7 @@ occupied-cons (suc k) x xs less =
           rw is (omega arith))
     ]
 
-chosen : (b : Bool) (n : ℕ) → cond b n (n + 1) ≡ n + cond b 0 1
+pub chosen : (b : Bool) (n : ℕ) → cond b n (n + 1) ≡ n + cond b 0 1
 chosen true n = omega arith
 chosen false n = refl
 
@@ -243,7 +217,7 @@ pub different-append-lt : (xs ys : List ℕ) (k : ℕ) → k < length xs → has
 different-append-lt [] ys k less is = absurd (omega arith)
 different-append-lt (x ∷ xs) ys zero less is =
     let rest : different (xs ++ ys) ≤ length xs + different ys = different-append-le xs ys in
-    let found : has x (xs ++ ys) ≡ true = has-append x xs ys ∙ or_second (has x xs) (has x ys) is in
+    let found : has x (xs ++ ys) ≡ true = has-append x xs ys ∙ or_right (has x xs) (has x ys) is in
     rw found (omega arith)
 different-append-lt (x ∷ xs) ys (suc k) less is =
     let rest : different (xs ++ ys) < length xs + different ys = different-append-lt xs ys k (omega arith) is in
@@ -252,12 +226,8 @@ different-append-lt (x ∷ xs) ys (suc k) less is =
       | false ↦ omega arith
     ]
 
--- a list in front adds no fewer
-pub different-le-append : (xs ys : List ℕ) → different ys ≤ different (xs ++ ys)
-different-le-append [] ys = omega arith
-different-le-append (x ∷ xs) ys =
-    let rest : different ys ≤ different (xs ++ ys) = different-le-append xs ys in
-    elim (has x (xs ++ ys)) as (λ b. different ys ≤ cond b (different (xs ++ ys)) (different (xs ++ ys) + 1)) [
-      | true ↦ omega arith
-      | false ↦ omega arith
-    ]
+-- a number more and one less where one is put in place of another
+pub places-set : (n : ℕ) (xs : List ℕ) (k y : ℕ) → k < length xs → places n (set xs k y) + places n (get_or xs k 0 ∷ []) ≡ places n xs + places n (y ∷ [])
+places-set n [] k y less = absurd (omega arith)
+places-set n (x ∷ xs) zero y less = omega arith
+places-set n (x ∷ xs) (suc k) y less = omega (arith, places-set n xs k y (omega arith))

@@ -1,12 +1,6 @@
 -- Bytes of frames: reading them, writing some, and copying a frame.
-use Rattle.std.proofs.Common.{◌≡◌, ℕ, suc, ◌+◌, ◌-◌, ◌*◌, ◌/◌, ◌%◌, ◌<◌, ◌≤◌, List, [], ◌∷◌, ◌++◌, length, take, drop, get_or, set, refl, sym, ap, subst, ◌∙◌, inl, inr, arith}
-use Rattle.std.proofs.lemmas.Bool.{cases_eq, cases_lt}
-use Rattle.std.proofs.lemmas.List.{get_or-drop, get_or-take, length-drop, length-take-le, get_or-set_same, get_or-set_other, length-set, get_or-append_right, get_or_append_left, append_assoc, length-append, set_split, drop-drop}
-use Rattle.std.proofs.lemmas.Grind.{same_number_lists}
+use Rattle.cow_pages.proofs.Terms.{List, [], ap, arith, drop, get_or, inl, inr, length, refl, set, subst, suc, sym, take, ℕ, ◌%◌, ◌*◌, ◌++◌, ◌+◌, ◌-◌, ◌/◌, ◌<◌, ◌∙◌, ◌∷◌, ◌≡◌, ◌≤◌, cases_eq, cases_lt, same_number_lists, append_assoc, drop-drop, get_or-append_right, get_or-drop, get_or-set_other, get_or-set_same, get_or-take, get_or_append_left, length-append, length-drop, length-set, length-take-le, set_split, PAGE, put_at, contents}
 use Rattle.cow_pages.proofs.Counting.{AreBelow, below_tail, below_head}
-use Rattle.cow_pages.specs.Writes.{put_at}
-use Rattle.cow_pages.specs.Pool.{contents}
-use Rattle.cow_pages.specs.declared.frame_copy.TheConstants.{PAGE}
 
 -- no number stands at two places of a list
 abbrev pub IsOnce : List ℕ → Type 0
@@ -85,15 +79,6 @@ put_at-put_at at first second xs room =
                       ∙ sym (get_or-put_behind at (first ++ second) xs k (omega arith) (omega arith)))
                 ])
           ])
-    ])
-
-pub put_at-nil : (at : ℕ) (xs : List ℕ) → at ≤ length xs → put_at at [] xs ≡ xs
-put_at-nil at xs room =
-    same_number_lists (put_at at [] xs) xs (length-put_at at [] xs (omega arith))
-    (λ k less.
-    elim (cases_lt k at) [
-      | inl before ↦ get_or-put_before at [] xs k (omega arith) before
-      | inr from ↦ get_or-put_behind at [] xs k (omega arith) (omega arith)
     ])
 
 frame_size : (n : ℕ) (pool : List ℕ) → PAGE * n + PAGE ≤ length pool → length (take PAGE (drop (PAGE * n) pool)) ≡ PAGE

@@ -1,3 +1,4 @@
+pub mod Terms
 pub mod Counting
 pub mod Walks
 pub mod Renewals

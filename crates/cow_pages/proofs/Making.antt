@@ -1,17 +1,8 @@
 -- A store that was just made.
-use Rattle.std.proofs.Common.{◌≡◌, ℕ, ◌+◌, ◌-◌, ◌*◌, ◌/◌, ◌%◌, ◌<◌, ◌≤◌, true, false, ◌||◌, nat_lt, cond, Some, None, List, [], ◌∷◌, ◌++◌, length, map, get_or, replicate, All, refl, sym, ap, subst, ◌∙◌, inl, inr, arith}
-use Rattle.std.proofs.lemmas.Bool.{cases_lt, false≢true}
-use Rattle.std.proofs.lemmas.List.{length-append, length-replicate, get_or-replicate, get_or_append_left}
-use Rattle.std.proofs.lemmas.List.Elements.{All-head, All-tail, All-weaker, All-nil, All-push}
-use Rattle.std.proofs.lemmas.Grind.{same_number_lists}
-use Rattle.cow_pages.specs.Pages.{has, different, IsMade}
-use Rattle.cow_pages.specs.Pool.{contents, space_of, slot_space, pages_of, table_numbers, places, Counts, IsStack, IsSlot, IsSound, IsRow, AreBlank}
-use Rattle.cow_pages.specs.declared.slot.Slot.{Slot}
+use Rattle.cow_pages.proofs.Terms.{All, List, None, Some, [], ap, arith, cond, false, get_or, inl, inr, length, map, nat_lt, refl, replicate, subst, sym, true, ℕ, ◌%◌, ◌*◌, ◌++◌, ◌+◌, ◌-◌, ◌/◌, ◌<◌, ◌||◌, ◌∙◌, ◌∷◌, ◌≡◌, ◌≤◌, cases_lt, false≢true, same_number_lists, get_or-replicate, get_or_append_left, length-append, length-replicate, All-head, All-nil, All-push, All-tail, All-weaker, PAGE, Slot, MAX_FRAMES_PER_PAGE, MAX_PAGES, MAX_SLOTS, IsMade, different, has, AreBlank, Counts, IsRow, IsSlot, IsSound, IsStack, contents, pages_of, places, slot_space, space_of, table_numbers}
 use Rattle.cow_pages.proofs.Counting.{AreBelow, has-get_or, has-nowhere, places-none, places-some, places-le-one}
 use Rattle.cow_pages.proofs.Frames.{get_or-contents, length-contents}
 use Rattle.cow_pages.proofs.Stores.{table_below, used-sum}
-use Rattle.cow_pages.specs.declared.frame_copy.TheConstants.{PAGE}
-use Rattle.cow_pages.specs.declared.store.TheConstants.{MAX_FRAMES_PER_PAGE, MAX_PAGES, MAX_SLOTS}
 
 -- nothing is saved in any slot
 abbrev pub IsBlank : ℕ → Slot → Type 0
@@ -41,26 +32,6 @@ blank_more count pages slots slot so unsaved size = record {
 
 row_once : (start end : ℕ) (row : List ℕ) → IsRow start end row → (k j : ℕ) → k < length row → j < length row → get_or row k 0 ≡ get_or row j 0 → k ≡ j
 row_once start end row so k j lk lj e = omega (arith, so.each k lk, so.each j lj)
-
-pub row_none : (start : ℕ) → IsRow start start []
-row_none start = record { size = (let e : 0 ≡ start - start = omega arith in e); each = λ k less. absurd (omega arith) }
-
-at_end : (xs : List ℕ) (x : ℕ) → get_or (xs ++ x ∷ []) (length xs) 0 ≡ x
-at_end [] x = refl
-at_end (y ∷ xs) x = at_end xs x
-
--- the row has one number more
-pub row_more : (start end : ℕ) (row : List ℕ) → IsRow start end row → start ≤ end → IsRow start (end + 1) (row ++ end ∷ [])
-row_more start end row so less = record {
-  size = (let e : length (row ++ end ∷ []) ≡ end + 1 - start = omega (arith, length-append row (end ∷ []), so.size) in e);
-  each = λ k inside.
-      elim (cases_lt k (length row)) [
-        | inl before ↦ get_or_append_left row (end ∷ []) 0 k before ∙ so.each k before
-        | inr last ↦
-            (let place : k ≡ length row = omega (arith, length-append row (end ∷ [])) in
-            subst (λ n. get_or (row ++ end ∷ []) n 0 ≡ start + n) (sym place) (at_end row end ∙ (let e : end ≡ start + length row = omega (arith, so.size) in e)))
-      ];
-}
 
 row_places : (pages frames : ℕ) (live free : List ℕ) (n : ℕ) → IsRow 0 pages live → IsRow pages frames free → pages ≤ frames → n < frames → places n free ≡ cond (has n live) 0 1
 row_places pages frames live free n low high less under =

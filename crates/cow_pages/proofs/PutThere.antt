@@ -1,6 +1,6 @@
 -- A part of a list that another part of it takes the place of.
-use Rattle.std.proofs.Common.{◌≡◌, ℕ, ◌+◌, ◌-◌, ◌≤◌, ◌++◌, List, length, take, drop, sym, ◌∙◌, ap, arith, append_assoc, length-drop}
-use Rattle.std.proofs.lemmas.List.{drop-drop, drop-take, take-take, length-take-le, take-append-drop}
+use Rattle.std.proofs.Common.{append_assoc, length-drop}
+use Rattle.cow_pages.proofs.Terms.{List, ap, arith, drop, length, sym, take, ℕ, ◌++◌, ◌+◌, ◌-◌, ◌∙◌, ◌≡◌, ◌≤◌, drop-drop, drop-take, length-take-le, take-append-drop, take-take}
 
 -- a part of a first part is that part of the whole
 part_of : (from n whole : ℕ) (xs : List ℕ) → from + n ≤ whole → take n (drop from (take whole xs)) ≡ take n (drop from xs)
@@ -45,10 +45,6 @@ put_before from to n count xs front back ys first second within many copied =
     ∙ ap (λ (r : List ℕ). take to xs ++ r) (append_assoc (take n (drop from xs)) (drop (to + n) (take from xs)) (drop from xs))
     ∙ ap (λ (r : List ℕ). take to xs ++ (take n (drop from xs) ++ r)) (rest_of (to + n) from xs within)
     ∙ sym (append_assoc (take to xs) (take n (drop from xs)) (drop (to + n) xs))
-
--- parts as long as they are asked for
-pub first_length : (n : ℕ) (xs : List ℕ) → n ≤ length xs → length (take n xs) ≡ n
-first_length n xs enough = length-take-le n xs enough
 
 pub part_length : (at n count : ℕ) (xs : List ℕ) → at + n ≤ length xs → count ≡ n → length (take count (drop at xs)) ≡ n
 part_length at n count xs enough many =

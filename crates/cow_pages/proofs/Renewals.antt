@@ -1,12 +1,8 @@
 -- A table that becomes the live one, entry by entry.
-use Rattle.std.proofs.Common.{◌≡◌, ℕ, zero, suc, ◌+◌, ◌-◌, ◌<◌, ◌≤◌, true, false, ◌||◌, nat_lt, cond, List, [], ◌∷◌, ◌++◌, ◌⊎◌, length, take, drop, get_or, set, refl, sym, ap, subst, ◌∙◌, inl, inr, arith}
-use Rattle.std.proofs.lemmas.Bool.{cases_eq, cases_lt, lt-ltb, le-ltb}
-use Rattle.std.proofs.lemmas.List.{drop_more, ext_get_or, get_or-drop, get_or-take, get_or-set_same, get_or-set_other, get_or-append-add, length-append, length-set}
-use Rattle.cow_pages.proofs.Counting.{AreBelow, or_second, places-append, places-take-drop, has-get_or}
+use Rattle.cow_pages.proofs.Terms.{List, [], ap, arith, cond, drop, false, get_or, inl, inr, length, nat_lt, set, subst, sym, take, true, ℕ, ◌++◌, ◌+◌, ◌-◌, ◌<◌, ◌||◌, ◌∙◌, ◌∷◌, ◌≡◌, ◌≤◌, ◌⊎◌, cases_eq, cases_lt, le-ltb, lt-ltb, or_right, drop_more, ext_get_or, get_or-append-add, get_or-drop, get_or-set_other, get_or-set_same, get_or-take, length-append, length-set, different, has, IsRenewed, IsStack, Recounts, places}
+use Rattle.cow_pages.proofs.Counting.{AreBelow, places-append, places-take-drop, has-get_or, places-set}
 use Rattle.cow_pages.proofs.Walks.{below_append, below_front, below_take, below_drop, places-here, places-there, different-front, in_use, stack_same, uncount_kept, uncount_free, counted_room, not-live, small}
 use Rattle.cow_pages.proofs.Slots.{same_different}
-use Rattle.cow_pages.specs.Pages.{has, different}
-use Rattle.cow_pages.specs.Pool.{places, IsStack, IsRenewed, Recounts}
 
 -- entries that are those of the live table already
 pub renewed_on : (i j : ℕ) (counts table live free : List ℕ) → IsRenewed i counts table live free → i ≤ j → ((k : ℕ) → i ≤ k → k < j → get_or table k 0 ≡ get_or live k 0) → IsRenewed j counts table live free
@@ -25,12 +21,6 @@ renewed_on i j counts table live free so order same = record {
   few = λ k from inside. so.few k (omega arith) inside;
   stack = so.stack;
 }
-
--- another number at a place of a list
-pub places-set : (n : ℕ) (xs : List ℕ) (i y : ℕ) → i < length xs → places n (set xs i y) + places n (get_or xs i 0 ∷ []) ≡ places n xs + places n (y ∷ [])
-places-set n [] i y less = absurd (omega arith)
-places-set n (x ∷ xs) zero y less = omega arith
-places-set n (x ∷ xs) (suc i) y less = omega (arith, places-set n xs i y (omega arith))
 
 -- the frame that a table has at a place is counted
 pub renewed_some : (i : ℕ) (counts table live free : List ℕ) (x : ℕ) → IsRenewed i counts table live free → i < length table → x ≡ get_or table i 0 → 0 < get_or counts x 0
@@ -69,7 +59,7 @@ stack_more counts live free y so near is =
     (λ n under.
     elim (cases_eq y n) [
       | inl here ↦ subst (λ m. in_use (set counts y (get_or counts y 0 + 1)) live m ≡ in_use counts live m) here
-          (or_second (nat_lt 0 (get_or (set counts y (get_or counts y 0 + 1)) y 0)) (has y live) is ∙ sym (or_second (nat_lt 0 (get_or counts y 0)) (has y live) is))
+          (or_right (nat_lt 0 (get_or (set counts y (get_or counts y 0 + 1)) y 0)) (has y live) is ∙ sym (or_right (nat_lt 0 (get_or counts y 0)) (has y live) is))
       | inr other ↦ ap (λ m. nat_lt 0 m || has n live) (get_or-set_other counts y n (get_or counts y 0 + 1) 0 (λ e. other (sym e)))
     ])
 
@@ -192,9 +182,6 @@ recounts_more i counts table live free x y so less is live_is differ numbers all
       },
       omega (arith, before, after, removed, added),
     )
-
-pub recounts_none : (counts table : List ℕ) → Recounts counts table counts table 0 0
-recounts_none counts table numbers all = (all, refl)
 
 pub recounts_on : (counts table mid other after next : List ℕ) (added removed more less : ℕ) → Recounts counts table mid other added removed → Recounts mid other after next more less → Recounts counts table after next (added + more) (removed + less)
 recounts_on counts table mid other after next added removed more less first second numbers all =

@@ -1,17 +1,9 @@
 -- A write right behind another one, and runs that are read page by page.
-use Rattle.std.proofs.Common.{◌≡◌, ℕ, zero, suc, ◌+◌, ◌-◌, ◌*◌, ◌/◌, ◌<◌, ◌≤◌, Bool, true, false, ◌||◌, ◌&&◌, cond, List, [], ◌++◌, length, take, drop, get_or, replicate, refl, sym, ap, subst, ◌∙◌, inl, inr, arith}
-use Rattle.std.proofs.lemmas.Bool.{cases_Bool, cases_lt, or_parts, and_parts, or_cases, false≢true, false_from_ne_true}
-use Rattle.std.proofs.lemmas.List.{length-append, take-append-drop, take-take, drop-take, drop-drop, append-nil, append_assoc, take_at, length-take-le, length-drop, length-replicate, replicate-append-replicate}
-use Rattle.cow_pages.specs.Pages.{Pages, has, saved_numbers, used_of, IsSpace, IsLawful}
-use Rattle.cow_pages.specs.Writes.{put_at, is_shared, IsFree, NumberAfter, reaches, copied_pages, Writes}
-use Rattle.cow_pages.proofs.Counting.{has-append, has-get_or, has-at, or_first, or_second}
+use Rattle.std.proofs.Math.Seq.{take-add}
+use Rattle.cow_pages.proofs.Terms.{Bool, List, [], ap, arith, cond, drop, false, get_or, inl, inr, length, refl, replicate, subst, suc, sym, take, true, zero, ℕ, ◌&&◌, ◌*◌, ◌++◌, ◌+◌, ◌-◌, ◌/◌, ◌<◌, ◌||◌, ◌∙◌, ◌≡◌, ◌≤◌, and_parts, cases_Bool, cases_lt, false_from_ne_true, false≢true, or_cases, or_left, or_parts, or_right, append-nil, append_assoc, drop-drop, length-append, length-drop, length-replicate, length-take-le, replicate-append-replicate, take-append-drop, take_at, PAGE, IsLawful, IsSpace, Pages, has, saved_numbers, used_of, IsFree, NumberAfter, Writes, copied_pages, is_shared, put_at, reaches}
+use Rattle.cow_pages.proofs.Counting.{has-append, has-get_or, has-at}
 use Rattle.cow_pages.proofs.Frames.{put_at-put_at}
 use Rattle.cow_pages.proofs.Runs.{reached, reaching}
-use Rattle.cow_pages.specs.declared.frame_copy.TheConstants.{PAGE}
-
--- nothing written
-reaches_nothing : (at page : ℕ) → reaches at 0 page ≡ false
-reaches_nothing at page = refl
 
 copied_nothing : (store : Pages) (at pages : ℕ) → copied_pages store at 0 pages ≡ 0
 copied_nothing store at zero = refl
@@ -45,12 +37,12 @@ reaches-append at first second page =
     elim (cases_lt 0 first) [
       | inl some ↦
           (elim (cases_lt ((at + first - 1) / PAGE) page) [
-            | inl later ↦ or_second (reaches at first page) (reaches (at + first) second page) (reaching (at + first) second page (omega (arith, r.0, r.1, r.2)) (omega (arith, r.0, r.1, r.2)) (omega (arith, r.0, r.1, r.2)))
-            | inr within ↦ or_first (reaches at first page) (reaches (at + first) second page) (reaching at first page some r.1 within)
+            | inl later ↦ or_right (reaches at first page) (reaches (at + first) second page) (reaching (at + first) second page (omega (arith, r.0, r.1, r.2)) (omega (arith, r.0, r.1, r.2)) (omega (arith, r.0, r.1, r.2)))
+            | inr within ↦ or_left (reaches at first page) (reaches (at + first) second page) (reaching at first page some r.1 within)
           ])
       | inr none ↦
           (let zero_first : first ≡ 0 = omega arith in
-          or_second (reaches at first page) (reaches (at + first) second page) (reaching (at + first) second page (omega (arith, r.0)) (omega (arith, r.1)) (omega (arith, r.2))))
+          or_right (reaches at first page) (reaches (at + first) second page) (reaching (at + first) second page (omega (arith, r.0)) (omega (arith, r.1)) (omega (arith, r.2))))
     ])
     (λ h.
     elim (or_cases (reaches at first page) (reaches (at + first) second page) h) [
@@ -153,19 +145,12 @@ writes_more old mid new at first second so then before between room =
           omega (arith, so.used, then.used, sum, all, same));
     }
 
--- the front of a list, longer by a part
-pub take-longer : (xs : List ℕ) (n count : ℕ) → take (n + count) xs ≡ take n xs ++ take count (drop n xs)
-take-longer xs n count =
-    sym (take-append-drop n (take (n + count) xs))
-    ∙ ap (λ ys. ys ++ drop n (take (n + count) xs)) (take-take n (n + count) xs (omega arith))
-    ∙ ap (λ ys. take n xs ++ ys) (drop-take n count xs)
-
 -- the loop of a write: the bytes so far, and the next part
 pub run_more : (old mid new : Pages) (at done count : ℕ) (bytes : List ℕ) → Writes old mid at (take done bytes) → Writes mid new (at + done) (take count (drop done bytes)) → IsLawful old → IsLawful mid → done + count ≤ length bytes → at + length bytes ≤ PAGE * old.pages → Writes old new at (take (done + count) bytes)
 run_more old mid new at done count bytes so then before between less room =
     let size : length (take done bytes) ≡ done = length-take-le done bytes (omega arith) in
     let part : length (take count (drop done bytes)) ≡ count = length-take-le count (drop done bytes) (omega (arith, length-drop done bytes)) in
-    subst (Writes old new at) (sym (take-longer bytes done count))
+    subst (Writes old new at) (sym (take-add done count bytes))
     (writes_more old mid new at (take done bytes) (take count (drop done bytes)) so (subst (λ n. Writes mid new (at + n) (take count (drop done bytes))) (sym size) then) before between (omega arith))
 
 -- the same for zeros
@@ -185,7 +170,7 @@ read_more buf bytes part at done count so is less size =
     ∙ take_at (take done buf ++ part) (drop count (drop done buf)) (done + count) both
     ∙ ap (λ xs. xs ++ part) so
     ∙ ap (λ xs. take done (drop at bytes) ++ xs) (is ∙ ap (take count) (sym (drop-drop done at bytes)))
-    ∙ sym (take-longer (drop at bytes) done count)
+    ∙ sym (take-add done count (drop at bytes))
 
 pub mid_size : (buf part : List ℕ) (done count : ℕ) → done + count ≤ length buf → length part ≡ count → length (take done buf ++ (part ++ drop count (drop done buf))) ≡ length buf
 mid_size buf part done count less size =

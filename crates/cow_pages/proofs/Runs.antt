@@ -1,17 +1,9 @@
 -- Writes, and several one after the other.
-use Rattle.std.proofs.Common.{◌≡◌, ℕ, zero, suc, ◌+◌, ◌-◌, ◌*◌, ◌/◌, ◌%◌, ◌<◌, ◌≤◌, true, false, ◌&&◌, nat_lt, nat_le, cond, Some, List, [], ◌∷◌, ◌++◌, length, slice_get, take, drop, get_or, set, refl, sym, ap, subst, ◌∙◌, inl, inr, arith}
-use Rattle.std.proofs.lemmas.Bool.{cases_Bool, cases_eq, cases_lt, lt-ltb, le-ltb, le-leb, ltb-true, leb-true, or_parts, and_parts, and_from, false_from_ne_true}
-use Rattle.std.proofs.lemmas.Option.{slice_get-get_or}
-use Rattle.std.proofs.lemmas.List.{length-append, length-drop, length-set, length-take-le, get_or_default, take_at}
-use Rattle.cow_pages.specs.Pages.{Pages, has, different, saved_numbers, used_of, IsLawful}
-use Rattle.cow_pages.specs.Writes.{put_at, is_shared, IsFree, NumberAfter, reaches, copied_pages, Writes, Owns}
-use Rattle.cow_pages.specs.Pool.{contents, pages_of, table_numbers, IsSound}
-use Rattle.cow_pages.specs.declared.slot.Slot.{Slot}
+use Rattle.cow_pages.proofs.Terms.{List, Some, [], ap, arith, cond, drop, false, get_or, inl, inr, length, nat_le, nat_lt, refl, set, slice_get, subst, suc, sym, take, true, zero, ℕ, ◌%◌, ◌&&◌, ◌*◌, ◌++◌, ◌+◌, ◌-◌, ◌/◌, ◌<◌, ◌∙◌, ◌∷◌, ◌≡◌, ◌≤◌, and_from, and_parts, cases_Bool, cases_eq, cases_lt, false_from_ne_true, le-leb, le-ltb, leb-true, lt-ltb, ltb-true, or_parts, get_or_default, length-append, length-drop, length-set, length-take-le, take_at, slice_get-get_or, PAGE, Slot, IsLawful, Pages, different, has, saved_numbers, used_of, IsFree, NumberAfter, Owns, Writes, copied_pages, is_shared, put_at, reaches, IsSound, contents, pages_of, table_numbers}
 use Rattle.cow_pages.proofs.Counting.{AreBelow, has-append}
 use Rattle.cow_pages.proofs.Frames.{length-put_at, contents-put_here, contents-put_apart, part-put_at, set-put_at, get_or-contents, length-contents, run-contents}
 use Rattle.cow_pages.proofs.Stores.{saved_numbers-is, table_below, table_once, lawful}
 use Rattle.cow_pages.proofs.Copying.{slots_same, not-at}
-use Rattle.cow_pages.specs.declared.frame_copy.TheConstants.{PAGE}
 
 -- a page that has a frame of its own is in no slot
 pub owned-apart : (old new : Pages) (page : ℕ) → Owns old new page → is_shared new page ≡ false

@@ -1,17 +1,10 @@
 -- Saving over what a slot holds.
-use Rattle.std.proofs.Common.{◌≡◌, ℕ, zero, suc, ◌+◌, ◌-◌, ◌<◌, ◌≤◌, true, false, ◌||◌, Some, IsSome, List, ◌++◌, length, take, drop, get_or, set, All, refl, sym, ap, subst, ◌∙◌, inl, inr, arith}
-use Rattle.std.proofs.lemmas.Bool.{cases_Bool, cases_lt}
-use Rattle.std.proofs.lemmas.List.{length-set, get_or_past}
-use Rattle.std.proofs.lemmas.List.Elements.{All-set}
-use Rattle.cow_pages.specs.Pages.{Pages, has, different, held_of, used_of, slot_at, IsLawful}
-use Rattle.cow_pages.specs.Pool.{space_of, pages_of, table_numbers, places, Counts, IsStack, IsTable, IsSlot, IsSound, IsRenewed, Recounts}
-use Rattle.cow_pages.specs.declared.slot.Slot.{Slot}
-use Rattle.cow_pages.proofs.Counting.{AreBelow, or_second, has-append, different-same, places-append, places-some, has-some, occupied, different-occupied}
+use Rattle.cow_pages.proofs.Terms.{All, IsSome, List, Some, ap, arith, drop, false, get_or, inl, inr, length, refl, set, subst, suc, sym, take, true, zero, ℕ, ◌++◌, ◌+◌, ◌-◌, ◌<◌, ◌||◌, ◌∙◌, ◌≡◌, ◌≤◌, cases_Bool, cases_lt, or_right, get_or_past, length-set, All-set, Slot, MAX_SLOTS, IsLawful, Pages, different, has, held_of, slot_at, used_of, Counts, IsRenewed, IsSlot, IsSound, IsStack, IsTable, Recounts, pages_of, places, space_of, table_numbers}
+use Rattle.cow_pages.proofs.Counting.{AreBelow, has-append, different-same, places-append, places-some, has-some, occupied, different-occupied}
 use Rattle.cow_pages.proofs.Walks.{below_append}
 use Rattle.cow_pages.proofs.Stores.{saved_numbers-is, table_below, table_home, table_once, lawful, slot_within, slot_saved}
 use Rattle.cow_pages.proofs.Slots.{places-slots, places-released, tables_below, counts_same, same_different, places-slots_le, saved_slot, slots_set, saved_space, release_counts, release_held, slot_counted, slot_table}
 use Rattle.cow_pages.proofs.Runs.{refill}
-use Rattle.cow_pages.specs.declared.store.TheConstants.{MAX_SLOTS}
 
 -- a list that has no number which another one hasn't has no more different ones
 occupied-le : (k : ℕ) (xs ys : List ℕ) → ((n : ℕ) → n < k → has n xs ≡ true → has n ys ≡ true) → occupied k xs ≤ occupied k ys
@@ -54,7 +47,7 @@ same_as top live rest numbers mine below over =
       | inl is ↦
           (let some : 0 < places n live = places-some n live is in
           let a : has n numbers ≡ true = has-some n numbers (omega (arith, over n, places-append n live rest)) in
-          has-append n live numbers ∙ or_second (has n live) (has n numbers) a ∙ sym a)
+          has-append n live numbers ∙ or_right (has n live) (has n numbers) a ∙ sym a)
       | inr isnt ↦ has-append n live numbers ∙ ap (λ b. b || has n numbers) isnt
     ])
 

@@ -1,9 +1,5 @@
 -- What the calls of `save`, `release` and `restore` leave, from what their parts say.
-use Rattle.std.proofs.Common.{◌≡◌, ℕ, ◌+◌, ◌-◌, ◌^◌, ◌<◌, ◌≤◌, Bool, true, false, cond, Some, None, IsSome, List, ◌++◌, length, take, drop, get_or, set, refl, sym, ap, subst, ◌∙◌, arith}
-use Rattle.std.proofs.lemmas.List.{length-map}
-use Rattle.cow_pages.specs.Pages.{Space, Pages, different, held_of, used_of, slot_at, IsLawful}
-use Rattle.cow_pages.specs.Pool.{space_of, slot_space, pages_of, table_numbers, places, Counts, IsStack, IsTable, IsSlot, IsSound}
-use Rattle.cow_pages.specs.declared.slot.Slot.{Slot}
+use Rattle.cow_pages.proofs.Terms.{Bool, IsSome, List, None, Some, ap, arith, cond, drop, false, get_or, length, refl, set, subst, sym, take, true, ℕ, ◌++◌, ◌+◌, ◌-◌, ◌<◌, ◌^◌, ◌∙◌, ◌≡◌, ◌≤◌, length-map, Slot, IsLawful, Pages, Space, different, held_of, slot_at, used_of, Counts, IsSlot, IsSound, IsStack, IsTable, pages_of, places, slot_space, space_of, table_numbers}
 use Rattle.cow_pages.proofs.Stores.{saved_numbers-is, table_home, used-sum, held-is, lawful, slot_at-is, slot_within, slot_saved}
 use Rattle.cow_pages.proofs.Slots.{save_sound, save_fits, save_few, slots_set, saved_space, unsaved_space, release_counts, release_held, release_sound, slot_counted, slot_table, slot_used, restore_sound}
 use Rattle.cow_pages.proofs.Runs.{refill}

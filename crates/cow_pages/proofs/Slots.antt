@@ -1,15 +1,8 @@
 -- Saving, releasing and restoring.
-use Rattle.std.proofs.Common.{◌≡◌, ℕ, zero, suc, ◌+◌, ◌-◌, ◌<◌, ◌≤◌, true, false, ◌||◌, nat_lt, cond, Option, Some, None, List, [], ◌∷◌, ◌++◌, length, map, get_or, set, All, refl, sym, ap, subst, ◌∙◌, inl, inr, arith}
-use Rattle.std.proofs.lemmas.Bool.{cases_Bool, cases_lt, false≢true}
-use Rattle.std.proofs.lemmas.List.{length-set, map-set, get_or_past}
-use Rattle.std.proofs.lemmas.List.Elements.{All-head, All-tail, All-set, All-get_or}
-use Rattle.cow_pages.specs.Pages.{Space, has, different, used_of}
-use Rattle.cow_pages.specs.Pool.{space_of, slot_space, pages_of, slot_numbers, table_numbers, places, Counts, IsStack, IsTable, IsSlot, IsSound}
-use Rattle.cow_pages.specs.declared.slot.Slot.{Slot}
-use Rattle.cow_pages.proofs.Counting.{AreBelow, or_second, has-is, places-none, places-some, places-append, places-le-one, has-get_or, different-same}
+use Rattle.cow_pages.proofs.Terms.{All, List, None, Option, Some, [], ap, arith, cond, false, get_or, inl, inr, length, map, nat_lt, refl, set, subst, suc, sym, true, zero, ℕ, ◌++◌, ◌+◌, ◌-◌, ◌<◌, ◌||◌, ◌∙◌, ◌∷◌, ◌≡◌, ◌≤◌, cases_Bool, cases_lt, false≢true, or_right, get_or_past, length-set, map-set, All-get_or, All-head, All-set, All-tail, Slot, MAX_SLOTS, Space, different, has, used_of, Counts, IsSlot, IsSound, IsStack, IsTable, pages_of, places, slot_numbers, slot_space, space_of, table_numbers}
+use Rattle.cow_pages.proofs.Counting.{AreBelow, has-is, places-none, places-some, places-append, places-le-one, has-get_or, different-same}
 use Rattle.cow_pages.proofs.Walks.{in_use, below_append, stack_same}
 use Rattle.cow_pages.proofs.Stores.{saved_numbers-is, table_below, table_once, used-sum}
-use Rattle.cow_pages.specs.declared.store.TheConstants.{MAX_SLOTS}
 
 -- another slot at a place
 pub places-slots : (n : ℕ) (slots : List Slot) (i : ℕ) (slot next : Slot) → i < length slots → slot ≡ get_or slots i slot → places n (table_numbers (set slots i next)) + places n (slot_numbers slot) ≡ places n (table_numbers slots) + places n (slot_numbers next)
@@ -88,7 +81,7 @@ places-saved n live slots i slot next less is unsaved saved table =
 save_use : (counts after live : List ℕ) (slots : List Slot) (n : ℕ) → Counts counts (table_numbers slots) → Counts after (live ++ table_numbers slots) → n < length after → n < length counts → in_use after live n ≡ in_use counts live n
 save_use counts after live slots n so next near less =
     elim (cases_Bool (has n live)) [
-      | inl is ↦ or_second (nat_lt 0 (get_or after n 0)) (has n live) is ∙ sym (or_second (nat_lt 0 (get_or counts n 0)) (has n live) is)
+      | inl is ↦ or_right (nat_lt 0 (get_or after n 0)) (has n live) is ∙ sym (or_right (nat_lt 0 (get_or counts n 0)) (has n live) is)
       | inr isnt ↦
           (let none : places n live ≡ 0 = places-none n live isnt in
           let same : get_or after n 0 ≡ get_or counts n 0 = omega (arith, next.each n near, so.each n less, places-append n live (table_numbers slots)) in

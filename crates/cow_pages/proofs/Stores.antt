@@ -1,16 +1,8 @@
 -- What the fields of a store say of what it holds.
-use Rattle.std.proofs.Common.{◌≡◌, ℕ, zero, suc, ◌+◌, ◌*◌, ◌/◌, ◌%◌, ◌<◌, ◌≤◌, Bool, true, false, ◌||◌, nat_lt, cond, Some, None, IsSome, List, [], ◌∷◌, ◌++◌, length, take, drop, map, get_or, All, refl, sym, ap, subst, ◌∙◌, inl, inr, arith}
-use Rattle.std.proofs.lemmas.Bool.{cases_lt, false≢true}
-use Rattle.std.proofs.lemmas.List.{get_or-map, get_or_past, get_or_read, length-map}
-use Rattle.std.proofs.lemmas.List.Elements.{All-head, All-tail}
-use Rattle.cow_pages.specs.Pages.{Space, Pages, has, different, saved_numbers, held_of, used_of, slot_at, page_of, IsSpace, Agree, Stands, IsLawful}
-use Rattle.cow_pages.specs.Writes.{is_shared}
-use Rattle.cow_pages.specs.Pool.{space_of, slot_space, pages_of, table_numbers, Counts, IsTable, IsSlot, IsSound}
-use Rattle.cow_pages.specs.declared.slot.Slot.{Slot}
+use Rattle.cow_pages.proofs.Terms.{All, Bool, IsSome, List, None, Some, [], ap, arith, cond, drop, false, get_or, inl, inr, length, map, nat_lt, refl, subst, suc, sym, take, true, zero, ℕ, ◌%◌, ◌*◌, ◌++◌, ◌+◌, ◌/◌, ◌<◌, ◌||◌, ◌∙◌, ◌∷◌, ◌≡◌, ◌≤◌, cases_lt, false≢true, get_or-map, get_or_past, get_or_read, length-map, All-head, All-tail, cond_some, PAGE, Slot, Agree, IsLawful, IsSpace, Pages, Space, Stands, different, has, held_of, page_of, saved_numbers, slot_at, used_of, is_shared, Counts, IsSlot, IsSound, IsTable, pages_of, slot_space, space_of, table_numbers}
 use Rattle.cow_pages.proofs.Counting.{AreBelow, has-append, has-is, length-free}
 use Rattle.cow_pages.proofs.Walks.{below_append, in_use}
 use Rattle.cow_pages.proofs.Frames.{IsOnce, length-contents, run-contents}
-use Rattle.cow_pages.specs.declared.frame_copy.TheConstants.{PAGE}
 
 pub saved_numbers-is : (pool : List ℕ) (slots : List Slot) → saved_numbers (map (slot_space pool) slots) ≡ table_numbers slots
 saved_numbers-is pool [] = refl
@@ -51,14 +43,10 @@ slot_saved pages frames pool live slots i slot is some =
     some_saved slot.saved (space_of pool slot.table.items)
     (subst IsSome (slot_at-is pages frames pool live slots i slot (slot_within pages frames pool live slots i some) is) some)
 
-space_there : (b : Bool) (space other : Space) → cond b (Some space) None ≡ Some other → (b ≡ true) × (space ≡ other)
-space_there true space other e = (refl, cc)
-space_there false space other e = cc
-
 table_found : (pages : ℕ) (pool homes : List ℕ) (space : Space) (slots : List Slot) (i : ℕ) → i < length slots → get_or (map (slot_space pool) slots) i None ≡ Some space → All (IsSlot pages homes) slots → (table : List ℕ) × (IsTable pages homes table) × (space ≡ space_of pool table)
 table_found pages pool homes space [] i less e all = absurd (omega arith)
 table_found pages pool homes space (slot ∷ slots) zero less e all =
-    let h = space_there slot.saved (space_of pool slot.table.items) space e in
+    let h = cond_some slot.saved (space_of pool slot.table.items) space e in
     let one : IsSlot pages homes slot = All-head (IsSlot pages homes) slot slots all in
     (slot.table.items, one.table h.0, sym h.1)
 table_found pages pool homes space (slot ∷ slots) (suc i) less e all = table_found pages pool homes space slots i (omega arith) e (All-tail (IsSlot pages homes) slot slots all)

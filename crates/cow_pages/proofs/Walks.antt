@@ -1,10 +1,6 @@
 -- One step of each walk over a table.
-use Rattle.std.proofs.Common.{◌≡◌, ℕ, zero, suc, ◌+◌, ◌-◌, ◌<◌, ◌≤◌, Bool, true, false, ◌||◌, ◌==◌, nat_lt, cond, List, [], ◌∷◌, ◌++◌, length, take, drop, get_or, set, refl, sym, ap, subst, ◌∙◌, inl, inr, arith}
-use Rattle.std.proofs.lemmas.Bool.{cases_Bool, cases_eq, cases_lt, eq-eqb, ne_eqb, lt-ltb}
-use Rattle.std.proofs.lemmas.List.{take_more, drop_more, drop_all, take_all, get_or-drop, get_or-take, length-drop, length-take-le, get_or-set_same, get_or-set_other, length-set, get_or-append_right, get_or_append_left, get_or-append-add, length-append}
-use Rattle.cow_pages.proofs.Counting.{AreBelow, or_first, or_second, places-append, places-take-drop, has-is, has-at, has-nowhere, different-same, length-missing}
-use Rattle.cow_pages.specs.Pages.{has, different}
-use Rattle.cow_pages.specs.Pool.{places, Counts, IsStack}
+use Rattle.cow_pages.proofs.Terms.{Bool, List, [], ap, arith, cond, drop, false, get_or, inl, inr, length, nat_lt, refl, set, subst, suc, sym, take, true, zero, ℕ, ◌++◌, ◌+◌, ◌-◌, ◌<◌, ◌==◌, ◌||◌, ◌∙◌, ◌∷◌, ◌≡◌, ◌≤◌, cases_Bool, cases_eq, cases_lt, eq-eqb, lt-ltb, ne_eqb, or_left, or_right, drop_all, drop_more, get_or-append-add, get_or-append_right, get_or-drop, get_or-set_other, get_or-set_same, get_or-take, get_or_append_left, length-append, length-drop, length-set, length-take-le, take_all, take_more, different, has, Counts, IsStack, places}
+use Rattle.cow_pages.proofs.Counting.{AreBelow, places-append, places-take-drop, has-is, has-at, has-nowhere, different-same, length-missing, chosen}
 
 pub below_append : (top : ℕ) (xs ys : List ℕ) → AreBelow top xs → AreBelow top ys → AreBelow top (xs ++ ys)
 below_append top xs ys bx by = λ k less.
@@ -55,14 +51,6 @@ pub record Counting (initial counts table : List ℕ) (i added : ℕ) : Type 0 w
   pub few : added ≤ i
   pub fresh : (numbers : List ℕ) → Counts initial numbers → added + different numbers ≡ different (take i table ++ numbers)
 
-pub counting_none : (initial table : List ℕ) → Counting initial initial table 0 0
-counting_none initial table = record {
-  size = refl;
-  each = λ n less. omega arith;
-  few = omega arith;
-  fresh = λ numbers counts. omega arith;
-}
-
 -- the next number fits in its count
 pub counting_fits : (initial counts table : List ℕ) (i added x : ℕ) → Counting initial counts table i added → AreBelow (length initial) table → ((n : ℕ) → get_or initial n 0 + places n table < 256) → i < length table → x ≡ get_or table i 0 → get_or counts x 0 + 1 < 256
 counting_fits initial counts table i added x so below few less is =
@@ -95,10 +83,6 @@ different-next top i x table numbers bt bn less is =
     (below_append top (take (i + 1) table) numbers (below_take top (i + 1) table (omega arith) bt) bn)
     (below_front top x (take i table ++ numbers) near (below_append top (take i table) numbers ba bn))
     (λ n under. has-is n (take (i + 1) table ++ numbers) ∙ ap (nat_lt 0) (places-next n i x table numbers less is) ∙ sym (has-is n (x ∷ (take i table ++ numbers))))
-
-chosen : (b : Bool) (n : ℕ) → cond b n (n + 1) ≡ n + cond b 0 1
-chosen true n = omega arith
-chosen false n = refl
 
 pub different-front : (x : ℕ) (xs : List ℕ) → different (x ∷ xs) ≡ different xs + cond (nat_lt 0 (places x xs)) 0 1
 different-front x xs = ap (λ b. cond b (different xs) (different xs + 1)) (has-is x xs) ∙ chosen (nat_lt 0 (places x xs)) (different xs)
@@ -201,15 +185,6 @@ pub record Uncounting (initial counts table live free : List ℕ) (i removed : �
   pub gone : (numbers : List ℕ) → Counts initial (table ++ numbers) → removed + different (drop i table ++ numbers) ≡ different (table ++ numbers)
   pub stack : IsStack counts live free
 
-pub uncounting_none : (initial table live free : List ℕ) → IsStack initial live free → Uncounting initial initial table live free 0 0
-uncounting_none initial table live free stack = record {
-  size = refl;
-  each = λ n less. omega arith;
-  few = omega arith;
-  gone = λ numbers counted. omega arith;
-  stack = stack;
-}
-
 -- the next number has a count
 pub uncounting_some : (initial counts table live free : List ℕ) (i removed x : ℕ) → Uncounting initial counts table live free i removed → AreBelow (length initial) table → ((n : ℕ) → n < length initial → places n table ≤ get_or initial n 0) → i < length table → x ≡ get_or table i 0 → 0 < get_or counts x 0
 uncounting_some initial counts table live free i removed x so below counted less is =
@@ -263,7 +238,7 @@ uncount_live counts live free x so near is =
     (λ n under.
     elim (cases_eq x n) [
       | inl here ↦ subst (λ m. in_use (set counts x (get_or counts x 0 - 1)) live m ≡ in_use counts live m) here
-          (or_second (nat_lt 0 (get_or (set counts x (get_or counts x 0 - 1)) x 0)) (has x live) is ∙ sym (or_second (nat_lt 0 (get_or counts x 0)) (has x live) is))
+          (or_right (nat_lt 0 (get_or (set counts x (get_or counts x 0 - 1)) x 0)) (has x live) is ∙ sym (or_right (nat_lt 0 (get_or counts x 0)) (has x live) is))
       | inr other ↦ ap (λ m. nat_lt 0 m || has n live) (get_or-set_other counts x n (get_or counts x 0 - 1) 0 (λ e. other (sym e)))
     ])
 
@@ -273,11 +248,11 @@ uncount_free counts live free x so near some gone isnt =
     let size : length (set counts x (get_or counts x 0 - 1)) ≡ length counts = length-set counts x (get_or counts x 0 - 1) in
     stack_push counts (set counts x (get_or counts x 0 - 1)) live live free x size near so
     (λ n under other. ap (λ m. nat_lt 0 m || has n live) (get_or-set_other counts x n (get_or counts x 0 - 1) 0 (λ e. other (sym e))))
-    (or_first (nat_lt 0 (get_or counts x 0)) (has x live) (lt-ltb 0 (get_or counts x 0) some))
+    (or_left (nat_lt 0 (get_or counts x 0)) (has x live) (lt-ltb 0 (get_or counts x 0) some))
     (ap (λ m. nat_lt 0 m || has x live) (get_or-set_same counts x (get_or counts x 0 - 1) 0 near ∙ gone) ∙ isnt)
 
 pub counted_room : (counts live free : List ℕ) (x : ℕ) → IsStack counts live free → x < length counts → 0 < get_or counts x 0 → length free < length counts
-counted_room counts live free x so near some = stack_room counts live free x so near (or_first (nat_lt 0 (get_or counts x 0)) (has x live) (lt-ltb 0 (get_or counts x 0) some))
+counted_room counts live free x so near some = stack_room counts live free x so near (or_left (nat_lt 0 (get_or counts x 0)) (has x live) (lt-ltb 0 (get_or counts x 0) some))
 
 -- a number of one table at a place isn't in a table that could have it there alone, and has another there
 pub not-live : (table live : List ℕ) (i x : ℕ) → ((k j : ℕ) → k < length table → j < length live → get_or table k 0 ≡ get_or live j 0 → k ≡ j) → i < length table → x ≡ get_or table i 0 → (get_or live i 0 ≡ x → ⊥) → has x live ≡ false
@@ -305,7 +280,7 @@ give_kept counts live free i x so less is some =
     elim (cases_eq x n) [
       | inl here ↦ subst (λ m. in_use counts (drop (i + 1) live) m ≡ in_use counts (x ∷ drop (i + 1) live) m) here
           (let a : nat_lt 0 (get_or counts x 0) ≡ true = lt-ltb 0 (get_or counts x 0) (omega arith) in
-          or_first (nat_lt 0 (get_or counts x 0)) (has x (drop (i + 1) live)) a ∙ sym (or_first (nat_lt 0 (get_or counts x 0)) (has x (x ∷ drop (i + 1) live)) a))
+          or_left (nat_lt 0 (get_or counts x 0)) (has x (drop (i + 1) live)) a ∙ sym (or_left (nat_lt 0 (get_or counts x 0)) (has x (x ∷ drop (i + 1) live)) a))
       | inr other ↦ ap (λ b. nat_lt 0 (get_or counts n 0) || (b || has n (drop (i + 1) live))) (sym (ne_eqb x n other))
     ])
 
@@ -317,7 +292,7 @@ give_free counts live free i x so below home less is none =
     let gone : has x (drop (i + 1) live) ≡ false = has-nowhere x (drop (i + 1) live) (λ k inside e. let same : i ≡ i + 1 + k = home i (i + 1 + k) less (omega (arith, length-drop (i + 1) live)) (sym is ∙ sym e ∙ get_or-drop (i + 1) live k 0) in omega arith) in
     stack_push counts counts (x ∷ drop (i + 1) live) (drop (i + 1) live) free x refl near (subst (λ xs. IsStack counts xs free) front so)
     (λ n under other. ap (λ b. nat_lt 0 (get_or counts n 0) || (b || has n (drop (i + 1) live))) (sym (ne_eqb x n other)))
-    (or_second (nat_lt 0 (get_or counts x 0)) (has x (x ∷ drop (i + 1) live)) (or_first (x == x) (has x (drop (i + 1) live)) (eq-eqb x x refl)))
+    (or_right (nat_lt 0 (get_or counts x 0)) (has x (x ∷ drop (i + 1) live)) (or_left (x == x) (has x (drop (i + 1) live)) (eq-eqb x x refl)))
     (ap (λ m. nat_lt 0 m || has x (drop (i + 1) live)) none ∙ gone)
 
 pub give_room : (counts live free : List ℕ) (i x : ℕ) → IsStack counts (drop i live) free → AreBelow (length counts) live → i < length live → x ≡ get_or live i 0 → length free < length counts
@@ -325,7 +300,7 @@ give_room counts live free i x so below less is =
     let near : x < length counts = subst (λ n. n < length counts) (sym is) (below i less) in
     let front : drop i live ≡ x ∷ drop (i + 1) live = drop_more live i 0 less ∙ ap (λ n. n ∷ drop (i + 1) live) (sym is) in
     stack_room counts (x ∷ drop (i + 1) live) free x (subst (λ xs. IsStack counts xs free) front so) near
-    (or_second (nat_lt 0 (get_or counts x 0)) (has x (x ∷ drop (i + 1) live)) (or_first (x == x) (has x (drop (i + 1) live)) (eq-eqb x x refl)))
+    (or_right (nat_lt 0 (get_or counts x 0)) (has x (x ∷ drop (i + 1) live)) (or_left (x == x) (has x (drop (i + 1) live)) (eq-eqb x x refl)))
 
 -- any table of frames that all have a count may be the live one then
 pub give_all : (counts live free : List ℕ) (i : ℕ) → IsStack counts (drop i live) free → length live ≤ i → (other : List ℕ) → ((k : ℕ) → k < length other → 0 < get_or counts (get_or other k 0) 0) → IsStack counts other free
@@ -336,6 +311,6 @@ give_all counts live free i so end other counted =
       | inl is ↦
           (let found = has-at n other is in
           let some : nat_lt 0 (get_or counts n 0) ≡ true = lt-ltb 0 (get_or counts n 0) (subst (λ m. 0 < get_or counts m 0) found.2 (counted found.0 found.1)) in
-          or_first (nat_lt 0 (get_or counts n 0)) (has n other) some ∙ sym (or_first (nat_lt 0 (get_or counts n 0)) false some))
+          or_left (nat_lt 0 (get_or counts n 0)) (has n other) some ∙ sym (or_left (nat_lt 0 (get_or counts n 0)) false some))
       | inr isnt ↦ ap (λ b. nat_lt 0 (get_or counts n 0) || b) isnt
     ])

@@ -46,6 +46,13 @@ pub record IsStack (counts live free : List ℕ) : Type 0 where
   pub below : (k : ℕ) → k < length free → slice_index free k < length counts
   pub each : (n : ℕ) → n < length counts → places n free ≡ (if nat_lt 0 (slice_index counts n) || has n live then 0 else 1)
 
+-- a table whose numbers the counts hold, and whose frames the live table has at no other place
+pub record CanUncount (counts table live : List ℕ) : Type 0 where
+  pub below : (k : ℕ) → k < length table → slice_index table k < length counts
+  pub counted : (n : ℕ) → n < length counts → places n table ≤ slice_index counts n
+  pub size : length live ≡ length table
+  pub home : (k j : ℕ) → k < length table → j < length live → slice_index table k ≡ slice_index live j → k ≡ j
+
 -- counts, a table, the live one and free frames that fit together: a number that both tables have stands at one place in both,
 -- the first so many numbers of the table are the live ones, and each other live one can be counted once more
 pub record IsRenewed (done : ℕ) (counts table live free : List ℕ) : Type 0 where
@@ -58,6 +65,11 @@ pub record IsRenewed (done : ℕ) (counts table live free : List ℕ) : Type 0 w
   pub counted : (n : ℕ) → n < length counts → places n table ≤ slice_index counts n
   pub few : (k : ℕ) → done ≤ k → k < length live → slice_index counts (slice_index live k) < 255
   pub stack : IsStack counts live free
+
+-- two places of a list of this length, the first at or before the second
+pub record AreInOrder (start end size : ℕ) : Type 0 where
+  pub order : start ≤ end
+  pub inside : end ≤ size
 
 -- counts became those of another table, whatever numbers they count beside it: so many numbers have a count that had none,
 -- and so many have none that had one

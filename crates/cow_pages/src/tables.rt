@@ -1,7 +1,7 @@
 // Walks over a table of frames, which change counts and free frames.
 ghost use Rattle.std.specs.Prelude.{◌≡◌, ◌≢◌, ℕ, ◌+◌, ◌-◌, ◌*◌, ◌^◌, ◌<◌, ◌≤◌, List, [], ◌∷◌, ◌++◌, length, true, nat_lt, if◌then◌else◌, slice_index, slice_set, vec_capacity, IfOk};
 ghost use Rattle.cow_pages.specs.Pages.{different};
-ghost use Rattle.cow_pages.specs.Pool.{places, Counts, IsStack, IsRow, IsRenewed, Recounts};
+ghost use Rattle.cow_pages.specs.Pool.{places, Counts, IsStack, IsRow, CanUncount, IsRenewed, Recounts, AreInOrder};
 
 use std::alloc::{AllocError, Global};
 
@@ -40,10 +40,7 @@ pub fn count_table(counts: &mut [u8], table: &[u32]) -> u32
 // Counts each number of a table once less, and gives back the frames that then have no count and
 // aren't in the live table. The answer says how many have no count.
 pub fn uncount_table(counts: &mut [u8], table: &[u32], live: &[u32], free: &mut Vec<u32>) -> u32
-    requires below { (k : ℕ) → k < length table.now → slice_index table.now k < length counts.old }
-    requires counted { (n : ℕ) → n < length counts.old → places n table.now ≤ slice_index counts.old n }
-    requires size { length live.now ≡ length table.now }
-    requires home { (k j : ℕ) → k < length table.now → j < length live.now → slice_index table.now k ≡ slice_index live.now j → k ≡ j }
+    requires fits { CanUncount counts.old table.now live.now }
     requires stack { IsStack counts.old live.now free.old.items }
     requires reserved { length counts.old ≤ vec_capacity free.old }
     requires short { length table.now < 2 ^ 32 }
@@ -135,8 +132,7 @@ fn renew_part(
     end: usize,
 ) -> Recount
     requires fits { IsRenewed start counts.old table.old live.now free.old.items }
-    requires order { start ≤ end }
-    requires inside { end ≤ length table.old }
+    requires range { AreInOrder start end (length table.old) }
     requires reserved { length counts.old ≤ vec_capacity free.old }
     requires short { length table.old < 2 ^ 31 }
     ensures renewed { IsRenewed end counts.new table.new live.now free.new.items }

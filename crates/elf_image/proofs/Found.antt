@@ -1,10 +1,5 @@
 -- What is found of a refused field: no refusal of the program headers is for a field of the ELF header.
-use Rattle.std.proofs.Common.{◌≡◌, ℕ, true, List, Option, Some, None, refl, ap, ◌∙◌}
-use Rattle.std.specs.Prelude.{is_some}
-use Rattle.std.specs.Option.{option_map}
-use Rattle.elf_image.specs.declared.program_header.ProgramHeader.{ProgramHeader}
-use Rattle.elf_image.specs.declared.refused_field.RefusedField.{RefusedField}
-use Rattle.elf_image.specs.RefusedFields.{Place, field_place, header_place, IsFirstWrong}
+use Rattle.elf_image.proofs.Terms.{List, None, Option, Some, ap, refl, true, ℕ, ◌∙◌, ◌≡◌, option_map, is_some, ProgramHeader, RefusedField, IsFirstWrong, Place, field_place, header_place}
 
 -- a field is found where its program header is
 pub same_some : (found : Option RefusedField) (place : ℕ → Place) (index : Option ℕ) → option_map field_place found ≡ option_map place index → is_some found ≡ is_some index

@@ -1,8 +1,6 @@
 -- The program headers of a file, as a list.
-use Rattle.std.proofs.Common.{◌≡◌, ℕ, zero, suc, ◌+◌, ◌*◌, List, [], ◌∷◌, length, None, refl, sym, subst, arith, length-append}
-use Rattle.elf_image.specs.ProgramFile.{e_phoff, e_phnum, header_at, headers_from, program_headers}
-use Rattle.elf_image.specs.Refusals.{header_refusal}
-use Rattle.elf_image.specs.RefusedFields.{HasTable}
+use Rattle.elf_image.proofs.Terms.{List, None, [], arith, length, length-append, refl, subst, suc, sym, zero, ℕ, ◌*◌, ◌+◌, ◌∷◌, ◌≡◌, e_phnum, e_phoff, header_at, headers_from, header_refusal, HasTable}
+use Rattle.elf_image.specs.ProgramFile.{program_headers}
 use Rattle.elf_image.proofs.Refusing.{header_lies, table_lies}
 
 pub length-headers_from : (offset count : ℕ) (bytes : List ℕ) → length (headers_from offset count bytes) ≡ count

@@ -1,8 +1,6 @@
 -- The numbers of fields, as `byteorder` reads them.
-use Rattle.std.proofs.Common.{◌≡◌, ℕ, zero, suc, ◌+◌, ◌*◌, ◌≤◌, ◌<◌, List, length, take, drop, slice_index, refl, ap, ◌∙◌, arith, drop-cons, length-drop}
 use Rattle.byteorder.specs.Endian.{little_from, little_number as number_of_first}
-use Rattle.rv_isa.specs.Words.{little_number}
-use Rattle.elf_image.specs.ProgramFile.{number_at}
+use Rattle.elf_image.proofs.Terms.{List, ap, arith, drop, drop-cons, length, length-drop, refl, slice_index, suc, take, zero, ℕ, ◌*◌, ◌+◌, ◌<◌, ◌∙◌, ◌≡◌, ◌≤◌, little_number, number_at}
 
 little_from-drop : (i n : ℕ) (xs : List ℕ) → i + n ≤ length xs → little_from i n xs ≡ little_number (take n (drop i xs))
 little_from-drop i zero xs h = refl

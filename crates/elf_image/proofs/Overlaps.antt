@@ -1,16 +1,7 @@
 -- Extents that are sorted by where they begin meet exactly where neighbours do.
-use Rattle.std.proofs.Common.{◌≡◌, ℕ, suc, ◌<◌, ◌≤◌, Bool, true, false, ◌||◌, List, [], ◌∷◌, map, get_or, nat_lt, refl, ap, ap₂, ◌∙◌, arith, ⊎_elim}
-use Rattle.std.specs.List.{list_any, All, AllByRecursion, IsDistinct}
 use Rattle.std.specs.List.Sorted.{IsPermutation, IsNonDecreasingBy}
-use Rattle.std.proofs.lemmas.Bool.{cases_lt, le-ltb, lt-ltb, or_parts, or_from}
 use Rattle.std.proofs.lemmas.List.Folds.{list_any_none}
-use Rattle.std.proofs.lemmas.List.Elements.{All-tail, All-head, All-same, All-map}
-use Rattle.std.proofs.lemmas.List.Sorted.{IsPermutation-sym, IsNonDecreasingBy-drop, All-permutation}
-use Rattle.std.proofs.lemmas.Map.Keys.{IsDistinct-IsPermutation}
-use Rattle.elf_image.specs.declared.segment.Segment.{Segment}
-use Rattle.elf_image.specs.declared.overlap.Extent.{Extent}
-use Rattle.elf_image.specs.Layout.{overlap, share_byte, HasBytes}
-use Rattle.elf_image.specs.Extents.{extent_of, meet, some_meet, meets_from}
+use Rattle.elf_image.proofs.Terms.{Bool, List, [], ap, ap₂, arith, false, get_or, map, nat_lt, refl, suc, true, ℕ, ⊎_elim, ◌<◌, ◌||◌, ◌∙◌, ◌∷◌, ◌≡◌, ◌≤◌, cases_lt, le-ltb, lt-ltb, or_from, or_parts, All-head, All-map, All-same, All-tail, All-permutation, IsNonDecreasingBy-drop, IsPermutation-sym, IsDistinct-IsPermutation, All, AllByRecursion, IsDistinct, list_any, Extent, Segment, HasBytes, overlap, share_byte, extent_of, meet, meets_from, some_meet}
 
 list_any-extents : (segment : Segment) (segments : List Segment) → list_any (meet (extent_of segment)) (map extent_of segments) ≡ list_any (share_byte segment) segments
 list_any-extents segment [] = refl

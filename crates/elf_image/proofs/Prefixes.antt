@@ -1,12 +1,5 @@
 -- The segments of the first program headers.
-use Rattle.std.proofs.Common.{◌≡◌, ℕ, zero, suc, ◌<◌, Bool, true, false, cond, List, [], ◌∷◌, length, take, map, refl, ap, ◌∙◌, arith}
-use Rattle.std.specs.List.{All, filter}
-use Rattle.std.proofs.lemmas.List.{take_all}
-use Rattle.std.proofs.lemmas.List.Elements.{All-nil, All-cons, All-head, All-tail}
-use Rattle.elf_image.specs.declared.program_header.ProgramHeader.{ProgramHeader}
-use Rattle.elf_image.specs.Layout.{HasBytes, overlap}
-use Rattle.elf_image.specs.ProgramFile.{is_loaded, place_of}
-use Rattle.elf_image.specs.RefusedFields.{first_places}
+use Rattle.elf_image.proofs.Terms.{Bool, List, [], ap, arith, cond, false, length, map, refl, suc, take, true, zero, ℕ, ◌<◌, ◌∙◌, ◌∷◌, ◌≡◌, take_all, All-cons, All-head, All-nil, All-tail, All, filter, ProgramHeader, HasBytes, overlap, is_loaded, place_of, first_places}
 
 full_cond : (b : Bool) (header : ProgramHeader) (xs ys : List ProgramHeader) → (All HasBytes (map place_of xs) → All HasBytes (map place_of ys)) → All HasBytes (map place_of (cond b (header ∷ xs) xs)) → All HasBytes (map place_of (cond b (header ∷ ys) ys))
 full_cond true header xs ys rest all =

@@ -1,14 +1,5 @@
 -- Which program header makes a program too large for its window: one of the lowest segments, or one that ends too high.
-use Rattle.std.proofs.Common.{◌≡◌, ℕ, suc, ◌+◌, ◌-◌, ◌*◌, ◌/◌, ◌^◌, ◌<◌, ◌≤◌, ◌==◌, not, Bool, true, false, ◌&&◌, ◌||◌, cond, List, [], ◌∷◌, length, min, max, map, nat_lt, nat_le, Some, None, refl, sym, ap, ◌∙◌, arith, ⊎_elim}
-use Rattle.std.specs.Prelude.{is_some, position}
-use Rattle.std.specs.List.{list_any, filter, position_or_len}
-use Rattle.std.proofs.lemmas.Bool.{le-ltb, lt-ltb, le-leb, lt-leb, eq-eqb, or_left, or_right, or_from, cases_lt}
-use Rattle.std.proofs.lemmas.Bool.Decides.{nat_tests}
-use Rattle.elf_image.specs.declared.segment.Segment.{Segment}
-use Rattle.elf_image.specs.declared.program_header.ProgramHeader.{ProgramHeader}
-use Rattle.elf_image.specs.Layout.{lowest, highest, window_start, heap_floor, too_large, IsWindow}
-use Rattle.elf_image.specs.ProgramFile.{is_loaded, place_of}
-use Rattle.elf_image.specs.declared.layout.TheConstants.{PAGE, STACK_AND_GUARD}
+use Rattle.elf_image.proofs.Terms.{Bool, List, None, Some, [], ap, arith, cond, false, length, map, max, min, nat_le, nat_lt, not, refl, suc, sym, true, ℕ, ⊎_elim, ◌&&◌, ◌*◌, ◌+◌, ◌-◌, ◌/◌, ◌<◌, ◌==◌, ◌^◌, ◌||◌, ◌∙◌, ◌∷◌, ◌≡◌, ◌≤◌, cases_lt, eq-eqb, le-leb, le-ltb, lt-leb, lt-ltb, or_from, or_left, or_right, nat_tests, filter, list_any, position_or_len, is_some, position, PAGE, STACK_AND_GUARD, ProgramHeader, Segment, IsWindow, heap_floor, highest, lowest, too_large, window_start, is_loaded, place_of}
 
 -- a test of segments, asked of their program headers
 any_cond : (f : Segment → Bool) (b : Bool) (header : ProgramHeader) (headers : List ProgramHeader) (rest : Bool) → rest ≡ list_any f (map place_of headers) → ((b && f (place_of header)) || rest) ≡ list_any f (map place_of (cond b (header ∷ headers) headers))

@@ -1,17 +1,5 @@
 -- A file that is written is read back: its numbers, its program headers and its segments, over plain lists.
-use Rattle.std.proofs.Common.{◌≡◌, ℕ, zero, suc, ◌+◌, ◌*◌, ◌^◌, ◌<◌, ◌≤◌, Bool, true, false, cond, List, [], ◌∷◌, ◌++◌, length, take, drop, map, refl, sym, ap, ap₂, ◌∙◌, arith, append_assoc, length-append, None}
-use Rattle.std.specs.List.{All, filter}
-use Rattle.std.proofs.lemmas.Bool.{le-ltb, and_right, or_from}
-use Rattle.std.proofs.lemmas.Bool.Decides.{nat_tests}
-use Rattle.std.proofs.lemmas.List.{take_at, drop_at, drop-drop}
-use Rattle.std.proofs.lemmas.List.Elements.{All-head, All-tail}
-use Rattle.rv_isa.specs.Words.{little_bytes, little_number}
-use Rattle.elf_image.specs.declared.segment.Segment.{Segment}
-use Rattle.elf_image.specs.declared.program_header.ProgramHeader.{ProgramHeader}
-use Rattle.elf_image.specs.Layout.{IsPlaced}
-use Rattle.elf_image.specs.Image.{file_bytes, program_header, program_headers}
-use Rattle.elf_image.specs.ProgramFile.{number_at, header_at, headers_from, is_loaded, segment_of}
-use Rattle.elf_image.specs.Refusals.{dynamic, thread_local, bad_segment, table_refusal}
+use Rattle.elf_image.proofs.Terms.{Bool, List, None, [], ap, append_assoc, ap₂, arith, cond, drop, false, length, length-append, map, refl, suc, sym, take, true, zero, ℕ, ◌*◌, ◌++◌, ◌+◌, ◌<◌, ◌^◌, ◌∙◌, ◌∷◌, ◌≡◌, ◌≤◌, and_right, le-ltb, or_from, nat_tests, drop-drop, drop_at, take_at, All-head, All-tail, All, filter, little_bytes, little_number, ProgramHeader, Segment, IsPlaced, file_bytes, program_header, program_headers, header_at, headers_from, is_loaded, number_at, segment_of, bad_segment, dynamic, table_refusal, thread_local}
 
 -- the number of a number's bytes
 pub number_of_half : (n : ℕ) → n < 2 ^ 16 → little_number (little_bytes 2 n) ≡ n

@@ -1,17 +1,7 @@
 -- What follows where no refusal holds, and which refusal is the first.
-use Rattle.std.proofs.Common.{◌≡◌, ℕ, ◌+◌, ◌-◌, ◌*◌, ◌<◌, ◌≤◌, ◌^◌, Bool, true, false, ◌&&◌, ◌||◌, cond, Option, Some, None, List, [], ◌∷◌, length, drop, map, min, max, ◌%◌, ◌==◌, nat_lt, nat_le, refl, ap, ap₂, ◌∙◌, sym, arith, length-take}
-use Rattle.std.specs.List.{list_any, filter, All}
-use Rattle.std.proofs.lemmas.Bool.{or_parts, ltb-false, leb-false}
-use Rattle.std.proofs.lemmas.Bool.Decides.{nat_tests}
-use Rattle.std.proofs.lemmas.List.{length-map}
 use Rattle.std.proofs.lemmas.List.Sums.{length-filter, count_by-le-length}
-use Rattle.std.proofs.lemmas.List.Elements.{All-nil, All-cons}
-use Rattle.elf_image.specs.declared.segment.Segment.{Segment}
-use Rattle.elf_image.specs.declared.program_header.ProgramHeader.{ProgramHeader}
-use Rattle.elf_image.specs.Layout.{lowest, highest, window_start, heap_floor, share_byte, overlap, no_load, executable, bad_entry, too_large, layout_refusal, IsPlaced, HasBytes}
-use Rattle.elf_image.specs.ProgramFile.{e_entry, e_phoff, e_phnum, program_headers, is_loaded, segment_of, place_of, segments_of}
-use Rattle.elf_image.specs.Refusals.{short, bad_table, header_refusal, is_bad, bad_segment, table_refusal, refusal}
-use Rattle.elf_image.specs.declared.layout.TheConstants.{PAGE, STACK_AND_GUARD}
+use Rattle.elf_image.proofs.Terms.{Bool, List, None, Option, Some, [], ap, ap₂, arith, cond, drop, false, length, length-take, map, max, min, nat_le, nat_lt, refl, sym, true, ℕ, ◌%◌, ◌&&◌, ◌*◌, ◌+◌, ◌-◌, ◌<◌, ◌==◌, ◌^◌, ◌||◌, ◌∙◌, ◌∷◌, ◌≡◌, ◌≤◌, leb-false, ltb-false, or_parts, nat_tests, length-map, All-cons, All-nil, All, filter, list_any, PAGE, STACK_AND_GUARD, ProgramHeader, Segment, HasBytes, IsPlaced, bad_entry, executable, heap_floor, highest, layout_refusal, lowest, no_load, overlap, share_byte, too_large, window_start, e_entry, e_phnum, e_phoff, is_loaded, place_of, segment_of, segments_of, bad_segment, bad_table, header_refusal, is_bad, refusal, short, table_refusal}
+use Rattle.elf_image.specs.ProgramFile.{program_headers}
 
 -- the file has an ELF header, and its program headers lie in it
 pub header_lies : (bytes : List ℕ) → header_refusal bytes ≡ None → 52 ≤ length bytes

@@ -1,13 +1,6 @@
 -- The file that is written of an image gives the image back.
-use Rattle.std.proofs.Common.{◌≡◌, ℕ, ◌+◌, ◌*◌, ◌^◌, ◌<◌, ◌≤◌, true, false, None, List, [], ◌∷◌, ◌++◌, length, refl, sym, ap, ap₂, ◌∙◌, arith, subst, map, ⊎_elim, append_assoc, length-append}
-use Rattle.std.specs.List.{All, filter}
-use Rattle.std.proofs.lemmas.Bool.{le-ltb, and_right, or_from, cases_lt}
-use Rattle.elf_image.specs.declared.segment.Segment.{Segment}
-use Rattle.elf_image.specs.declared.image.Image.{Image}
-use Rattle.elf_image.specs.Layout.{highest, executable, HasWordFlags, layout_refusal}
-use Rattle.elf_image.specs.Image.{file_bytes, file_header, program_headers, written}
-use Rattle.elf_image.specs.ProgramFile.{number_at, e_entry, e_phoff, e_phentsize, e_phnum, headers_from, is_loaded, segment_of, program_headers as headers_in, segments_of}
-use Rattle.elf_image.specs.Refusals.{short, not_elf, not_class_32, not_little, not_exec, not_riscv, bad_flags, bad_table, header_refusal, table_refusal, refusal, IsImage}
+use Rattle.elf_image.proofs.Terms.{List, None, [], ap, append_assoc, ap₂, arith, false, length, length-append, map, refl, subst, sym, true, ℕ, ⊎_elim, ◌*◌, ◌++◌, ◌+◌, ◌<◌, ◌^◌, ◌∙◌, ◌∷◌, ◌≡◌, ◌≤◌, and_right, cases_lt, le-ltb, or_from, All, filter, Image, Segment, HasWordFlags, executable, highest, layout_refusal, file_bytes, file_header, program_headers, written, e_entry, e_phentsize, e_phnum, e_phoff, headers_from, is_loaded, number_at, segment_of, segments_of, IsImage, bad_flags, bad_table, header_refusal, not_class_32, not_elf, not_exec, not_little, not_riscv, refusal, short, table_refusal}
+use Rattle.elf_image.specs.ProgramFile.{program_headers as headers_in}
 use Rattle.elf_image.proofs.Valid.{heap_has_page, heap_ends, stack_top_below, segments_below, entry_executable}
 use Rattle.elf_image.proofs.Sizes.{file_bytes-window}
 use Rattle.elf_image.proofs.ReadBack.{number_of_half, number_of_word, HasWords, headers_of, headers_from-written, segments_back, table_unrefused}

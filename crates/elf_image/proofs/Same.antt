@@ -1,11 +1,7 @@
 -- An image is what it says: two with the same entry, window and segments are one.
-use Rattle.std.proofs.Common.{◌≡◌, ℕ, ◌^◌, ◌<◌, List, length, None}
 use Rattle.std.proofs.Math.Path.{PathP, to_path_p}
-use Rattle.std.specs.List.{All}
 use Rattle.std.proofs.Props.{props}
-use Rattle.elf_image.specs.declared.segment.Segment.{Segment}
-use Rattle.elf_image.specs.declared.image.Image.{Image}
-use Rattle.elf_image.specs.Layout.{IsWindow, IsPlaced, layout_refusal}
+use Rattle.elf_image.proofs.Terms.{List, None, length, ℕ, ◌<◌, ◌^◌, ◌≡◌, All, Image, Segment, IsPlaced, IsWindow, layout_refusal}
 
 window_prop : (window : ℕ) → IsProp (IsWindow window)
 window_prop window = hlevel props

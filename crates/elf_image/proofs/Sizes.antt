@@ -1,14 +1,6 @@
 -- Segments that share no byte have no more bytes than the window that they lie in.
-use Rattle.std.proofs.Common.{◌≡◌, ℕ, zero, suc, ◌+◌, ◌-◌, ◌<◌, ◌≤◌, false, List, [], ◌∷◌, length, min, max, refl, ap, arith, ⊎_elim, add-zero, length-append}
-use Rattle.std.specs.List.{list_any, All}
-use Rattle.std.proofs.lemmas.Bool.{cases_lt, or_parts, ltb-false}
-use Rattle.std.proofs.lemmas.List.Elements.{All-head, All-tail}
-use Rattle.elf_image.specs.declared.segment.Segment.{Segment}
-use Rattle.elf_image.specs.declared.image.Image.{Image}
-use Rattle.elf_image.specs.Layout.{highest, share_byte, overlap, IsPlaced}
-use Rattle.elf_image.specs.Image.{base, heap_start, heap_end, stack_top, file_bytes}
+use Rattle.elf_image.proofs.Terms.{List, [], add-zero, ap, arith, false, length, length-append, max, min, refl, suc, zero, ℕ, ⊎_elim, ◌+◌, ◌-◌, ◌<◌, ◌∷◌, ◌≡◌, ◌≤◌, cases_lt, ltb-false, or_parts, All-head, All-tail, All, list_any, Image, PAGE, STACK_AND_GUARD, Segment, IsPlaced, highest, overlap, share_byte, base, file_bytes, heap_end, heap_start, stack_top}
 use Rattle.elf_image.proofs.Valid.{no_overlap, segments_above, heap_has_page, heap_ends}
-use Rattle.elf_image.specs.declared.layout.TheConstants.{PAGE, STACK_AND_GUARD}
 
 -- how many of a segment's bytes lie below an address
 abbrev below : ℕ → Segment → ℕ

@@ -1,19 +1,7 @@
 -- What the type of an image says of it, as those who lay out its memory need it.
-use Rattle.std.proofs.Common.{◌≡◌, ℕ, ◌+◌, ◌%◌, ◌<◌, ◌≤◌, ◌^◌, true, false, List, [], ◌∷◌, None, length, map, get_or, min, max, sym, ap₂, ◌∙◌, arith}
-use Rattle.std.proofs.lemmas.List.{get_or-map, length-map}
-use Rattle.std.specs.List.{All, AllPairs}
-use Rattle.std.proofs.lemmas.Bool.Decides.{nat_tests}
-use Rattle.std.proofs.lemmas.List.Elements.{All-nil, All-cons, All-weaker}
-use Rattle.std.proofs.lemmas.Map.Keys.{apart_from_distinct}
-use Rattle.elf_image.specs.declared.segment.Segment.{Segment}
-use Rattle.elf_image.specs.declared.image.Image.{Image}
-use Rattle.elf_image.specs.declared.overlap.Extent.{Extent}
-use Rattle.elf_image.specs.Extents.{extent_of, meet}
-use Rattle.elf_image.specs.Layout.{lowest, highest, share_byte, overlap, no_load, executable, bad_entry, layout_refusal}
-use Rattle.elf_image.specs.Image.{base, heap_start, heap_end, stack_top}
+use Rattle.elf_image.proofs.Terms.{List, None, [], ap₂, arith, false, get_or, length, map, max, min, sym, true, ℕ, ◌%◌, ◌+◌, ◌<◌, ◌^◌, ◌∙◌, ◌∷◌, ◌≡◌, ◌≤◌, nat_tests, get_or-map, length-map, All-cons, All-nil, All-weaker, apart_from_distinct, All, AllPairs, Image, PAGE, STACK_AND_GUARD, Extent, Segment, bad_entry, executable, highest, layout_refusal, lowest, no_load, overlap, share_byte, extent_of, meet, base, heap_end, heap_start, stack_top}
 use Rattle.elf_image.proofs.Overlaps.{distinct, some_meet-extents}
 use Rattle.elf_image.proofs.Refusing.{top_below, page_fits}
-use Rattle.elf_image.specs.declared.layout.TheConstants.{PAGE, STACK_AND_GUARD}
 
 -- the window ends below 2 ^ 32
 pub stack_top_below : (image : Image) → stack_top image < 2 ^ 32

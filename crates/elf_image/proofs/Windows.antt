@@ -1,8 +1,5 @@
 -- The lowest and the highest address of some segments.
-use Rattle.std.proofs.Common.{◌≡◌, ℕ, ◌+◌, ◌<◌, ◌≤◌, min, max, List, [], ◌∷◌, length, drop, get_or, refl, sym, ap, ◌∙◌, arith}
-use Rattle.std.proofs.lemmas.List.{at_drop_more, at_drop_all}
-use Rattle.elf_image.specs.declared.segment.Segment.{Segment}
-use Rattle.elf_image.specs.Layout.{lowest, highest}
+use Rattle.elf_image.proofs.Terms.{List, [], ap, arith, drop, get_or, length, max, min, refl, sym, ℕ, ◌+◌, ◌<◌, ◌∙◌, ◌∷◌, ◌≡◌, ◌≤◌, at_drop_all, at_drop_more, Segment, highest, lowest}
 
 -- the lower of an address and the lowest of some segments
 abbrev pub lowest_from : ℕ → List Segment → ℕ
@@ -25,12 +22,6 @@ lowest_from-drop low segments i segment below is =
 
 pub lowest_from-drop_all : (low : ℕ) (segments : List Segment) (i : ℕ) → length segments ≤ i → lowest_from low (drop i segments) ≡ low
 lowest_from-drop_all low segments i past = at_drop_all (lowest_from low) segments i past
-
-pub highest-drop : (high : ℕ) (segments : List Segment) (i : ℕ) (segment : Segment) → i < length segments → segment ≡ get_or segments i segment → max (max high (segment.vaddr + segment.memsz)) (highest (drop (i + 1) segments)) ≡ max high (highest (drop i segments))
-highest-drop high segments i segment below is =
-    let e : highest (drop i segments) ≡ max (segment.vaddr + segment.memsz) (highest (drop (i + 1) segments)) =
-    at_drop_more highest segments i segment below ∙ ap (λ s. highest (s ∷ drop (i + 1) segments)) (sym is) in
-    omega arith
 
 pub highest-drop_all : (high : ℕ) (segments : List Segment) (i : ℕ) → length segments ≤ i → max high (highest (drop i segments)) ≡ high
 highest-drop_all high segments i past =

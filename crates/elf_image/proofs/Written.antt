@@ -1,9 +1,5 @@
 -- The program headers and the bytes of a file that is written, segment by segment.
-use Rattle.std.proofs.Common.{◌≡◌, ℕ, ◌+◌, ◌<◌, List, ◌∷◌, ◌++◌, length, drop, get_or, sym, ap, ◌∙◌, arith, append_assoc, length-append}
-use Rattle.std.proofs.lemmas.List.{at_drop_more}
-use Rattle.rv_isa.specs.Words.{little_bytes}
-use Rattle.elf_image.specs.declared.segment.Segment.{Segment}
-use Rattle.elf_image.specs.Image.{file_bytes, program_header, program_headers}
+use Rattle.elf_image.proofs.Terms.{List, ap, append_assoc, arith, drop, get_or, length, length-append, sym, ℕ, ◌++◌, ◌+◌, ◌<◌, ◌∙◌, ◌∷◌, ◌≡◌, at_drop_more, little_bytes, Segment, file_bytes, program_header, program_headers}
 
 -- eight pieces that are added to a file one after another
 eight_more : (file a b c d e f g h : List ℕ) → (((((((file ++ a) ++ b) ++ c) ++ d) ++ e) ++ f) ++ g) ++ h ≡ file ++ (((((((a ++ b) ++ c) ++ d) ++ e) ++ f) ++ g) ++ h)

@@ -1,7 +1,6 @@
 -- The addresses of segments, without the rest of them.
 use Rattle.std.specs.Prelude.{ℕ, ◌+◌, min, max, Bool, false, ◌||◌, List, [], ◌∷◌, nat_lt}
-use Rattle.std.specs.List.{list_any}
-use Rattle.elf_image.specs.declared.segment.Segment.{Segment}
+use Rattle.elf_image.specs.Terms.{list_any, Segment}
 use Rattle.elf_image.specs.declared.overlap.Extent.{Extent}
 
 -- the addresses of a segment: its first, and the one behind its last

@@ -1,9 +1,8 @@
 -- The window of a program: where its segments, its heap and its stack lie; and the bytes of a program file that is
 -- written (System V ABI, "Object Files"; RISC-V ELF psABI).
 use Rattle.std.specs.Prelude.{ℕ, ◌+◌, ◌-◌, ◌*◌, List, [], ◌∷◌, ◌++◌, length, map, replicate, flat_map}
-use Rattle.elf_image.specs.declared.segment.Segment.{Segment}
+use Rattle.elf_image.specs.Terms.{little_bytes, Segment}
 use Rattle.elf_image.specs.declared.image.Image.{Image}
-use Rattle.rv_isa.specs.Words.{little_bytes}
 use Rattle.elf_image.specs.Memory.{Area}
 use Rattle.elf_image.specs.Layout.{window_start, heap_floor}
 pub use Rattle.elf_image.specs.Layout.{lowest, highest}
@@ -23,6 +22,7 @@ stack_top image = base image + image.window
 abbrev pub heap_end : Image → ℕ
 heap_end image = stack_top image - STACK_AND_GUARD
 
+-- so many bytes of value 0
 unfoldable pub zeros : ℕ → List ℕ
 zeros count = replicate count 0
 
@@ -58,6 +58,7 @@ program_header offset segment =
     little_bytes 4 1 ++ little_bytes 4 offset ++ little_bytes 4 segment.vaddr ++ little_bytes 4 segment.vaddr  -- PT_LOAD, p_offset, p_vaddr, p_paddr
     ++ little_bytes 4 (length segment.filled) ++ little_bytes 4 segment.memsz ++ little_bytes 4 segment.flags ++ little_bytes 4 1  -- p_filesz, p_memsz, p_flags, p_align
 
+-- the headers of segments whose bytes stand one behind the other, from an offset of the file on
 abbrev pub program_headers : ℕ → List Segment → List ℕ
 program_headers offset [] = []
 program_headers offset (segment ∷ segments) = program_header offset segment ++ program_headers (offset + length segment.filled) segments

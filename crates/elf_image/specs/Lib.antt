@@ -1,3 +1,4 @@
+pub mod Terms
 pub mod Memory
 pub mod Layout
 pub mod Extents

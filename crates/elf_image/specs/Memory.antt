@@ -8,6 +8,7 @@ pub record Area : Type 0 where
   pub flags : ℕ
   pub bytes : List ℕ
 
+-- System V ABI, "Segment Permissions": PF_X, PF_W and PF_R
 abbrev pub execute : ℕ
 execute = 1
 

@@ -1,10 +1,8 @@
 -- The fields of a program file, by the System V ABI: "ELF Header" and "Program Header", and the segments that they
 -- describe. A file is a list of bytes; numbers stand in it with their lowest byte first.
 use Rattle.std.specs.Prelude.{ℕ, zero, suc, ◌+◌, ◌*◌, Bool, not, ◌&&◌, List, [], ◌∷◌, ◌++◌, take, drop, map, ◌==◌}
-use Rattle.std.specs.List.{filter}
-use Rattle.rv_isa.specs.Words.{little_number}
+use Rattle.elf_image.specs.Terms.{filter, little_number, Segment}
 use Rattle.elf_image.specs.declared.program_header.ProgramHeader.{ProgramHeader}
-use Rattle.elf_image.specs.declared.segment.Segment.{Segment}
 
 -- the number in so many bytes from an offset on
 unfoldable pub number_at : ℕ → ℕ → List ℕ → ℕ

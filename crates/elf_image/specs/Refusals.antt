@@ -1,8 +1,7 @@
 -- What a program file is refused for (System V ABI; RISC-V ELF psABI): fifteen tests, in the order of their numbers.
 -- The first that holds is the refusal; the image of a file is what it says where none holds.
 use Rattle.std.specs.Prelude.{◌≡◌, ℕ, ◌+◌, ◌*◌, ◌%◌, ◌^◌, Bool, not, ◌&&◌, ◌||◌, List, length, slice_index, Option, Some, None, nat_lt, if◌then◌else◌, ◌==◌}
-use Rattle.std.specs.List.{list_any}
-use Rattle.std.specs.Option.{option_or}
+use Rattle.elf_image.specs.Terms.{list_any, option_or}
 use Rattle.elf_image.specs.declared.program_header.ProgramHeader.{ProgramHeader}
 use Rattle.elf_image.specs.declared.elf_refusal.ElfRefusal.{ElfRefusal}
 use Rattle.elf_image.specs.declared.elf_refusal.ElfRefusal.TheVariants.{Refused, Memory}

@@ -1,8 +1,6 @@
 -- The fields for which a program file is refused (System V ABI, "ELF Header").
 use Rattle.std.specs.Prelude.{◌≡◌, ℕ, ◌+◌, ◌*◌, ◌/◌, ◌<◌, ◌≤◌, true, false, List, length, slice_index, take, map, Bool, ◌&&◌, ◌||◌, Option, Some, None, IfSome, is_some, position, nat_lt, if◌then◌else◌, ◌==◌}
-use Rattle.std.specs.List.{filter}
-use Rattle.std.specs.Option.{option_map}
-use Rattle.elf_image.specs.declared.segment.Segment.{Segment}
+use Rattle.elf_image.specs.Terms.{filter, option_map, Segment}
 use Rattle.elf_image.specs.declared.program_header.ProgramHeader.{ProgramHeader}
 use Rattle.elf_image.specs.declared.refused_field.RefusedField.{RefusedField}
 use Rattle.elf_image.specs.ProgramFile.{number_at, e_type, e_phoff, e_phentsize, is_loaded, place_of}
@@ -19,9 +17,11 @@ pub record Place : Type 0 where
   pub offset : ℕ
   pub size : ℕ
 
+-- where a field that a refusal names stands
 abbrev pub field_place : RefusedField → Place
 field_place field = record { offset = field.offset; size = field.size }
 
+-- there is such a field, and it stands there
 abbrev pub placed : ℕ → ℕ → Option Place
 placed offset size = Some (record { offset = offset; size = size })
 

@@ -1,5 +1,5 @@
 -- What stands in the two files at the end.
-use Rattle.std.proofs.Common.{◌≡◌, List, [], ◌++◌, ℕ, Option, Some, unwrap_or, ◌∙◌, ap, append_assoc, append-nil}
+use Rattle.file_notes.proofs.Terms.{List, Option, Some, [], ap, append-nil, append_assoc, unwrap_or, ℕ, ◌++◌, ◌∙◌, ◌≡◌}
 use Rattle.file_notes.specs.Laws.{WholeTexts}
 
 -- first a file was started, then it grew, and last it was ended

@@ -1,3 +1,4 @@
+pub mod Terms
 pub mod WritingLemmas
 pub mod TextLemmas
 pub mod NotesLemmas

@@ -1,18 +1,7 @@
 -- What notes are after an episode was noted.
-use Rattle.std.proofs.Common.{◌≡◌, ℕ, ◌+◌, List, [], ◌∷◌, ◌++◌, length, length-append, Bool, true, Option, None, Some, Ok, sym, ap, ◌∙◌, append_assoc, append-nil, zero-add, unwrap_or, subst}
 use Rattle.std.proofs.lemmas.Bool.{false≢true}
-use Rattle.block_book.specs.declared.choice.Choice.{Choice}
-use Rattle.session_notes.specs.declared.episode.Episode.{Episode}
-use Rattle.rx_io.specs.Named.{Contents, Adds, AddsFront}
-use Rattle.run_report.specs.declared.form.Form.{Form}
-use Rattle.run_report.specs.Report.{episode_text}
-use Rattle.file_notes.specs.Names.{Names, AreTwo, bytes_in}
-use Rattle.file_notes.specs.Past.{Past, Had, with_episode}
-use Rattle.file_notes.specs.Left.{Left, Nothing, InRecord, InReport}
+use Rattle.file_notes.proofs.Terms.{Bool, List, None, Ok, Option, Some, [], ap, append-nil, append_assoc, length, length-append, subst, sym, true, unwrap_or, zero-add, ℕ, ◌++◌, ◌+◌, ◌∙◌, ◌∷◌, ◌≡◌, Adds, AddsFront, Contents, Choice, Episode, Form, episode_text, episode_texts, AreTwo, Names, bytes_in, InRecord, InReport, Left, Nothing, is_whole, in_report, Had, Past, with_episode}
 use Rattle.file_notes.specs.Invariant.{IsNotes, Keeps, HasKept}
-use Rattle.file_notes.specs.Standing.{in_report}
-use Rattle.file_notes.specs.Left.{is_whole}
-use Rattle.file_notes.specs.Texts.{episode_texts}
 use Rattle.file_notes.proofs.TextLemmas.{one_more}
 
 -- the text of one more episode stands behind the others, where nothing was left

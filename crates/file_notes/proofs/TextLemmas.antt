@@ -1,9 +1,5 @@
 -- The texts of episodes.
-use Rattle.std.proofs.Common.{◌≡◌, ℕ, suc, ◌+◌, List, [], ◌∷◌, ◌++◌, length, sym, ap, ◌∙◌, append_assoc, append-nil, arith, add-zero}
-use Rattle.session_notes.specs.declared.episode.Episode.{Episode}
-use Rattle.run_report.specs.declared.form.Form.{Form}
-use Rattle.run_report.specs.Report.{episode_text}
-use Rattle.file_notes.specs.Texts.{episode_texts}
+use Rattle.file_notes.proofs.Terms.{List, [], add-zero, ap, append-nil, append_assoc, arith, length, suc, sym, ℕ, ◌++◌, ◌+◌, ◌∙◌, ◌∷◌, ◌≡◌, Episode, Form, episode_text, episode_texts}
 
 -- one more episode is numbered by how many were there
 pub one_more : (form : Form) (number : ℕ) (episodes : List Episode) (e : Episode)

@@ -1,10 +1,6 @@
 -- Texts that are written into one file and into both.
-use Rattle.std.proofs.Common.{◌≡◌, ℕ, List, [], ◌++◌, length, take, Option, None, Some, Result, Ok, Err, unwrap_or, refl, sym, ap, ◌∙◌, inl, inr, subst}
 use Rattle.std.proofs.Math.Seq.{take-append_seam, take-length}
-use Rattle.rx_io.specs.Named.{Contents, Starts, Adds}
-use Rattle.rx_io.specs.declared.fault.IoFault.{IoFault}
-use Rattle.file_notes.specs.Names.{Names, AreTwo}
-use Rattle.file_notes.specs.Writing.{Kept, nothing_kept, all_kept, HasPart, Writes, WritesBoth}
+use Rattle.file_notes.proofs.Terms.{Err, List, None, Ok, Option, Result, Some, [], ap, inl, inr, length, subst, sym, take, unwrap_or, ℕ, ◌++◌, ◌∙◌, ◌≡◌, IoFault, Adds, Contents, Starts, AreTwo, Names, HasPart, Kept, Writes, WritesBoth, all_kept, nothing_kept}
 
 -- what a part of a text is, by its length
 pub front_is : (front rest text : List ℕ) → text ≡ front ++ rest → take (length front) text ≡ front
@@ -21,14 +17,6 @@ adds_one (Some old) (Some new) name text (Err fault) (inr (front, rest, is, adde
   here = inr (length front, added.here ∙ ap (λ l. Some (unwrap_or (old name) [] ++ l)) (sym (front_is front rest text is)));
   others = added.others;
 }
-
--- a file couldn't be started
-pub start_failed : (old new : Option Contents) (name text : List ℕ) (fault : IoFault)
-    → Starts old new name (Err fault) → Writes nothing_kept old new name text (Err fault)
-start_failed None new name text fault started = tt
-start_failed (Some old) None name text fault started = absurd started
-start_failed (Some old) (Some new) name text fault (inl same) = record { here = inl same.here; others = same.others }
-start_failed (Some old) (Some new) name text fault (inr empty) = record { here = inr (0, empty.here); others = empty.others }
 
 -- a file was started, and bytes were added to it
 pub starts_one : (old mid new : Option Contents) (name text : List ℕ) (result : Result (Unit {0}) IoFault)
@@ -50,22 +38,6 @@ starts_one (Some old) (Some mid) (Some new) name text (Err fault) started (inr (
 }
 
 module _ (kept : Kept) (names : Names) (of_record of_report : List ℕ) where
-  -- no call was made
-  pub neither : (told : Option Contents) (fault : IoFault) → WritesBoth kept names of_record of_report told told (Err fault)
-  neither None fault = tt
-  neither (Some told) fault = record { record_part = inl refl; report_part = inl refl; others = λ _ _ _. refl }
-
-  -- the record's text couldn't be written
-  pub first_failed : AreTwo names → (old new : Option Contents) (fault : IoFault)
-      → Writes kept old new names.record_name of_record (Err fault) → WritesBoth kept names of_record of_report old new (Err fault)
-  first_failed two None new fault wrote = tt
-  first_failed two (Some old) None fault wrote = absurd wrote
-  first_failed two (Some old) (Some new) fault wrote = record {
-    record_part = wrote.here;
-    report_part = inl (wrote.others names.report_name (λ same. two (sym same)));
-    others = λ other from_record from_report. wrote.others other from_record;
-  }
-
   -- the record's text was written, and then the report's, or a part of it
   pub both : AreTwo names → (old mid new : Option Contents) (result : Result (Unit {0}) IoFault)
       → Writes kept old mid names.record_name of_record (Ok tt) → Writes kept mid new names.report_name of_report result

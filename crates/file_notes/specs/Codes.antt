@@ -1,12 +1,10 @@
 -- How the logic stores what proofs remember of notes.
 use Rattle.std.specs.Prelude.{◌≡◌, ◌⊎◌, ℕ, List, Option, refl}
 use Rattle.std.proofs.Common.{inl, inr}
-use Rattle.std.specs.Coded.{Coded, code_by, coded×, coded⊎, coded_ℕ, coded_list, coded_option}
 use base.Stored.{coded_unit}
-use Rattle.block_book.specs.declared.choice.Choice.{Choice}
 use Rattle.block_book.specs.contracts.choice.Choice as choice
-use Rattle.session_notes.specs.declared.episode.Episode.{Episode}
 use Rattle.session_notes.specs.contracts.episode.Episode as episode
+use Rattle.file_notes.specs.Terms.{Coded, code_by, coded_list, coded_option, coded_ℕ, coded×, coded⊎, Choice, Episode}
 use Rattle.file_notes.specs.Left.{Left, Nothing, InRecord, InReport}
 use Rattle.file_notes.specs.Past.{Had, Past}
 

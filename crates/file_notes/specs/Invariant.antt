@@ -1,11 +1,7 @@
 -- What holds of all notes. Callers are told it by `Stands`.
 use Rattle.std.specs.Prelude.{◌≡◌, ℕ, Bool, true, false, List, [], ◌++◌, length, Option, None, Some, unwrap_or, if◌then◌else◌}
-use Rattle.std.specs.Coded.{Unit-prop}
 use Rattle.std.proofs.Props.{props}
-use Rattle.block_book.specs.declared.choice.Choice.{Choice}
-use Rattle.session_notes.specs.declared.episode.Episode.{Episode}
-use Rattle.rx_io.specs.Named.{Contents}
-use Rattle.run_report.specs.declared.form.Form.{Form}
+use Rattle.file_notes.specs.Terms.{Unit-prop, Contents, Choice, Episode, Form}
 use Rattle.file_notes.specs.Left.{Left, is_whole}
 use Rattle.file_notes.specs.Names.{Names, AreTwo, bytes_in}
 use Rattle.file_notes.specs.Past.{Had, Past}

@@ -1,12 +1,9 @@
 -- What stands in the two files at the end.
 use Rattle.std.specs.Prelude.{ℕ, List}
-use Rattle.block_book.specs.declared.choice.Choice.{Choice}
-use Rattle.session_notes.specs.declared.episode.Episode.{Episode}
 use Rattle.msg_frame.specs.declared.framing.Framing.{Framing}
-use Rattle.rx_io.specs.Named.{Contents}
-use Rattle.run_report.specs.declared.form.Form.{Form}
 use Rattle.run_report.specs.Report as report
 use Rattle.schedule_file.specs.Lines as recorded
+use Rattle.file_notes.specs.Terms.{Contents, Choice, Episode, Form}
 use Rattle.file_notes.specs.Names.{Names}
 use Rattle.file_notes.specs.Left.{Nothing}
 use Rattle.file_notes.specs.Standing.{HasNotes}

@@ -1,12 +1,7 @@
 -- What a call that failed leaves behind.
 use Rattle.std.specs.Prelude.{◌≡◌, ℕ, Bool, true, false, List, [], take, Result, Ok, Err}
-use Rattle.block_book.specs.declared.choice.Choice.{Choice}
-use Rattle.session_notes.specs.declared.episode.Episode.{Episode}
-use Rattle.rx_io.specs.declared.fault.IoFault.{IoFault}
 use Rattle.rx_io.specs.declared.fault.IoFault.TheVariants.{Memory}
-use Rattle.run_report.specs.declared.form.Form.{Form}
-use Rattle.run_report.specs.Report.{episode_text}
-use Rattle.schedule_file.specs.Lines.{choice_lines}
+use Rattle.file_notes.specs.Terms.{IoFault, Choice, Episode, Form, episode_text, choice_lines}
 
 -- Nothing where no call failed. Else so many first bytes, perhaps none or all, of the lines of some answers of malloc in the
 -- record, or of the text of an episode in the report

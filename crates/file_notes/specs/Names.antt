@@ -1,6 +1,6 @@
 -- The names of the two files, and what stands under a name.
 use Rattle.std.specs.Prelude.{◌≢◌, ℕ, List, [], unwrap_or}
-use Rattle.rx_io.specs.Named.{Contents}
+use Rattle.file_notes.specs.Terms.{Contents}
 use Rattle.file_notes.specs.declared.file_names.FileNames.{FileNames}
 
 -- the names of the record and of the report

@@ -1,11 +1,8 @@
 -- What notes in two files have.
 use Rattle.std.specs.Prelude.{ℕ, List, Option, Some}
-use Rattle.block_book.specs.declared.choice.Choice.{Choice}
-use Rattle.session_notes.specs.declared.episode.Episode.{Episode}
 use Rattle.session_notes.specs.Noting.{Shown}
-use Rattle.rx_io.specs.Named.{Contents}
 use Rattle.rx_io.specs.declared.files.Files.{Ghosts}
-use Rattle.run_report.specs.declared.form.Form.{Form}
+use Rattle.file_notes.specs.Terms.{Contents, Choice, Episode, Form}
 use Rattle.file_notes.specs.declared.file_notes.FileNotes.{FileNotes}
 use Rattle.file_notes.specs.Names.{Names, names_in}
 use Rattle.file_notes.specs.Left.{Left, is_whole}

@@ -1,10 +1,6 @@
 -- What proofs remember of notes, beside what the code keeps. Callers are promised `before_of` alone.
 use Rattle.std.specs.Prelude.{ℕ, ◌-◌, List, [], ◌∷◌, ◌++◌, length, Option, None, Some, option_map, unwrap_or, bytes_eq, if◌then◌else◌}
-use Rattle.block_book.specs.declared.choice.Choice.{Choice}
-use Rattle.session_notes.specs.declared.episode.Episode.{Episode}
-use Rattle.rx_io.specs.Named.{Contents}
-use Rattle.schedule_file.specs.Lines.{choice_lines}
-use Rattle.run_report.specs.declared.form.Form.{Form}
+use Rattle.file_notes.specs.Terms.{Contents, Choice, Episode, Form, choice_lines}
 use Rattle.file_notes.specs.Left.{Left, Nothing, InRecord, InReport}
 use Rattle.file_notes.specs.Names.{Names, bytes_in}
 use Rattle.file_notes.specs.Texts.{episode_texts}

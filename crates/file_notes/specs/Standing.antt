@@ -1,10 +1,6 @@
 -- What stands in the two files of the notes.
 use Rattle.std.specs.Prelude.{◌≡◌, ◌≢◌, ℕ, List, ◌++◌, length, Option, None, Some}
-use Rattle.block_book.specs.declared.choice.Choice.{Choice}
-use Rattle.session_notes.specs.declared.episode.Episode.{Episode}
-use Rattle.rx_io.specs.Named.{Contents}
-use Rattle.run_report.specs.declared.form.Form.{Form}
-use Rattle.schedule_file.specs.Lines.{choice_lines}
+use Rattle.file_notes.specs.Terms.{Contents, Choice, Episode, Form, choice_lines}
 use Rattle.file_notes.specs.Names.{Names, bytes_in}
 use Rattle.file_notes.specs.Left.{Left, left_in_record, left_in_report}
 use Rattle.file_notes.specs.Texts.{episode_texts}

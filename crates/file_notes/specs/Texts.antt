@@ -1,8 +1,6 @@
 -- The text of a whole report, and what of it some episodes make.
 use Rattle.std.specs.Prelude.{ℕ, suc, List, [], ◌∷◌, ◌++◌}
-use Rattle.session_notes.specs.declared.episode.Episode.{Episode}
-use Rattle.run_report.specs.declared.form.Form.{Form}
-use Rattle.run_report.specs.Report.{head_text, episode_text, end_text}
+use Rattle.file_notes.specs.Terms.{Episode, Form, end_text, episode_text, head_text}
 
 -- the texts of some episodes, numbered from this number on
 abbrev pub episode_texts : Form → ℕ → List Episode → List ℕ

@@ -1,7 +1,6 @@
 -- What the two files have after texts were written into both, one file after the other.
 use Rattle.std.specs.Prelude.{◌≡◌, ◌≢◌, ◌⊎◌, ℕ, List, [], ◌++◌, take, Option, None, Some, unwrap_or, Result, Ok, Err}
-use Rattle.rx_io.specs.Named.{Contents, Holds}
-use Rattle.rx_io.specs.declared.fault.IoFault.{IoFault}
+use Rattle.file_notes.specs.Terms.{IoFault, Contents, Holds}
 use Rattle.file_notes.specs.Names.{Names}
 
 -- what is kept of a file: nothing where it is started, all where it is added to

@@ -1,24 +1,7 @@
 -- What a guest does next, where its next instruction is a call.
-use Rattle.std.proofs.Common.{◌≡◌, ℕ, ◌+◌, ◌<◌, Bool, Option, Some, None, Result, Ok, Err, refl, sym, ◌∙◌, ap}
-use Rattle.std.specs.Prelude.{option_map}
-use Rattle.alloc_env.specs.declared.env.Env.{Env}
-use Rattle.alloc_env.specs.Serving.{served_free}
-use Rattle.block_book.specs.Heap.{Heap}
-use Rattle.run_history.specs.declared.answer.Cause.{Cause}
-use Rattle.run_history.specs.declared.answer.Cause.TheVariants.{AssertFailed}
-use Rattle.rv_isa.specs.declared.instr.Instr.TheVariants.{Ecall}
-use Rattle.run_history.specs.Touching.{instruction_at}
-use Rattle.call_gate.specs.Calls.{called}
-use Rattle.run_history.specs.Served.{Limits, Malloc, Free, Nothing}
-use Rattle.call_gate.specs.declared.call.Call.{Call}
 use Rattle.call_gate.specs.declared.call.Call.TheVariants as kind
-use Rattle.call_gate.specs.Checks.{checked}
-use Rattle.call_gate.proofs.CallLemmas.{call_is}
-use Rattle.call_gate.proofs.ServedCalls.{IsAtCall, frees, grant_call, serves_checked, serves_refused, serves_badly}
+use Rattle.guest_cpu.proofs.Terms.{Bool, Err, None, Ok, Option, Result, Some, ap, refl, sym, ℕ, ◌+◌, ◌<◌, ◌∙◌, ◌≡◌, option_map, Heap, Env, served_free, Ecall, Cause, AssertFailed, Free, Limits, Malloc, Nothing, instruction_at, Call, call_is, IsAtCall, frees, grant_call, serves_badly, serves_checked, serves_refused, called, checked, Event, Standing, Turn, turn, turn_of, turn_to, allocating, freeing, sending}
 use Rattle.guest_cpu.specs.Calls as calls
-use Rattle.guest_cpu.specs.Calls.{sending, allocating, freeing}
-use Rattle.guest_cpu.specs.Standing.{Standing, Turn, turn_to, turn_of, turn}
-use Rattle.guest_cpu.specs.declared.event.Event.{Event}
 use Rattle.guest_cpu.specs.declared.event.Event.TheVariants as event
 use Rattle.guest_cpu.proofs.TurnLemmas.{turn_fails}
 

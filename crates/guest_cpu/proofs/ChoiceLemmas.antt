@@ -1,19 +1,5 @@
 -- A malloc that is answered as recorded.
-use Rattle.std.proofs.Common.{◌≡◌, ◌≢◌, ℕ, ◌+◌, Bool, true, false, ◌&&◌, ◌||◌, eqb, ltb, List, length, refl, ◌∙◌, arith}
-use Rattle.std.specs.Prelude.{slice_index, MatchBool}
-use Rattle.block_book.specs.declared.choice.Choice.{Choice}
-use Rattle.block_book.specs.Heap.{Heap, SameEnds, with_block, most_blocks}
-use Rattle.block_book.specs.Block.{live_block}
-use Rattle.block_book.specs.Answer.{live_blocks, is_allowed, is_clear}
-use Rattle.block_book.proofs.Live.{live-insert_block}
-use Rattle.block_book.specs.Heap.{IsHeap}
-use Rattle.alloc_env.specs.Serving.{live_with}
-use Rattle.elf_image.specs.Memory.{Area}
-use Rattle.run_history.specs.Call.{allocated}
-use Rattle.guest_cpu.specs.declared.guest_core.Core.{Core}
-use Rattle.guest_cpu.specs.Standing.{standing, answering}
-use Rattle.guest_cpu.specs.Calls.{with_zeros}
-use Rattle.guest_cpu.specs.Recording.{heap_with, is_usable, chosen_standing}
+use Rattle.guest_cpu.proofs.Terms.{Bool, List, arith, eqb, false, refl, true, ℕ, ◌&&◌, ◌+◌, ◌||◌, ◌∙◌, ◌≡◌, ◌≢◌, MatchBool, slice_index, Choice, live-insert_block, is_allowed, is_clear, live_blocks, live_block, Heap, IsHeap, SameEnds, with_block, live_with, Area, allocated, Core, answering, standing, with_zeros, chosen_standing, heap_with}
 
 -- an answer that C allows and that isn't null is clear of the live blocks
 pub allowed_clear : (start end : ℕ) (live : List (ℕ × ℕ)) (size : ℕ) (choice : Choice) → is_allowed start end live size choice ≡ true → choice.at ≢ 0 → is_clear start end live choice.at size ≡ true
@@ -48,11 +34,3 @@ chose core answered heap choice memory new_memory heap_is live ends memory_is is
     let start = rw heap_is at ends.0 in
     let end = rw heap_is at ends.1 in
     rw (is, heap_is, memory_is, its_live, start, end) refl
-
--- which answers can be used
-pub unusable : (core : Core) (choice : Choice) (memory : List Area) → is_allowed core.book.start core.book.end (live_blocks core.book.blocks) (slice_index core.regs.x 10) choice ≡ false → is_usable (standing core memory) choice ≡ false
-unusable core choice memory h = rw h refl
-
-pub usable_by : (core : Core) (choice : Choice) (memory : List Area) (room : Bool) → is_allowed core.book.start core.book.end (live_blocks core.book.blocks) (slice_index core.regs.x 10) choice ≡ true
-    → room ≡ (eqb choice.at 0 || ltb (length core.book.blocks) most_blocks) → room ≡ is_usable (standing core memory) choice
-usable_by core choice memory room h is = rw h is

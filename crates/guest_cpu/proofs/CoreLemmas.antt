@@ -1,20 +1,6 @@
 -- What calls leave of what a guest has beside its memory, as turns.
-use Rattle.std.proofs.Common.{◌≡◌, ℕ, ◌+◌, ◌<◌, ◌≤◌, true, false, ◌≢◌, eqb, ltb, List, Option, Some, None, Result, Ok, refl, sym, ◌∙◌, ap, arith}
-use Rattle.std.specs.Prelude.{slice_index, slice_get, unwrap_or}
-use Rattle.std.specs.declared.alloc.AllocError.{AllocError}
-use Rattle.rv_isa.specs.declared.instr.Instr.TheVariants.{Ecall}
-use Rattle.elf_image.specs.Memory.{Area, read, bytes_at}
-use Rattle.block_book.specs.declared.choice.Choice.{Choice}
-use Rattle.block_book.specs.Heap.{Heap, SameEnds}
-use Rattle.block_book.specs.Answer.{live_blocks, without_live, is_allowed}
-use Rattle.alloc_env.specs.declared.env.Env.{Env}
-use Rattle.alloc_env.specs.Serving.{served_free, served_malloc, live_with}
-use Rattle.run_history.specs.Call.{freed, allocated}
-use Rattle.guest_cpu.specs.declared.guest_core.Core.{Core}
+use Rattle.guest_cpu.proofs.Terms.{AllocError, List, None, Ok, Option, Result, Some, ap, arith, eqb, false, ltb, refl, sym, true, ℕ, ◌+◌, ◌<◌, ◌∙◌, ◌≡◌, ◌≢◌, ◌≤◌, slice_get, slice_index, unwrap_or, Choice, is_allowed, live_blocks, without_live, Heap, SameEnds, Env, live_with, served_free, served_malloc, Ecall, Area, bytes_at, read, allocated, freed, Core, answering, going_on, machine_of, standing, turn_of, turn_to, zeroed_range, IsSend, IsSending, SendsBy, allocating, freeing, sending, sends, unasked, with_zeros}
 use Rattle.guest_cpu.specs.declared.event.Event.TheVariants as event
-use Rattle.guest_cpu.specs.Standing.{standing, machine_of, turn_to, turn_of, going_on, answering, zeroed_range}
-use Rattle.guest_cpu.specs.Turns.{IsSend}
-use Rattle.guest_cpu.specs.Calls.{with_zeros, unasked, sends, IsSending, SendsBy, sending, allocating, freeing}
 
 -- a block was freed
 pub freed_turn : (env : Env) (core new : Core) (heap : Heap) (at : ℕ) (memory : List Area) → at ≡ slice_index core.regs.x 10 → served_free env core.book at ≡ Some heap

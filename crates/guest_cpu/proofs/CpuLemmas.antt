@@ -1,24 +1,10 @@
 -- One guest with its checkpoints, after its memory was written.
-use Rattle.std.proofs.Common.{◌≡◌, ℕ, ◌+◌, ◌-◌, List, length, All, Option, Some, None, Ok, refl, sym, ◌∙◌, ap, subst}
-use Rattle.std.proofs.lemmas.Option.{same_Some}
-use Rattle.block_book.specs.Heap.{SameEnds}
-use Rattle.cow_pages.specs.Pages.{Pages, IsLawful}
 use Rattle.cow_pages.specs.Writes.{Writes}
-use Rattle.guest_space.specs.Space.{GuestPages, flat, IsLawfulSpace}
-use Rattle.page_line.specs.Line.{Line, IsLine, written_pages, saved_behind, with_reached}
 use Rattle.page_line.proofs.Written.{line_writes}
-use Rattle.run_history.specs.Repeating.{repeated}
-use Rattle.run_history.specs.Touching.{Range}
 use Rattle.run_history.proofs.Repeats.{repeated_one}
-use Rattle.guest_cpu.specs.declared.guest_core.Core.{Core}
-use Rattle.guest_cpu.specs.declared.event.Event.{Event}
+use Rattle.guest_cpu.proofs.Terms.{All, List, None, Ok, Option, Some, ap, length, refl, subst, sym, ℕ, ◌+◌, ◌-◌, ◌∙◌, ◌≡◌, same_Some, SameEnds, IsLawful, Pages, IsLine, Line, saved_behind, with_reached, written_pages, repeated, Range, GuestPages, IsLawfulSpace, flat, Event, Question, Core, AreCounted, Live, Standing, Turn, live_after, quiet_next, standing, turn_to, with_range, IsSend, Keeps, Lasts, RecordedLasts, Turned, Wrote, IsCpu, cpu_state, live_of, state_in, with_live, Breaks, Lives, Reaches, RecordedLives}
 use Rattle.guest_cpu.specs.declared.event.Event.TheVariants as event
-use Rattle.guest_cpu.specs.declared.event.Question.{Question}
 use Rattle.guest_cpu.specs.declared.event.Question.TheVariants as question
-use Rattle.guest_cpu.specs.Standing.{Standing, standing, AreCounted, Turn, turn_to, Live, live_after, with_range, quiet_next}
-use Rattle.guest_cpu.specs.Turns.{Wrote, Turned, IsSend, Keeps, Lasts, RecordedLasts}
-use Rattle.guest_cpu.specs.Running.{Reaches, Breaks, Lives, RecordedLives}
-use Rattle.guest_cpu.specs.Cpus.{cpu_state, live_of, with_live, state_in, IsCpu}
 
 -- bytes were written into a store
 pub record WroteStore (old new : Pages) (line : Line) (at count : ℕ) : Type 1 where
@@ -132,17 +118,6 @@ pub record Goes {R E : Type 0} (next : Standing → Option (Turn E)) (rule : R) 
   pub lawful : IsLawfulSpace space
   pub base_stays : space.base ≡ before.base
   pub kept : cpu_state rule now space saved line ≡ with_live (live_of (cpu_state rule now space saved line)) (cpu_state rule first before saved line)
-
--- it begins
-pub goes_first : {R E : Type 0} (next : Standing → Option (Turn E)) (rule : R) (first : Core) (before : GuestPages) (saved : List Core) (line : Line) → IsCpu first before saved line → IsLawfulSpace before → Goes next rule first first before before saved line
-goes_first next rule first before saved line fits lawful = record {
-  count = 0;
-  quiet = refl;
-  fits = fits;
-  lawful = lawful;
-  base_stays = refl;
-  kept = refl;
-}
 
 -- a turn that is no event
 quiet_turn : {E : Type 0} (next : Standing → Option (Turn E)) (base : ℕ) (live : Live) (t : Turn E) → next live.standing ≡ Some t → t.event ≡ None → quiet_next next base live ≡ Some (live_after base live t)

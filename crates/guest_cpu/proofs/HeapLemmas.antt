@@ -1,12 +1,6 @@
 -- A block of the heap may be written.
-use Rattle.std.proofs.Common.{◌≡◌, ℕ, zero, suc, ◌+◌, ◌^◌, ◌<◌, ◌≤◌, Bool, true, false, ◌&&◌, ◌||◌, leb, ltb, List, [], ◌∷◌, Contains, refl, arith}
-use Rattle.std.proofs.lemmas.Bool.Decides.{nat_tests}
-use Rattle.block_book.specs.declared.choice.Choice.{Choice}
-use Rattle.block_book.specs.Answer.{is_allowed, is_clear}
-use Rattle.elf_image.specs.Memory.{permitted}
-use Rattle.guest_space.specs.Space.{Span, GuestPages, flat, blank_span, IsLawfulSpace}
 use Rattle.guest_space.specs.Ranges.{has_address, some_has}
-use Rattle.guest_space.proofs.SpaceLemmas.{is_permitted}
+use Rattle.guest_cpu.proofs.Terms.{Bool, Contains, List, [], arith, false, leb, ltb, refl, suc, true, zero, ℕ, ◌&&◌, ◌+◌, ◌<◌, ◌^◌, ◌||◌, ◌∷◌, ◌≡◌, ◌≤◌, nat_tests, Choice, is_allowed, is_clear, permitted, is_permitted, GuestPages, IsLawfulSpace, Span, blank_span, flat}
 
 -- an address of a span that may be written
 one_has : (spans : List Span) (start end at : ℕ) → Contains spans (blank_span start end) → start ≤ at → at < end → some_has 2 at spans ≡ true

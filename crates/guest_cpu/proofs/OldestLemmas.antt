@@ -1,15 +1,5 @@
 -- How far a guest had come at its oldest checkpoint.
-use Rattle.std.proofs.Common.{◌≡◌, ℕ, ◌<◌, Option, Some, None, IsSome, IfSome, List, [], ◌∷◌, length, All, refl, sym, ◌∙◌, ap, subst}
-use Rattle.std.specs.Prelude.{slice_get}
-use Rattle.std.proofs.lemmas.Option.{same_Some, none-some}
-use Rattle.std.proofs.lemmas.List.Elements.{All-head}
-use Rattle.elf_image.specs.Memory.{Area}
-use Rattle.cow_pages.specs.Pages.{Space, slot_at}
-use Rattle.guest_space.specs.Space.{GuestPages, saved_flat}
-use Rattle.page_line.specs.Line.{saved_behind}
-use Rattle.guest_cpu.specs.declared.guest_core.Core.{Core}
-use Rattle.guest_cpu.specs.Standing.{marks_of}
-use Rattle.guest_cpu.specs.Cpus.{saved_standing, state_in}
+use Rattle.guest_cpu.proofs.Terms.{All, IfSome, IsSome, List, None, Option, Some, [], ap, length, refl, subst, sym, ℕ, ◌<◌, ◌∙◌, ◌∷◌, ◌≡◌, All-head, none-some, same_Some, slice_get, Space, slot_at, saved_behind, Area, GuestPages, saved_flat, Core, marks_of, saved_standing, state_in}
 
 marks_in : (core : Core) (found : Option Core) (memory : Option (List Area)) → found ≡ Some core → IsSome memory → core.marks ≡ marks_of (saved_standing found memory)
 marks_in core None memory is some = absurd (none-some core is)

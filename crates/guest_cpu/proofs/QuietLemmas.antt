@@ -1,25 +1,10 @@
 -- Instructions that are no calls, as turns of a guest.
-use Rattle.std.proofs.Common.{◌≡◌, ℕ, zero, suc, ◌+◌, ◌-◌, ◌<◌, ◌≤◌, Bool, List, Option, None, Ok, refl, sym, ap, subst, add-zero, arith}
-use Rattle.block_book.specs.Heap.{Heap}
-use Rattle.alloc_env.specs.declared.env.Env.{Env}
-use Rattle.guest_space.specs.Space.{GuestPages, flat}
-use Rattle.page_line.specs.Line.{Line}
-use Rattle.run_history.specs.declared.regs.Regs.{Regs}
-use Rattle.rv_exec.specs.Stepping.{limits_of}
-use Rattle.rv_exec.specs.Quick.{IsStep, Ran}
 use Rattle.rv_exec.proofs.QuickLemmas.{ran_none}
-use Rattle.guest_cpu.specs.declared.guest_core.Core.{Core}
-use Rattle.guest_cpu.specs.Standing.{Standing, standing, machine_of, AreCounted, Turn, turn, counting}
-use Rattle.guest_cpu.specs.Turns.{Turned, Keeps}
-use Rattle.guest_cpu.specs.Recording.{recorded}
+use Rattle.guest_cpu.proofs.Terms.{Bool, List, None, Ok, Option, add-zero, ap, arith, refl, subst, suc, sym, zero, ℕ, ◌+◌, ◌-◌, ◌<◌, ◌≡◌, ◌≤◌, Heap, Env, Line, Regs, GuestPages, flat, IsStep, Ran, limits_of, Core, AreCounted, Standing, Turn, counting, machine_of, standing, turn, Keeps, Turned, recorded}
 use Rattle.guest_cpu.specs.Quiet.{core_after, RanOn}
 use Rattle.guest_cpu.proofs.CpuLemmas.{Goes, goes_on}
-use Rattle.guest_cpu.proofs.StepTurns.{stepped}
+use Rattle.guest_cpu.proofs.StepTurns.{stepped, with_regs}
 use Rattle.guest_cpu.proofs.RecordTurns.{mapped, recorded_step}
-
--- the guest with other registers
-abbrev with_regs : Core → Regs → Core
-with_regs core regs = record core { regs = regs }
 
 -- one more instruction
 more : (count : ℕ) (regs mid_regs : Regs) (core : Core) → core_after (suc count) regs core ≡ counting (with_regs (core_after count mid_regs core) regs)

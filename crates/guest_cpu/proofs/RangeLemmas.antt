@@ -1,15 +1,7 @@
 -- Fewer bytes of flat memory.
-use Rattle.std.proofs.Common.{◌≡◌, ℕ, zero, suc, ◌+◌, ◌^◌, ◌≤◌, true, None, ◌&&◌, List, refl, sym, ap, subst, ◌∙◌, inl, inr, arith}
-use Rattle.std.proofs.lemmas.Bool.{le-leb, cases_lt, and_parts}
-use Rattle.elf_image.specs.Memory.{Area, write, each_covered, permitted}
-use Rattle.guest_space.proofs.FlatLemmas.{permitted-within}
-use Rattle.run_history.specs.Machine.{Machine, register, Effect, Goes, Emits, Ends, Wants, Chooses, Fails}
-use Rattle.run_history.specs.Run.{does}
+use Rattle.guest_space.proofs.FlatLemmas.{permitted-within, permitted-near}
 use Rattle.run_history.proofs.Shapes.{Shape, Same, Takes, Picks, Alone, does_shape}
-
-permitted-near : (flag : ℕ) (memory : List Area) (at count : ℕ) → at + count ≤ 2 ^ 32 → permitted flag memory at count ≡ each_covered flag memory at count
-unfolding permitted
-permitted-near flag memory at count near = ap (λ b. b && each_covered flag memory at count) (le-leb (at + count) (2 ^ 32) near)
+use Rattle.guest_cpu.proofs.Terms.{List, None, arith, inl, inr, refl, subst, suc, sym, true, zero, ℕ, ◌+◌, ◌^◌, ◌∙◌, ◌≡◌, ◌≤◌, and_parts, cases_lt, Area, each_covered, permitted, write, Chooses, Effect, Emits, Ends, Fails, Goes, Machine, Wants, register, does}
 
 each_covered-fewer : (flag : ℕ) (memory : List Area) (at n count : ℕ) → n ≤ count → each_covered flag memory at count ≡ true → each_covered flag memory at n ≡ true
 each_covered-fewer flag memory at n zero fewer h =

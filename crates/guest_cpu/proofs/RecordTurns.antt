@@ -1,41 +1,11 @@
 -- What a guest does next as recorded.
-use Rattle.std.proofs.Common.{◌≡◌, ◌≢◌, inl, inr, ℕ, ◌+◌, ◌<◌, ◌≤◌, Bool, true, false, not, ◌&&◌, ◌||◌, cond, eqb, leb, List, [], ◌∷◌, Option, Some, None, Result, Ok, Err, refl, sym, ◌∙◌, ap, arith}
 use Rattle.std.specs.List.{list_any}
-use Rattle.std.specs.Prelude.{MatchBool}
-use Rattle.std.proofs.lemmas.Bool.{cases_Bool}
-use Rattle.rv_isa.specs.declared.instr.Instr.{Instr}
-use Rattle.rv_isa.specs.declared.instr.Instr.TheVariants.{Store, Ecall}
-use Rattle.elf_image.specs.Memory.{Area}
 use Rattle.block_book.specs.declared.block.Block.{Block}
-use Rattle.block_book.specs.Heap.{Heap, is_live_at, without_block}
-use Rattle.block_book.specs.Answer.{live_blocks, without_live}
-use Rattle.block_book.proofs.Live.{live-without, live-front, live-front_delayed}
-use Rattle.guest_space.specs.Space.{GuestPages, flat}
-use Rattle.run_history.specs.declared.answer.Cause.{Cause}
-use Rattle.run_history.specs.declared.answer.Cause.TheVariants.{AssertFailed, BadAccess}
-use Rattle.run_history.specs.declared.regs.Regs.{Regs}
-use Rattle.run_history.specs.Machine.{Machine, register, Effect, Fails}
-use Rattle.run_history.specs.Call.{freed, free}
-use Rattle.run_history.specs.Run.{does, instruction}
-use Rattle.run_history.specs.Served.{Request, Malloc, Free, Nothing, request_of, is_refused}
-use Rattle.run_history.specs.Touching.{Range, instruction_at, touched_by, call_buffer}
-use Rattle.rv_exec.specs.Execution.{fetched}
-use Rattle.rv_exec.specs.Stepping.{limits_of, under, StepsTo, Leaves}
-use Rattle.call_gate.specs.declared.call.Call.{Call}
 use Rattle.call_gate.specs.declared.call.Call.TheVariants as kind
-use Rattle.call_gate.specs.Calls.{called}
-use Rattle.call_gate.specs.Checks.{checked}
-use Rattle.call_gate.proofs.CallLemmas.{call_is, check_says, CheckSays, recv_takes, send_sends}
-use Rattle.call_gate.proofs.ServedCalls.{does_call}
-use Rattle.guest_cpu.specs.declared.guest_core.Core.{Core}
-use Rattle.guest_cpu.specs.declared.event.Question.{Question}
+use Rattle.guest_cpu.proofs.Terms.{Bool, Err, List, None, Ok, Option, Result, Some, [], ap, arith, cond, eqb, false, inl, inr, leb, not, refl, sym, true, ℕ, ◌&&◌, ◌+◌, ◌<◌, ◌||◌, ◌∙◌, ◌∷◌, ◌≡◌, ◌≢◌, ◌≤◌, cases_Bool, MatchBool, live-front, live-front_delayed, live-without, live_blocks, without_live, Heap, is_live_at, without_block, Instr, Ecall, Store, Area, Cause, AssertFailed, BadAccess, Regs, free, freed, Effect, Fails, Machine, register, does, instruction, Free, Malloc, Nothing, Request, is_refused, request_of, Range, call_buffer, instruction_at, touched_by, GuestPages, flat, Call, CheckSays, call_is, check_says, recv_takes, send_sends, allowed_never, does_call, called, checked, fetched, Leaves, StepsTo, limits_of, under, Question, Core, Standing, Turn, counting, going_on, machine_of, standing, stored_by, turn_to, IsSend, Turned, IsSending, SendsBy, sends, heap_after, recorded, recorded_of, recorded_turn, released}
 use Rattle.guest_cpu.specs.declared.event.Question.TheVariants as question
-use Rattle.guest_cpu.specs.Standing.{Standing, standing, machine_of, Turn, turn_to, stored_by, counting, going_on}
-use Rattle.guest_cpu.specs.Turns.{Turned, IsSend}
-use Rattle.guest_cpu.specs.Calls.{sends, IsSending, SendsBy}
-use Rattle.guest_cpu.specs.Recording.{released, heap_after, recorded_of, recorded_turn, recorded}
 use Rattle.guest_cpu.proofs.TurnLemmas.{is_at, is_at_none, asks_nothing}
-use Rattle.guest_cpu.proofs.StepTurns.{leaves_wrote}
+use Rattle.guest_cpu.proofs.StepTurns.{leaves_wrote, with_regs}
 
 -- a rule that every access keeps refuses nothing
 abbrev pub mapped : Heap → ℕ → ℕ → Bool
@@ -67,9 +37,6 @@ recorded_instr : (s : Standing) (instr : Instr) → fetched (record { pc = s.gue
 recorded_instr s instr is other =
     let stands = is_at s.guest.machine instr is in
     rw (stands.found_is, stands.does_it, asks_nothing instr s.guest.machine other) refl
-
-abbrev with_regs : Core → Regs → Core
-with_regs core regs = record core { regs = regs }
 
 pub recorded_step : (until budget : ℕ) (instr : Instr) (core counted : Core) (regs : Regs) (old new : GuestPages) (result : Result (Unit {0}) Cause) → core.marks.steps < until
     → fetched core.regs (flat old) ≡ Ok instr → instr ≢ Ecall → result ≡ Ok tt
@@ -164,19 +131,16 @@ fails_refused s made cause (why, inr (kept, fails)) is = does_call s.guest.machi
 abbrev allowed : Result (Unit {0}) Cause
 allowed = Ok tt
 
-never_refused : (cause : Cause) → allowed ≡ Err cause → ⊥
-never_refused cause e = cc
-
 pub recorded_refused : (s : Standing) (made : Call) (cause : Cause) → instruction_at s.guest.machine ≡ Some Ecall → called s.guest.machine.registers ≡ Ok made
     → checked mapped s.guest.heap s.guest.machine.memory s.guest.machine.connections made ≡ Err cause → recorded_turn s ≡ turn_to (Some (question.Failed cause)) s None
 recorded_refused s (kind.Recv at len) cause is made h =
     recorded_by s Nothing _ is (call_is s.guest.machine _ made).2.asks (fails_refused s (kind.Recv at len) cause (check_says (limits_of 0 mapped) s.guest.heap s.guest.machine (kind.Recv at len) (Err cause) made h) is)
 recorded_refused s (kind.Send conn at len) cause is made h =
     recorded_by s Nothing _ is (call_is s.guest.machine _ made).3.asks (fails_refused s (kind.Send conn at len) cause (check_says (limits_of 0 mapped) s.guest.heap s.guest.machine (kind.Send conn at len) (Err cause) made h) is)
-recorded_refused s (kind.Malloc size) cause is made h = absurd (never_refused cause h)
-recorded_refused s (kind.Free at) cause is made h = absurd (never_refused cause h)
-recorded_refused s (kind.Exit code) cause is made h = absurd (never_refused cause h)
-recorded_refused s (kind.Assert code) cause is made h = absurd (never_refused cause h)
+recorded_refused s (kind.Malloc size) cause is made h = absurd (allowed_never cause h)
+recorded_refused s (kind.Free at) cause is made h = absurd (allowed_never cause h)
+recorded_refused s (kind.Exit code) cause is made h = absurd (allowed_never cause h)
+recorded_refused s (kind.Assert code) cause is made h = absurd (allowed_never cause h)
 
 -- a block that isn't live isn't among the live ones
 not_live : (at : ℕ) (blocks : List Block) → list_any (λ (block : Block). (eqb block.at at) && not block.delayed) blocks ≡ false → without_live at (live_blocks blocks) ≡ live_blocks blocks

@@ -1,28 +1,14 @@
 -- One guest with its checkpoints, when it is saved, comes back or gives one up.
-use Rattle.std.proofs.Common.{◌≡◌, ◌≢◌, inl, inr, Bool, true, ℕ, zero, suc, ◌-◌, ◌<◌, Option, Some, None, IsSome, IfSome, List, [], ◌∷◌, ◌++◌, length, set, get_or, take, drop, All, Contains, refl, sym, ap, subst, ◌∙◌, arith}
-use Rattle.std.specs.Prelude.{slice_get, slice_set, MatchOption}
-use Rattle.std.proofs.lemmas.List.{length-set, set-set, length-replicate}
-use Rattle.std.proofs.lemmas.List.Elements.{All-set, All-head, All-tail, All-contains}
+use Rattle.std.proofs.Common.{take}
 use Rattle.circular_buffer.proofs.Places.{slice_get-set_same, slice_get-set_other}
-use Rattle.block_book.specs.Heap.{SameEnds}
-use Rattle.cow_pages.specs.Pages.{Space, slot_at}
-use Rattle.guest_space.specs.Space.{GuestPages, flat, IsLawfulSpace}
-use Rattle.guest_space.specs.Access.{Saves, SavesOver, Releases}
-use Rattle.ckpt_ring.specs.Slots.{Slots, AreSound, slot_numbers, newest_slot, saved_to, restored, without_newest, without_oldest, IsUnusedNewest, IsOldest}
 use Rattle.ckpt_ring.proofs.RingLemmas.{base-without_oldest}
-use Rattle.page_line.specs.Line.{Line, IsLine, line_of, slots_of, frames_of, differ, written_since, written_pages, base_without_oldest}
-use Rattle.page_line.proofs.Flags.{length-differ}
-use Rattle.page_line.proofs.Saved.{line_has}
 use Rattle.page_line.proofs.Changes.{this_slot, other_slot}
-use Rattle.page_line.proofs.Calls.{line_room}
 use Rattle.page_line.proofs.Saves.{line_saves}
 use Rattle.page_line.proofs.Restores.{line_restores}
 use Rattle.page_line.proofs.Drops.{line_keeps_flags}
 use Rattle.page_line.proofs.States.{line_drops_newest_with, line_drops_oldest_with}
 use Rattle.page_line.proofs.Sound.{line_sound}
-use Rattle.guest_cpu.specs.declared.guest_core.Core.{Core}
-use Rattle.guest_cpu.specs.Standing.{Standing, standing, AreCounted}
-use Rattle.guest_cpu.specs.Cpus.{state_in, IsCpu}
+use Rattle.guest_cpu.proofs.Terms.{All, Bool, Contains, IfSome, IsSome, List, None, Option, Some, [], ap, arith, drop, inl, inr, length, refl, set, subst, sym, true, ℕ, ◌++◌, ◌-◌, ◌<◌, ◌∙◌, ◌∷◌, ◌≡◌, ◌≢◌, length-replicate, length-set, set-set, All-contains, All-set, MatchOption, slice_get, slice_set, SameEnds, Space, slot_at, all_at, AreSound, IsOldest, IsUnusedNewest, Slots, newest_slot, restored, saved_to, slot_numbers, without_newest, without_oldest, line_room, length-differ, line_has, IsLine, Line, base_without_oldest, differ, frames_of, line_of, slots_of, written_pages, written_since, Releases, Saves, SavesOver, GuestPages, IsLawfulSpace, flat, Core, AreCounted, Standing, standing, IsCpu, state_in}
 use Rattle.guest_cpu.proofs.CpuLemmas.{same_ends}
 
 -- what a ring of checkpoints sees of a guest
@@ -66,18 +52,6 @@ cpu_saves core old new saved after line slot fits less empty stands saves after_
     subst (λ list. IsCpu core new list (line_of (line.order ++ slot ∷ []) (Some slot)) × (slots_in core new list (line_of (line.order ++ slot ∷ []) (Some slot)) ≡ saved_to slot (slots_in core old saved line))) (sym after_is)
     (subst (λ space. IsCpu core space (set saved slot core) (line_of (line.order ++ slot ∷ []) (Some slot)) × (slots_in core space (set saved slot core) (line_of (line.order ++ slot ∷ []) (Some slot)) ≡ saved_to slot (slots_in core old saved line)))
     (sym saves.store_is) (saved_as core old saved line slot fits less empty stands))
-
--- an element of a list
-pub all_at : {X : Type 0} (P : X → Type 0) (xs : List X) (i : ℕ) (x : X) → All P xs → slice_get xs i ≡ Some x → P x
-all_at P [] i x all is = cc
-all_at P (y ∷ ys) zero x all is = let same : y ≡ x = cc in subst P same (All-head P y ys all)
-all_at P (y ∷ ys) (suc i) x all is = all_at P ys i x (All-tail P y ys all) is
-
--- what stands at an index
-pub at_index : {X : Type 0} (xs : List X) (i : ℕ) (x : X) → i < length xs → x ≡ get_or xs i x → slice_get xs i ≡ Some x
-at_index [] i x near is = absurd (omega (arith, near))
-at_index (y ∷ ys) zero x near is = ap (λ one. Some one) (sym is)
-at_index (y ∷ ys) (suc i) x near is = at_index ys i x (omega (arith, near)) is
 
 restored_as : (core there : Core) (old : GuestPages) (saved : List Core) (line : Line) (slot : ℕ) (space : Space) → IsCpu core old saved line → Contains line.order slot → slot_at old.store slot ≡ Some space → slice_get saved slot ≡ Some there
     → IsCpu there (record old { store = record old.store { live = space } }) saved (line_of line.order (Some slot))

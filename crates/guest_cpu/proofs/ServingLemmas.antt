@@ -1,22 +1,8 @@
 -- The turns of a guest are a served run.
-use Rattle.std.proofs.Common.{◌≡◌, ℕ, ◌+◌, Bool, true, false, cond, leb, List, [], ◌∷◌, ◌++◌, length, Option, Some, None, refl, sym, ◌∙◌, ap, subst, append-nil, length-append}
-use Rattle.std.specs.Prelude.{option_map}
-use Rattle.std.proofs.lemmas.Option.{same_Some}
-use Rattle.alloc_env.specs.declared.env.Env.{Env}
-use Rattle.block_book.specs.declared.choice.Choice.{Choice}
-use Rattle.block_book.specs.Heap.{Heap}
-use Rattle.block_book.specs.Answer.{is_allowed}
-use Rattle.rv_isa.specs.declared.instr.Instr.{Instr}
-use Rattle.run_history.specs.Machine.{Machine, register, Effect, Goes, Emits, Ends, Wants, Chooses, Fails}
-use Rattle.run_history.specs.Call.{allocated, chooses}
-use Rattle.run_history.specs.Run.{does, after}
-use Rattle.run_history.specs.Touching.{instruction_at, touched}
-use Rattle.run_history.specs.Served.{Limits, Guest, Request, Malloc, Free, Nothing, request_of, Grant, granted, grant, is_refused, does_with, serves, Path, guest_of, listed, longer, served_next}
 use Rattle.run_history.proofs.Serves.{mallocs}
 use Rattle.run_history.proofs.Blocks.{frees}
-use Rattle.guest_cpu.specs.declared.event.Event.{Event}
+use Rattle.guest_cpu.proofs.Terms.{Bool, List, None, Option, Some, [], ap, append-nil, cond, false, leb, length, length-append, refl, subst, sym, true, ℕ, ◌++◌, ◌+◌, ◌∙◌, ◌∷◌, ◌≡◌, same_Some, option_map, Choice, is_allowed, Heap, Env, Instr, allocated, chooses, Chooses, Effect, Emits, Ends, Fails, Goes, Machine, Wants, register, after, does, Free, Grant, Guest, Limits, Malloc, Nothing, Path, Request, does_with, grant, granted, guest_of, is_refused, listed, longer, request_of, served_next, serves, instruction_at, touched, Event, Turn, moved, turn, turn_of, turn_to, written_with}
 use Rattle.guest_cpu.specs.declared.event.Event.TheVariants as event
-use Rattle.guest_cpu.specs.Standing.{Turn, turn_to, turn_of, turn, moved, written_with}
 use Rattle.guest_cpu.specs.Serving.{standing_of, Follows, TurnsServe}
 
 -- one more instruction, by what the allocator answers and what it does

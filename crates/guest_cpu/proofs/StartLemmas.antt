@@ -1,29 +1,11 @@
 -- A guest at the start of its program.
-use Rattle.std.proofs.Common.{◌≡◌, inl, inr, ℕ, zero, suc, ◌+◌, ◌*◌, ◌/◌, ◌%◌, ◌<◌, ◌≤◌, true, ◌++◌, length, replicate, None, Option, Contains, ◌&&◌, eqb, leb, ltb, List, [], ◌∷◌, All, refl, sym, ◌∙◌, ap, arith}
-use Rattle.std.proofs.lemmas.Bool.{cases_Bool}
-use Rattle.std.proofs.lemmas.List.Elements.{All-head, All-tail}
-use Rattle.std.proofs.lemmas.Bool.Decides.{nat_tests}
 use Rattle.elf_image.specs.declared.segment.Segment.{Segment}
-use Rattle.elf_image.specs.declared.image.Image.{Image}
-use Rattle.std.specs.Prelude.{map, ◌-◌}
-use Rattle.std.proofs.lemmas.List.{length-replicate}
-use Rattle.std.proofs.lemmas.List.Elements.{All-weaker}
-use Rattle.block_book.specs.Heap.{SameEnds}
-use Rattle.cow_pages.specs.Pages.{Space, Pages, IsMade}
-use Rattle.guest_space.specs.Space.{GuestPages, segment_span, blank_span}
-use Rattle.guest_space.specs.Access.{IsStart}
-use Rattle.page_line.specs.Line.{Line, line_of, IsLine}
+use Rattle.std.specs.Prelude.{◌-◌}
 use Rattle.page_line.proofs.Starts.{line_starts}
-use Rattle.page_line.proofs.Flags.{count_true-all}
-use Rattle.guest_cpu.specs.declared.guest_core.Core.{Core}
-use Rattle.guest_cpu.specs.Standing.{standing, AreCounted}
-use Rattle.guest_cpu.specs.Cpus.{cpu_state, IsCpu, IsStartCore, IsFreshCpu}
-use Rattle.elf_image.specs.Image.{heap_start, heap_end, stack_top}
 use Rattle.elf_image.specs.Layout.{executable}
 use Rattle.elf_image.proofs.Valid.{segments_below, entry_executable, heap_has_page}
-use Rattle.cow_pages.specs.declared.frame_copy.TheConstants.{PAGE}
-use Rattle.cow_pages.specs.declared.store.TheConstants.{MAX_SLOTS}
 use Rattle.elf_image.specs.declared.layout.TheConstants.{STACK}
+use Rattle.guest_cpu.proofs.Terms.{All, Contains, List, None, Option, [], ap, arith, eqb, inl, inr, leb, length, ltb, refl, replicate, sym, true, ℕ, ◌%◌, ◌&&◌, ◌*◌, ◌++◌, ◌+◌, ◌/◌, ◌<◌, ◌∙◌, ◌∷◌, ◌≡◌, ◌≤◌, cases_Bool, nat_tests, length-replicate, All-head, All-tail, All-weaker, Contains-append_right, map, SameEnds, PAGE, MAX_SLOTS, IsMade, Pages, Space, count_true-all, IsLine, Line, line_of, Image, heap_end, heap_start, stack_top, IsStart, GuestPages, blank_span, segment_span, Core, AreCounted, standing, IsCpu, IsFreshCpu, IsStartCore, cpu_state}
 
 -- an address of a segment lies below what is at or above each segment's end
 within : (segments : List Segment) (at limit : ℕ) → All (λ (segment : Segment). segment.vaddr + segment.memsz ≤ limit) segments → executable segments at ≡ true → at < limit
@@ -49,8 +31,7 @@ heap_ordered image = omega (arith, heap_has_page image)
 
 -- an element between others
 contains_mid : {X : Type 0} (xs zs : List X) (y : X) → Contains (xs ++ y ∷ zs) y
-contains_mid [] zs y = (zero, omega arith, refl)
-contains_mid (x ∷ xs) zs y = let later = contains_mid xs zs y in (suc later.0, omega (arith, later.1), later.2)
+contains_mid xs zs y = Contains-append_right xs (y ∷ zs) y (0, omega arith, refl)
 
 -- nothing is saved in the memory of a start
 line_at_start : (image : Image) (slots frames : ℕ) (space : GuestPages) → IsStart image (image.window / PAGE) slots frames space → 2 * (image.window / PAGE) ≤ frames → IsLine space.store (line_of [] None)

@@ -1,21 +1,6 @@
 -- What a step leaves, as a turn.
-use Rattle.std.proofs.Common.{◌≡◌, ◌≢◌, ◌<◌, List, Some, None, Result, Ok, Err, refl, ◌∙◌}
-use Rattle.rv_isa.specs.declared.instr.Instr.{Instr}
-use Rattle.rv_isa.specs.declared.instr.Instr.TheVariants.{Store, Ecall}
-use Rattle.rv_isa.specs.Meaning.{store_size}
-use Rattle.elf_image.specs.Memory.{Area}
-use Rattle.alloc_env.specs.declared.env.Env.{Env}
-use Rattle.guest_space.specs.Space.{GuestPages, flat}
-use Rattle.guest_space.proofs.SpaceLemmas.{length-little_bytes}
-use Rattle.run_history.specs.declared.answer.Cause.{Cause}
-use Rattle.run_history.specs.declared.regs.Regs.{Regs}
-use Rattle.run_history.specs.Served.{Limits}
-use Rattle.rv_exec.specs.Execution.{fetched}
-use Rattle.rv_exec.specs.Stepping.{StepsTo, Leaves}
-use Rattle.guest_cpu.specs.declared.guest_core.Core.{Core}
+use Rattle.guest_cpu.proofs.Terms.{Err, List, None, Ok, Result, Some, refl, ◌<◌, ◌∙◌, ◌≡◌, ◌≢◌, Env, Instr, Ecall, Store, store_size, Area, Cause, Regs, Limits, length-little_bytes, GuestPages, flat, fetched, Leaves, StepsTo, Core, counting, machine_of, standing, stored_by, turn, Turned, Wrote}
 use Rattle.guest_cpu.specs.declared.event.Event.TheVariants as event
-use Rattle.guest_cpu.specs.Standing.{standing, machine_of, turn, stored_by, counting}
-use Rattle.guest_cpu.specs.Turns.{Wrote, Turned}
 use Rattle.guest_cpu.proofs.TurnLemmas.{turn_goes, turn_refused}
 
 -- what an instruction left of the memory
@@ -24,7 +9,7 @@ leaves_wrote (Store op rs1 rs2 imm) core memory old new h = (_, length-little_by
 leaves_wrote _ core memory old new h = h
 
 -- the guest with other registers
-abbrev with_regs : Core → Regs → Core
+abbrev pub with_regs : Core → Regs → Core
 with_regs core regs = record core { regs = regs }
 
 pub stepped : (limits : Limits) (env : Env) (instr : Instr) (core counted : Core) (regs : Regs) (old new : GuestPages) (result : Result (Unit {0}) Cause) → core.marks.since < limits.budget

@@ -1,22 +1,6 @@
 -- What a guest does next, where its next instruction is no call.
-use Rattle.std.proofs.Common.{◌≡◌, ◌≢◌, inl, inr, ◌<◌, ◌≤◌, true, false, cond, leb, Option, Some, None, Result, Ok, Err, refl, ◌∙◌, ap, arith}
-use Rattle.std.specs.Prelude.{option_and_then}
-use Rattle.std.proofs.lemmas.Bool.{cases_Bool}
-use Rattle.rv_isa.specs.declared.instr.Instr.{Instr}
-use Rattle.rv_isa.specs.declared.instr.Instr.TheVariants.{Ecall}
 use Rattle.rv_isa.specs.Table.{row}
-use Rattle.elf_image.specs.Memory.{execute, permitted}
-use Rattle.alloc_env.specs.declared.env.Env.{Env}
-use Rattle.run_history.specs.declared.answer.Cause.{Cause}
-use Rattle.run_history.specs.declared.answer.Cause.TheVariants.{Hang, BadAccess, BadInstruction}
-use Rattle.run_history.specs.Machine.{Machine, Effect, Goes, Fails}
-use Rattle.run_history.specs.Run.{does, instruction, word_at}
-use Rattle.run_history.specs.Touching.{instruction_at, touched, touched_by}
-use Rattle.run_history.specs.Served.{Limits, Guest, Nothing, request_of, Grant, grant, is_refused, serves}
-use Rattle.rv_exec.specs.Stepping.{under}
-use Rattle.rv_exec.specs.Execution.{fetched, or_bad}
-use Rattle.guest_cpu.specs.Calls.{unasked}
-use Rattle.guest_cpu.specs.Standing.{Standing, turn_to, turn_of, turn, moved, stored_by}
+use Rattle.guest_cpu.proofs.Terms.{Err, None, Ok, Option, Result, Some, ap, arith, cond, false, inl, inr, leb, refl, true, ◌<◌, ◌∙◌, ◌≡◌, ◌≢◌, ◌≤◌, cases_Bool, option_and_then, Env, Instr, Ecall, execute, permitted, Cause, BadAccess, BadInstruction, Hang, Effect, Fails, Goes, Machine, does, instruction, word_at, Grant, Guest, Limits, Nothing, grant, is_refused, request_of, serves, instruction_at, touched, touched_by, fetched, or_bad, under, Standing, moved, stored_by, turn, turn_of, turn_to, unasked}
 use Rattle.guest_cpu.specs.declared.event.Event.TheVariants as event
 
 -- a cause fails, whatever the allocator answered

@@ -1,17 +1,6 @@
 -- The turns of calls, by their arguments.
 use Rattle.std.specs.Prelude.{◌≡◌, ℕ, ◌+◌, Result, Ok, Err, not, nat_lt, List, replicate, Option, Some, None, if◌then◌else◌, ◌==◌}
-use Rattle.std.specs.declared.alloc.AllocError.{AllocError}
-use Rattle.block_book.specs.declared.choice.Choice.{Choice}
-use Rattle.block_book.specs.Heap.{Heap}
-use Rattle.alloc_env.specs.declared.env.Env.{Env}
-use Rattle.alloc_env.specs.Serving.{served_malloc, served_free}
-use Rattle.elf_image.specs.Memory.{Area, read, bytes_at, put_bytes}
-use Rattle.rv_isa.specs.declared.instr.Instr.TheVariants.{Ecall}
-use Rattle.run_history.specs.declared.answer.Cause.TheVariants.{BadFree}
-use Rattle.run_history.specs.Machine.{Machine, Effect, Goes, Emits, Fails}
-use Rattle.run_history.specs.Call.{answered, may_send, malloc, free}
-use Rattle.run_history.specs.Served.{Grant}
-use Rattle.guest_cpu.specs.declared.event.Event.{Event}
+use Rattle.guest_cpu.specs.Terms.{AllocError, Choice, Heap, Env, served_free, served_malloc, Ecall, Area, bytes_at, put_bytes, read, BadFree, answered, free, malloc, may_send, Effect, Emits, Fails, Goes, Machine, Grant, Event}
 use Rattle.guest_cpu.specs.declared.guest_core.Core.{Core}
 use Rattle.guest_cpu.specs.Standing.{Standing, standing, machine_of, moved, Turn, turn_of}
 
@@ -38,6 +27,7 @@ SendsBy e old memory (Ok (Some (conn, bytes))) new =
     (e ≡ Emits conn bytes (machine_of new memory)) × (standing new memory ≡ record (moved (machine_of new memory) old.book (standing old memory)) { sends = old.marks.sends + 1 })
 SendsBy e old memory (Err fault) new = (new ≡ old) × IsSending e
 
+-- what a send to a connection does, of so many bytes at an address
 abbrev pub sending : Standing → ℕ → ℕ → ℕ → Option (Turn Event)
 sending s conn at len = turn_of (Some Ecall) s (unasked s.guest.heap) (sends s.guest.machine conn at len)
 
@@ -56,5 +46,6 @@ abbrev pub frees : Option Heap → Standing → Option (Turn Event)
 frees None s = turn_of (Some Ecall) s None (Fails BadFree)
 frees (Some heap) s = turn_of (Some Ecall) s (Some (record { chosen = None; heap = heap })) (free s.guest.machine)
 
+-- what a free of an address does in an environment
 abbrev pub freeing : Env → Standing → ℕ → Option (Turn Event)
 freeing env s at = frees (served_free env s.guest.heap at) s

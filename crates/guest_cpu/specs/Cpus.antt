@@ -1,18 +1,9 @@
 -- What a contract sees of one guest with its checkpoints.
 use Rattle.std.specs.Prelude.{◌≡◌, ℕ, ◌/◌, ◌≤◌, Bool, true, List, [], length, replicate, Option, Some, None, slice_get, All}
-use Rattle.block_book.specs.Heap.{SameEnds, empty_heap}
-use Rattle.elf_image.specs.declared.image.Image.{Image}
-use Rattle.elf_image.specs.Image.{base, heap_start, heap_end, memory_of}
-use Rattle.elf_image.specs.Memory.{Area}
-use Rattle.guest_space.specs.Space.{GuestPages, flat, saved_flat}
-use Rattle.ckpt_ring.specs.Slots.{Slots}
-use Rattle.page_line.specs.Line.{Line, IsLine, written_pages, slots_of, count_true}
-use Rattle.run_history.specs.Machine.{start_machine}
+use Rattle.guest_cpu.specs.Terms.{SameEnds, empty_heap, PAGE, MAX_SLOTS, Slots, IsLine, Line, count_true, slots_of, written_pages, Image, base, heap_end, heap_start, memory_of, Area, start_machine, GuestPages, flat, saved_flat}
 use Rattle.guest_cpu.specs.declared.guest_core.Core.{Core}
 use Rattle.guest_cpu.specs.Standing.{Standing, standing, AreCounted, Live}
 use Rattle.guest_cpu.specs.Turns.{HasHeap}
-use Rattle.cow_pages.specs.declared.frame_copy.TheConstants.{PAGE}
-use Rattle.cow_pages.specs.declared.store.TheConstants.{MAX_SLOTS}
 
 -- one guest: the rule of its accesses, where its window begins, its live state and those that are saved, and for each page
 -- whether a byte of it was written since the checkpoint on which the live state stands
@@ -50,6 +41,7 @@ nowhere = record {
   ended = None;
 }
 
+-- where a guest stood when it was saved
 abbrev pub saved_standing : Option Core → Option (List Area) → Standing
 saved_standing (Some core) (Some memory) = standing core memory
 saved_standing _ _ = nowhere
@@ -59,6 +51,7 @@ abbrev pub state_in : GuestPages → List Core → ℕ → Standing
 state_in space saved slot = saved_standing (slice_get saved slot) (saved_flat space slot)
 
 module _ {R : Type 0} where
+  -- what contracts see of a guest with its slots
   abbrev pub cpu_state : R → Core → GuestPages → List Core → Line → CpuState R
   cpu_state rule core space saved line = record {
     rule = rule;

@@ -1,3 +1,4 @@
+pub mod Terms
 pub mod Standing
 pub mod Turns
 pub mod Calls

@@ -1,9 +1,6 @@
 -- Instructions of a guest that are no calls, done one after another.
 use Rattle.std.specs.Prelude.{◌≡◌, ℕ, ◌+◌, ◌≤◌, Bool}
-use Rattle.block_book.specs.Heap.{Heap}
-use Rattle.run_history.specs.declared.regs.Regs.{Regs}
-use Rattle.guest_space.specs.Space.{GuestPages}
-use Rattle.rv_exec.specs.Quick.{Ran}
+use Rattle.guest_cpu.specs.Terms.{Heap, Regs, GuestPages, Ran}
 use Rattle.guest_cpu.specs.declared.guest_core.Core.{Core}
 
 -- what a guest has beside its memory after so many instructions that left these registers

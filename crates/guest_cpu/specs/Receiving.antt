@@ -1,9 +1,7 @@
 -- A recv that takes an item.
 use Rattle.std.specs.Prelude.{ℕ, ◌+◌, length, take, Option}
 use Rattle.rx_io.specs.declared.bytes.Item.{Item}
-use Rattle.run_history.specs.Machine.{Machine, register}
-use Rattle.run_history.specs.Call.{received}
-use Rattle.run_history.specs.Touching.{Range, buffer}
+use Rattle.guest_cpu.specs.Terms.{received, Machine, register, Range, buffer}
 use Rattle.guest_cpu.specs.Standing.{Standing, Live, with_range}
 
 -- the bytes that a recv writes of an item
@@ -14,6 +12,7 @@ received_range item m = buffer (register m 10) (length (take (register m 11) ite
 abbrev pub taken_standing : Item → Standing → Standing
 taken_standing item s = record s { guest = record s.guest { machine = received item s.guest.machine }; steps = s.steps + 1 }
 
+-- a live guest once its recv took an item
 abbrev pub live_with_item : ℕ → Item → Live → Live
 live_with_item base item live = record {
   standing = taken_standing item live.standing;

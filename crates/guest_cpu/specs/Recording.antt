@@ -1,17 +1,7 @@
 -- What a guest does next as recorded: without a budget, an environment or a rule. The items and the answers of malloc are
 -- given from outside, and a free does what it does in the model.
 use Rattle.std.specs.Prelude.{ℕ, ◌+◌, Bool, Option, Some, None, nat_le, length, nat_lt, ◌||◌, ◌&&◌, if◌then◌else◌, ◌==◌}
-use Rattle.rv_isa.specs.declared.instr.Instr.{Instr}
-use Rattle.block_book.specs.declared.choice.Choice.{Choice}
-use Rattle.block_book.specs.Answer.{live_blocks, is_allowed}
-use Rattle.block_book.specs.Block.{live_block}
-use Rattle.block_book.specs.Heap.{Heap, is_live_at, without_block, with_block, most_blocks}
-use Rattle.run_history.specs.Machine.{register, Effect, Goes, Emits, Ends, Wants, Chooses, Fails}
-use Rattle.run_history.specs.Call.{allocated}
-use Rattle.run_history.specs.Run.{does}
-use Rattle.run_history.specs.Served.{Request, Free, request_of}
-use Rattle.run_history.specs.Touching.{instruction_at}
-use Rattle.guest_cpu.specs.declared.event.Question.{Question}
+use Rattle.guest_cpu.specs.Terms.{Choice, is_allowed, live_blocks, live_block, Heap, is_live_at, most_blocks, with_block, without_block, Instr, allocated, Chooses, Effect, Emits, Ends, Fails, Goes, Wants, register, does, Free, Request, request_of, instruction_at, Question}
 use Rattle.guest_cpu.specs.declared.event.Question.TheVariants as question
 use Rattle.guest_cpu.specs.Standing.{Standing, Live, Turn, turn_to, moved, stored_by, zeroed_range, with_range}
 
@@ -57,6 +47,7 @@ abbrev pub chosen_standing : Choice → Standing → Standing
 chosen_standing choice s =
     moved (allocated (register s.guest.machine 10) choice s.guest.machine) (heap_with choice (register s.guest.machine 10) s.guest.heap) s
 
+-- a live guest once malloc answered so
 abbrev pub live_with_choice : ℕ → Choice → Live → Live
 live_with_choice base choice live = record {
   standing = chosen_standing choice live.standing;

@@ -1,10 +1,7 @@
 -- A run to the next event.
 use Rattle.std.specs.Prelude.{◌≡◌, ℕ, List, Option, Some, None, Result, Ok, Err}
-use Rattle.std.specs.declared.alloc.AllocError.{AllocError}
-use Rattle.run_history.specs.Repeating.{repeated}
-use Rattle.guest_cpu.specs.declared.event.Event.{Event}
+use Rattle.guest_cpu.specs.Terms.{AllocError, repeated, Event, Question}
 use Rattle.guest_cpu.specs.declared.event.Event.TheVariants as event
-use Rattle.guest_cpu.specs.declared.event.Question.{Question}
 use Rattle.guest_cpu.specs.declared.event.Question.TheVariants as question
 use Rattle.guest_cpu.specs.Standing.{Standing, Turn, Live, live_after, quiet_next}
 use Rattle.guest_cpu.specs.Turns.{IsSend}
@@ -36,6 +33,7 @@ abbrev pub Lives : Result Event AllocError → Option ℕ → Type 0
 Lives (Ok (event.Exits code)) ended = ended ≡ Some code
 Lives _ ended = ended ≡ None
 
+-- that is so of a guest that runs as recorded
 abbrev pub RecordedLives : Result Question AllocError → Option ℕ → Type 0
 RecordedLives (Ok (question.Exits code)) ended = ended ≡ Some code
 RecordedLives _ ended = ended ≡ None

@@ -1,8 +1,6 @@
 -- The turns of a guest are a served run.
 use Rattle.std.specs.Prelude.{◌≡◌, [], ◌∷◌, ◌++◌, length, Option, Some, None}
-use Rattle.alloc_env.specs.declared.env.Env.{Env}
-use Rattle.run_history.specs.Served.{Limits, Path, guest_of, served_next}
-use Rattle.guest_cpu.specs.declared.event.Event.{Event}
+use Rattle.guest_cpu.specs.Terms.{Env, Limits, Path, guest_of, served_next, Event}
 use Rattle.guest_cpu.specs.declared.event.Event.TheVariants as event
 use Rattle.guest_cpu.specs.Standing.{Standing, Turn, turn}
 
@@ -26,5 +24,6 @@ pub record Follows (limits : Limits) (env : Env) (path : Path) (t : Turn Event) 
   pub adds : Adds limits env path t.event next
   pub stands : standing_of next ≡ t.standing
 
+-- that is so of each turn of a run that goes on, in each environment
 abbrev pub TurnsServe : Type 0
 TurnsServe = (limits : Limits) (env : Env) (path : Path) (t : Turn Event) → path.state.ended ≡ None → turn limits env (standing_of path) ≡ Some t → Follows limits env path t

@@ -1,20 +1,8 @@
 -- A guest with the counts of its run, and what it does next.
-use Rattle.std.specs.Prelude.{ℕ, ◌+◌, ◌-◌, ◌%◌, ◌^◌, ◌≤◌, Bool, List, slice_index, Option, Some, None, option_map, option_and_then, if◌then◌else◌}
-use Rattle.rv_isa.specs.declared.instr.Instr.{Instr}
-use Rattle.rv_isa.specs.declared.instr.Instr.TheVariants.{Store}
-use Rattle.rv_isa.specs.Meaning.{displaced, store_size}
-use Rattle.block_book.specs.declared.choice.Choice.{Choice}
-use Rattle.block_book.specs.Answer.{live_blocks}
-use Rattle.block_book.specs.Heap.{Heap}
-use Rattle.alloc_env.specs.declared.env.Env.{Env}
-use Rattle.elf_image.specs.Memory.{Area}
-use Rattle.page_line.specs.Line.{with_reached}
-use Rattle.run_history.specs.Machine.{Machine, register, with_register, Effect, Goes, Emits, Ends, Wants, Fails}
-use Rattle.run_history.specs.Touching.{Range, buffer, instruction_at}
-use Rattle.run_history.specs.Served.{Limits, Guest, Grant, grant, serves}
+use Rattle.std.specs.Prelude.{ℕ, ◌+◌, ◌-◌, ◌%◌, ◌^◌, ◌<◌, ◌≤◌, Bool, List, slice_index, Option, Some, None, option_map, option_and_then, if◌then◌else◌}
+use Rattle.guest_cpu.specs.Terms.{Choice, live_blocks, Heap, Env, with_reached, Instr, Store, displaced, store_size, Area, Effect, Emits, Ends, Fails, Goes, Machine, Wants, register, with_register, Grant, Guest, Limits, grant, serves, Range, buffer, instruction_at, Event}
 use Rattle.guest_cpu.specs.declared.guest_core.Core.{Core}
 use Rattle.guest_cpu.specs.declared.marks.Marks.{Marks}
-use Rattle.guest_cpu.specs.declared.event.Event.{Event}
 use Rattle.guest_cpu.specs.declared.event.Event.TheVariants as event
 
 -- a guest, how many sends it made, how many instructions it did, and the code with which it ended itself, if it did
@@ -39,6 +27,7 @@ machine_of core memory = record {
   since = core.marks.since;
 }
 
+-- where a guest stands that has this beside its memory
 abbrev pub standing : Core → List Area → Standing
 standing core memory = record {
   guest = record { machine = machine_of core memory; heap = core.book };
@@ -57,6 +46,11 @@ pub record AreCounted (marks : Marks) : Type 0 where
   pub since : marks.since ≤ marks.steps
   pub choices : marks.choices ≤ marks.steps
   pub sends : marks.sends ≤ marks.steps
+
+-- one more instruction can be counted
+pub record CanCount (marks : Marks) : Type 0 where
+  pub counted : AreCounted marks
+  pub room : marks.steps < 2 ^ 64 - 1
 
 -- how many bytes a malloc asks for
 abbrev pub size_asked : Core → ℕ
@@ -95,6 +89,7 @@ pub record Turn (E : Type 0) : Type 0 where
   pub standing : Standing
   pub written : Option Range
 
+-- a turn that leads there, with this event and these bytes written
 abbrev pub turn_to : {E : Type 0} → Option E → Standing → Option Range → Turn E
 turn_to event standing written = record { event = event; standing = standing; written = written }
 
@@ -126,6 +121,7 @@ with_range base None flags = flags
 with_range base (Some range) flags = with_reached (range.at - base) range.count flags
 
 module _ {E : Type 0} where
+  -- a live guest after a turn: where it stands, and the flags of its pages
   abbrev pub live_after : ℕ → Live → Turn E → Live
   live_after base live t = record { standing = t.standing; written = with_range base t.written live.written }
 

@@ -1,14 +1,8 @@
 -- An instruction of a guest, by its parts: what it has beside its memory, and the pages of its memory.
 use Rattle.std.specs.Prelude.{◌≡◌, ℕ, ◌+◌, ◌≤◌, List, length, Option, Some, None, Result, Ok, Err, Contains}
-use Rattle.std.specs.declared.alloc.AllocError.{AllocError}
-use Rattle.guest_space.specs.Space.{GuestPages, flat, blank_span}
-use Rattle.guest_space.specs.Access.{Puts}
-use Rattle.block_book.specs.Heap.{SameEnds}
-use Rattle.run_history.specs.Touching.{Range}
+use Rattle.guest_cpu.specs.Terms.{AllocError, SameEnds, Range, Puts, GuestPages, blank_span, flat, Event, Question}
 use Rattle.guest_cpu.specs.declared.guest_core.Core.{Core}
-use Rattle.guest_cpu.specs.declared.event.Event.{Event}
 use Rattle.guest_cpu.specs.declared.event.Event.TheVariants as event
-use Rattle.guest_cpu.specs.declared.event.Question.{Question}
 use Rattle.guest_cpu.specs.declared.event.Question.TheVariants as question
 use Rattle.guest_cpu.specs.Standing.{Standing, standing, AreCounted, Turn, turn_to}
 
@@ -57,6 +51,7 @@ abbrev pub Lasts : Result (Option Event) AllocError → Option ℕ → Option �
 Lasts (Ok (Some (event.Exits code))) old new = new ≡ Some code
 Lasts _ old new = new ≡ old
 
+-- a guest that runs as recorded ends itself by an exit alone
 abbrev pub RecordedLasts : Result (Option Question) AllocError → Option ℕ → Option ℕ → Type 0
 RecordedLasts (Ok (Some (question.Exits code))) old new = new ≡ Some code
 RecordedLasts _ old new = new ≡ old

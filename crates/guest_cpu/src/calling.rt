@@ -15,15 +15,12 @@ use crate::Event;
 use crate::guest_core::Core;
 use alloc_env::{Env, serve_free, serve_malloc};
 use block_book::Choice;
-use call_gate::{Call, check_call, read_call};
+use call_gate::{Call, MOST_SENT, check_call, read_call};
 use guest_space::{AccessRule, GuestSpace};
 use run_history::Cause;
 use rx_io::{Bytes, Steps};
 use std::alloc::{AllocError, Global};
 use std::sync::ledger::Ledger;
-
-// A send of at most so many bytes is answered by 0.
-const MOST_SENT: u32 = 65535;
 
 /// Does a call, or meets an event. At a recv whose buffer may be written the item is asked for.
 #[inline(never)]

@@ -1,10 +1,10 @@
 // A malloc that is answered as recorded.
-ghost use Rattle.std.specs.Prelude.{◌≡◌, ◌-◌, ◌^◌, ◌<◌, ◌==◌, ◌||◌, MatchBool, true, length, nat_lt};
+ghost use Rattle.std.specs.Prelude.{◌≡◌, ◌==◌, ◌||◌, MatchBool, true, length, nat_lt};
 ghost use Rattle.block_book.specs.Heap.{is_bare, most_blocks, SameEnds};
 ghost use Rattle.block_book.specs.Answer.{is_allowed, live_blocks};
 ghost use Rattle.alloc_env.specs.Serving.{live_with};
 ghost use Rattle.guest_space.specs.Space.{flat};
-ghost use Rattle.guest_cpu.specs.Standing.{standing, AreCounted, zeroed_range, size_asked};
+ghost use Rattle.guest_cpu.specs.Standing.{standing, CanCount, zeroed_range, size_asked};
 ghost use Rattle.guest_cpu.specs.Turns.{Wrote, Keeps, HasHeap};
 ghost use Rattle.guest_cpu.specs.Recording.{is_usable, heap_with, chosen_standing};
 
@@ -19,8 +19,7 @@ use run_history::legal_choice;
 pub fn choose(core: &mut Core, space: &mut GuestSpace, choice: Choice) -> bool
     requires heap { HasHeap core.old space.old }
     requires bare { is_bare core.old.book ≡ true }
-    requires counts { AreCounted core.old.marks }
-    requires room { core.old.marks.steps < 2 ^ 64 - 1 }
+    requires counts { CanCount core.old.marks }
     ensures usable { result ≡ is_usable (standing core.old (flat space.old)) choice }
     ensures done { MatchBool result (standing core.new (flat space.new) ≡ chosen_standing choice (standing core.old (flat space.old))) (core.new ≡ core.old) }
     ensures wrote { MatchBool result (Wrote (zeroed_range choice (size_asked core.old)) space.old space.new) (space.new ≡ space.old) }

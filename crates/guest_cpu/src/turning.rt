@@ -1,8 +1,8 @@
 // One instruction of a guest in an environment.
-ghost use Rattle.std.specs.Prelude.{◌≡◌, ◌-◌, ◌+◌, ◌^◌, ◌<◌, Ok, None};
+ghost use Rattle.std.specs.Prelude.{◌≡◌, ◌+◌, ◌<◌, Ok, None};
 ghost use Rattle.guest_space.specs.Space.{flat};
 ghost use Rattle.rv_exec.specs.Stepping.{limits_of};
-ghost use Rattle.guest_cpu.specs.Standing.{standing, AreCounted, turn};
+ghost use Rattle.guest_cpu.specs.Standing.{standing, CanCount, turn};
 ghost use Rattle.guest_cpu.specs.Turns.{TurnsBy, Keeps, Rises, Lasts, HasHeap};
 
 use crate::Event;
@@ -30,8 +30,7 @@ pub fn advance<R: AccessRule, L: Ledger>(
     steps: &mut Steps<L>,
 ) -> Result<Option<Event>, AllocError>
     requires heap { HasHeap core.old space.old }
-    requires counts { AreCounted core.old.marks }
-    requires room { core.old.marks.steps < 2 ^ 64 - 1 }
+    requires counts { CanCount core.old.marks }
     ensures turned { TurnsBy Event.Emits (turn (limits_of budget (R.rule rule.now)) env (standing core.old (flat space.old))) core.old space.old result core.new space.new }
     ensures keeps { Keeps core.old core.new }
     ensures rises { Rises core.old result core.new }

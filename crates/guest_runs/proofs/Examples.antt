@@ -1,27 +1,12 @@
 -- The definitions at values: a guest that sends back each message comes to its recv, takes a message, and comes to its send.
-use Rattle.std.proofs.Common.{ℕ, true, false, List, [], ◌∷◌, Some, None, refl, arith}
-use Rattle.std.specs.Prelude.{Ok}
-use Rattle.rx_io.specs.declared.bytes.Item.{Item}
 use Rattle.rv_isa.specs.Words.{opcode, rd, funct3, rs1, rs2, funct7, imm_i, imm_b, imm_u, imm_j}
 use Rattle.rv_isa.specs.Table.{row, branch_row, branch_op, imm_row, imm_op, op_row, reg_op, base_op, system_row}
 use Rattle.rv_isa.specs.Meaning.{displaced, word_sum}
-use Rattle.block_book.specs.Heap.{empty_heap}
 use Rattle.alloc_env.specs.declared.env.Env.TheVariants.{Plain}
 use Rattle.elf_image.specs.Memory.{permitted}
-use Rattle.run_history.specs.declared.answer.Cause.TheVariants.{Hang}
-use Rattle.run_history.specs.Machine.{Machine, with_register}
-use Rattle.run_history.specs.Call.{received}
-use Rattle.run_history.specs.Run.{instruction, does}
-use Rattle.run_history.specs.Touching.{instruction_at, touched}
-use Rattle.run_history.specs.Served.{Limits, Path, grant, serves, AsksFor}
 use Rattle.run_history.proofs.Examples.{waiting, before, message, echo_bytes}
 use Rattle.guest_cpu.specs.declared.event.Event.TheVariants as event
-use Rattle.guest_cpu.specs.Standing.{Standing, turn, turn_to, Live, quiet_next}
-use Rattle.guest_cpu.specs.Running.{RunsBy}
-use Rattle.guest_cpu.specs.Serving.{standing_of}
-use Rattle.guest_cpu.specs.Receiving.{taken_standing}
-use Rattle.guest_runs.specs.Runs.{IsBounded, RunsOn, TakesOn}
-use Rattle.guest_runs.specs.Writing.{TakesWriting}
+use Rattle.guest_runs.proofs.Terms.{List, None, Some, [], arith, false, refl, true, ℕ, ◌∷◌, Ok, Item, empty_heap, Hang, received, Machine, with_register, does, instruction, AsksFor, Limits, Path, grant, serves, instruction_at, touched, taken_standing, RunsBy, standing_of, Live, Standing, quiet_next, turn, turn_to, IsBounded, RunsOn, TakesOn, TakesWriting}
 use Rattle.guest_runs.proofs.RunLemmas.{runs_serve}
 use Rattle.guest_runs.proofs.TakeLemmas.{takes_serve, takes_write}
 

@@ -1,3 +1,4 @@
+pub mod Terms
 pub mod TurnEvents
 pub mod OneMore
 pub mod WritingLemmas
@@ -7,3 +8,4 @@ pub mod TakeLemmas
 pub mod QuietRuns
 pub mod RunLemmas
 pub mod Examples
+pub mod Asking

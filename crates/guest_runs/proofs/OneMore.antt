@@ -1,16 +1,5 @@
 -- What one more instruction that takes no item changes of a run, and what it keeps.
-use Rattle.std.proofs.Common.{◌≡◌, ℕ, ◌+◌, ◌<◌, Bool, true, false, cond, [], Option, Some, None, sym, ◌∙◌, ap}
-use Rattle.std.proofs.lemmas.Option.{same_Some, none-some}
-use Rattle.block_book.specs.declared.choice.Choice.{Choice}
-use Rattle.block_book.specs.Answer.{is_allowed}
-use Rattle.alloc_env.specs.declared.env.Env.{Env}
-use Rattle.run_history.specs.Machine.{Machine, State, register, Effect, Goes, Emits, Ends, Wants, Chooses, Fails}
-use Rattle.run_history.specs.Call.{chooses, allocated}
-use Rattle.run_history.specs.Run.{does, after}
-use Rattle.run_history.specs.Served.{Limits, Path, served_next}
-use Rattle.run_history.proofs.Shapes.{Keeps, Alone, Shape, Same, Takes, Picks, does_shape}
-use Rattle.run_history.proofs.Runs.{allocated_keeps}
-use Rattle.run_history.proofs.Serves.{serves_to}
+use Rattle.guest_runs.proofs.Terms.{Bool, None, Option, Some, [], ap, cond, false, sym, true, ℕ, ◌+◌, ◌<◌, ◌∙◌, ◌≡◌, none-some, same_Some, Choice, is_allowed, Env, allocated_keeps, serves_to, Alone, Keeps, Picks, Same, Shape, Takes, does_shape, allocated, chooses, Chooses, Effect, Emits, Ends, Fails, Goes, Machine, State, Wants, register, after, does, Limits, Path, served_next}
 
 -- what it changes of a state
 pub record Moves (s t : State) : Type 0 where

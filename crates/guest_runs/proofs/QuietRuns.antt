@@ -1,19 +1,7 @@
 -- A run goes on by quiet turns.
-use Rattle.std.proofs.Common.{◌≡◌, ℕ, zero, suc, ◌+◌, ◌*◌, ◌≤◌, Bool, List, [], Option, Some, None, refl, sym, ◌∙◌, ap, subst, arith}
-use Rattle.std.proofs.lemmas.Option.{option_and_then_some, same_Some, none-some}
-use Rattle.rx_io.specs.declared.bytes.Item.{Item}
-use Rattle.alloc_env.specs.declared.env.Env.{Env}
 use Rattle.run_history.specs.Repeating.{repeated}
-use Rattle.run_history.specs.Served.{Limits, Override, env_at, Path, served_next, planned_next}
 use Rattle.run_history.proofs.Repeats.{repeated_join}
-use Rattle.run_history.proofs.Serves.{served_next_more}
-use Rattle.guest_cpu.specs.declared.event.Event.{Event}
-use Rattle.run_history.specs.Touching.{Range}
-use Rattle.guest_cpu.specs.Standing.{Standing, Turn, turn, Live, live_after, quietly, unless_event, quiet_next, with_range}
-use Rattle.guest_cpu.specs.Serving.{standing_of, Follows, Adds}
-use Rattle.guest_cpu.proofs.ServingLemmas.{turns_serve}
-use Rattle.guest_runs.specs.Runs.{IsBounded, GoesOn, IsSilent}
-use Rattle.guest_runs.specs.Writing.{writes, Writes}
+use Rattle.guest_runs.proofs.Terms.{Bool, List, None, Option, Some, [], ap, arith, refl, subst, suc, sym, zero, ℕ, ◌*◌, ◌+◌, ◌∙◌, ◌≡◌, ◌≤◌, none-some, option_and_then_some, same_Some, Item, Env, served_next_more, Limits, Override, Path, env_at, planned_next, served_next, Range, Event, turns_serve, Adds, Follows, standing_of, Live, Standing, Turn, live_after, quiet_next, quietly, turn, unless_event, with_range, GoesOn, IsBounded, IsSilent, Writes, writes}
 use Rattle.guest_runs.proofs.OneMore.{OneMore, one_more}
 use Rattle.guest_runs.proofs.TurnEvents.{Means, turn_means}
 use Rattle.guest_runs.proofs.TurnWrites.{WritesAs, turn_writes}
@@ -44,7 +32,7 @@ goes_on limits items plan first second third one other lives = record {
 }
 
 -- one more instruction of a bounded run
-bounded_more : (budget taken later since after steps more : ℕ) → later ≡ taken → after ≡ since + 1 → more ≡ steps + 1 → steps ≤ taken * (budget + 1) + since → more ≤ later * (budget + 1) + after
+pub bounded_more : (budget taken later since after steps more : ℕ) → later ≡ taken → after ≡ since + 1 → more ≡ steps + 1 → steps ≤ taken * (budget + 1) + since → more ≤ later * (budget + 1) + after
 bounded_more budget taken later since after steps more same rises counts bound = rw same (omega arith)
 
 bounded_one : (limits : Limits) (path next : Path) → OneMore limits path next → next.state.ended ≡ None → IsBounded limits.budget path → IsBounded limits.budget next

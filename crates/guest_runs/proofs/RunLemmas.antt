@@ -1,23 +1,7 @@
 -- A guest that runs to its next event is a run that goes on.
-use Rattle.std.proofs.Common.{◌≡◌, ℕ, Bool, false, ◌<◌, List, [], ◌∷◌, ◌++◌, Option, Some, None, refl, sym, ◌∙◌, ap, subst, arith}
-use Rattle.std.specs.Prelude.{Ok, Err, slice_get, unwrap_or}
-use Rattle.block_book.specs.declared.choice.Choice.{Choice}
-use Rattle.run_history.specs.declared.answer.Cause.{Cause}
-use Rattle.rx_io.specs.declared.bytes.Item.{Item}
 use Rattle.rx_io.specs.Sends.{Send}
-use Rattle.alloc_env.specs.declared.env.Env.{Env}
-use Rattle.run_history.specs.Machine.{start, start_machine}
-use Rattle.run_history.specs.Served.{Limits, Override, env_at, Path, guest_of, serves, served_next}
-use Rattle.run_history.proofs.Serves.{served_next_more}
-use Rattle.guest_cpu.specs.declared.event.Event.{Event}
 use Rattle.guest_cpu.specs.declared.event.Event.TheVariants as event
-use Rattle.run_history.specs.Touching.{Range}
-use Rattle.guest_cpu.specs.Standing.{Standing, Turn, turn, Live, live_after, with_range}
-use Rattle.guest_cpu.specs.Serving.{standing_of, Adds}
-use Rattle.guest_cpu.proofs.ServingLemmas.{turns_serve}
-use Rattle.guest_runs.specs.Runs.{GoesOn, IsSilent}
-use Rattle.guest_runs.specs.Writing.{writes, Writes, RunsWriting}
-use Rattle.guest_runs.specs.Laws.{RunsStart, RunsServe, RunsWrite}
+use Rattle.guest_runs.proofs.Terms.{Bool, List, None, Option, Some, [], ap, arith, false, refl, subst, sym, ℕ, ◌++◌, ◌<◌, ◌∙◌, ◌∷◌, ◌≡◌, Err, Ok, slice_get, unwrap_or, Item, Choice, Env, Cause, served_next_more, start, start_machine, Limits, Override, Path, env_at, guest_of, served_next, serves, Range, Event, turns_serve, Adds, standing_of, Live, Standing, Turn, live_after, turn, with_range, GoesOn, IsSilent, RunsWriting, Writes, writes, RunsServe, RunsStart, RunsWrite}
 use Rattle.guest_runs.proofs.OneMore.{one_more}
 use Rattle.guest_runs.proofs.TurnEvents.{Means, turn_means}
 use Rattle.guest_runs.proofs.TurnWrites.{WritesAs, turn_writes}

@@ -1,43 +1,9 @@
 -- A run that stands at its request for an item takes it.
-use Rattle.std.proofs.Common.{◌≡◌, ℕ, ◌+◌, ◌*◌, ◌≤◌, Bool, true, false, cond, leb, List, [], Option, Some, None, refl, sym, ◌∙◌, ap, subst, arith, append-nil}
-use Rattle.std.specs.Prelude.{slice_get, option_map}
-use Rattle.std.proofs.lemmas.Option.{same_Some}
-use Rattle.rx_io.specs.declared.bytes.Item.{Item}
-use Rattle.block_book.specs.declared.choice.Choice.{Choice}
-use Rattle.block_book.specs.Answer.{is_allowed}
-use Rattle.alloc_env.specs.declared.env.Env.{Env}
-use Rattle.run_history.specs.Machine.{Machine, register, Effect, Goes, Wants, Chooses}
-use Rattle.run_history.specs.Call.{takes, received, chooses, allocated, freed}
-use Rattle.run_history.specs.Run.{does, after}
-use Rattle.run_history.specs.Touching.{Range, instruction_at, touched}
-use Rattle.run_history.specs.Served.{Limits, Guest, Request, Malloc, Free, Nothing, request_of, Grant, granted, grant, is_refused, serves, env_at, Path, guest_of, longer, served_next}
-use Rattle.run_history.proofs.Shapes.{Alone, Shape, Same, Takes, Picks, does_shape}
-use Rattle.run_history.proofs.Runs.{received_keeps}
-use Rattle.run_history.proofs.Serves.{mallocs}
+use Rattle.run_history.proofs.Wanting.{never_wants, wants_takes}
 use Rattle.run_history.proofs.Blocks.{frees}
-use Rattle.guest_cpu.specs.Standing.{with_range}
-use Rattle.guest_runs.specs.Runs.{IsBounded}
-use Rattle.guest_runs.specs.Laws.{TakesServe, TakesWrite, AsksWants}
+use Rattle.guest_runs.proofs.Terms.{List, None, Option, Some, [], ap, append-nil, arith, false, leb, refl, sym, ℕ, ◌*◌, ◌+◌, ◌∙◌, ◌≡◌, ◌≤◌, same_Some, option_map, slice_get, Item, Env, received_keeps, mallocs, freed, received, Effect, Goes, Wants, register, after, does, Free, Grant, Guest, Limits, Malloc, Nothing, Path, Request, env_at, grant, granted, guest_of, is_refused, longer, request_of, served_next, serves, Range, instruction_at, touched, with_range, IsBounded, AsksWants, TakesServe, TakesWrite}
 use Rattle.guest_runs.proofs.TurnEvents.{served_does}
 use Rattle.guest_runs.proofs.WritingLemmas.{writes_none, writes_then, writes_taken}
-
--- no malloc wants an item
-never_wants : (size : ℕ) (m : Machine) (choice : Option Choice) → chooses size m choice ≡ Wants → ⊥
-never_wants size m None h = cc
-never_wants size m (Some choice) h = of_test (is_allowed m.heap_start m.heap_end m.blocks size choice) h
-  where
-    of_test : (b : Bool) → cond b (Goes (allocated size choice m)) (Chooses size) ≡ Wants → ⊥
-    of_test true is = cc
-    of_test false is = cc
-
--- an instruction that wants an item takes the one that is next
-wants_takes : (m : Machine) (chosen : Option Choice) → does None chosen m ≡ Wants → (item : Option Item) (choice : Option Choice) → does item choice m ≡ takes m item
-wants_takes m chosen wants item choice = of_shape (does_shape m)
-  where
-    of_shape : Shape m (λ item choice. does item choice m) → does item choice m ≡ takes m item
-    of_shape (Same e alone is) = absurd (subst (Alone m) (sym (is None chosen) ∙ wants) alone)
-    of_shape (Takes may is) = is item choice
-    of_shape (Picks is) = absurd (never_wants (register m 10) m chosen (sym (is None chosen) ∙ wants))
 
 -- and asks nothing of the allocator
 idle_of : (env : Env) (guest : Guest) (given : Grant) (request : Request) → request_of (instruction_at guest.machine) guest.machine ≡ request → granted env guest.heap request ≡ Some given

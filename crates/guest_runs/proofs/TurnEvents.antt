@@ -1,23 +1,7 @@
 -- What the event of a turn says of what is served, and of the end of the guest.
-use Rattle.std.proofs.Common.{◌≡◌, ℕ, Bool, true, false, cond, leb, List, Option, Some, None, refl, sym, ◌∙◌, subst}
-use Rattle.std.specs.Prelude.{option_map}
-use Rattle.std.proofs.lemmas.Option.{same_Some, none-some}
 use Rattle.rv_isa.specs.declared.instr.Instr.{Instr}
-use Rattle.alloc_env.specs.declared.env.Env.{Env}
-use Rattle.block_book.specs.declared.choice.Choice.{Choice}
-use Rattle.block_book.specs.Answer.{is_allowed}
-use Rattle.block_book.specs.Heap.{Heap}
-use Rattle.run_history.specs.declared.answer.Cause.{Cause}
-use Rattle.run_history.specs.declared.answer.Cause.TheVariants.{Hang, BadAccess}
-use Rattle.run_history.specs.Machine.{Machine, register, Effect, Goes, Emits, Ends, Wants, Chooses, Fails}
-use Rattle.run_history.specs.Call.{chooses, allocated}
-use Rattle.run_history.specs.Run.{does}
-use Rattle.run_history.specs.Touching.{instruction_at, touched}
-use Rattle.run_history.specs.Served.{Limits, Guest, Grant, grant, is_refused, does_with, serves}
-use Rattle.run_history.proofs.Shapes.{MaySend, Alone, Shape, Same, Takes, Picks, does_shape}
-use Rattle.guest_cpu.specs.declared.event.Event.{Event}
 use Rattle.guest_cpu.specs.declared.event.Event.TheVariants as event
-use Rattle.guest_cpu.specs.Standing.{Standing, Turn, turn_of, turn, moved}
+use Rattle.guest_runs.proofs.Terms.{Bool, List, None, Option, Some, cond, false, leb, refl, subst, sym, true, ℕ, ◌∙◌, ◌≡◌, none-some, same_Some, option_map, Choice, is_allowed, Heap, Env, Cause, BadAccess, Hang, Alone, MaySend, Picks, Same, Shape, Takes, does_shape, allocated, chooses, Chooses, Effect, Emits, Ends, Fails, Goes, Machine, Wants, register, does, Grant, Guest, Limits, does_with, grant, is_refused, serves, instruction_at, touched, Event, Standing, Turn, moved, turn, turn_of}
 
 -- what is served where a turn is this event, and whether the guest has ended behind it
 abbrev pub Means : Limits → Env → Standing → Option Event → Standing → Type 0

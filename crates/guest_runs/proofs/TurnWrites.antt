@@ -1,18 +1,6 @@
 -- What a turn wrote is what the run's instruction writes.
-use Rattle.std.proofs.Common.{◌≡◌, List, Option, Some, None, refl, subst}
-use Rattle.std.specs.Prelude.{option_map, slice_get}
-use Rattle.std.proofs.lemmas.Option.{same_Some, none-some}
-use Rattle.rx_io.specs.declared.bytes.Item.{Item}
-use Rattle.alloc_env.specs.declared.env.Env.{Env}
-use Rattle.block_book.specs.declared.choice.Choice.{Choice}
-use Rattle.run_history.specs.Machine.{Effect, Goes, Emits, Ends, Wants, Chooses, Fails}
-use Rattle.run_history.specs.Touching.{Range, instruction_at}
-use Rattle.run_history.specs.Served.{Limits, Grant, grant, serves, Path, guest_of}
-use Rattle.guest_cpu.specs.declared.event.Event.{Event}
 use Rattle.guest_cpu.specs.declared.event.Event.TheVariants as event
-use Rattle.guest_cpu.specs.Standing.{Standing, Turn, turn_of, turn, written_with}
-use Rattle.guest_cpu.specs.Serving.{standing_of}
-use Rattle.guest_runs.specs.Writing.{written_by, writes}
+use Rattle.guest_runs.proofs.Terms.{List, None, Option, Some, refl, subst, ◌≡◌, none-some, same_Some, option_map, slice_get, Item, Choice, Env, Chooses, Effect, Emits, Ends, Fails, Goes, Wants, Grant, Limits, Path, grant, guest_of, serves, Range, instruction_at, Event, standing_of, Standing, Turn, turn, turn_of, written_with, writes, written_by}
 
 -- what was written where a turn is this event, beside what an instruction writes: nothing where none was done
 abbrev pub WritesAs : Option Event → Option Range → Option Range → Type 0

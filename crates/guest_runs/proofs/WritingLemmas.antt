@@ -1,18 +1,5 @@
 -- Runs that write pages: of no instruction, of one, one run after another, and with more items behind.
-use Rattle.std.proofs.Common.{◌≡◌, ℕ, Bool, List, [], ◌∷◌, ◌++◌, Option, Some, None, refl, sym, ◌∙◌, ap, subst}
-use Rattle.std.specs.Prelude.{slice_get}
-use Rattle.std.proofs.lemmas.Option.{same_Some, none-some}
-use Rattle.rx_io.specs.declared.bytes.Item.{Item}
-use Rattle.alloc_env.specs.declared.env.Env.{Env}
-use Rattle.run_history.specs.Machine.{Machine, Effect, Goes, Emits, Ends, Wants, Chooses, Fails}
-use Rattle.run_history.specs.Run.{does, after}
-use Rattle.run_history.specs.Touching.{Range}
-use Rattle.run_history.specs.Served.{Limits, Grant, grant, serves, Path, guest_of, served_next}
-use Rattle.run_history.proofs.Runs.{slice_get_longer}
-use Rattle.run_history.proofs.Serves.{serves_to, served_next_more}
-use Rattle.guest_cpu.specs.Standing.{with_range}
-use Rattle.guest_cpu.specs.Receiving.{received_range}
-use Rattle.guest_runs.specs.Writing.{written_by, writes, WritesIn, Writes}
+use Rattle.guest_runs.proofs.Terms.{Bool, List, None, Option, Some, [], ap, refl, subst, sym, ℕ, ◌++◌, ◌∙◌, ◌∷◌, ◌≡◌, none-some, same_Some, slice_get, Item, Env, slice_get_longer, served_next_more, serves_to, Chooses, Effect, Emits, Ends, Fails, Goes, Machine, Wants, after, does, Grant, Limits, Path, grant, guest_of, served_next, serves, Range, received_range, with_range, Writes, WritesIn, writes, written_by}
 use Rattle.guest_runs.proofs.TurnEvents.{served_does}
 
 -- a run of no instruction writes nothing

@@ -1,23 +1,8 @@
 -- What a run writes is fixed by where it comes from and where it leads to: the environments on the way add nothing, since the answers of malloc that it used
 -- stand in it.
-use Rattle.std.proofs.Common.{◌≡◌, ℕ, ◌≤◌, Bool, false, leb, List, [], ◌∷◌, ◌++◌, Option, Some, None, refl, sym, ◌∙◌, ap, subst, arith, append-nil, append_assoc}
-use Rattle.std.specs.Prelude.{slice_get}
 use Rattle.std.proofs.lemmas.Bool.{lt-leb}
-use Rattle.std.proofs.lemmas.List.{append_cancel_left}
-use Rattle.std.proofs.lemmas.Option.{same_Some}
-use Rattle.rx_io.specs.declared.bytes.Item.{Item}
-use Rattle.block_book.specs.declared.choice.Choice.{Choice}
-use Rattle.block_book.specs.Heap.{Heap}
-use Rattle.alloc_env.specs.declared.env.Env.{Env}
 use Rattle.alloc_env.specs.Serving.{served_malloc}
-use Rattle.run_history.specs.Machine.{Machine, State, Effect, Goes, Emits, Ends, Wants, Chooses, Fails}
-use Rattle.run_history.specs.Run.{does, after}
-use Rattle.run_history.specs.Touching.{Range, instruction_at, touched}
-use Rattle.run_history.specs.Served.{Limits, Guest, Request, Malloc, Free, Nothing, request_of, Grant, granted, grant, is_refused, serves, Path, guest_of, listed, served_next}
-use Rattle.run_history.proofs.Serves.{map_some, serves_to}
-use Rattle.guest_cpu.specs.Standing.{written_with, with_range}
-use Rattle.guest_runs.specs.Writing.{written_by, writes, WritesIn}
-use Rattle.guest_runs.specs.Laws.{WritesOnce}
+use Rattle.guest_runs.proofs.Terms.{Bool, List, None, Option, Some, [], ap, append-nil, append_assoc, arith, false, leb, refl, subst, sym, ℕ, ◌++◌, ◌∙◌, ◌∷◌, ◌≡◌, ◌≤◌, append_cancel_left, same_Some, slice_get, Item, Choice, Heap, Env, map_some, serves_to, Chooses, Effect, Emits, Ends, Fails, Goes, Machine, State, Wants, after, does, Free, Grant, Guest, Limits, Malloc, Nothing, Path, Request, grant, granted, guest_of, is_refused, listed, request_of, served_next, serves, Range, instruction_at, touched, with_range, written_with, WritesIn, writes, written_by, WritesOnce}
 
 -- a run that goes on used more answers of malloc behind its own, and has no fewer instructions
 record Adds (first second : Path) : Type 0 where

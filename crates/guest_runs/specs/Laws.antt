@@ -1,19 +1,9 @@
 -- What holds of every guest and of the run that it is.
 use Rattle.std.specs.Prelude.{◌≡◌, ℕ, Bool, List, Some, None, Result, slice_get}
-use Rattle.std.specs.declared.alloc.AllocError.{AllocError}
-use Rattle.rx_io.specs.declared.bytes.Item.{Item}
 use Rattle.elf_image.specs.declared.image.Image.{Image}
-use Rattle.alloc_env.specs.declared.env.Env.{Env}
-use Rattle.run_history.specs.Machine.{Wants}
-use Rattle.run_history.specs.Run.{does}
-use Rattle.run_history.specs.Served.{Limits, Override, env_at, Path, origin, AsksFor}
-use Rattle.guest_cpu.specs.declared.event.Event.{Event}
 use Rattle.guest_cpu.specs.declared.event.Event.TheVariants as event
-use Rattle.guest_cpu.specs.Standing.{Live, turn, with_range}
 use Rattle.guest_cpu.specs.Cpus.{start_standing}
-use Rattle.guest_cpu.specs.Running.{RunsBy}
-use Rattle.guest_cpu.specs.Serving.{standing_of}
-use Rattle.guest_cpu.specs.Receiving.{received_range}
+use Rattle.guest_runs.specs.Terms.{AllocError, Item, Env, Wants, does, AsksFor, Limits, Override, Path, env_at, origin, Event, received_range, RunsBy, standing_of, Live, turn, with_range}
 use Rattle.guest_runs.specs.Runs.{IsBounded, RunsOn, TakesOn}
 use Rattle.guest_runs.specs.Writing.{Writes, RunsWriting, TakesWriting}
 
@@ -23,6 +13,7 @@ pub record IsStart (image : Image) (budget : ℕ) : Type 0 where
   pub lives : (origin image).state.ended ≡ None
   pub bounded : IsBounded budget (origin image)
 
+-- that is so of each image and budget
 abbrev pub RunsStart : Type 0
 RunsStart = (image : Image) (budget : ℕ) → IsStart image budget
 

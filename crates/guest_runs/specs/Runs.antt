@@ -1,14 +1,7 @@
 -- What the calls of a guest do to the run that it is.
 use Rattle.std.specs.Prelude.{◌≡◌, ℕ, ◌+◌, ◌*◌, ◌<◌, ◌≤◌, List, [], ◌∷◌, ◌++◌, length, true, Some, None, Result, Ok, Err}
-use Rattle.std.specs.declared.alloc.AllocError.{AllocError}
-use Rattle.rx_io.specs.declared.bytes.Item.{Item}
-use Rattle.run_history.specs.Call.{connections_after, may_send}
-use Rattle.run_history.specs.Served.{Limits, Override, Path, Served, FailsBy, AsksFor}
-use Rattle.guest_cpu.specs.declared.event.Event.{Event}
 use Rattle.guest_cpu.specs.declared.event.Event.TheVariants as event
-use Rattle.guest_cpu.specs.Standing.{Standing}
-use Rattle.guest_cpu.specs.Serving.{standing_of}
-use Rattle.guest_cpu.specs.Receiving.{taken_standing}
+use Rattle.guest_runs.specs.Terms.{AllocError, Item, connections_after, may_send, AsksFor, FailsBy, Limits, Override, Path, Served, Event, taken_standing, standing_of, Standing}
 
 -- A run that hasn't ended is bounded: since its last item it has no more instructions than the budget, and in all no more than that
 -- and one recv for each item, and those since the last one.

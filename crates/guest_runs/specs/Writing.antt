@@ -1,14 +1,6 @@
 -- Which pages of its window a run writes.
 use Rattle.std.specs.Prelude.{◌≡◌, ℕ, Bool, List, [], ◌∷◌, Option, Some, None, Result, slice_get}
-use Rattle.std.specs.declared.alloc.AllocError.{AllocError}
-use Rattle.rx_io.specs.declared.bytes.Item.{Item}
-use Rattle.alloc_env.specs.declared.env.Env.{Env}
-use Rattle.run_history.specs.Machine.{Machine, Effect, Goes, Wants}
-use Rattle.run_history.specs.Touching.{Range, instruction_at}
-use Rattle.run_history.specs.Served.{Limits, Override, Grant, grant, serves, Path, guest_of, served_next}
-use Rattle.guest_cpu.specs.declared.event.Event.{Event}
-use Rattle.guest_cpu.specs.Standing.{Live, written_with, with_range}
-use Rattle.guest_cpu.specs.Receiving.{received_range}
+use Rattle.guest_runs.specs.Terms.{AllocError, Item, Env, Effect, Goes, Machine, Wants, Grant, Limits, Override, Path, grant, guest_of, served_next, serves, Range, instruction_at, Event, received_range, Live, with_range, written_with}
 use Rattle.guest_runs.specs.Runs.{RunsOn, TakesOn}
 
 -- The bytes that an instruction writes, by what it does without an item: those of the item that it takes, of a block that is zeroed, or a store's.

@@ -1,20 +1,8 @@
 -- A window as a program begins: its segments are filled, and everything else is zero.
-use Rattle.std.proofs.Common.{◌≡◌, ℕ, suc, ◌+◌, ◌-◌, ◌*◌, ◌<◌, ◌≤◌, false, List, [], ◌∷◌, ◌++◌, length, take, drop, map, get_or, replicate, refl, sym, ap, ap₂, ◌∙◌, inl, inr, ◌⊎◌, arith}
-use Rattle.std.specs.List.{All, AllPairs}
-use Rattle.std.proofs.lemmas.List.{length-take-le, length-drop, length-append, length-replicate, get_or-take, get_or-drop, get_or-replicate, get_or_append_left, get_or-append_right}
-use Rattle.std.proofs.lemmas.List.Elements.{All-head, All-tail}
-use Rattle.std.proofs.lemmas.Bool.{cases_lt}
-use Rattle.std.proofs.lemmas.Bool.Decides.{nat_tests}
 use Rattle.std.proofs.lemmas.Grind.{same_number_lists}
-use Rattle.elf_image.specs.declared.segment.Segment.{Segment}
-use Rattle.elf_image.specs.Layout.{share_byte}
-use Rattle.elf_image.specs.Memory.{Area}
-use Rattle.elf_image.specs.Image.{base, zeros, segment_area}
-use Rattle.cow_pages.specs.Writes.{put_at}
+use Rattle.guest_space.proofs.Terms.{List, [], ap, ap₂, arith, drop, false, get_or, inl, inr, length, map, refl, replicate, suc, sym, take, ℕ, ◌*◌, ◌++◌, ◌+◌, ◌-◌, ◌<◌, ◌∙◌, ◌∷◌, ◌≡◌, ◌≤◌, ◌⊎◌, cases_lt, nat_tests, get_or-append_right, get_or-drop, get_or-replicate, get_or-take, get_or_append_left, length-append, length-drop, length-replicate, length-take-le, All-head, All-tail, All, AllPairs, PAGE, put_at, Segment, base, segment_area, zeros, share_byte, Area, LiesIn, Span, area_of, meet, segment_span, filled_bytes}
+use Rattle.guest_space.proofs.FlatLemmas.{meet_comm}
 use Rattle.cow_pages.proofs.Frames.{length-put_at, get_or-put_before, get_or-put_inside, get_or-put_behind}
-use Rattle.guest_space.specs.Space.{Span, area_of, LiesIn, meet, segment_span}
-use Rattle.guest_space.specs.Filling.{filled_bytes}
-use Rattle.cow_pages.specs.declared.frame_copy.TheConstants.{PAGE}
 
 -- a part of a list outside of what was put
 area-put_out : (first n place : ℕ) (bytes xs : List ℕ) → place + length bytes ≤ length xs → first + n ≤ length xs → (first + n ≤ place) ⊎ (place + length bytes ≤ first) → take n (drop first (put_at place bytes xs)) ≡ take n (drop first xs)
@@ -71,15 +59,6 @@ pub record IsThere (base pages : ℕ) (segment : Segment) : Type 0 where
   pub some : 0 < segment.memsz
   pub given : length segment.filled ≤ segment.memsz
 
-size-filled : (base pages : ℕ) (segments : List Segment) (xs : List ℕ) → All (IsThere base pages) segments → length xs ≡ PAGE * pages → length (filled_bytes base segments xs) ≡ PAGE * pages
-size-filled base pages [] xs there size = size
-size-filled base pages (segment ∷ segments) xs there size =
-    let one : IsThere base pages segment = All-head (IsThere base pages) segment segments there in
-    let above = one.above in
-    let below = one.below in
-    let given = one.given in
-    size-filled base pages segments (put_at (segment.vaddr - base) segment.filled xs) (All-tail (IsThere base pages) segment segments there) (length-put_at (segment.vaddr - base) segment.filled xs (omega arith) ∙ size)
-
 -- a span that is apart from a segment is the same after it was filled
 keeps_one : (base pages : ℕ) (segment : Segment) (xs : List ℕ) (span : Span) → IsThere base pages segment → length xs ≡ PAGE * pages → LiesIn base pages span → span.start < span.end → meet (segment_span segment) span ≡ false → take (span.end - span.start) (drop (span.start - base) (put_at (segment.vaddr - base) segment.filled xs)) ≡ take (span.end - span.start) (drop (span.start - base) xs)
 keeps_one base pages segment xs span one size lies some apart =
@@ -116,11 +95,8 @@ segments_head segment segments apart = λ k d less. apart 0 (suc k) d (omega ari
 segments_tail : (segment : Segment) (segments : List Segment) → AllPairs (λ (a b : Segment). share_byte a b ≡ false) (segment ∷ segments) → AllPairs (λ (a b : Segment). share_byte a b ≡ false) segments
 segments_tail segment segments apart = λ i j d before less. apart (suc i) (suc j) d (omega arith) (omega arith)
 
-span_lies : (base pages : ℕ) (segment : Segment) → IsThere base pages segment → LiesIn base pages (segment_span segment)
+pub span_lies : (base pages : ℕ) (segment : Segment) → IsThere base pages segment → LiesIn base pages (segment_span segment)
 span_lies base pages segment one = (one.above, omega arith, one.below)
-
-meet_comm : (a b : Span) → meet a b ≡ false → meet b a ≡ false
-meet_comm a b h = grind (arith, nat_tests)
 
 still_blank : (base pages : ℕ) (segment : Segment) (xs : List ℕ) (other : Segment) → IsThere base pages segment → length xs ≡ PAGE * pages → IsThere base pages other → meet (segment_span segment) (segment_span other) ≡ false → IsBlank base xs other → IsBlank base (put_at (segment.vaddr - base) segment.filled xs) other
 still_blank base pages segment xs other one size two apart blank =

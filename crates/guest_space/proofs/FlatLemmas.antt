@@ -1,16 +1,6 @@
 -- Flat memory whose areas stand in one window of bytes.
-use Rattle.std.proofs.Common.{◌≡◌, ℕ, zero, suc, ◌+◌, ◌-◌, ◌*◌, ◌^◌, ◌/◌, ◌%◌, ◌<◌, ◌≤◌, true, false, ◌&&◌, ◌||◌, cond, nat_le, nat_lt, ◌==◌, List, [], ◌∷◌, ◌++◌, length, take, drop, map, get_or, set, slice_get, slice_set, Some, None, is_some, unwrap_or, refl, sym, ap, subst, ◌∙◌, add-one, add-zero, inl, inr, ◌⊎◌, arith, if◌then◌else◌}
-use Rattle.std.specs.List.{All}
-use Rattle.std.proofs.lemmas.List.{at_drop_more, at_drop_all, length-take-le, length-drop, length-set, get_or-take, get_or-drop, take_more, take_more_set, drop-set-lt, drop-set-add, take-set-le, append_assoc, append-nil, take-append-drop}
-use Rattle.std.proofs.lemmas.List.Elements.{All-head, All-tail, All-weaker}
 use Rattle.std.proofs.lemmas.Option.{slice_get-get_or}
-use Rattle.std.proofs.lemmas.Bool.{le-leb, lt-leb, leb-true, cases_Bool, cases_lt, or_cases, and_parts, false≢true}
-use Rattle.std.proofs.lemmas.Bool.Decides.{nat_tests}
-use Rattle.elf_image.specs.Memory.{Area, covers, byte_at, each_covered, permitted, bytes_at, put_byte, put_bytes}
-use Rattle.cow_pages.specs.Writes.{put_at}
-use Rattle.guest_space.specs.Space.{Span, area_of, flat_of, LiesIn, meet, AreApart}
-use Rattle.guest_space.specs.Ranges.{has_address, has_range, some_has, AreHeld}
-use Rattle.cow_pages.specs.declared.frame_copy.TheConstants.{PAGE}
+use Rattle.guest_space.proofs.Terms.{List, None, Some, [], add-one, add-zero, ap, arith, cond, drop, false, get_or, if◌then◌else◌, inl, inr, is_some, length, map, nat_le, nat_lt, refl, set, slice_get, slice_set, subst, suc, sym, take, true, unwrap_or, zero, ℕ, ◌%◌, ◌&&◌, ◌*◌, ◌++◌, ◌+◌, ◌-◌, ◌/◌, ◌<◌, ◌==◌, ◌^◌, ◌||◌, ◌∙◌, ◌∷◌, ◌≡◌, ◌≤◌, ◌⊎◌, and_parts, cases_Bool, cases_lt, false≢true, le-leb, leb-true, lt-leb, or_cases, nat_tests, append-nil, append_assoc, at_drop_all, at_drop_more, drop-set-add, drop-set-lt, get_or-drop, get_or-take, length-drop, length-set, length-take-le, take-append-drop, take-set-le, take_more, take_more_set, All-head, All-tail, All-weaker, All, PAGE, put_at, Area, byte_at, bytes_at, covers, each_covered, permitted, put_byte, put_bytes, AreApart, LiesIn, Span, area_of, flat_of, meet, AreHeld, has_address, has_range, some_has}
 
 -- a span's area has all of its addresses
 bytes_size : (base pages : ℕ) (xs : List ℕ) (span : Span) → LiesIn base pages span → length xs ≡ PAGE * pages → length (take (span.end - span.start) (drop (span.start - base) xs)) ≡ span.end - span.start
@@ -108,7 +98,7 @@ pub permitted-far : (flag : ℕ) (memory : List Area) (at count : ℕ) → 2 ^ 3
 unfolding permitted
 permitted-far flag memory at count far = ap (λ b. b && each_covered flag memory at count) (lt-leb (at + count) (2 ^ 32) far)
 
-permitted-near : (flag : ℕ) (memory : List Area) (at count : ℕ) → at + count ≤ 2 ^ 32 → permitted flag memory at count ≡ each_covered flag memory at count
+pub permitted-near : (flag : ℕ) (memory : List Area) (at count : ℕ) → at + count ≤ 2 ^ 32 → permitted flag memory at count ≡ each_covered flag memory at count
 unfolding permitted
 permitted-near flag memory at count near = ap (λ b. b && each_covered flag memory at count) (le-leb (at + count) (2 ^ 32) near)
 
@@ -124,14 +114,6 @@ pub held-permitted : (flag base pages : ℕ) (spans : List Span) (xs : List ℕ)
 held-permitted flag base pages spans xs at size lies many h =
     let near = permitted-within flag (flat_of base spans xs) at size h in
     held-each_covered flag base pages spans xs at size lies many (sym (permitted-near flag (flat_of base spans xs) at size near) ∙ h)
-
--- an address that no span has may not be touched
-pub permitted-miss : (flag base pages : ℕ) (spans : List Span) (xs : List ℕ) (at k size : ℕ) → All (LiesIn base pages) spans → length xs ≡ PAGE * pages → k < size → some_has flag (at + k) spans ≡ false → permitted flag (flat_of base spans xs) at size ≡ false
-permitted-miss flag base pages spans xs at k size lies many less miss =
-    elim (cases_Bool (permitted flag (flat_of base spans xs) at size)) [
-      | inl has ↦ absurd (false≢true (sym miss ∙ held-permitted flag base pages spans xs at size lies many has k less))
-      | inr lacks ↦ lacks
-    ]
 
 -- a range of spans lies in the window
 pub range_inside : (flag base pages : ℕ) (spans : List Span) (at size : ℕ) → All (LiesIn base pages) spans → 0 < size → AreHeld flag spans at size → (base ≤ at) × (at + size ≤ base + PAGE * pages)
@@ -207,7 +189,7 @@ flat-set_out base pages at byte (span ∷ spans) xs lies near out =
 apart_outside : (a b : Span) (at : ℕ) → a.start ≤ at → at < a.end → meet a b ≡ false → IsOutside at b
 apart_outside a b at from to apart = grind (arith, nat_tests)
 
-meet_comm : (a b : Span) → meet a b ≡ false → meet b a ≡ false
+pub meet_comm : (a b : Span) → meet a b ≡ false → meet b a ≡ false
 meet_comm a b h = grind (arith, nat_tests)
 
 pub apart_head : (span : Span) (spans : List Span) → AreApart (span ∷ spans) → All (λ (b : Span). meet span b ≡ false) spans

@@ -1,3 +1,4 @@
+pub mod Terms
 pub mod FlatLemmas
 pub mod SpaceLemmas
 pub mod FillLemmas

@@ -1,19 +1,8 @@
 -- A guest's memory: what its spans and its pages say of the flat memory.
-use Rattle.std.proofs.Common.{◌≡◌, ℕ, zero, suc, ◌+◌, ◌-◌, ◌*◌, ◌^◌, ◌/◌, ◌%◌, ◌<◌, ◌≤◌, Bool, true, false, List, [], ◌∷◌, length, take, drop, slice_set, Some, None, IfSome, IsSome, Option, option_map, slice_get, MatchBool, refl, sym, ap, subst, ◌∙◌, inl, inr, arith}
-use Rattle.std.specs.List.{All}
-use Rattle.std.proofs.lemmas.Bool.{cases_Bool, false≢true}
-use Rattle.std.proofs.lemmas.List.{get_or-set_same}
-use Rattle.rv_isa.specs.Words.{little_number, little_bytes}
-use Rattle.elf_image.specs.Memory.{permitted, bytes_at}
-use Rattle.cow_pages.specs.Pages.{Space, Pages, slot_at, used_of, held_of, IsLawful}
 use Rattle.cow_pages.specs.Little as pages
-use Rattle.cow_pages.specs.Writes.{Writes}
 use Rattle.cow_pages.proofs.RunSteps.{writes_nothing}
-use Rattle.guest_space.specs.Space.{Span, GuestPages, guest_pages, flat_of, flat, saved_flat, LiesIn, IsLawfulSpace}
-use Rattle.guest_space.specs.Access.{Puts, Saves, SavesOver, Releases, Restores}
-use Rattle.guest_space.specs.Ranges.{AreHeld}
+use Rattle.guest_space.proofs.Terms.{Bool, List, MatchBool, Some, [], ap, arith, drop, false, inl, inr, length, refl, slice_get, subst, suc, sym, take, true, zero, ℕ, ◌%◌, ◌*◌, ◌+◌, ◌-◌, ◌/◌, ◌<◌, ◌^◌, ◌∙◌, ◌∷◌, ◌≡◌, ◌≤◌, cases_Bool, All, PAGE, IsLawful, Pages, Writes, little_bytes, little_number, bytes_at, permitted, GuestPages, IsLawfulSpace, LiesIn, Span, flat, flat_of, guest_pages, Puts, AreHeld}
 use Rattle.guest_space.proofs.FlatLemmas.{permitted-held, held-permitted, range_inside, bytes_at-flat, put_bytes-flat}
-use Rattle.cow_pages.specs.declared.frame_copy.TheConstants.{PAGE}
 
 -- the window has PAGE bytes for each page
 pub bytes_are : (space : GuestPages) → IsLawfulSpace space → length space.store.live.bytes ≡ PAGE * space.store.pages
@@ -69,12 +58,6 @@ reads_held flag space at size value so some held is = (
   is ∙ ap little_number (sym (range_is flag space at size so held)),
 )
 
-pub reads_none : (flag : ℕ) (space : GuestPages) (at size : ℕ) → IsLawfulSpace space → size ≡ 0 → at + size ≤ 2 ^ 32 → (permitted flag (flat space) at size ≡ true) × (0 ≡ little_number (bytes_at flag (flat space) at size))
-reads_none flag space at size so none near = (
-  is_permitted flag space at size so near (λ k less. absurd (omega arith)),
-  sym (ap (λ n. little_number (bytes_at flag (flat space) at n)) none),
-)
-
 -- a write into the window is one into the flat memory
 pub puts_held : (old : GuestPages) (store : Pages) (at : ℕ) (bytes : List ℕ) → IsLawfulSpace old → Writes old.store store (at - old.base) bytes → IsLawfulSpace (guest_pages old.base old.spans store) → AreHeld 2 old.spans at (length bytes) → Puts old at bytes (guest_pages old.base old.spans store)
 puts_held old store at bytes so wrote lawful held = record {
@@ -109,10 +92,6 @@ parts_put base spans before store old at bytes so is wrote lawful held =
     (puts_held (guest_pages base spans before) store at bytes so wrote (parts_lawful base spans before store (at - base) bytes so wrote lawful)
     (subst (λ (s : GuestPages). AreHeld 2 s.spans at (length bytes)) (sym is) held))
 
--- the low bytes of a number are those of its rest
-pub one_byte : (value : ℕ) → value % 256 ∷ [] ≡ little_bytes 1 value
-one_byte value = refl
-
 pub half_bytes_are : (value : ℕ) → pages.little_bytes 2 (value % 2 ^ 16) ≡ little_bytes 2 value
 half_bytes_are value =
     let low : value % 2 ^ 16 % 256 ≡ value % 256 = omega arith in
@@ -124,10 +103,6 @@ pub parts_answer : (flag base : ℕ) (spans seen : List Span) (store : Pages) (s
 parts_answer flag base spans seen store space at size b so is same near h =
     subst (λ (s : GuestPages). b ≡ permitted flag (flat s) at size) is
     (is_answer flag (guest_pages base spans store) at size b so near (subst (λ xs. MatchBool b (AreHeld flag xs at size) (AreHeld flag xs at size → ⊥)) same h))
-
-pub parts_seen : (flag base : ℕ) (spans seen : List Span) (store : Pages) (space : GuestPages) (at size : ℕ) → guest_pages base spans store ≡ space → seen ≡ spans → AreHeld flag seen at size → AreHeld flag space.spans at size
-parts_seen flag base spans seen store space at size is same h =
-    subst (λ (s : GuestPages). AreHeld flag s.spans at size) is (subst (λ xs. AreHeld flag xs at size) same h)
 
 pub parts_held : (flag base : ℕ) (spans : List Span) (store : Pages) (space : GuestPages) (at size : ℕ) → IsLawfulSpace (guest_pages base spans store) → guest_pages base spans store ≡ space → permitted flag (flat space) at size ≡ true → AreHeld flag spans at size
 parts_held flag base spans store space at size so is h =
@@ -166,57 +141,6 @@ pub one_number : (xs : List ℕ) (place x : ℕ) → slice_get xs place ≡ Some
 one_number [] place x h = cc
 one_number (y ∷ xs) zero x h = let e : y ≡ x = grind arith in omega arith
 one_number (y ∷ xs) (suc place) x h = one_number xs place x h
-
--- saving, giving up and restoring
-pub parts_saved : (base : ℕ) (spans : List Span) (before store : Pages) (old : GuestPages) (slot : ℕ) → IsLawfulSpace (guest_pages base spans before) → guest_pages base spans before ≡ old → store ≡ record before { slots = slice_set before.slots slot (Some before.live) } → used_of store ≡ used_of before → held_of store ≡ used_of before → IsLawful store → Saves old slot (guest_pages base spans store)
-parts_saved base spans before store old slot so is e used held lawful =
-    subst (λ (o : GuestPages). Saves o slot (guest_pages base spans store)) is record {
-      store_is = ap (guest_pages base spans) e;
-      used = used;
-      held = held;
-      lawful = parts_kept base spans before store so (ap (λ (s : Pages). s.pages) e) lawful;
-    }
-
-pub parts_saved_over : (base : ℕ) (spans : List Span) (before store : Pages) (old : GuestPages) (slot : ℕ) → IsLawfulSpace (guest_pages base spans before) → guest_pages base spans before ≡ old → store ≡ record before { slots = slice_set before.slots slot (Some before.live) } → held_of store ≡ used_of store → IsLawful store → SavesOver old slot (guest_pages base spans store)
-parts_saved_over base spans before store old slot so is e held lawful =
-    subst (λ (o : GuestPages). SavesOver o slot (guest_pages base spans store)) is record {
-      store_is = ap (guest_pages base spans) e;
-      held = held;
-      lawful = parts_kept base spans before store so (ap (λ (s : Pages). s.pages) e) lawful;
-    }
-
-pub parts_released : (base : ℕ) (spans : List Span) (before store : Pages) (old : GuestPages) (slot : ℕ) → IsLawfulSpace (guest_pages base spans before) → guest_pages base spans before ≡ old → store ≡ record before { slots = slice_set before.slots slot None } → IsLawful store → Releases old slot (guest_pages base spans store)
-parts_released base spans before store old slot so is e lawful =
-    subst (λ (o : GuestPages). Releases o slot (guest_pages base spans store)) is record {
-      store_is = ap (guest_pages base spans) e;
-      lawful = parts_kept base spans before store so (ap (λ (s : Pages). s.pages) e) lawful;
-    }
-
-restored_memory : (base : ℕ) (spans : List Span) (o : Option Space) (before store : Pages) → IsSome o → IfSome o (λ space. store ≡ record before { live = space }) → Some (flat_of base spans store.live.bytes) ≡ option_map (λ (saved : Space). flat_of base spans saved.bytes) o
-restored_memory base spans None before store some e = absurd (false≢true some)
-restored_memory base spans (Some space) before store some e = ap (λ (s : Pages). Some (flat_of base spans s.live.bytes)) e
-
-restored_parts : (base : ℕ) (spans : List Span) (o : Option Space) (before store : Pages) → IfSome o (λ space. store ≡ record before { live = space }) → IfSome o (λ space. guest_pages base spans store ≡ guest_pages base spans (record before { live = space }))
-restored_parts base spans None before store e = tt
-restored_parts base spans (Some space) before store e = ap (guest_pages base spans) e
-
-pub restored_pages : (o : Option Space) (before store : Pages) → IsSome o → IfSome o (λ space. store ≡ record before { live = space }) → store.pages ≡ before.pages
-restored_pages None before store some e = absurd (false≢true some)
-restored_pages (Some space) before store some e = ap (λ (s : Pages). s.pages) e
-
-pub parts_restored : (base : ℕ) (spans : List Span) (before store : Pages) (old : GuestPages) (slot : ℕ) → IsLawfulSpace (guest_pages base spans before) → guest_pages base spans before ≡ old → IsSome (slot_at before slot) → IfSome (slot_at before slot) (λ space. store ≡ record before { live = space }) → IsLawful store → Restores old slot (guest_pages base spans store)
-parts_restored base spans before store old slot so is some e lawful =
-    subst (λ (o : GuestPages). Restores o slot (guest_pages base spans store)) is record {
-      store_is = restored_parts base spans (slot_at before slot) before store e;
-      memory = restored_memory base spans (slot_at before slot) before store some e;
-      lawful = parts_kept base spans before store so (restored_pages (slot_at before slot) before store some e) lawful;
-    }
-
--- what a slot holds after a save is the flat memory as it was
-pub saved_is : (old new : GuestPages) (slot : ℕ) → slot < length old.store.slots → Saves old slot new → saved_flat new slot ≡ Some (flat old)
-saved_is old new slot less so =
-    ap (λ (s : GuestPages). saved_flat s slot) so.store_is
-    ∙ ap (option_map (λ (saved : Space). flat_of old.base old.spans saved.bytes)) (get_or-set_same old.store.slots slot (Some old.store.live) None less)
 
 -- where a range lies
 pub parts_place : (flag base : ℕ) (spans : List Span) (store : Pages) (space : GuestPages) (at size : ℕ) → IsLawfulSpace (guest_pages base spans store) → guest_pages base spans store ≡ space → 0 < size → AreHeld flag space.spans at size → (base ≤ at) × (at - base + size ≤ PAGE * store.pages)

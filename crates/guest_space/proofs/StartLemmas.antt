@@ -1,26 +1,9 @@
 -- A space as a program begins.
-use Rattle.std.proofs.Common.{◌≡◌, ℕ, zero, suc, ◌+◌, ◌-◌, ◌*◌, ◌^◌, ◌/◌, ◌<◌, ◌≤◌, false, ◌&&◌, cond, None, List, [], ◌∷◌, ◌++◌, length, take, drop, map, get_or, replicate, refl, sym, ap, ap₂, subst, ◌∙◌, arith}
-use Rattle.std.specs.List.{All, AllPairs}
-use Rattle.std.proofs.lemmas.List.{length-map, length-replicate, get_or-map, append_assoc, take-replicate, drop-replicate, at_drop_more, at_drop_all}
-use Rattle.std.proofs.lemmas.List.Elements.{All-head, All-weaker, All-cons, All-nil, All-append, All-map, All-push}
 use Rattle.std.proofs.lemmas.List.Quantifiers.{all_pairs_push}
-use Rattle.std.proofs.lemmas.Bool.Decides.{nat_tests}
 use Rattle.std.proofs.Math.Bool.{and-false}
-use Rattle.elf_image.specs.declared.segment.Segment.{Segment}
-use Rattle.elf_image.specs.declared.image.Image.{Image}
-use Rattle.elf_image.specs.Layout.{IsPlaced, share_byte}
-use Rattle.elf_image.specs.Memory.{Area}
-use Rattle.elf_image.specs.Image.{base, heap_start, heap_end, stack_top, zeros, segment_area, blank_area, memory_of}
 use Rattle.elf_image.proofs.Valid.{stack_top_below, heap_has_page, heap_ends, segments_above, segments_below, segments_apart, some_segment}
-use Rattle.cow_pages.specs.Pages.{Pages, has, saved_numbers, used_of, IsLawful, IsMade}
-use Rattle.cow_pages.specs.Writes.{is_shared, reaches, copied_pages, Writes}
-use Rattle.guest_space.specs.Space.{Span, guest_pages, area_of, flat_of, LiesIn, meet, AreApart, segment_span, blank_span, spans_of, IsLawfulSpace}
-use Rattle.guest_space.specs.Access.{IsStart}
-use Rattle.guest_space.specs.Filling.{filled_bytes, FilesIn, Fills}
-use Rattle.guest_space.proofs.FillLemmas.{IsThere, IsBlank, keeps, segments_flat}
-use Rattle.cow_pages.specs.declared.frame_copy.TheConstants.{PAGE}
-use Rattle.elf_image.specs.declared.layout.TheConstants.{STACK}
-use Rattle.cow_pages.specs.declared.store.TheConstants.{MAX_PAGES}
+use Rattle.guest_space.proofs.Terms.{List, None, [], ap, ap₂, arith, cond, drop, false, get_or, length, map, refl, replicate, subst, suc, sym, take, zero, ℕ, ◌&&◌, ◌*◌, ◌++◌, ◌+◌, ◌-◌, ◌/◌, ◌<◌, ◌^◌, ◌∙◌, ◌∷◌, ◌≡◌, ◌≤◌, nat_tests, append_assoc, at_drop_more, drop-replicate, get_or-map, length-map, length-replicate, map-append, take-replicate, All-append, All-cons, All-head, All-map, All-nil, All-push, All-weaker, All, AllPairs, PAGE, IsLawful, IsMade, Pages, has, saved_numbers, used_of, Writes, copied_pages, is_shared, reaches, Image, STACK, Segment, base, blank_area, heap_end, heap_start, memory_of, segment_area, stack_top, zeros, IsPlaced, share_byte, Area, AreApart, IsLawfulSpace, LiesIn, Span, area_of, blank_span, flat_of, guest_pages, meet, segment_span, spans_of, IsStart, FilesIn, Fills, filled_bytes}
+use Rattle.guest_space.proofs.FillLemmas.{IsThere, IsBlank, keeps, segments_flat, span_lies}
 
 -- nothing is shared where nothing is saved
 saved_none : (n : ℕ) → saved_numbers (replicate n None) ≡ []
@@ -45,9 +28,6 @@ pub record Filling (old : Pages) (base i : ℕ) (segments : List Segment) (now :
   pub used : used_of now ≡ used_of old
   pub lawful : IsLawful now
 
-pub filling_none : (old : Pages) (base : ℕ) (segments : List Segment) → IsLawful old → Filling old base 0 segments old
-filling_none old base segments lawful = record { pages = refl; frames = refl; slots = refl; bytes = refl; used = refl; lawful = lawful }
-
 pub filling_more : (old mid new : Pages) (base i : ℕ) (segments : List Segment) (segment : Segment) → Filling old base i segments mid → i < length segments → segment ≡ get_or segments i segment → old.slots ≡ replicate (length old.slots) None → Writes mid new (segment.vaddr - base) segment.filled → IsLawful new → Filling old base (i + 1) segments new
 filling_more old mid new base i segments segment so less is empty wrote lawful =
     let none : copied_pages mid (segment.vaddr - base) (length segment.filled) mid.pages ≡ 0 = copied_none mid (segment.vaddr - base) (length segment.filled) mid.pages (length old.slots) (so.slots ∙ empty) in
@@ -63,28 +43,9 @@ filling_more old mid new base i segments segment so less is empty wrote lawful =
       lawful = lawful;
     }
 
-pub filling_all : (old now : Pages) (base i : ℕ) (segments : List Segment) → Filling old base i segments now → length segments ≤ i → Fills old base segments now
-filling_all old now base i segments so past = record {
-  pages = so.pages;
-  frames = so.frames;
-  slots = so.slots;
-  bytes = sym (at_drop_all (λ ss. filled_bytes base ss now.live.bytes) segments i past) ∙ so.bytes;
-  used = so.used;
-  lawful = so.lawful;
-}
-
-pub file_there : (base pages i : ℕ) (segments : List Segment) (segment : Segment) → i < length segments → segment ≡ get_or segments i segment → All (FilesIn base pages) segments → FilesIn base pages segment
-file_there base pages i segments segment less is all = subst (FilesIn base pages) (sym is) (all i segment less)
-
 -- the window of an image has its pages
 pub window_pages : (image : Image) → stack_top image ≡ base image + PAGE * (image.window / PAGE)
 window_pages image = let whole = image.in_window.whole in omega arith
-
-pub pages_few : (image : Image) → (1 ≤ image.window / PAGE) × (image.window / PAGE ≤ MAX_PAGES)
-pages_few image =
-    let least = image.in_window.least in
-    let most = image.in_window.most in
-    (omega arith, omega arith)
 
 pub segment_end : (image : Image) (i : ℕ) (segment : Segment) → i < length image.segments → segment ≡ get_or image.segments i segment → segment.vaddr + segment.memsz < 2 ^ 32
 segment_end image i segment less is =
@@ -154,9 +115,6 @@ all_apart image =
     subst AreApart (append_assoc spans (heap ∷ []) (stack ∷ []))
     (all_pairs_push (λ (a b : Span). meet a b ≡ false) (spans ++ heap ∷ []) stack first (λ k d less. in_order (get_or (spans ++ heap ∷ []) k d) stack (before k d less)))
 
-segment_lies : (base pages : ℕ) (s : Segment) → IsThere base pages s → LiesIn base pages (segment_span s)
-segment_lies base pages s one = (one.above, omega arith, one.below)
-
 heap_lies : (image : Image) → LiesIn (base image) (image.window / PAGE) (heap_of image)
 heap_lies image = (heap_above image, omega (arith, heap_has_page image), omega (arith, heap_ends image, window_pages image))
 
@@ -171,7 +129,7 @@ pub all_lie : (image : Image) → All (LiesIn (base image) (image.window / PAGE)
 all_lie image =
     let P : Span → Type 0 = LiesIn (base image) (image.window / PAGE) in
     All-append P (map segment_span image.segments) (heap_of image ∷ stack_of image ∷ [])
-    (All-map P segment_span image.segments (All-weaker (IsThere (base image) (image.window / PAGE)) (λ s. P (segment_span s)) (segment_lies (base image) (image.window / PAGE)) image.segments (segments_there image)))
+    (All-map P segment_span image.segments (All-weaker (IsThere (base image) (image.window / PAGE)) (λ s. P (segment_span s)) (span_lies (base image) (image.window / PAGE)) image.segments (segments_there image)))
     (All-cons P (heap_of image) (stack_of image ∷ []) (heap_lies image) (All-cons P (stack_of image) [] (stack_lies image) (All-nil P)))
 
 -- zeros are left where no segment is
@@ -194,10 +152,6 @@ all_blank base pages segments xs there is = λ k d less.
     ap (λ ys. take s.memsz (drop (s.vaddr - base) ys)) is
     ∙ ap (take s.memsz) (drop-replicate (s.vaddr - base) (PAGE * pages) 0)
     ∙ take-replicate s.memsz (PAGE * pages - (s.vaddr - base)) 0 (omega arith)
-
-map-append : {X Y : Type 0} (f : X → Y) (xs ys : List X) → map f (xs ++ ys) ≡ map f xs ++ map f ys
-map-append f [] ys = refl
-map-append f (x ∷ xs) ys = ap (λ zs. f x ∷ zs) (map-append f xs ys)
 
 -- the flat memory as a program begins
 start_flat : (image : Image) (xs : List ℕ) → xs ≡ replicate (PAGE * (image.window / PAGE)) 0 → flat_of (base image) (spans_of image) (filled_bytes (base image) image.segments xs) ≡ memory_of image
@@ -243,9 +197,6 @@ start_lawful image pages slots frames start spans made filled count at made_so f
       apart = subst AreApart (sym are) (all_apart image);
       store = fill_so.lawful;
     }
-
-pub none_saved : (pages slots frames : ℕ) (made : Pages) → IsMade pages slots frames made → made.slots ≡ replicate (length made.slots) None
-none_saved pages slots frames made so = so.empty ∙ ap (λ n. replicate n None) (sym (ap length so.empty ∙ length-replicate slots None))
 
 pub seen_end : (image : Image) (seen : List Segment) (i : ℕ) (segment : Segment) → seen ≡ image.segments → i < length seen → segment ≡ get_or seen i segment → segment.vaddr + segment.memsz < 2 ^ 32
 seen_end image seen i segment e less is = segment_end image i segment (subst (λ xs. i < length xs) e less) (subst (λ xs. segment ≡ get_or xs i segment) e is)

@@ -1,12 +1,6 @@
 -- Stretches of spans.
-use Rattle.std.proofs.Common.{◌≡◌, ℕ, ◌+◌, ◌-◌, ◌^◌, ◌<◌, ◌≤◌, Bool, true, false, List, length, get_or, sym, subst, arith}
 use Rattle.std.specs.Bool.{OnTrue}
-use Rattle.std.proofs.lemmas.Bool.Decides.{nat_tests}
-use Rattle.cow_pages.specs.Pages.{Pages}
-use Rattle.guest_space.specs.declared.stretch.Stretch.{Stretch}
-use Rattle.guest_space.specs.Space.{Span, GuestPages, guest_pages}
-use Rattle.guest_space.specs.Ranges.{has_range, AreHeld}
-use Rattle.guest_space.specs.Stretches.{IsOpen}
+use Rattle.guest_space.proofs.Terms.{Bool, List, arith, false, get_or, length, subst, sym, true, ℕ, ◌+◌, ◌-◌, ◌<◌, ◌^◌, ◌≡◌, ◌≤◌, nat_tests, Pages, Stretch, GuestPages, Span, guest_pages, AreHeld, has_range, IsOpen}
 use Rattle.guest_space.proofs.FlatLemmas.{range_held}
 
 -- what one span has
@@ -27,10 +21,6 @@ stretch_open flag at i spans span stretch less is h end made =
       below = omega arith;
       held = λ other from to. range_held flag other 4 i spans span less is (range_elsewhere flag at other span h from (omega arith));
     }
-
--- fewer bytes
-pub held_fewer : (flag : ℕ) (spans : List Span) (at size : ℕ) → size ≤ 4 → AreHeld flag spans at 4 → AreHeld flag spans at size
-held_fewer flag spans at size small held = λ k less. held k (omega arith)
 
 -- a stretch of a space that is seen as its parts
 pub parts_open : (flag base : ℕ) (spans seen : List Span) (store : Pages) (space : GuestPages) (stretch : Stretch) → guest_pages base spans store ≡ space → seen ≡ spans → IsOpen flag seen stretch → IsOpen flag space.spans stretch

@@ -1,11 +1,6 @@
 -- Loads and stores of a guest's memory.
 use Rattle.std.specs.Prelude.{◌≡◌, ℕ, ◌-◌, true, false, List, length, replicate, Some, None, IfSome, slice_set, Result, Ok, Err}
-use Rattle.rv_isa.specs.Words.{little_number}
-use Rattle.elf_image.specs.declared.image.Image.{Image}
-use Rattle.elf_image.specs.Memory.{Area, write, permitted, bytes_at, put_bytes}
-use Rattle.elf_image.specs.Image.{base, memory_of}
-use Rattle.cow_pages.specs.Pages.{slot_at, used_of, held_of}
-use Rattle.cow_pages.specs.Writes.{Writes}
+use Rattle.guest_space.specs.Terms.{held_of, slot_at, used_of, Writes, little_number, Image, base, memory_of, Area, bytes_at, permitted, put_bytes, write}
 use Rattle.guest_space.specs.Space.{GuestPages, flat, saved_flat, spans_of, IsLawfulSpace}
 use Rattle.guest_space.specs.declared.bad_access.BadAccess.{BadAccess}
 

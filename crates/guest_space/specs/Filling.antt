@@ -1,9 +1,6 @@
 -- The bytes of segments in a window.
 use Rattle.std.specs.Prelude.{◌≡◌, ℕ, ◌+◌, ◌-◌, ◌*◌, ◌≤◌, List, [], ◌∷◌, length}
-use Rattle.elf_image.specs.declared.segment.Segment.{Segment}
-use Rattle.cow_pages.specs.Pages.{Pages, used_of, IsLawful}
-use Rattle.cow_pages.specs.Writes.{put_at}
-use Rattle.cow_pages.specs.declared.frame_copy.TheConstants.{PAGE}
+use Rattle.guest_space.specs.Terms.{PAGE, IsLawful, Pages, used_of, put_at, Segment}
 
 -- a window of bytes after the file's bytes of segments were put into it, one segment after the other
 abbrev pub filled_bytes : ℕ → List Segment → List ℕ → List ℕ

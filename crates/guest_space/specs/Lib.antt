@@ -1,3 +1,4 @@
+pub mod Terms
 pub mod Space
 pub mod Access
 pub mod Ranges

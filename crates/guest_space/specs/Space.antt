@@ -1,13 +1,6 @@
 -- A guest's memory on shared pages: a window of pages, and the spans of it that may be touched.
 use Rattle.std.specs.Prelude.{◌≡◌, ℕ, ◌+◌, ◌-◌, ◌*◌, ◌^◌, ◌≤◌, Bool, false, nat_lt, min, max, Option, option_map, List, [], ◌∷◌, ◌++◌, map, take, drop}
-use Rattle.std.specs.List.{All, AllPairs}
-use Rattle.elf_image.specs.declared.segment.Segment.{Segment}
-use Rattle.elf_image.specs.declared.image.Image.{Image}
-use Rattle.elf_image.specs.Memory.{Area}
-use Rattle.elf_image.specs.Image.{heap_start, heap_end, stack_top}
-use Rattle.cow_pages.specs.Pages.{Space, Pages, slot_at, IsLawful}
-use Rattle.cow_pages.specs.declared.frame_copy.TheConstants.{PAGE}
-use Rattle.elf_image.specs.declared.layout.TheConstants.{STACK}
+use Rattle.guest_space.specs.Terms.{All, AllPairs, PAGE, IsLawful, Pages, Space, slot_at, Image, STACK, Segment, heap_end, heap_start, stack_top, Area}
 
 -- Addresses from one up to another, which isn't part of it, and what may be done with their bytes: the flags of a
 -- program header (System V ABI, "Segment Permissions").
@@ -22,6 +15,7 @@ pub record GuestPages : Type 0 where
   pub spans : List Span
   pub store : Pages
 
+-- the memory of a window that begins here, with these spans, on these pages
 abbrev pub guest_pages : ℕ → List Span → Pages → GuestPages
 guest_pages base spans store = record { base = base; spans = spans; store = store }
 

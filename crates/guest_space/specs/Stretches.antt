@@ -1,6 +1,6 @@
 -- Addresses that may be touched so without a walk over the spans.
 use Rattle.std.specs.Prelude.{ℕ, ◌+◌, ◌^◌, ◌<◌, ◌≤◌, List}
-use Rattle.std.specs.List.{All}
+use Rattle.guest_space.specs.Terms.{All}
 use Rattle.guest_space.specs.declared.stretch.Stretch.{Stretch}
 use Rattle.guest_space.specs.declared.stretch.Stretches.{Stretches}
 use Rattle.guest_space.specs.Space.{Span}

@@ -1,17 +1,5 @@
 -- Items of events that come in parts.
-use Rattle.std.proofs.Common.{◌≡◌, ℕ, true, List, [], ◌∷◌, ◌++◌, Option, Some, None, length, refl, sym, ◌∙◌, ap, append_assoc}
-use Rattle.std.specs.Option.{unwrap_or}
-use Rattle.std.proofs.lemmas.List.{append-nil, length-set, length-replicate}
-use Rattle.std.proofs.lemmas.Bool.{cond-true, cond_both}
-use Rattle.rx_io.specs.declared.bytes.Item.{Item}
-use Rattle.links.specs.declared.journal.LinkEvent.{LinkEvent}
-use Rattle.links.specs.declared.journal.LinkEvent.TheVariants.{Opens, Piece, Closes, Settles, Ends}
-use Rattle.msg_frame.specs.declared.framing.Framing.{Framing}
-use Rattle.msg_frame.specs.Messages.{Parts, cut}
-use Rattle.item_log.specs.declared.kinds.TheConstants.{CONNECTIONS}
-use Rattle.item_log.specs.Connections.{none_open, rest_of, in_order}
-use Rattle.item_log.specs.Heard.{Heard, hear_parts, brought, hear, behind_items, then_hear, heard_from, heard, items_by, first_items, items_from, items_of}
-use Rattle.item_log.specs.Laws.{OneMoreEvent, HeardItems, RefusedGiveNone}
+use Rattle.item_log.proofs.Terms.{List, None, Option, Some, [], ap, append_assoc, length, refl, sym, true, ℕ, ◌++◌, ◌∙◌, ◌∷◌, ◌≡◌, cond-true, cond_both, append-nil, length-replicate, length-set, same_Some, unwrap_or, Item, LinkEvent, Closes, Ends, Opens, Piece, Settles, Framing, Parts, cut, CONNECTIONS, in_order, none_open, rest_of, Heard, behind_items, brought, first_items, hear, hear_parts, heard, heard_from, items_by, items_from, items_of, then_hear, HeardItems, OneMoreEvent, RefusedGiveNone}
 
 -- nothing heard, and items before what was heard
 abbrev nothing : List (Option (List ℕ)) → Heard
@@ -64,14 +52,10 @@ items_from-one : (framing : Framing) (rests : List (Option (List ℕ))) (event :
 unfolding items_from
 items_from-one framing rests event = first_nothing (hear framing rests event)
 
--- the same value in two ways
-given_by : (one all : Heard) → Some one ≡ Some all → one ≡ all
-given_by one all is = ap (λ heard. unwrap_or heard all) is
-
 -- items before those that were heard later
 items_before : (first : List Item) (found all : Heard) → behind_items first (Some found) ≡ Some all → (first ++ found.items ≡ all.items) × (found.rests ≡ all.rests)
 items_before first found all is =
-    let same : behind first found ≡ all = given_by (behind first found) all is in
+    let same : behind first found ≡ all = same_Some (behind first found) all is in
     (ap (λ (heard : Heard). heard.items) same, ap (λ (heard : Heard). heard.rests) same)
 
 -- one event before others of which none is refused
@@ -96,7 +80,7 @@ items_from-append : (framing : Framing) (rests : List (Option (List ℕ))) (even
     (items_from framing rests (events ++ more) ≡ items_from framing rests events ++ items_from framing all.rests more) × (items_from framing rests events ≡ all.items)
 unfolding heard_from items_from
 items_from-append framing rests [] more all is =
-    let same : nothing rests ≡ all = given_by (nothing rests) all is in
+    let same : nothing rests ≡ all = same_Some (nothing rests) all is in
     (ap (λ (heard : Heard). items_from framing heard.rests more) same, ap (λ (heard : Heard). heard.items) same)
 items_from-append framing rests (event ∷ events) more all is =
     step_on (hear framing rests event) (λ after. heard_from framing after events) (λ after. items_from framing after events) (λ after. items_from framing after (events ++ more)) (λ last. items_from framing last more) all
@@ -162,7 +146,7 @@ from_places n framing rests [] h = h
 from_places n framing rests (event ∷ events) h =
     then_places n (hear framing rests event) (λ after. heard_from framing after events) (rw h at (hear_places framing rests event)) (λ after g. from_places n framing after events g)
 
-none_places : length none_open ≡ CONNECTIONS
+pub none_places : length none_open ≡ CONNECTIONS
 unfolding none_open
 none_places = length-replicate {A = Option (List ℕ)} CONNECTIONS None
 

@@ -1,3 +1,4 @@
+pub mod Terms
 pub mod Hearing
 pub mod Watch
 pub mod Shown

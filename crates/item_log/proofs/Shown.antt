@@ -1,20 +1,7 @@
 -- The events that a log shows.
-use Rattle.std.proofs.Common.{◌≡◌, ℕ, ◌+◌, ◌-◌, ◌≤◌, max, List, [], ◌∷◌, ◌++◌, Option, Some, None, option_map, length, drop, arith, length-append, length-drop, refl, sym, ◌∙◌, ap, subst, zero, suc, zero-add, true}
 use Rattle.std.specs.List.{slice_get}
-use Rattle.std.specs.Option.{unwrap_or}
-use Rattle.std.proofs.lemmas.List.{drop-append-le, drop-drop}
-use Rattle.rx_io.specs.declared.bytes.Item.{Item}
-use Rattle.links.specs.declared.journal.LinkEvent.{LinkEvent}
-use Rattle.msg_frame.specs.declared.framing.Framing.{Framing}
-use Rattle.item_log.specs.Connections.{none_open, in_order}
-use Rattle.item_log.specs.Heard.{Heard, brought, hear, heard_from, behind_items, items_of}
-use Rattle.item_log.specs.Log.{Log, received, item_at, with_heard, logged, trimmed, Shows, ShowsMore, ShowsStill, IsItemOf}
-use Rattle.item_log.specs.Laws.{LogsShow, ShownItems}
-use Rattle.item_log.proofs.Hearing.{one_more_event, heard_items, hear-in_order}
-
--- a log with an event in order
-pub logged-in_order : (log : Log) (event : LinkEvent) → in_order log.rests event ≡ true → logged log event ≡ option_map (with_heard log) (brought log.framing log.rests event)
-logged-in_order log event h = ap (option_map (with_heard log)) (hear-in_order log.framing log.rests event h)
+use Rattle.item_log.proofs.Terms.{List, None, Option, Some, [], ap, arith, drop, length, length-append, length-drop, option_map, refl, subst, suc, sym, zero, zero-add, ℕ, ◌++◌, ◌+◌, ◌-◌, ◌∙◌, ◌∷◌, ◌≡◌, ◌≤◌, drop-append-le, unwrap_or, Item, LinkEvent, Framing, none_open, Heard, behind_items, hear, heard_from, items_of, IsItemOf, Log, Shows, ShowsMore, item_at, with_heard, LogsShow, ShownItems}
+use Rattle.item_log.proofs.Hearing.{one_more_event, heard_items}
 
 -- at its start a log shows no event
 pub shows_none : (framing : Framing) (log : Log) → log.framing ≡ framing → log.first ≡ 0 → log.kept ≡ [] → log.rests ≡ none_open → Shows framing [] log
@@ -48,32 +35,11 @@ shows_more_by (Some more) old new event is same =
 pub logs_show : LogsShow
 logs_show old new event is = shows_more_by (hear old.framing old.rests event) old new event refl is
 
--- a log that was trimmed
-pub shows_trimmed : (old : Log) (before : ℕ) → before ≤ received old → ShowsStill old (trimmed old before)
-shows_trimmed old before h framing events shows =
-    let kept : length old.kept ≡ length shows.items - old.first = ap length shows.kept ∙ length-drop old.first shows.items in
-    let place : old.first + (before - old.first) ≡ max old.first before = omega arith in
-    record {
-      items = shows.items;
-      is_heard = shows.is_heard;
-      cut_so = shows.cut_so;
-      kept = ap (drop (before - old.first)) shows.kept ∙ drop-drop (before - old.first) old.first shows.items ∙ ap (λ n. drop n shows.items) place;
-      given_up = omega (arith, shows.given_up);
-    }
-
 -- the element of a list at a place behind its front
 slice_get-drop : {X : Type 0} (xs : List X) (n i : ℕ) → slice_get (drop n xs) i ≡ slice_get xs (n + i)
 slice_get-drop xs zero i = rw zero-add
 slice_get-drop [] (suc n) i = refl
 slice_get-drop (x ∷ xs) (suc n) i = slice_get-drop xs n i ∙ ap (slice_get (x ∷ xs)) (let next : suc (n + i) ≡ suc n + i = omega arith in next)
-
-pub later_item : (old : Log) (before number : ℕ) → before ≤ received old → max old.first before ≤ number → item_at (trimmed old before) number ≡ item_at old number
-later_item old before number h from =
-    let place : before - old.first + (number - max old.first before) ≡ number - old.first = omega arith in
-    slice_get-drop old.kept (before - old.first) (number - max old.first before) ∙ ap (slice_get old.kept) place
-
-pub received-trimmed : (old : Log) (before : ℕ) → before ≤ received old → received (trimmed old before) ≡ received old
-received-trimmed old before h = omega (arith, length-drop (before - old.first) old.kept)
 
 -- the item of a number is that of the events
 pub is_item_of : (log : Log) (number : ℕ) (item : Item) → log.first ≤ number → item_at log number ≡ Some item → IsItemOf log number item

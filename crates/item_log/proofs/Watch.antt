@@ -1,17 +1,5 @@
 -- What a change of one framer is seen as.
-use Rattle.std.proofs.Common.{◌≡◌, ℕ, ◌<◌, List, [], ◌∷◌, Option, Some, None, Result, Ok, Err, Vec, length, get_or, set, replicate, refl, sym, ◌∙◌, ap, inl, inr, zero, suc, true}
-use Rattle.std.specs.Option.{is_some, unwrap_or}
-use Rattle.std.proofs.lemmas.List.{map-set, get_or-map, set-get_or, get_or_past, length-map, length-replicate, get_or-replicate}
-use Rattle.std.proofs.lemmas.Bool.{cases_lt}
-use Rattle.std.specs.declared.alloc.Global.{Global}
-use Rattle.msg_frame.specs.declared.framing.Framing.{Framing}
-use Rattle.msg_frame.specs.declared.framing.FrameRefusal.{FrameRefusal}
-use Rattle.msg_frame.specs.declared.framing.FrameRefusal.TheVariants.{TooLong, Memory}
-use Rattle.msg_frame.specs.Messages.{cut}
-use Rattle.msg_frame.specs.Feeding.{Unfinished, Feeds}
-use Rattle.item_log.specs.declared.kinds.TheConstants.{CONNECTIONS}
-use Rattle.item_log.specs.Connections.{none_open, rest_of, is_open}
-use Rattle.item_log.specs.Watched.{Watched, rest_in, rests_of, AreFramers}
+use Rattle.item_log.proofs.Terms.{Global, Err, List, None, Ok, Option, Result, Some, Vec, [], ap, get_or, inl, inr, length, refl, replicate, set, suc, sym, true, zero, ℕ, ◌<◌, ◌∙◌, ◌∷◌, ◌≡◌, cases_lt, get_or-map, get_or_past, length-map, map-set, set-get_or, is_some, unwrap_or, FrameRefusal, Memory, TooLong, Framing, Feeds, Unfinished, cut, CONNECTIONS, is_open, none_open, rest_of, AreFramers, Watched, rest_in, rests_of}
 use Rattle.item_log.specs.Watching.{FeedsOne}
 
 -- no framer at all
@@ -22,12 +10,6 @@ map-replicate (suc n) = ap (λ rests. None ∷ rests) (map-replicate n)
 pub rests_of-none : rests_of (replicate CONNECTIONS None) ≡ none_open
 unfolding none_open
 rests_of-none = map-replicate CONNECTIONS
-
-pub none_are_framers : (framing : Framing) → AreFramers framing (replicate CONNECTIONS None)
-none_are_framers framing = record {
-  places = length-replicate {A = Option Unfinished} CONNECTIONS None;
-  alike = λ k d below. rw (get_or-replicate CONNECTIONS k None d (rw (length-replicate {A = Option Unfinished} CONNECTIONS None) at below)) tt;
-}
 
 -- a connection that is open has a framer
 pub open_below : (framers : List (Option Unfinished)) (conn : ℕ) → is_open (rests_of framers) conn ≡ true → conn < length framers

@@ -1,8 +1,6 @@
 -- Which connections are open, and the bytes of their messages that aren't whole yet.
 use Rattle.std.specs.Prelude.{ℕ, List, Bool, true, not, ◌&&◌, nat_lt, Option, None, is_some, slice_index_or, replicate}
-use Rattle.links.specs.declared.journal.LinkEvent.{LinkEvent}
-use Rattle.links.specs.declared.journal.LinkEvent.TheVariants.{Opens, Piece, Closes, Settles, Ends}
-use Rattle.item_log.specs.declared.kinds.TheConstants.{CONNECTIONS}
+use Rattle.item_log.specs.Terms.{LinkEvent, Closes, Ends, Opens, Piece, Settles, CONNECTIONS}
 
 -- no connection is open
 unfoldable pub none_open : List (Option (List ℕ))
@@ -12,6 +10,7 @@ none_open = replicate CONNECTIONS None
 abbrev pub rest_of : List (Option (List ℕ)) → ℕ → Option (List ℕ)
 rest_of rests conn = slice_index_or rests conn None
 
+-- a connection opened, and its close wasn't heard
 abbrev pub is_open : List (Option (List ℕ)) → ℕ → Bool
 is_open rests conn = is_some (rest_of rests conn)
 

@@ -1,11 +1,6 @@
 -- The items of the events of a link.
 use Rattle.std.specs.Prelude.{ℕ, List, [], ◌∷◌, ◌++◌, map, Option, Some, None, unwrap_or, if◌then◌else◌, slice_set}
-use Rattle.rx_io.specs.declared.bytes.Item.{Item}
-use Rattle.links.specs.declared.journal.LinkEvent.{LinkEvent}
-use Rattle.links.specs.declared.journal.LinkEvent.TheVariants.{Opens, Piece, Closes, Settles, Ends}
-use Rattle.msg_frame.specs.declared.framing.Framing.{Framing}
-use Rattle.msg_frame.specs.Messages.{Parts, cut}
-use Rattle.item_log.specs.declared.kinds.TheConstants.{OPENED, MESSAGE, CLOSED}
+use Rattle.item_log.specs.Terms.{Item, LinkEvent, Closes, Ends, Opens, Piece, Settles, Framing, Parts, cut, CLOSED, MESSAGE, OPENED}
 use Rattle.item_log.specs.Connections.{none_open, rest_of, in_order}
 
 -- the items of some events, and what the connections' messages that aren't whole yet have then
@@ -42,6 +37,7 @@ abbrev pub behind_items : List Item → Option Heard → Option Heard
 behind_items items None = None
 behind_items items (Some heard) = Some (record { items = items ++ heard.items; rests = heard.rests })
 
+-- what comes behind the first events, unless one of them was refused
 abbrev pub then_hear : Option Heard → (List (Option (List ℕ)) → Option Heard) → Option Heard
 then_hear None next = None
 then_hear (Some heard) next = behind_items heard.items (next heard.rests)
@@ -65,6 +61,7 @@ abbrev pub first_items : Option Heard → (List (Option (List ℕ)) → List Ite
 first_items None next = []
 first_items (Some heard) next = heard.items ++ next heard.rests
 
+-- those of events that come where connections have these rests
 unfoldable pub items_from : Framing → List (Option (List ℕ)) → List LinkEvent → List Item
 items_from framing rests [] = []
 items_from framing rests (event ∷ events) = first_items (hear framing rests event) (λ more. items_from framing more events)

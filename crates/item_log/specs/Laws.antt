@@ -1,8 +1,6 @@
 -- What holds of the items of every list of events.
 use Rattle.std.specs.Prelude.{◌≡◌, List, [], ◌∷◌, ◌++◌, drop, length, Some, None}
-use Rattle.links.specs.declared.journal.LinkEvent.{LinkEvent}
-use Rattle.msg_frame.specs.declared.framing.Framing.{Framing}
-use Rattle.item_log.specs.declared.kinds.TheConstants.{CONNECTIONS}
+use Rattle.item_log.specs.Terms.{LinkEvent, Framing, CONNECTIONS}
 use Rattle.item_log.specs.Heard.{Heard, hear, heard, behind_items, items_by, items_of}
 use Rattle.item_log.specs.Log.{Log, received, logged, Shows, ShowsMore}
 

@@ -1,3 +1,4 @@
+pub mod Terms
 pub mod Connections
 pub mod Heard
 pub mod Watched

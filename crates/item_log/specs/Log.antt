@@ -1,11 +1,6 @@
 -- What a log of items is seen as, and what it does with an event.
 use Rattle.std.specs.Prelude.{◌≡◌, ℕ, ◌+◌, ◌-◌, ◌<◌, ◌≤◌, max, List, [], ◌∷◌, ◌++◌, drop, length, Option, Some, None, option_map, Result, Ok, Err, slice_get}
-use Rattle.rx_io.specs.declared.bytes.Item.{Item}
-use Rattle.links.specs.declared.journal.LinkEvent.{LinkEvent}
-use Rattle.links.specs.declared.journal.LinkEvent.TheVariants.{Opens, Piece, Closes, Settles, Ends}
-use Rattle.msg_frame.specs.declared.framing.Framing.{Framing}
-use Rattle.item_log.specs.declared.item_refusal.ItemRefusal.{ItemRefusal}
-use Rattle.item_log.specs.declared.item_refusal.ItemRefusal.TheVariants.{TooLong, Items, Memory}
+use Rattle.item_log.specs.Terms.{Item, LinkEvent, Closes, Ends, Opens, Piece, Settles, Framing, ItemRefusal, Items, Memory, TooLong}
 use Rattle.item_log.specs.Connections.{none_open}
 use Rattle.item_log.specs.Heard.{Heard, hear, heard, items_of}
 

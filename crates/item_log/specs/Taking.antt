@@ -1,8 +1,6 @@
 -- The parts of logging an event.
 use Rattle.std.specs.Prelude.{◌≡◌, ℕ, ◌+◌, Option, Some, None, Result, Ok, Err}
-use Rattle.links.specs.declared.journal.LinkEvent.{LinkEvent}
-use Rattle.item_log.specs.declared.item_refusal.ItemRefusal.{ItemRefusal}
-use Rattle.item_log.specs.declared.item_refusal.ItemRefusal.TheVariants.{TooLong, Items, Memory}
+use Rattle.item_log.specs.Terms.{LinkEvent, ItemRefusal, Items, Memory, TooLong}
 use Rattle.item_log.specs.Log.{Log, received, logged, IsPieceOf}
 
 -- a log that isn't refused has received so many items

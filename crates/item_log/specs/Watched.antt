@@ -1,14 +1,13 @@
 -- What the connections of a link are seen as.
 use Rattle.std.specs.Prelude.{◌≡◌, ℕ, List, length, map, Option, Some, None, option_map, All}
-use Rattle.msg_frame.specs.declared.framing.Framing.{Framing}
-use Rattle.msg_frame.specs.Feeding.{Unfinished}
-use Rattle.item_log.specs.declared.kinds.TheConstants.{CONNECTIONS}
+use Rattle.item_log.specs.Terms.{Framing, Unfinished, CONNECTIONS}
 
 -- how pieces are cut, and the rests of the connections that are open
 pub record Watched : Type 0 where
   pub framing : Framing
   pub rests : List (Option (List ℕ))
 
+-- the bytes of a message that isn't whole yet, where its connection is open
 abbrev pub rest_in : Option Unfinished → Option (List ℕ)
 rest_in framer = option_map (λ (stream : Unfinished). stream.rest) framer
 

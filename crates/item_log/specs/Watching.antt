@@ -1,9 +1,7 @@
 -- What connections do with a piece of one of them.
 use Rattle.std.specs.Prelude.{◌≡◌, ℕ, List, [], Vec, Some, None, unwrap_or, slice_set, Result, Ok, Err}
-use Rattle.std.specs.declared.alloc.Global.{Global}
-use Rattle.msg_frame.specs.declared.framing.FrameRefusal.{FrameRefusal}
 use Rattle.msg_frame.specs.declared.framing.FrameRefusal.TheVariants.{TooLong, Memory}
-use Rattle.msg_frame.specs.Messages.{Parts, cut}
+use Rattle.item_log.specs.Terms.{Global, FrameRefusal, Parts, cut}
 use Rattle.item_log.specs.Connections.{rest_of}
 use Rattle.item_log.specs.Watched.{Watched}
 

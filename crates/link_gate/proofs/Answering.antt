@@ -1,28 +1,10 @@
 -- What is heard of an event that was taken.
-use Rattle.std.proofs.Common.{◌≡◌, ℕ, ◌+◌, ◌<◌, ◌≤◌, false, List, [], ◌∷◌, ◌++◌, Some, None, length, refl, sym, ◌∙◌, ap, subst, arith, append-nil, length-append, inr}
-use Rattle.std.specs.Prelude.{Result, Ok, Err}
-use Rattle.std.proofs.lemmas.Option.{none-some, same_Some}
-use Rattle.links.specs.declared.journal.Entry.{Entry}
 use Rattle.links.specs.declared.journal.Entry.TheVariants as entry
-use Rattle.links.specs.declared.journal.LinkEvent.{LinkEvent}
 use Rattle.links.specs.declared.journal.LinkEvent.TheVariants as event
-use Rattle.rx_io.specs.Sends.{Send}
-use Rattle.links.specs.Links.{Phases, IsInOrder, phases_after, events_in}
-use Rattle.links.specs.Seen.{Seen}
-use Rattle.item_log.specs.Heard.{items_of}
-use Rattle.item_log.specs.Log.{Log, logged, Fits}
-use Rattle.reply_ledger.specs.Ledger.{Ledger}
-use Rattle.session_history.specs.Heeding.{Bounds, Unheeded, heeded, items_in, refusal}
 use Rattle.session_history.specs.Heeding as unheeded
-use Rattle.session_history.specs.Opened.{opens, closes}
-use Rattle.session_history.specs.Keeping.{KeepsReplies, KeepsItems, KeepsPhases, phase_after}
-use Rattle.session_history.specs.Hearing.{closing_of, IsHeard, IsUnheeded}
-use Rattle.link_gate.specs.declared.heard.Heard.{Heard}
+use Rattle.link_gate.proofs.Terms.{List, None, Some, [], ap, append-nil, arith, false, inr, length, length-append, refl, subst, sym, ℕ, ◌++◌, ◌+◌, ◌<◌, ◌∙◌, ◌∷◌, ◌≡◌, ◌≤◌, none-some, same_Some, Err, Ok, Result, Send, Entry, LinkEvent, IsInOrder, Phases, events_in, phases_after, Seen, items_of, Fits, Log, logged, Ledger, IsHeard, IsUnheeded, closing_of, Bounds, Unheeded, heeded, items_in, refusal, KeepsItems, KeepsPhases, KeepsReplies, phase_after, closes, opens, HearFault, Heard, HearsBy, MayHear, Takes, IsNew, TakesIn, TakesOrEnds, entered}
 use Rattle.link_gate.specs.declared.heard.Heard.TheVariants as heard
-use Rattle.link_gate.specs.declared.heard.HearFault.{HearFault}
 use Rattle.link_gate.specs.declared.heard.HearFault.TheVariants as fault
-use Rattle.link_gate.specs.Calls.{Takes, HearsBy, MayHear}
-use Rattle.link_gate.specs.Taking.{IsNew, entered, TakesIn, TakesOrEnds}
 use Rattle.link_gate.proofs.Phasing.{phases_behind, unopened_by, open_by}
 use Rattle.link_gate.proofs.Refusing.{IsEvent, events_behind, events_ended, items_ended, is_heeded, keeps_items, heeded_with, heeded_without, limit_events, too_long, limit_items}
 use Rattle.link_gate.proofs.Knowing.{is_unknown, keeps_unheeded, keeps_quiet, keeps_closing, keeps_opening}

@@ -1,19 +1,10 @@
 -- What comes behind an event that was heard, by what the link's own answer says of it.
-use Rattle.std.proofs.Common.{◌≡◌, ℕ, Bool, true, false, [], inl, inr, refl, sym, subst}
-use Rattle.std.specs.Prelude.{Option, Some, None, Result, Ok, Err}
-use Rattle.links.specs.declared.journal.LinkEvent.{LinkEvent}
+use Rattle.std.specs.Prelude.{Option, Some, None}
 use Rattle.links.specs.declared.journal.LinkEvent.TheVariants as event
-use Rattle.links.specs.declared.journal.LinkFault.{LinkFault}
 use Rattle.links.specs.declared.journal.LinkFault.TheVariants as link
-use Rattle.links.specs.Links.{Coming, Told, Tells, StillComes, StaysTold}
-use Rattle.item_log.specs.Log.{Log}
-use Rattle.reply_ledger.specs.Ledger.{Ledger}
-use Rattle.link_gate.specs.declared.heard.Heard.{Heard}
+use Rattle.link_gate.proofs.Terms.{Bool, [], false, inl, inr, refl, subst, sym, true, ℕ, ◌≡◌, Err, Ok, Result, LinkEvent, LinkFault, Coming, StaysTold, StillComes, Tells, Told, Log, Ledger, HearFault, Heard, ComesLast, ComesOn, IsShown, TakesBehind, IsFaultOf, TakesIn, TakesOrEnds}
 use Rattle.link_gate.specs.declared.heard.Heard.TheVariants as heard
-use Rattle.link_gate.specs.declared.heard.HearFault.{HearFault}
 use Rattle.link_gate.specs.declared.heard.HearFault.TheVariants as fault
-use Rattle.link_gate.specs.Calls.{IsShown, ComesOn, ComesLast, TakesBehind}
-use Rattle.link_gate.specs.Taking.{IsFaultOf, TakesIn, TakesOrEnds}
 use Rattle.link_gate.proofs.Refusing.{IsEvent}
 
 -- behind an event that was taken

@@ -1,23 +1,8 @@
 -- Which connections are given to behind an event, and what hearing leaves as it was.
-use Rattle.std.proofs.Common.{◌≡◌, ℕ, ◌≤◌, Bool, true, false, not, ◌&&◌, List, length, refl, sym, ◌∙◌, ap, subst, arith, inl, inr, ◌⊎◌, if◌then◌else◌}
-use Rattle.std.specs.Prelude.{◌==◌, Result, Ok, Err}
-use Rattle.std.proofs.lemmas.Bool.{eqb-true, true≢false}
-use Rattle.links.specs.declared.journal.Entry.{Entry}
-use Rattle.links.specs.declared.journal.LinkEvent.{LinkEvent}
 use Rattle.links.specs.declared.journal.LinkEvent.TheVariants as event
-use Rattle.rx_io.specs.Sends.{Send}
-use Rattle.links.specs.Links.{Phase, Open, Closed, Phases, phases_after, GivesAtClose, events_in}
-use Rattle.item_log.specs.Log.{Log}
-use Rattle.reply_ledger.specs.Ledger.{Connection, Ledger, connection_of, stamped_to, new_connection, with_connection}
 use Rattle.reply_ledger.specs.Ledger as ledgers
-use Rattle.reply_ledger.proofs.ConnectionLemmas.{stamped_to-push, is_open-push}
-use Rattle.session_history.specs.Heeding.{Bounds, heeded}
-use Rattle.session_history.specs.Opened.{opens, closes, is_gone}
-use Rattle.link_gate.specs.declared.heard.Heard.{Heard}
-use Rattle.link_gate.specs.declared.heard.HearFault.{HearFault}
+use Rattle.link_gate.proofs.Terms.{Bool, List, ap, arith, false, if◌then◌else◌, inl, inr, length, not, refl, subst, sym, true, ℕ, ◌&&◌, ◌∙◌, ◌≡◌, ◌≤◌, ◌⊎◌, eqb-true, true≢false, Err, Ok, Result, ◌==◌, Send, Entry, LinkEvent, Closed, GivesAtClose, Open, Phase, Phases, events_in, phases_after, Log, is_open-push, stamped_to-push, Ledger, stamped_to, Bounds, heeded, closes, is_gone, opens, HearFault, Heard, HasSameReplies, Stays, IsNew, TakesIn, TakesOrEnds, entered}
 use Rattle.link_gate.specs.declared.heard.HearFault.TheVariants as fault
-use Rattle.link_gate.specs.Calls.{HasSameReplies, Stays}
-use Rattle.link_gate.specs.Taking.{IsNew, entered, TakesIn, TakesOrEnds}
 use Rattle.link_gate.proofs.Phasing.{phase_by}
 use Rattle.link_gate.proofs.Refusing.{few_heeded}
 use Rattle.link_gate.proofs.Answering.{Stood}

@@ -1,25 +1,8 @@
 -- The part that a ledger finds first is a piece that is due.
-use Rattle.std.proofs.Common.{cond, ◌≡◌, ℕ, ◌+◌, ◌-◌, ◌<◌, ◌≤◌, Bool, true, false, eqb, List, [], ◌∷◌, ◌++◌, length, take, drop, Option, refl, sym, ◌∙◌, ap, subst, inl, inr, arith, append-nil, append_assoc, length-append}
 use Rattle.std.specs.Prelude.{◌⊎◌}
-use Rattle.std.proofs.lemmas.Bool.{cases_lt, eqb-true}
-use Rattle.std.proofs.lemmas.List.{take-append-drop, take-append-le, drop-append-le, length-take-le}
-use Rattle.std.proofs.Math.Seq.{take-append_seam, drop-append_seam, drop-append-add}
-use Rattle.rx_io.specs.Sends.{Send, sent_to}
-use Rattle.rx_io.specs.Prefix.{Prefix}
-use Rattle.run_history.proofs.Outputs.{prefix_trans, prefix_sent, sent_to-more}
-use Rattle.reply_ledger.specs.Ledger.{Ledger}
-use Rattle.reply_ledger.specs.Parts.{unpassed, is_left}
-use Rattle.reply_ledger.proofs.PartLemmas.{come, not_left, sent_then, IsFirst, first_length}
 use Rattle.reply_ledger.proofs.EntryLemmas.{sent_to-append}
-use Rattle.session_history.specs.Heeding.{Bounds, received}
-use Rattle.session_history.specs.Passing.{passed_in}
-use Rattle.session_history.specs.Owing.{Moment, journal, IsOwed, Stands, IsPassed}
-use Rattle.session_history.specs.Lawful.{Rules, GoesBefore, IsDuePiece, IsWholePiece}
-use Rattle.session_history.specs.Keeping.{may_pass, IsSendable, AreSendable, KeepsReplies}
-use Rattle.session_history.specs.Giving.{AreFronts}
-use Rattle.session_history.proofs.Heeding.{passed_in-gave}
+use Rattle.link_gate.proofs.Terms.{Bool, List, Option, [], ap, append-nil, append_assoc, arith, cond, drop, eqb, false, inl, inr, length, length-append, refl, subst, sym, take, true, ℕ, ◌++◌, ◌+◌, ◌-◌, ◌<◌, ◌∙◌, ◌∷◌, ◌≡◌, ◌≤◌, drop-append-add, drop-append_seam, take-append_seam, cases_lt, eqb-true, drop-append-le, length-take-le, take-append-drop, take-append-le, Prefix, Send, sent_to, Entry, IsFirst, come, first_length, not_left, sent_then, Ledger, is_left, unpassed, prefix_sent, prefix_trans, sent_to-more, passed_in-gave, AreFronts, Bounds, received, AreSendable, IsSendable, KeepsReplies, may_pass, GoesBefore, IsDuePiece, IsWholePiece, Rules, IsOwed, IsPassed, Moment, Stands, journal, passed_in}
 use Rattle.link_gate.proofs.KeepLemmas.{passed_length}
-use Rattle.links.specs.declared.journal.Entry.{Entry}
 use Rattle.links.specs.declared.journal.Entry.TheVariants as entry
 
 -- of two fronts of a list the shorter is a front of the longer

@@ -1,25 +1,9 @@
 -- What the ledger's calls find, and what is given of it.
-use Rattle.std.proofs.Common.{◌≡◌, ℕ, ◌<◌, Bool, true, false, not, ◌&&◌, List, ◌++◌, length, Option, None, Some, Result, Ok, Err, refl, sym, ◌∙◌, ap, subst, arith, append_assoc}
-use Rattle.std.specs.Option.{option_map}
-use Rattle.std.proofs.lemmas.Bool.{true≢false}
-use Rattle.std.proofs.lemmas.Option.{same_Some}
-use Rattle.links.specs.declared.journal.Entry.{Entry}
-use Rattle.links.specs.declared.journal.Given.{Given}
-use Rattle.links.specs.declared.journal.LinkFault.{LinkFault}
-use Rattle.links.specs.Links.{Told, Gives, events_in}
-use Rattle.rx_io.specs.Sends.{Send}
-use Rattle.reply_ledger.specs.Ledger.{Ledger, IsOpened, times_of, IsInOrder}
+use Rattle.std.proofs.Common.{Result, Ok, Err}
+use Rattle.reply_ledger.specs.Ledger.{IsInOrder}
 use Rattle.reply_ledger.specs.Ledger as ledgers
-use Rattle.reply_ledger.specs.Parts.{next_part, rest_part, shown_part}
-use Rattle.reply_ledger.proofs.PartLemmas.{IsFirst, first_length, IsNext, next_is, IsRest, rest_is}
-use Rattle.session_history.specs.Heeding.{received, heeded}
-use Rattle.session_history.specs.Opened.{opens, is_gone}
-use Rattle.session_history.specs.Owing.{Moment, journal}
-use Rattle.session_history.specs.Lawful.{Rules}
-use Rattle.session_history.specs.Keeping.{AreSendable, KeepsReplies}
-use Rattle.session_history.specs.Giving.{then_entries, IsReady, IsClosing, Passes, PassesRest}
-use Rattle.link_gate.specs.declared.pass_fault.PassFault.{PassFault}
-use Rattle.link_gate.specs.Noting.{IsNoted}
+use Rattle.session_history.specs.Giving.{Passes}
+use Rattle.link_gate.proofs.Terms.{Bool, List, None, Option, Some, ap, append_assoc, arith, false, length, not, refl, subst, sym, true, ℕ, ◌&&◌, ◌++◌, ◌<◌, ◌∙◌, ◌≡◌, true≢false, same_Some, option_map, Send, Entry, Given, LinkFault, Gives, Told, events_in, IsFirst, IsNext, IsRest, first_length, next_is, rest_is, IsOpened, Ledger, times_of, next_part, rest_part, shown_part, IsClosing, IsReady, PassesRest, then_entries, heeded, received, AreSendable, KeepsReplies, Rules, is_gone, opens, Moment, journal, PassFault, IsNoted}
 use Rattle.link_gate.proofs.DueLemmas.{sendable_at}
 use Rattle.link_gate.proofs.GoingLemmas.{Going, IsPiece, Moved, moved, broke, going_then, going_broke}
 use Rattle.link_gate.proofs.ReadyLemmas.{may_rest, until_piece, until_then, rest_piece, rest_then}

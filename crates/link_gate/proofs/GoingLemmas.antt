@@ -1,26 +1,10 @@
 -- Pieces that are due, one behind the other.
-use Rattle.std.proofs.Common.{arith, ◌≡◌, ℕ, ◌≤◌, Bool, true, false, List, [], ◌∷◌, ◌++◌, length, take, drop, Option, None, Some, Result, Ok, Err, sym, ◌∙◌, ap, subst, append-nil, append_assoc}
-use Rattle.std.proofs.lemmas.List.{take-append-drop}
-use Rattle.std.proofs.Math.Seq.{take-append_seam}
-use Rattle.links.specs.declared.journal.Entry.{Entry}
+use Rattle.std.proofs.Common.{Result, Ok, Err}
 use Rattle.links.specs.declared.journal.Entry.TheVariants as entry
-use Rattle.links.specs.declared.journal.Given.{Given}
-use Rattle.links.specs.declared.journal.Given.TheVariants.{All, Gone}
-use Rattle.links.specs.declared.journal.LinkFault.{LinkFault}
 use Rattle.links.specs.declared.journal.LinkFault.TheVariants.{Refused, ReadFault, WriteFault, Memory}
-use Rattle.links.specs.Links.{Told, Tells, Grew, Gives, Cuts, cut_entries, events_in, pieces_in}
-use Rattle.rx_io.specs.Sends.{Send}
 use Rattle.links.proofs.Journaled.{events_in-append, pieces_in-append}
-use Rattle.reply_ledger.specs.Ledger.{Ledger, with_change, with_passed, gone_connection}
-use Rattle.session_history.specs.Heeding.{received}
-use Rattle.session_history.specs.Passing.{passed_in}
-use Rattle.session_history.specs.Owing.{Moment, journal}
-use Rattle.session_history.specs.Lawful.{Rules, IsDuePiece, IsWholePiece, then_entry}
 use Rattle.session_history.specs.Account.{IsBroken}
-use Rattle.session_history.specs.Keeping.{may_pass, KeepsReplies}
-use Rattle.session_history.specs.Giving.{AreFronts, AreDuePieces, then_entries, PassesBy}
-use Rattle.link_gate.specs.declared.pass_fault.PassFault.{PassFault}
-use Rattle.link_gate.specs.Noting.{IsNoted}
+use Rattle.link_gate.proofs.Terms.{Bool, List, None, Option, Some, [], ap, append-nil, append_assoc, arith, drop, false, length, subst, sym, take, true, ℕ, ◌++◌, ◌∙◌, ◌∷◌, ◌≡◌, ◌≤◌, take-append_seam, take-append-drop, Send, Entry, Given, All, Gone, LinkFault, Cuts, Gives, Grew, Tells, Told, cut_entries, events_in, pieces_in, Ledger, gone_connection, with_change, with_passed, AreDuePieces, AreFronts, PassesBy, then_entries, received, KeepsReplies, may_pass, IsDuePiece, IsWholePiece, Rules, then_entry, Moment, journal, passed_in, PassFault, IsNoted}
 use Rattle.link_gate.proofs.MomentLemmas.{journal-then, received-gave}
 use Rattle.link_gate.proofs.KeepLemmas.{next_of, keeps-passed, keeps-gone}
 use Rattle.link_gate.proofs.DueLemmas.{front_due, fronts_then}

@@ -1,30 +1,14 @@
 -- What is known of the items that a log keeps beside a journal.
-use Rattle.std.proofs.Common.{◌≡◌, ℕ, zero, suc, get_or, ◌<◌, ◌≤◌, ◌^◌, Bool, true, false, ◌||◌, List, [], ◌∷◌, map, Option, Some, None, length, refl, sym, ◌∙◌, ap, subst, arith, inl, inr, ◌⊎◌, drop, replicate}
-use Rattle.std.specs.Prelude.{◌==◌, slice_set}
 use Rattle.std.specs.List.{All, slice_get}
-use Rattle.std.specs.Option.{unwrap_or}
-use Rattle.std.proofs.lemmas.Bool.{cases_lt, cond_both, eq-eqb, eqb-true, true≢false}
-use Rattle.std.proofs.lemmas.List.{get_or-set_same, get_or-set_other, get_or-replicate, get_or_past, length-set, length-replicate}
 use Rattle.std.proofs.lemmas.List.Elements.{All-append, All-map}
-use Rattle.std.proofs.lemmas.Option.{slice_get_within, get_or_from_slice_get}
 use Rattle.rx_io.specs.declared.bytes.Item.{Item}
-use Rattle.links.specs.declared.journal.Entry.{Entry}
-use Rattle.links.specs.declared.journal.LinkEvent.{LinkEvent}
 use Rattle.links.specs.declared.journal.LinkEvent.TheVariants as event
-use Rattle.links.specs.Links.{events_in}
-use Rattle.msg_frame.specs.declared.framing.Framing.{Framing}
 use Rattle.msg_frame.specs.declared.framing.TheConstants.{MAX_MESSAGE}
-use Rattle.msg_frame.specs.Messages.{Parts, cut}
 use Rattle.msg_frame.specs.Feeding.{IsRest}
 use Rattle.msg_frame.proofs.Short.{Keeps, cut_keeps, no_rest}
-use Rattle.item_log.specs.declared.kinds.TheConstants.{OPENED, CLOSED, CONNECTIONS}
-use Rattle.item_log.specs.Connections.{none_open, rest_of, in_order}
-use Rattle.item_log.specs.Heard.{Heard, bare_item, message_item, hear, hear_parts, brought, first_items, items_from, items_of}
-use Rattle.item_log.specs.Log.{Log, received, IsItemOf}
-use Rattle.item_log.proofs.Shown.{shown_items}
-use Rattle.session_history.specs.Heeding.{Bounds, heeded, items_in}
-use Rattle.session_history.specs.Opened.{opens}
-use Rattle.session_history.specs.Keeping.{KeepsItems}
+use Rattle.item_log.specs.Heard.{Heard}
+use Rattle.item_log.specs.Log.{received}
+use Rattle.link_gate.proofs.Terms.{Bool, List, None, Option, Some, [], ap, arith, false, get_or, inl, inr, length, map, refl, replicate, subst, suc, sym, true, zero, ℕ, ◌<◌, ◌^◌, ◌||◌, ◌∙◌, ◌∷◌, ◌≡◌, ◌≤◌, ◌⊎◌, cases_lt, cond_both, eq-eqb, eqb-true, true≢false, get_or-replicate, get_or-set_other, get_or-set_same, get_or_past, length-replicate, length-set, get_or_from_slice_get, slice_get_within, unwrap_or, slice_set, ◌==◌, Entry, LinkEvent, events_in, Framing, Parts, cut, CLOSED, CONNECTIONS, OPENED, shown_items, in_order, none_open, rest_of, bare_item, brought, first_items, hear, hear_parts, items_from, items_of, message_item, IsItemOf, Log, Bounds, heeded, items_in, KeepsItems, opens}
 use Rattle.link_gate.proofs.Phasing.{opens_by, opens-first}
 
 -- the item of a number is that of the journal
@@ -34,9 +18,6 @@ item_is bounds entries log number item keeps is = ap (λ events. slice_get (item
 -- a log received as many items as the journal has
 pub received_is : (bounds : Bounds) (entries : List Entry) (log : Log) → KeepsItems bounds entries log → received log ≡ length (items_in bounds entries)
 received_is bounds entries log keeps = (shown_items bounds.framing (events_in entries) log keeps.shows).0 ∙ ap (λ events. length (items_of bounds.framing events)) (sym keeps.all_heeded)
-
-pub kept_is : (bounds : Bounds) (entries : List Entry) (log : Log) → KeepsItems bounds entries log → log.kept ≡ drop log.first (items_in bounds entries)
-kept_is bounds entries log keeps = (shown_items bounds.framing (events_in entries) log keeps.shows).1 ∙ ap (λ events. drop log.first (items_of bounds.framing events)) (sym keeps.all_heeded)
 
 -- what holds of each of some items holds of the one at a number
 pub item_at_number : (P : Item → Type 0) (items : List Item) (number : ℕ) (item : Item) → All P items → slice_get items number ≡ Some item → P item

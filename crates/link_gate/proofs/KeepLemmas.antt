@@ -1,26 +1,8 @@
 -- What a piece makes of a ledger beside its journal, and how far each connection has come.
-use Rattle.std.proofs.Common.{◌≡◌, ℕ, ◌+◌, ◌-◌, ◌≤◌, Bool, true, false, not, ◌&&◌, ◌||◌, cond, eqb, List, [], ◌∷◌, ◌++◌, length, take, drop, Option, None, Some, refl, sym, ◌∙◌, ap, subst, arith, length-append, length-drop, if◌then◌else◌}
-use Rattle.std.specs.Prelude.{is_some, IsSome}
-use Rattle.std.specs.Option.{option_map}
-use Rattle.std.proofs.lemmas.Bool.{true≢false, eqb-true}
-use Rattle.links.specs.declared.journal.Entry.{Entry}
 use Rattle.links.specs.declared.journal.Entry.TheVariants as entry
-use Rattle.links.specs.declared.journal.LinkEvent.{LinkEvent}
-use Rattle.links.specs.Links.{events_in}
-use Rattle.rx_io.specs.Sends.{Send, sent_to}
-use Rattle.reply_ledger.specs.Ledger.{Connection, Ledger, connection_of, stamped, stamped_to, passed_to, changed, passed_connection, gone_connection, with_change, with_passed}
-use Rattle.reply_ledger.specs.Shows.{Shows, stamped_of}
-use Rattle.reply_ledger.specs.Inside.{earlier_at}
-use Rattle.reply_ledger.proofs.ShowsLemmas.{bytes_of-stamped_of, shows-passed, shows-marked}
-use Rattle.reply_ledger.proofs.RunLemmas.{length-bytes_of}
-use Rattle.reply_ledger.proofs.ConnectionLemmas.{connection_of-changed, is_open-changed}
-use Rattle.reply_ledger.proofs.PartLemmas.{come, opened_known, is_open-gone}
-use Rattle.session_history.specs.Heeding.{Bounds, heeded, received}
-use Rattle.session_history.specs.Opened.{opens, closes, is_gone}
+use Rattle.reply_ledger.specs.Shows.{Shows}
 use Rattle.session_history.specs.Opened as journals
-use Rattle.session_history.specs.Passing.{passed_in}
-use Rattle.session_history.specs.Keeping.{may_pass, KeepsReplies}
-use Rattle.session_history.proofs.Heeding.{events_in-gave, passed_in-gave}
+use Rattle.link_gate.proofs.Terms.{Bool, List, None, Option, Some, [], ap, arith, cond, drop, eqb, false, if◌then◌else◌, length, length-append, length-drop, not, refl, subst, sym, take, true, ℕ, ◌&&◌, ◌++◌, ◌+◌, ◌-◌, ◌||◌, ◌∙◌, ◌∷◌, ◌≡◌, ◌≤◌, eqb-true, true≢false, option_map, IsSome, is_some, Send, sent_to, Entry, LinkEvent, events_in, connection_of-changed, is_open-changed, come, is_open-gone, opened_known, length-bytes_of, bytes_of-stamped_of, shows-marked, shows-passed, earlier_at, Connection, Ledger, changed, connection_of, gone_connection, passed_connection, passed_to, stamped, stamped_to, with_change, with_passed, stamped_of, events_in-gave, passed_in-gave, Bounds, heeded, received, KeepsReplies, may_pass, closes, is_gone, opens, passed_in}
 use Rattle.link_gate.proofs.MomentLemmas.{is_gone-gave, passed-prefix}
 
 -- a change of a connection leaves it known

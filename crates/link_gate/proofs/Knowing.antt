@@ -1,26 +1,11 @@
 -- What a ledger knows of a journal with one more event.
-use Rattle.std.proofs.Common.{◌≡◌, ℕ, ◌≤◌, Bool, true, false, not, ◌&&◌, ◌||◌, if◌then◌else◌, List, [], ◌∷◌, ◌++◌, Option, Some, None, is_some, length, take, refl, sym, ◌∙◌, ap, subst, arith}
-use Rattle.std.specs.Prelude.{◌==◌}
-use Rattle.std.specs.Option.{option_map_or}
-use Rattle.std.proofs.lemmas.Bool.{eqb-true, eq-eqb, true≢false}
-use Rattle.std.proofs.Math.Bool.{or-false}
-use Rattle.links.specs.declared.journal.Entry.{Entry}
+use Rattle.std.proofs.Common.{is_some}
 use Rattle.links.specs.declared.journal.Entry.TheVariants as entry
-use Rattle.links.specs.declared.journal.LinkEvent.{LinkEvent}
 use Rattle.links.specs.declared.journal.LinkEvent.TheVariants as event
-use Rattle.rx_io.specs.Sends.{Send, sent_to}
-use Rattle.links.specs.Links.{events_in}
-use Rattle.reply_ledger.specs.Ledger.{Connection, Ledger, connection_of, new_connection, with_connection}
 use Rattle.reply_ledger.specs.Ledger as ledgers
-use Rattle.reply_ledger.specs.Inside.{earlier_at}
 use Rattle.reply_ledger.specs.Shows.{Shows}
-use Rattle.reply_ledger.proofs.ConnectionLemmas.{connection_of-push, is_open-push}
-use Rattle.reply_ledger.proofs.ShowsLemmas.{shows-opens}
-use Rattle.session_history.specs.Heeding.{Bounds, heeded}
-use Rattle.session_history.specs.Opened.{opens, closes, is_gone, is_open}
-use Rattle.session_history.specs.Passing.{passed_in}
-use Rattle.session_history.specs.Keeping.{may_pass, KeepsReplies}
-use Rattle.session_history.proofs.Heeding.{passed_in-took}
+use Rattle.session_history.specs.Opened.{is_open}
+use Rattle.link_gate.proofs.Terms.{Bool, List, None, Option, Some, [], ap, arith, false, if◌then◌else◌, length, not, refl, subst, sym, take, true, ℕ, ◌&&◌, ◌++◌, ◌||◌, ◌∙◌, ◌∷◌, ◌≡◌, ◌≤◌, or-false, eq-eqb, eqb-true, true≢false, option_map_or, ◌==◌, Send, sent_to, Entry, LinkEvent, events_in, connection_of-push, is_open-push, shows-opens, earlier_at, Connection, Ledger, connection_of, new_connection, with_connection, passed_in-took, Bounds, heeded, KeepsReplies, may_pass, closes, is_gone, opens, passed_in}
 use Rattle.link_gate.proofs.Phasing.{opens_by, closes_by, opens-last, closes-last, eqb_turns}
 
 -- an event finds no connection gone

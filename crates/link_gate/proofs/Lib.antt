@@ -1,3 +1,4 @@
+pub mod Terms
 pub mod Phasing
 pub mod Ordering
 pub mod Refusing

@@ -1,21 +1,9 @@
 -- What one more piece changes of a moment: what is owed stays owed while its connection isn't gone, and what was passed stays so.
-use Rattle.std.proofs.Common.{◌≡◌, ℕ, ◌+◌, ◌≤◌, Bool, true, false, not, ◌&&◌, ◌||◌, eqb, List, [], ◌∷◌, ◌++◌, Option, None, Some, refl, sym, ◌∙◌, ap, subst, inl, inr, append_assoc}
 use Rattle.std.specs.Prelude.{option_map, unwrap_or}
-use Rattle.std.proofs.lemmas.Bool.{true≢false, and_from, eq-eqb}
-use Rattle.links.specs.declared.journal.Entry.{Entry}
 use Rattle.links.specs.declared.journal.Entry.TheVariants as entry
-use Rattle.links.specs.declared.journal.LinkEvent.{LinkEvent}
 use Rattle.links.specs.declared.journal.LinkEvent.TheVariants as event
-use Rattle.links.specs.Links.{events_in}
-use Rattle.rx_io.specs.Sends.{Send, sent_to}
-use Rattle.rx_io.specs.Prefix.{Prefix}
-use Rattle.run_history.proofs.Outputs.{prefix_trans, prefix_sent}
-use Rattle.session_history.specs.Heeding.{Bounds, heeded, received}
-use Rattle.session_history.specs.Opened.{opens, closes, is_open, is_gone}
-use Rattle.session_history.specs.Passing.{passed_in}
-use Rattle.session_history.specs.Owing.{Moment, place_at, journal, Latest, behind, latest, received_before, IsMadeDue, IsDueBy, IsOwed, Stands, IsPassed}
-use Rattle.session_history.specs.Lawful.{then_entry, is_close_of, is_closed_by, is_closing}
-use Rattle.session_history.proofs.Heeding.{events_in-gave, items_in-gave, passed_in-gave}
+use Rattle.session_history.specs.Opened.{is_open}
+use Rattle.link_gate.proofs.Terms.{Bool, List, None, Option, Some, [], ap, append_assoc, eqb, false, inl, inr, not, refl, subst, sym, true, ℕ, ◌&&◌, ◌++◌, ◌+◌, ◌||◌, ◌∙◌, ◌∷◌, ◌≡◌, ◌≤◌, and_from, eq-eqb, true≢false, Prefix, Send, sent_to, Entry, LinkEvent, events_in, prefix_sent, prefix_trans, events_in-gave, items_in-gave, passed_in-gave, Bounds, heeded, received, is_close_of, is_closed_by, is_closing, then_entry, closes, is_gone, opens, IsDueBy, IsMadeDue, IsOwed, IsPassed, Latest, Moment, Stands, behind, journal, latest, place_at, received_before, passed_in}
 
 -- a piece isn't an event
 pub latest-gave : (entries : List Entry) (conn : ℕ) (bytes : List ℕ) (gone : Bool) → latest (entries ++ entry.Gave conn bytes gone ∷ []) ≡ latest entries

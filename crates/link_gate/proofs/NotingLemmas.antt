@@ -1,23 +1,9 @@
 -- What noting a piece makes of a ledger, by the answer of its link.
-use Rattle.std.proofs.Common.{◌≡◌, ℕ, ◌+◌, ◌<◌, ◌≤◌, Bool, true, false, not, ◌&&◌, eqb, cond, List, [], ◌∷◌, ◌++◌, length, drop, Result, Ok, Err, refl, sym, ◌∙◌, ap, subst, arith, length-drop}
-use Rattle.std.specs.Prelude.{is_some, is_ok}
-use Rattle.std.proofs.lemmas.List.{length-take-le}
-use Rattle.links.specs.declared.journal.Given.{Given}
-use Rattle.links.specs.declared.journal.Given.TheVariants.{All, Gone}
-use Rattle.links.specs.declared.journal.LinkFault.{LinkFault}
+use Rattle.std.proofs.Common.{Result, Ok, Err}
 use Rattle.links.specs.declared.journal.LinkFault.TheVariants as cause
-use Rattle.links.specs.Links.{Counts, HasGiveCause, Gives, Told}
-use Rattle.links.specs.Seen.{Seen, GiveShows, but_given}
 use Rattle.rx_io.proofs.Composing.{rose_later}
-use Rattle.rx_io.specs.Sends.{sent_to}
-use Rattle.reply_ledger.specs.Ledger.{Passed, Ledger, connection_of, IsOpened, is_open, stamped, stamped_to, stamps_of, NotBefore, passed_connection, gone_connection, with_change, with_passed}
-use Rattle.reply_ledger.proofs.RunLemmas.{stamps_of-append, length-stamped}
-use Rattle.reply_ledger.proofs.ConnectionLemmas.{stamped_to-passed, stamped_to-changed, is_open-changed}
-use Rattle.reply_ledger.proofs.PartLemmas.{come, room, room_passed, room_passed_some, room_gone, is_open-gone}
-use Rattle.link_gate.specs.declared.pass_fault.PassFault.{PassFault}
+use Rattle.link_gate.proofs.Terms.{Bool, List, [], ap, arith, cond, drop, eqb, false, length, length-drop, not, refl, subst, sym, true, ℕ, ◌&&◌, ◌++◌, ◌+◌, ◌<◌, ◌∙◌, ◌∷◌, ◌≡◌, ◌≤◌, length-take-le, is_ok, is_some, sent_to, Given, All, Gone, LinkFault, Counts, HasGiveCause, GiveShows, Seen, but_given, is_open-changed, stamped_to-changed, stamped_to-passed, come, is_open-gone, room, room_gone, room_passed, room_passed_some, length-stamped, stamps_of-append, IsOpened, Ledger, NotBefore, Passed, connection_of, gone_connection, is_open, passed_connection, stamped, stamped_to, stamps_of, with_change, with_passed, PassFault, AreStampedBy, HasPassCause, HasSameSends, PassShows, IsNoted}
 use Rattle.link_gate.specs.declared.pass_fault.PassFault.TheVariants as fault
-use Rattle.link_gate.specs.Passing.{HasPassCause, PassShows, AreStampedBy, HasSameSends}
-use Rattle.link_gate.specs.Noting.{IsWithin, IsNoted}
 use Rattle.link_gate.proofs.KeepLemmas.{known-changed, next_of}
 
 -- an opened connection stays one
@@ -117,12 +103,6 @@ pub noted_less : (stamp conn count : ℕ) (old new : Ledger) (given : Result Giv
 noted_less stamp conn count old new (Ok All) done opened some fits noted = subst (λ (l : Ledger). left l < left old) (sym noted) (left_passed old conn count stamp opened some fits)
 noted_less stamp conn count old new (Ok (Gone front)) done opened some fits noted = subst (λ (l : Ledger). left l < left old) (sym noted) (left_gone old conn front stamp opened)
 noted_less stamp conn count old new (Err why) done opened some fits noted = absurd noted
-
--- a link says no more than that went out
-pub gives_within : (old new : Told) (conn : ℕ) (bytes : List ℕ) (given : Result Given LinkFault) → Gives old new conn bytes given → IsWithin (length bytes) given
-gives_within old new conn bytes (Ok All) gives = tt
-gives_within old new conn bytes (Ok (Gone front)) gives = gives.0
-gives_within old new conn bytes (Err why) gives = tt
 
 -- no count fell up to here, and nothing was taken
 pub record HasNoCause (before now : Counts) : Type 0 where

@@ -1,21 +1,9 @@
 -- An event that is in order for a link is in order for the log of its events.
-use Rattle.std.proofs.Common.{◌≡◌, ℕ, ◌<◌, Bool, true, false, not, ◌&&◌, ◌||◌, if◌then◌else◌, List, [], ◌∷◌, ◌++◌, Option, Some, None, is_some, length, refl, sym, ◌∙◌, ap, cond, arith}
-use Rattle.std.specs.Prelude.{◌==◌, slice_set}
-use Rattle.std.specs.Option.{unwrap_or}
-use Rattle.std.proofs.lemmas.Bool.{eqb-true, eq-eqb, true≢false, lt-ltb, or_parts}
-use Rattle.std.proofs.Math.Bool.{or_assoc}
-use Rattle.std.proofs.lemmas.List.{get_or-set_same, get_or-set_other, length-set, length-replicate, get_or-replicate}
-use Rattle.links.specs.declared.journal.LinkEvent.{LinkEvent}
+use Rattle.std.proofs.Common.{is_some}
 use Rattle.links.specs.declared.journal.LinkEvent.TheVariants as event
-use Rattle.links.specs.Links.{Phases, IsInOrder}
-use Rattle.msg_frame.specs.declared.framing.Framing.{Framing}
-use Rattle.msg_frame.specs.Messages.{Parts, cut}
-use Rattle.item_log.specs.declared.kinds.TheConstants.{CONNECTIONS}
-use Rattle.item_log.specs.Connections.{none_open, rest_of, is_open, in_order}
-use Rattle.item_log.specs.Heard.{Heard, hear, hear_parts, brought, behind_items, then_hear, heard_from}
-use Rattle.item_log.specs.Log.{Log, Shows}
-use Rattle.session_history.specs.Opened.{opens, closes}
-use Rattle.session_history.specs.Keeping.{phase_after}
+use Rattle.item_log.specs.Connections.{is_open}
+use Rattle.item_log.specs.Heard.{Heard}
+use Rattle.link_gate.proofs.Terms.{Bool, List, None, Option, Some, [], ap, arith, cond, false, if◌then◌else◌, length, not, refl, sym, true, ℕ, ◌&&◌, ◌++◌, ◌<◌, ◌||◌, ◌∙◌, ◌∷◌, ◌≡◌, or_assoc, eq-eqb, eqb-true, lt-ltb, or_parts, true≢false, get_or-replicate, get_or-set_other, get_or-set_same, length-replicate, length-set, unwrap_or, slice_set, ◌==◌, LinkEvent, IsInOrder, Phases, Framing, Parts, cut, CONNECTIONS, in_order, none_open, rest_of, behind_items, brought, hear, hear_parts, heard_from, then_hear, Log, Shows, phase_after, closes, opens}
 use Rattle.link_gate.proofs.Phasing.{opens_by, closes_by, opens-first, closes-first, unopened_by, open_by}
 
 -- what was heard was in order

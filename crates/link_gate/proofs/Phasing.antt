@@ -1,13 +1,7 @@
 -- The phases of a link behind some events, and the connections that a log knows as open.
-use Rattle.std.proofs.Common.{◌≡◌, ℕ, Bool, true, false, ◌||◌, if◌then◌else◌, List, [], ◌∷◌, ◌++◌, refl, sym, ◌∙◌, ap}
-use Rattle.std.specs.Prelude.{◌==◌}
-use Rattle.std.proofs.lemmas.Bool.{eqb-true, eq-eqb}
 use Rattle.std.proofs.lemmas.List.Recursion.{or_push}
-use Rattle.links.specs.declared.journal.LinkEvent.{LinkEvent}
 use Rattle.links.specs.declared.journal.LinkEvent.TheVariants as event
-use Rattle.links.specs.Links.{Phase, Unopened, Open, Closed, Phases, IsInOrder, phases_after}
-use Rattle.session_history.specs.Opened.{opens, closes}
-use Rattle.session_history.specs.Keeping.{phase_after}
+use Rattle.link_gate.proofs.Terms.{Bool, List, [], ap, false, if◌then◌else◌, refl, sym, true, ℕ, ◌++◌, ◌||◌, ◌∙◌, ◌∷◌, ◌≡◌, eq-eqb, eqb-true, ◌==◌, LinkEvent, Closed, IsInOrder, Open, Phase, Phases, Unopened, phases_after, phase_after, closes, opens}
 
 -- whether one event opens a connection, and whether it closes it
 abbrev pub opens_by : ℕ → LinkEvent → Bool

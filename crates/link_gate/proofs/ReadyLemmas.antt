@@ -1,19 +1,8 @@
 -- The next part of a ledger that is ready is a piece that is due, and the ledger is ready behind it.
-use Rattle.std.proofs.Common.{◌≡◌, ℕ, ◌<◌, Bool, true, false, not, ◌&&◌, cond, List, [], ◌∷◌, ◌++◌, length, take, Option, None, Some, refl, sym, ◌∙◌, ap, inl, inr, arith, append_assoc, length-append}
-use Rattle.std.proofs.lemmas.Bool.{true≢false, eqb-true, eq-eqb, and_parts, and_from}
-use Rattle.links.specs.declared.journal.Entry.{Entry}
 use Rattle.links.specs.declared.journal.Entry.TheVariants as entry
-use Rattle.links.specs.Links.{Told, events_in}
-use Rattle.rx_io.specs.Sends.{Send}
-use Rattle.reply_ledger.specs.Ledger.{Ledger}
 use Rattle.reply_ledger.specs.Ledger as ledgers
-use Rattle.reply_ledger.proofs.PartLemmas.{IsFirst, first_next, IsNext, IsRest}
-use Rattle.session_history.specs.Heeding.{Bounds, heeded}
-use Rattle.session_history.specs.Opened.{opens, closes, is_open, is_gone}
-use Rattle.session_history.specs.Owing.{Moment, journal, Latest, latest, Stands, IsOwed, IsPassed}
-use Rattle.session_history.specs.Lawful.{Rules, is_close_of, is_closed_by, is_closing, GoesBefore, then_entry}
-use Rattle.session_history.specs.Keeping.{may_pass}
-use Rattle.session_history.specs.Giving.{IsReady, IsClosing}
+use Rattle.session_history.specs.Opened.{is_open}
+use Rattle.link_gate.proofs.Terms.{Bool, List, None, Option, Some, [], ap, append_assoc, arith, cond, false, inl, inr, length, length-append, not, refl, sym, take, true, ℕ, ◌&&◌, ◌++◌, ◌<◌, ◌∙◌, ◌∷◌, ◌≡◌, and_from, and_parts, eq-eqb, eqb-true, true≢false, Send, Entry, Told, events_in, IsFirst, IsNext, IsRest, first_next, Ledger, IsClosing, IsReady, Bounds, heeded, may_pass, GoesBefore, Rules, is_close_of, is_closed_by, is_closing, then_entry, closes, is_gone, opens, IsOwed, IsPassed, Latest, Moment, Stands, journal, latest}
 use Rattle.link_gate.proofs.MomentLemmas.{latest-gave, journal-then, not_gone, open_not_gone, open_before, closes-gave, is_closing-gave, owed_then, owed_before, owed_open, passed_then}
 use Rattle.link_gate.proofs.DueLemmas.{front_of, IsKept, passed_unless_left, first_stands, first_due}
 use Rattle.link_gate.proofs.GoingLemmas.{IsPiece, Moved}

@@ -1,22 +1,11 @@
 -- Which events are refused, and what they bring.
-use Rattle.std.proofs.Common.{◌≡◌, ◌+◌, ◌<◌, ◌≤◌, Bool, true, false, if◌then◌else◌, List, [], ◌∷◌, ◌++◌, Option, Some, None, option_map, length, drop, refl, sym, ◌∙◌, ap, subst, cond, arith, append-nil, length-append}
-use Rattle.std.specs.Prelude.{is_none, nat_le, nat_lt}
-use Rattle.std.specs.Option.{unwrap_or}
-use Rattle.std.proofs.lemmas.Bool.{true≢false, le-leb, lt-leb, leb-false, lt-ltb, le-ltb}
-use Rattle.links.specs.declared.journal.Entry.{Entry}
+use Rattle.std.proofs.Common.{option_map}
 use Rattle.links.specs.declared.journal.Entry.TheVariants as entry
-use Rattle.links.specs.declared.journal.LinkEvent.{LinkEvent}
 use Rattle.links.specs.declared.journal.LinkEvent.TheVariants as event
-use Rattle.links.specs.Links.{events_in}
-use Rattle.msg_frame.specs.declared.framing.Framing.{Framing}
-use Rattle.item_log.specs.Heard.{Heard, hear, heard, behind_items, items_by, items_of}
-use Rattle.item_log.specs.Log.{Log, received, with_heard, logged, Fits, Passes, Shows}
+use Rattle.item_log.specs.Heard.{Heard}
+use Rattle.item_log.specs.Log.{received}
 use Rattle.item_log.proofs.Hearing.{one_more_event}
-use Rattle.item_log.proofs.Shown.{logs_show, shown_items}
-use Rattle.session_history.specs.Heeding.{Bounds, Unheeded, LimitEvents, TooLong, LimitItems, refusal, heeded, heeded_behind, items_in}
-use Rattle.session_history.specs.Keeping.{KeepsItems}
-use Rattle.session_history.specs.Hearing.{IsHeeded}
-use Rattle.session_history.proofs.Heeding.{events_in-append, one_more_heeded, refused_unheeded}
+use Rattle.link_gate.proofs.Terms.{Bool, List, None, Option, Some, [], ap, append-nil, arith, cond, drop, false, if◌then◌else◌, length, length-append, refl, subst, sym, true, ◌++◌, ◌+◌, ◌<◌, ◌∙◌, ◌∷◌, ◌≡◌, ◌≤◌, le-leb, le-ltb, leb-false, lt-leb, lt-ltb, true≢false, unwrap_or, is_none, nat_le, nat_lt, Entry, LinkEvent, events_in, Framing, logs_show, shown_items, behind_items, hear, heard, items_by, items_of, Fits, Log, Passes, Shows, logged, with_heard, events_in-append, one_more_heeded, refused_unheeded, IsHeeded, Bounds, LimitEvents, LimitItems, TooLong, Unheeded, heeded, heeded_behind, items_in, refusal, KeepsItems}
 
 -- by three tests
 abbrev refused_by : Bool → Bool → Bool → Option Unheeded

@@ -1,27 +1,8 @@
 -- What the ledger of a session says of what was passed, and what a close and a send make of it. Who passes replies by it cites these.
-use Rattle.std.proofs.Common.{◌≡◌, ℕ, ◌≤◌, Bool, true, false, not, ◌&&◌, eqb, cond, List, [], ◌∷◌, ◌++◌, length, Option, None, Some, refl, sym, ◌∙◌, ap, subst, arith, append-nil, append_assoc}
-use Rattle.std.specs.Prelude.{is_some}
-use Rattle.std.specs.Option.{option_map, option_map_or}
-use Rattle.std.proofs.lemmas.Bool.{true≢false, eqb-true, eq-eqb, ne_eqb}
-use Rattle.std.proofs.lemmas.List.{take-append-le}
-use Rattle.links.specs.declared.journal.Entry.{Entry}
 use Rattle.links.specs.declared.journal.Entry.TheVariants as entry
-use Rattle.links.specs.Links.{events_in}
-use Rattle.rx_io.specs.Sends.{Send, sent_to}
-use Rattle.run_history.proofs.Outputs.{prefix_sent}
-use Rattle.reply_ledger.specs.Ledger.{Connection, Ledger, connection_of, IsOpened, changed, closed_connection, with_change, with_send}
 use Rattle.reply_ledger.specs.Ledger as ledgers
-use Rattle.reply_ledger.specs.Parts.{next_part, rest_part}
-use Rattle.reply_ledger.proofs.ShowsLemmas.{shows-marked, shows-sent}
-use Rattle.reply_ledger.proofs.ConnectionLemmas.{connection_of-changed}
-use Rattle.reply_ledger.proofs.PartLemmas.{next_none, rest_none}
-use Rattle.session_history.specs.Heeding.{Bounds, heeded}
-use Rattle.session_history.specs.Opened.{opens, closes, is_gone, is_open}
-use Rattle.session_history.specs.Passing.{passed_in}
-use Rattle.session_history.specs.Owing.{Moment, journal, Stands, IsPassed}
-use Rattle.session_history.specs.Lawful.{Rules, IsDuePiece, IsWholePiece, then_entry}
-use Rattle.session_history.specs.Keeping.{may_pass, IsSendable, AreSendable, KeepsReplies}
-use Rattle.session_history.specs.Giving.{AreFronts, AreDuePieces, then_entries}
+use Rattle.session_history.specs.Opened.{is_open}
+use Rattle.link_gate.proofs.Terms.{Bool, List, None, Option, Some, [], ap, append-nil, append_assoc, arith, cond, eqb, false, length, not, refl, subst, sym, true, ℕ, ◌&&◌, ◌++◌, ◌∙◌, ◌∷◌, ◌≡◌, ◌≤◌, eq-eqb, eqb-true, ne_eqb, true≢false, take-append-le, option_map, option_map_or, is_some, Send, sent_to, Entry, events_in, connection_of-changed, next_none, rest_none, shows-marked, shows-sent, Connection, IsOpened, Ledger, changed, closed_connection, connection_of, with_change, with_send, next_part, rest_part, prefix_sent, AreDuePieces, AreFronts, then_entries, Bounds, heeded, AreSendable, IsSendable, KeepsReplies, may_pass, IsDuePiece, IsWholePiece, Rules, then_entry, closes, is_gone, opens, IsPassed, Moment, Stands, journal, passed_in}
 use Rattle.link_gate.proofs.MomentLemmas.{journal-then}
 use Rattle.link_gate.proofs.KeepLemmas.{known-changed}
 use Rattle.link_gate.proofs.DueLemmas.{front_of, prefix_le, stands_front, passed_unless_left, fronts_then}

@@ -1,22 +1,10 @@
 -- What a session hears of its link.
 use Rattle.std.specs.Prelude.{◌≡◌, ℕ, ◌≤◌, List, [], ◌∷◌, ◌++◌, length, Bool, true, false, None, Some, Option, Result, Ok, Err, IfSome, IsSome, IsErrOf, ◌⊎◌}
-use Rattle.links.specs.declared.journal.Entry.{Entry}
 use Rattle.links.specs.declared.journal.Entry.TheVariants as entry
-use Rattle.links.specs.declared.journal.LinkEvent.{LinkEvent}
 use Rattle.links.specs.declared.journal.LinkEvent.TheVariants as event
-use Rattle.rx_io.specs.Faults.{Rose}
-use Rattle.rx_io.specs.Sends.{Send}
-use Rattle.links.specs.Links.{Told, Tells, Coming, Comes, Refuses, Counts, events_in}
-use Rattle.links.specs.Seen.{Seen}
-use Rattle.item_log.specs.Log.{Log, IsPieceOf}
-use Rattle.reply_ledger.specs.Ledger.{Ledger, is_open, stamped_to}
-use Rattle.session_history.specs.Heeding.{Bounds, Unheeded}
 use Rattle.session_history.specs.Heeding as unheeded
-use Rattle.session_history.specs.Keeping.{KeepsReplies, KeepsItems, KeepsPhases}
-use Rattle.session_history.specs.Hearing.{IsHeeded, IsHeard, IsUnheeded}
-use Rattle.link_gate.specs.declared.heard.Heard.{Heard}
+use Rattle.link_gate.specs.Terms.{Rose, Send, Entry, LinkEvent, Comes, Coming, Counts, Refuses, Tells, Told, events_in, Seen, IsPieceOf, Log, Ledger, is_open, stamped_to, IsHeard, IsHeeded, IsUnheeded, Bounds, KeepsItems, KeepsPhases, KeepsReplies, HearFault, Heard}
 use Rattle.link_gate.specs.declared.heard.Heard.TheVariants as heard
-use Rattle.link_gate.specs.declared.heard.HearFault.{HearFault}
 use Rattle.link_gate.specs.declared.heard.HearFault.TheVariants as fault
 
 -- an event as the code's answer

@@ -1,3 +1,4 @@
+pub mod Terms
 pub mod Calls
 pub mod Taking
 pub mod Passing

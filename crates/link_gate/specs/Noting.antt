@@ -1,11 +1,7 @@
 -- What a session notes of a piece that it handed to its link.
 use Rattle.std.specs.Prelude.{◌≡◌, ℕ, ◌≤◌, Result, Ok, Err}
-use Rattle.links.specs.declared.journal.Given.{Given}
-use Rattle.links.specs.declared.journal.Given.TheVariants.{All, Gone}
-use Rattle.links.specs.declared.journal.LinkFault.{LinkFault}
 use Rattle.links.specs.declared.journal.LinkFault.TheVariants as cause
-use Rattle.reply_ledger.specs.Ledger.{Ledger, with_change, with_passed, gone_connection}
-use Rattle.link_gate.specs.declared.pass_fault.PassFault.{PassFault}
+use Rattle.link_gate.specs.Terms.{Given, All, Gone, LinkFault, Ledger, gone_connection, with_change, with_passed, PassFault}
 use Rattle.link_gate.specs.declared.pass_fault.PassFault.TheVariants as fault
 
 -- no more bytes went out than were handed over

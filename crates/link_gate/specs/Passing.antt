@@ -1,11 +1,6 @@
 -- What passing replies to a link asks for, and what becomes of the link and of the ledger.
 use Rattle.std.specs.Prelude.{◌≡◌, ℕ, ◌≤◌, true, None, Result, IfOk, IsErrOf}
-use Rattle.rx_io.specs.Faults.{Rose}
-use Rattle.links.specs.Links.{Counts}
-use Rattle.links.specs.Seen.{Seen, but_given}
-use Rattle.reply_ledger.specs.Ledger.{Ledger, is_open, stamped_to, stamps_of, NotBefore}
-use Rattle.session_history.specs.Keeping.{AreSendable}
-use Rattle.link_gate.specs.declared.pass_fault.PassFault.{PassFault}
+use Rattle.link_gate.specs.Terms.{Rose, Counts, Seen, but_given, Ledger, NotBefore, is_open, stamped_to, stamps_of, AreSendable, PassFault}
 use Rattle.link_gate.specs.declared.pass_fault.PassFault.TheVariants as fault
 
 -- nothing was passed with more items received than these

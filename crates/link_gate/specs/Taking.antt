@@ -1,16 +1,11 @@
 -- The parts of taking an event in.
 use Rattle.std.specs.Prelude.{◌≡◌, ℕ, ◌+◌, ◌<◌, ◌≤◌, None, Some, Result, Ok, Err}
-use Rattle.links.specs.declared.journal.LinkEvent.{LinkEvent}
 use Rattle.links.specs.declared.journal.LinkEvent.TheVariants as event
-use Rattle.links.specs.declared.journal.LinkFault.{LinkFault}
 use Rattle.links.specs.declared.journal.LinkFault.TheVariants as link
-use Rattle.item_log.specs.Log.{Log, logged, Fits, Passes, IsPieceOf}
 use Rattle.item_log.specs.declared.item_refusal.ItemRefusal.{ItemRefusal}
 use Rattle.item_log.specs.declared.item_refusal.ItemRefusal.TheVariants as refusal
-use Rattle.reply_ledger.specs.Ledger.{Ledger, connection_of, with_connection}
-use Rattle.link_gate.specs.declared.heard.Heard.{Heard}
+use Rattle.link_gate.specs.Terms.{LinkEvent, LinkFault, Fits, IsPieceOf, Log, Passes, logged, Ledger, connection_of, with_connection, HearFault, Heard}
 use Rattle.link_gate.specs.declared.heard.Heard.TheVariants as heard
-use Rattle.link_gate.specs.declared.heard.HearFault.{HearFault}
 use Rattle.link_gate.specs.declared.heard.HearFault.TheVariants as fault
 use Rattle.link_gate.specs.Calls.{IsShown}
 

@@ -1,17 +1,7 @@
 -- Entries at the end of a journal, as what a link tells.
-use Rattle.std.proofs.Common.{◌≡◌, ℕ, ◌≤◌, min, Bool, true, false, List, [], ◌∷◌, ◌++◌, length, Option, None, Some, Result, Ok, Err, if◌then◌else◌, arith, append-nil, ap, sym, ◌∙◌, refl}
-use Rattle.links.specs.LinkForms.{told_by}
-use Rattle.links.specs.Links.{Tells, Nexts, Gives, events_in, pieces_in}
-use Rattle.links.specs.MemoryLinks.{AnswersAs, after_taking, after_giving, given_of, planned_give, Script}
-use Rattle.rx_io.specs.Planned.{fails_next}
-use Rattle.links.specs.declared.journal.Entry.{Entry}
+use Rattle.links.proofs.Terms.{Bool, Err, List, None, Ok, Option, Result, Some, [], ap, append-nil, arith, false, if◌then◌else◌, length, min, refl, sym, true, ℕ, ◌++◌, ◌∙◌, ◌∷◌, ◌≡◌, ◌≤◌, fails_next, Entry, Given, All, Gone, LinkEvent, LinkFault, Memory, ReadFault, Refused, WriteFault, Gives, Nexts, Tells, events_in, pieces_in, told_by, AnswersAs, Script, after_giving, after_taking, given_of, planned_give}
 use Rattle.links.specs.declared.journal.Entry.TheVariants as entry
-use Rattle.links.specs.declared.journal.Given.{Given}
-use Rattle.links.specs.declared.journal.Given.TheVariants.{All, Gone}
-use Rattle.links.specs.declared.journal.LinkEvent.{LinkEvent}
 use Rattle.links.specs.declared.journal.LinkEvent.TheVariants as event
-use Rattle.links.specs.declared.journal.LinkFault.{LinkFault}
-use Rattle.links.specs.declared.journal.LinkFault.TheVariants.{Refused, ReadFault, WriteFault, Memory}
 
 pub events_in-append : (entries more : List Entry) → events_in (entries ++ more) ≡ events_in entries ++ events_in more
 events_in-append [] more = refl

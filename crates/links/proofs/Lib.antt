@@ -1,2 +1,4 @@
+pub mod Terms
 mod Tables
 pub mod Journaled
+pub mod Growing

@@ -1,9 +1,6 @@
 -- The phases in a table of connections.
-use Rattle.std.proofs.Common.{◌≡◌, ℕ, Bool, true, false, if◌then◌else◌, replicate, slice_index_or, ap, inl, inr, refl}
-use Rattle.std.proofs.lemmas.Bool.{cases_lt}
 use Rattle.std.proofs.lemmas.List.{get_or-replicate, get_or_past, length-replicate}
-use Rattle.links.specs.Links.{Unopened}
-use Rattle.links.specs.ConnectionTables.{phase_of}
+use Rattle.links.proofs.Terms.{Bool, ap, false, if◌then◌else◌, inl, inr, refl, replicate, slice_index_or, true, ℕ, ◌≡◌, cases_lt, Unopened, phase_of}
 use Rattle.links.specs.declared.connection_table.State.TheVariants as state
 
 -- a list of one state alone, read past its end too

@@ -1,17 +1,19 @@
 -- The phases of connections as a table, and the order of events as a test.
 use Rattle.std.specs.Prelude.{nat_lt, Bool, true, false, ◌&&◌, slice_index_or, if◌then◌else◌}
+use Rattle.links.specs.Terms.{LinkEvent}
 use Rattle.links.specs.Links.{Phase, Unopened, Open, Closed, Phases}
 use Rattle.links.specs.declared.connection_table.ConnectionTable.{ConnectionTable}
 use Rattle.links.specs.declared.connection_table.State.{State}
 use Rattle.links.specs.declared.connection_table.State.TheVariants as state
-use Rattle.links.specs.declared.journal.LinkEvent.{LinkEvent}
 use Rattle.links.specs.declared.journal.LinkEvent.TheVariants as event
 
+-- whether a connection never opened
 abbrev pub is_unopened : Phase → Bool
 is_unopened Unopened = true
 is_unopened Open = false
 is_unopened Closed = false
 
+-- whether a connection opened and hasn't closed since
 abbrev pub is_open : Phase → Bool
 is_open Unopened = false
 is_open Open = true
@@ -25,6 +27,7 @@ is_in_order phases (event.Closes conn) = nat_lt conn 4096 && is_open (phases con
 is_in_order phases event.Settles = true
 is_in_order phases event.Ends = true
 
+-- the phase that a table's entry stands for
 abbrev pub phase_of : State → Phase
 phase_of state.Unopened = Unopened
 phase_of state.Open = Open

@@ -1,3 +1,4 @@
+pub mod Terms
 pub mod Links
 pub mod Seen
 pub mod ConnectionTables

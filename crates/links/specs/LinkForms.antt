@@ -1,7 +1,7 @@
 -- What the forms of a link have in common.
 use Rattle.std.specs.Prelude.{ℕ, nat_lt, Bool, List, Option, None, Some}
+use Rattle.links.specs.Terms.{Entry}
 use Rattle.links.specs.Links.{Told, Handed, events_in, pieces_in}
-use Rattle.links.specs.declared.journal.Entry.{Entry}
 
 -- what a link tells that tells its whole journal
 abbrev pub told_by : List Entry → Told

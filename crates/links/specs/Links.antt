@@ -2,15 +2,9 @@
 -- entries: the events that were taken from it, and the pieces that were given to its connections, in order.
 use Rattle.std.specs.Prelude.{◌≡◌, ℕ, ◌<◌, ◌≤◌, Bool, true, false, List, [], ◌∷◌, ◌++◌, length, take, Option, Some, None, IfSome, IsSome, Result, Ok, Err, IsErrOf, unwrap_or, if◌then◌else◌, ◌==◌}
 use Rattle.rx_io.specs.Faults.{Rose}
-use Rattle.rx_io.specs.Prefix.{Prefix}
-use Rattle.links.specs.declared.journal.Entry.{Entry}
+use Rattle.links.specs.Terms.{Prefix, Entry, Given, All, Gone, LinkEvent, LinkFault, Memory, ReadFault, Refused, WriteFault}
 use Rattle.links.specs.declared.journal.Entry.TheVariants as entry
-use Rattle.links.specs.declared.journal.Given.{Given}
-use Rattle.links.specs.declared.journal.Given.TheVariants.{All, Gone}
-use Rattle.links.specs.declared.journal.LinkEvent.{LinkEvent}
 use Rattle.links.specs.declared.journal.LinkEvent.TheVariants as event
-use Rattle.links.specs.declared.journal.LinkFault.{LinkFault}
-use Rattle.links.specs.declared.journal.LinkFault.TheVariants.{Refused, ReadFault, WriteFault, Memory}
 
 -- a connection wasn't opened yet, is open, or was closed; it is opened once at most
 pub data Phase : Type 0 where
@@ -137,6 +131,7 @@ abbrev pub cut_entries : ℕ → List ℕ → List Entry
 cut_entries conn [] = []
 cut_entries conn (byte ∷ bytes) = entry.Gave conn (byte ∷ bytes) false ∷ []
 
+-- of a piece whose connection is gone, some first bytes or none were told as given
 abbrev pub Cuts : Told → Told → ℕ → List ℕ → Type 0
 Cuts old new conn bytes = (front : List ℕ) × Prefix front bytes × Tells old new (cut_entries conn front)
 

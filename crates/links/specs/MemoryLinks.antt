@@ -1,20 +1,13 @@
 -- The link in memory: a list of events that it plays, with the calls that are to fail and the gives that find their
 -- connection gone.
 use Rattle.std.specs.Prelude.{ℕ, ◌+◌, ◌≤◌, min, nat_lt, ◌==◌, true, false, List, [], ◌∷◌, ◌++◌, length, take, drop, Option, None, Some, Result, Ok, Err, IsOk, if◌then◌else◌, ◌≡◌}
+use Rattle.links.specs.Terms.{Plan, after_call, fails_next, first_plan, one_more, Prefix, Entry, Given, All, Gone, LinkEvent, LinkFault, Memory, ReadFault, Refused, WriteFault}
 use Rattle.links.specs.ConnectionTables.{phases_in, is_in_order}
 use Rattle.links.specs.LinkForms.{told_by, handed_by, gives_below_4096}
 use Rattle.links.specs.Links.{Phases, Coming, Comes, Refuses, Counts}
 use Rattle.links.specs.Seen.{Seen}
-use Rattle.rx_io.specs.Prefix.{Prefix}
-use Rattle.rx_io.specs.Planned.{Plan, first_plan, fails_next, after_call, one_more}
-use Rattle.links.specs.declared.journal.Entry.{Entry}
 use Rattle.links.specs.declared.journal.Entry.TheVariants as entry
-use Rattle.links.specs.declared.journal.Given.{Given}
-use Rattle.links.specs.declared.journal.Given.TheVariants.{All, Gone}
-use Rattle.links.specs.declared.journal.LinkEvent.{LinkEvent}
 use Rattle.links.specs.declared.journal.LinkEvent.TheVariants as event
-use Rattle.links.specs.declared.journal.LinkFault.{LinkFault}
-use Rattle.links.specs.declared.journal.LinkFault.TheVariants.{Refused, ReadFault, WriteFault, Memory}
 use Rattle.links.specs.declared.memory_link.MemoryLink.{MemoryLink}
 use Rattle.links.specs.declared.memory_link.LinkCounts.{LinkCounts}
 
@@ -26,6 +19,7 @@ pub record Script : Type 0 where
   pub plan : Plan
   pub gones : List (ℕ × ℕ)
 
+-- a script of which nothing was played yet
 abbrev pub first_script : List LinkEvent → List ℕ → List (ℕ × ℕ) → Script
 first_script events fails gones = record { events = events; taken = 0; plan = first_plan fails; gones = gones }
 
@@ -34,6 +28,7 @@ abbrev pub event_or_ends : List LinkEvent → LinkEvent
 event_or_ends [] = event.Ends
 event_or_ends (first ∷ events) = first
 
+-- the event that a take is to answer
 abbrev pub next_event : Script → LinkEvent
 next_event script = event_or_ends (drop script.taken script.events)
 
@@ -41,6 +36,7 @@ next_event script = event_or_ends (drop script.taken script.events)
 abbrev pub next_coming : Phases → Script → Coming
 next_coming phases script = if is_in_order phases (next_event script) then Comes (next_event script) else Refuses 4 script.taken
 
+-- an event that comes is answered, and one that is refused is a fault
 abbrev pub answer_of : Coming → Result LinkEvent LinkFault
 answer_of (Comes event) = Ok event
 answer_of (Refuses kind offset) = Err (Refused kind offset)
@@ -84,6 +80,7 @@ taken_after length taken (Ok event.Ends) = taken
 taken_after length taken (Ok other) = if nat_lt taken length then taken + 1 else taken
 taken_after length taken (Err fault) = taken
 
+-- a take was made; where it answered an event, one more was taken
 abbrev pub after_next : Script → Result LinkEvent LinkFault → Script
 after_next script result = record (after_script_call script) { taken = taken_after (length script.events) script.taken result }
 
@@ -112,21 +109,27 @@ abbrev pub after_giving : ℕ → List ℕ → List Entry → Result Given LinkF
 after_giving conn bytes entries (Ok given) = entries ++ given_entry conn bytes given ∷ []
 after_giving conn bytes entries (Err fault) = entries
 
+-- what a link has still to play
 abbrev pub link_script : MemoryLink → Script
 link_script link = record { events = link.events.items; taken = link.taken; plan = link.fails; gones = link.gones.items }
 
+-- what a link took and gave, in order
 abbrev pub link_journal : MemoryLink → List Entry
 link_journal link = link.journal.items
 
+-- whether each connection of a link never opened, is open, or closed
 abbrev pub link_phases : MemoryLink → Phases
 link_phases link = phases_in link.table
 
+-- what the next take of a link comes to
 abbrev pub link_coming : MemoryLink → Coming
 link_coming link = next_coming (link_phases link) (link_script link)
 
+-- how often takes and gives failed, and how often a give found its connection gone
 abbrev pub counts_in : LinkCounts → Counts
 counts_in counts = record { takes = counts.takes; gives = counts.gives; gones = counts.gones }
 
+-- those numbers of a link
 abbrev pub link_counts : MemoryLink → Counts
 link_counts link = counts_in link.counts
 
@@ -147,3 +150,17 @@ seen_in link = record {
 pub record MemoryWent (old new : MemoryLink) : Type 0 where
   pub played : new.events.items ≡ old.events.items
   pub grew : Prefix (link_journal old) (link_journal new)
+
+-- a take went as planned, unless memory ran out: its answer, and what it left to play, noted and counted
+pub record PlaysNext (old new : MemoryLink) (result : Result LinkEvent LinkFault) : Type 0 where
+  pub answer : AnswersAs (planned_next (link_phases old) (link_script old)) result
+  pub script : link_script new ≡ after_next (link_script old) result
+  pub journal : link_journal new ≡ after_taking (link_journal old) result
+  pub counts : link_counts new ≡ counts_after_next (link_counts old) result
+
+-- a give went as planned, unless memory ran out: its answer, and what it left to play, noted and counted
+pub record PlaysGive (old new : MemoryLink) (conn : ℕ) (bytes : List ℕ) (result : Result Given LinkFault) : Type 0 where
+  pub answer : AnswersAs (planned_give (length bytes) (link_script old)) result
+  pub script : link_script new ≡ after_script_call (link_script old)
+  pub journal : link_journal new ≡ after_giving conn bytes (link_journal old) result
+  pub counts : link_counts new ≡ counts_after_give (link_counts old) result

@@ -1,9 +1,7 @@
 -- What a link shows of itself at a moment, and what its calls make of that.
 use Rattle.std.specs.Prelude.{◌≡◌, ℕ, ◌<◌, List, Bool, true, Option, None, Result, is_ok}
+use Rattle.links.specs.Terms.{Given, LinkEvent, LinkFault}
 use Rattle.links.specs.Links.{Told, Phases, IsFresh, Open, Coming, Handed, Counts, Nexts, Enters, GoesBy, StillComes, StaysTold, HasTakeCause, GivesAtClose, Gives, TellsHanded, HasGiveCause}
-use Rattle.links.specs.declared.journal.Given.{Given}
-use Rattle.links.specs.declared.journal.LinkEvent.{LinkEvent}
-use Rattle.links.specs.declared.journal.LinkFault.{LinkFault}
 
 -- What a link shows: the events taken, the pieces given and the journal of both, each if it tells it; which connections were opened and
 -- closed; what its grammar has behind the events taken, and the piece that it was handed last, if it tells that; the connections to which it

@@ -259,7 +259,7 @@ impl MemoryLink {
 impl Link for MemoryLink {
     ghost use Rattle.std.specs.Prelude.{◌≡◌, ◌<◌, ◌^◌, true, length};
     ghost use Rattle.links.specs.Seen.{NextShows, GiveShows};
-    ghost use Rattle.links.specs.MemoryLinks.{seen_in, link_script, link_journal, link_phases, link_counts, planned_next, planned_give, AnswersAs, after_next, after_script_call, after_taking, after_giving, counts_after_next, counts_after_give, MemoryWent};
+    ghost use Rattle.links.specs.MemoryLinks.{seen_in, PlaysNext, PlaysGive, MemoryWent};
     ghost use Rattle.links.specs.MemoryLaws.{memory_sound, memory_same, memory_on};
 
     ghost seen = { seen_in };
@@ -278,10 +278,7 @@ impl Link for MemoryLink {
         requires { (seen_in self.old).takes ≡ true }
         ensures shows { NextShows (seen_in self.old) (seen_in self.new) result }
         ensures went { MemoryWent self.old self.new }
-        ensures answer { AnswersAs (planned_next (link_phases self.old) (link_script self.old)) result }
-        ensures script { link_script self.new ≡ after_next (link_script self.old) result }
-        ensures journal { link_journal self.new ≡ after_taking (link_journal self.old) result }
-        ensures counts { link_counts self.new ≡ counts_after_next (link_counts self.old) result }
+        ensures plays { PlaysNext self.old self.new result }
     {
         let answer = self.play_next();
         self.counts.count_next(&answer);
@@ -297,10 +294,7 @@ impl Link for MemoryLink {
         requires few { length bytes.now < 2 ^ 16 }
         ensures shows { GiveShows (seen_in self.old) (seen_in self.new) conn bytes.now result }
         ensures went { MemoryWent self.old self.new }
-        ensures answer { AnswersAs (planned_give (length bytes.now) (link_script self.old)) result }
-        ensures script { link_script self.new ≡ after_script_call (link_script self.old) }
-        ensures journal { link_journal self.new ≡ after_giving conn bytes.now (link_journal self.old) result }
-        ensures counts { link_counts self.new ≡ counts_after_give (link_counts self.old) result }
+        ensures plays { PlaysGive self.old self.new conn bytes.now result }
     {
         self.handed = Some((conn, bytes.len()));
         let answer = self.play_give(conn, bytes);

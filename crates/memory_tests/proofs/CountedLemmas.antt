@@ -1,19 +1,12 @@
 -- What the calls of the counted snapshot do to what a contract sees of it.
-use Rattle.std.proofs.Common.{◌≡◌, ℕ, ◌+◌, ◌-◌, ◌*◌, ◌^◌, ◌<◌, ◌≤◌, true, suc, List, [], ◌∷◌, ◌++◌, length, get_or, map, take, drop, Option, Some, None, eqb, refl, ap, sym, ◌∙◌, subst, arith}
-use Rattle.std.specs.Prelude.{slice_get, sum, sum_by, Contains, All, IsSomeAnd}
 use Rattle.std.specs.List.{list_any}
-use Rattle.std.specs.Option.{option_map}
 use Rattle.std.proofs.lemmas.Bool.{eqb-true}
 use Rattle.std.proofs.lemmas.List.{map-append, take-map, take_all}
-use Rattle.std.proofs.lemmas.Option.{slice_get-map, get_or_from_slice_get, slice_get_within, slice_get-get_or}
 use Rattle.std.proofs.lemmas.List.Sums.{sum_by_push, sum_by_more, sum_by-take-le, sum-map, sum_by-cons}
 use Rattle.std.proofs.lemmas.Map.Steps.{length-le_from_distinct_below}
 use Rattle.std.proofs.lemmas.Map.Views.{Contains-from_any}
-use Rattle.ckpt_ring.specs.Slots.{Saved, Slots, AreSound, IsOldest, used_pages, StandsEarlier, slot_numbers, page_numbers, newest_slot, saved_to, restored, without_newest, without_first, without_oldest}
-use Rattle.ckpt_ring.proofs.SlotLemmas.{all_at, length-slot_numbers, keep_last-fitting}
-use Rattle.ckpt_ring.proofs.SoundLemmas.{sound-saved_to, sound-restored, sound-without_newest, sound-without_oldest, used_pages-saved_to, used_pages-restored, used_pages-without_newest, used_pages-without_oldest, restored_each, distinct-none}
 use Rattle.circular_buffer.specs.Buffer.{keep_last}
-use Rattle.memory_tests.specs.CountedSlots.{saved_of, counted_slots, fresh_slots, AreCounted}
+use Rattle.memory_tests.proofs.Terms.{List, None, Option, Some, [], ap, arith, drop, eqb, get_or, length, map, refl, subst, suc, sym, take, true, ℕ, ◌*◌, ◌++◌, ◌+◌, ◌-◌, ◌<◌, ◌^◌, ◌∙◌, ◌∷◌, ◌≡◌, ◌≤◌, get_or_from_slice_get, slice_get-get_or, slice_get-map, slice_get_within, option_map, All, Contains, IsSomeAnd, slice_get, sum, sum_by, all_at, keep_last-fitting, length-slot_numbers, distinct-none, restored_each, sound-saved_to, sound-without_newest, sound-without_oldest, used_pages-saved_to, used_pages-without_newest, used_pages-without_oldest, AreSound, IsOldest, Saved, Slots, StandsEarlier, newest_slot, page_numbers, restored, saved_to, slot_numbers, used_pages, without_first, without_newest, without_oldest, AreCounted, counted_slots, fresh_slots, saved_of}
 
 -- no more are saved than there are slots
 pub few_saved : (slots : Slots ℕ) → AreSound slots → length slots.saved ≤ slots.count
@@ -35,11 +28,6 @@ pub counted_after : (capacity slot : ℕ) (slots now : Slots ℕ) → slots ≡ 
 counted_after capacity slot slots now same counted below absent stands =
     subst (λ (all : Slots ℕ). AreCounted capacity (saved_to slot all)) (sym same)
     (counted-saved_to capacity slot now (subst (AreCounted capacity) same counted) below absent stands)
-
-pub counted-restored : (capacity : ℕ) (one : Saved ℕ) (slots : Slots ℕ) → AreCounted capacity slots → Contains (slot_numbers slots.saved) one.slot
-    → AreCounted capacity (restored one slots)
-counted-restored capacity one slots counted has =
-    record { sound = sound-restored one slots counted.sound has; fits = omega (arith, used_pages-restored one slots, counted.fits); few = counted.few }
 
 pub counted-without_newest : (capacity : ℕ) (slots : Slots ℕ) → AreCounted capacity slots → StandsEarlier slots → AreCounted capacity (without_newest slots)
 counted-without_newest capacity slots counted stands =

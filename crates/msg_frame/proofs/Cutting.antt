@@ -1,10 +1,5 @@
 -- Messages of bytes that come in parts.
-use Rattle.std.proofs.Common.{◌≡◌, ◌≢◌, ℕ, List, [], ◌∷◌, ◌++◌, Option, Some, None, refl, sym, ◌∙◌, ap, append_assoc}
-use Rattle.std.specs.List.{concat}
-use Rattle.msg_frame.specs.declared.framing.Framing.{Framing}
-use Rattle.msg_frame.specs.declared.framing.Framing.TheVariants.{Line, Length, Whole}
-use Rattle.msg_frame.specs.Messages.{Parts, behind, then_cut, line_byte, length_byte, cut_bytes, cut, cut_all}
-use Rattle.msg_frame.specs.Laws.{PiecesJoin, BytesDecide, CutsAgree}
+use Rattle.msg_frame.proofs.Terms.{List, None, Option, Some, [], ap, append_assoc, refl, sym, ℕ, ◌++◌, ◌∙◌, ◌∷◌, ◌≡◌, ◌≢◌, concat, Framing, Length, Line, Whole, Parts, behind, cut, cut_all, cut_bytes, length_byte, line_byte, then_cut, BytesDecide, CutsAgree, PiecesJoin}
 
 pub behind-nothing : (parts : Option Parts) → behind [] parts ≡ parts
 behind-nothing None = refl

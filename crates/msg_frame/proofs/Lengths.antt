@@ -1,11 +1,5 @@
 -- Where a message behind its number ends.
-use Rattle.std.proofs.Common.{◌≡◌, ℕ, ◌+◌, ◌-◌, ◌<◌, ◌≤◌, List, [], ◌∷◌, ◌++◌, Option, None, length, take, drop, get_or, ltb, arith, length-append, length-take-le, append_assoc, refl, sym, ◌∙◌, ap, inl, inr}
-use Rattle.std.proofs.lemmas.List.{append-nil, take_more, drop_more, take-append-drop}
-use Rattle.std.proofs.lemmas.Bool.{cases_lt, lt-ltb, le-ltb, cond-true, cond-false}
-use Rattle.msg_frame.specs.declared.framing.Framing.TheVariants.{Length}
-use Rattle.msg_frame.specs.declared.framing.TheConstants.{MAX_MESSAGE, NUMBER_BYTES}
-use Rattle.msg_frame.specs.Messages.{Parts, no_message, one_message, behind, then_cut, announced, announced_parts, length_byte, cut_bytes}
-use Rattle.msg_frame.specs.Feeding.{IsRest}
+use Rattle.msg_frame.proofs.Terms.{List, None, Option, [], ap, append_assoc, arith, drop, get_or, inl, inr, length, length-append, length-take-le, ltb, refl, sym, take, ℕ, ◌++◌, ◌+◌, ◌-◌, ◌<◌, ◌∙◌, ◌∷◌, ◌≡◌, ◌≤◌, cases_lt, cond-false, cond-true, le-ltb, lt-ltb, append-nil, drop_more, take-append-drop, take_more, Length, MAX_MESSAGE, NUMBER_BYTES, Parts, announced, announced_parts, behind, cut_bytes, length_byte, no_message, one_message, then_cut, IsRest}
 use Rattle.msg_frame.proofs.Cutting.{behind-nothing, cut_bytes-append}
 use Rattle.msg_frame.proofs.Short.{announced-append}
 

@@ -1,3 +1,4 @@
+pub mod Terms
 pub mod Cutting
 pub mod Short
 pub mod Lines

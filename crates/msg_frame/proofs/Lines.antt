@@ -1,11 +1,7 @@
 -- Where a line ends.
-use Rattle.std.proofs.Common.{◌≡◌, ℕ, suc, ◌+◌, ◌<◌, ◌≤◌, Bool, true, false, not, List, [], ◌∷◌, ◌++◌, Some, None, length, take, drop, get_or, leb, eqb, ltb, ◌==◌, arith, length-append, length-take-le, append_assoc, refl, sym, ◌∙◌, ap, inl, inr}
-use Rattle.std.specs.List.{position, position_or_len, prefix_len}
-use Rattle.std.proofs.lemmas.List.{append-nil, take_more, drop_more, take_all, drop_all}
 use Rattle.std.proofs.lemmas.List.Quantifiers.{position-Some}
-use Rattle.std.proofs.lemmas.Bool.{cases_lt, cases_Bool, lt-leb, le-leb, cond-true, cond-false, ltb-false}
-use Rattle.msg_frame.specs.declared.framing.TheConstants.{MAX_MESSAGE, LINE_FEED}
-use Rattle.msg_frame.specs.Messages.{no_message, one_message, behind, then_cut, line_byte, cut_bytes}
+use Rattle.std.proofs.lemmas.List.Sums.{prefix_len-le-length}
+use Rattle.msg_frame.proofs.Terms.{List, None, Some, [], ap, append_assoc, arith, drop, eqb, false, get_or, inl, inr, leb, length, length-append, length-take-le, ltb, not, refl, suc, sym, take, true, ℕ, ◌++◌, ◌+◌, ◌<◌, ◌==◌, ◌∙◌, ◌∷◌, ◌≡◌, ◌≤◌, cases_Bool, cases_lt, cond-false, cond-true, le-leb, lt-leb, ltb-false, append-nil, drop_all, drop_more, take_all, take_more, position, position_or_len, LINE_FEED, MAX_MESSAGE, behind, cut_bytes, line_byte, no_message, one_message, then_cut}
 use Rattle.msg_frame.proofs.Cutting.{behind-nothing}
 
 -- how many bytes stand before the first line feed
@@ -90,15 +86,11 @@ found_at bytes i is =
       | inr outside ↦ absurd (let none : Some i ≡ None = is ∙ cond-false (ltb (before_feed bytes) (length bytes)) _ _ outside in cc)
     ]
 
-prefix_len-le : (test : ℕ → Bool) (bytes : List ℕ) → prefix_len test bytes ≤ length bytes
-prefix_len-le test [] = omega arith
-prefix_len-le test (byte ∷ bytes) = elim (cases_Bool (test byte)) [ inl passes ↦ rw passes (omega (arith, prefix_len-le test bytes)) | inr fails ↦ rw fails (omega arith) ]
-
 found_nowhere : (bytes : List ℕ) → None ≡ position (λ byte. byte == LINE_FEED) bytes → before_feed bytes ≡ length bytes
 found_nowhere bytes is =
     elim (cases_Bool (ltb (before_feed bytes) (length bytes))) [
       | inl inside ↦ absurd (let some : None ≡ Some (before_feed bytes) = is ∙ cond-true (ltb (before_feed bytes) (length bytes)) _ _ inside in cc)
-      | inr outside ↦ omega (arith, ltb-false _ _ outside, prefix_len-le (λ byte. not (byte == LINE_FEED)) bytes)
+      | inr outside ↦ omega (arith, ltb-false _ _ outside, prefix_len-le-length (λ byte. not (byte == LINE_FEED)) bytes)
     ]
 
 -- where no line feed stands

@@ -1,11 +1,6 @@
 -- Messages made of a rest and the bytes behind it.
-use Rattle.std.proofs.Common.{◌≡◌, ℕ, ◌+◌, ◌-◌, ◌<◌, ◌≤◌, List, [], ◌∷◌, ◌++◌, None, length, take, drop, min, ltb, arith, refl, sym, ◌∙◌, ap, inl, inr}
-use Rattle.std.proofs.lemmas.List.{drop-append-le, drop_all, take_all}
-use Rattle.std.proofs.lemmas.Bool.{cases_lt, lt-ltb, le-ltb, cond-true, cond-false}
 use Rattle.std.proofs.Math.Seq.{drop-append-add}
-use Rattle.msg_frame.specs.declared.framing.Framing.TheVariants.{Whole}
-use Rattle.msg_frame.specs.declared.framing.TheConstants.{MAX_MESSAGE}
-use Rattle.msg_frame.specs.Messages.{no_message, behind, cut, cut_whole}
+use Rattle.msg_frame.proofs.Terms.{List, None, [], ap, arith, drop, inl, inr, length, ltb, min, refl, sym, take, ℕ, ◌++◌, ◌+◌, ◌-◌, ◌<◌, ◌∙◌, ◌∷◌, ◌≡◌, ◌≤◌, cases_lt, cond-false, cond-true, le-ltb, lt-ltb, drop-append-le, drop_all, take_all, Whole, MAX_MESSAGE, behind, cut, cut_whole, no_message}
 
 -- what is left of a rest and of bytes behind it, without the first ones
 pub drop-append : (n : ℕ) (rest bytes : List ℕ) → drop (min n (length rest)) rest ++ drop (n - min n (length rest)) bytes ≡ drop n (rest ++ bytes)

@@ -1,15 +1,6 @@
 -- How long messages and rests are.
-use Rattle.std.proofs.Common.{◌≡◌, ℕ, ◌+◌, ◌-◌, ◌<◌, ◌≤◌, List, [], ◌∷◌, ◌++◌, Option, Some, None, length, drop, leb, ltb, eqb, arith, rules, length-append, length-drop, refl, ap, inl, inr}
-use Rattle.std.specs.List.{All}
-use Rattle.std.proofs.lemmas.List.{take-append-le}
 use Rattle.std.proofs.lemmas.List.Elements.{All-append}
-use Rattle.std.proofs.lemmas.Bool.{cases_lt, cond_both, leb-false, ltb-true, ltb-false}
-use Rattle.msg_frame.specs.declared.framing.Framing.{Framing}
-use Rattle.msg_frame.specs.declared.framing.Framing.TheVariants.{Line, Length, Whole}
-use Rattle.msg_frame.specs.declared.framing.TheConstants.{MAX_MESSAGE, LINE_FEED, NUMBER_BYTES}
-use Rattle.msg_frame.specs.Messages.{Parts, no_message, one_message, behind, then_cut, little_number, announced, line_byte, announced_parts, length_byte, cut_bytes, cut_whole, cut, cut_all}
-use Rattle.msg_frame.specs.Feeding.{IsRest}
-use Rattle.msg_frame.specs.Laws.{MessagesAreShort}
+use Rattle.msg_frame.proofs.Terms.{List, None, Option, Some, [], ap, arith, drop, eqb, inl, inr, leb, length, length-append, length-drop, ltb, refl, rules, ℕ, ◌++◌, ◌+◌, ◌-◌, ◌<◌, ◌∷◌, ◌≡◌, ◌≤◌, cases_lt, cond_both, leb-false, ltb-false, ltb-true, take-append-le, All, Framing, Length, Line, Whole, LINE_FEED, MAX_MESSAGE, NUMBER_BYTES, Parts, announced, announced_parts, behind, cut, cut_all, cut_bytes, cut_whole, length_byte, line_byte, little_number, no_message, one_message, then_cut, IsRest, MessagesAreShort}
 
 abbrev pub IsShort : List ℕ → Type 0
 IsShort message = length message ≤ MAX_MESSAGE

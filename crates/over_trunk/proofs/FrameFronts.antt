@@ -1,14 +1,6 @@
 -- Frames at the front of the same bytes: the events of the one list are the first ones of the other.
-use Rattle.std.proofs.Common.{◌≡◌, ◌⊎◌, inl, inr, ℕ, ◌+◌, List, [], ◌∷◌, ◌++◌, length, drop, arith, append_assoc, length-append, refl, sym, ap, ◌∙◌, subst}
-use Rattle.std.proofs.Math.Seq.{drop-append_seam}
-use Rattle.links.specs.Links.{Phases, IsInOrder, phases_after}
-use Rattle.rx_io.specs.Prefix.{Prefix}
-use Rattle.links.specs.declared.journal.LinkEvent.{LinkEvent}
 use Rattle.links.specs.declared.journal.LinkEvent.TheVariants as event
-use Rattle.trunk_wire.specs.Frames.{IsFrameOf, AreFramesOf}
-use Rattle.trunk_wire.specs.Going.{AreInOrder, phases_behind}
-use Rattle.trunk_wire.specs.Grammar.{front, Whole}
-use Rattle.trunk_wire.proofs.GrammarLemmas.{frame-accepted, front-accepted}
+use Rattle.over_trunk.proofs.Terms.{List, [], ap, append_assoc, arith, drop, inl, inr, length, length-append, refl, subst, sym, ℕ, ◌++◌, ◌+◌, ◌∙◌, ◌∷◌, ◌≡◌, ◌⊎◌, drop-append_seam, Prefix, LinkEvent, IsInOrder, Phases, phases_after, frame-accepted, front-accepted, AreFramesOf, IsFrameOf, AreInOrder, phases_behind, Whole, front}
 
 -- a frame is as long as its event says
 abbrev payload_size : LinkEvent → ℕ
@@ -78,3 +70,11 @@ next_frame phases (first ∷ list) (other ∷ others) rest next bytes more front
     let both = one_frame phases first other one two (behind ++ more) (after ++ left) order.0 other_order.0 is other_is stream in
     let later : AreInOrder (phases_after other phases) list = subst (λ e. AreInOrder (phases_after e phases) list) both.0 order.1 in
     next_frame (phases_after other phases) list others rest next behind more after left later other_order.1 are others_are (ap (drop 1) longer_is) both.1
+
+-- frames of the same events are the same bytes, so nothing stands behind the one where the other is all
+pub none_behind : (phases : Phases) (list : List LinkEvent) (bytes more all : List ℕ) → AreInOrder phases list → AreFramesOf list bytes → AreFramesOf list all → bytes ++ more ≡ all → more ≡ []
+none_behind phases [] bytes more all order are all_are same = ap (λ l. l ++ more) (sym are) ∙ same ∙ all_are
+none_behind phases (first ∷ list) bytes more all order (one, behind, whole, is, are) (two, after, other_whole, other_is, others_are) same =
+    let stream : one ++ (behind ++ more) ≡ two ++ after = sym (ap (λ l. l ++ more) whole ∙ append_assoc one behind more) ∙ same ∙ other_whole in
+    let both = one_frame phases first first one two (behind ++ more) after order.0 order.0 is other_is stream in
+    none_behind (phases_after first phases) list behind more after order.1 are others_are both.1

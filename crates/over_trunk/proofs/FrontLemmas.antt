@@ -1,28 +1,14 @@
 -- What a trunk wrote is a first part of the frames of the sends of its run.
-use Rattle.std.proofs.Common.{◌≡◌, ℕ, Bool, true, false, List, [], ◌∷◌, ◌++◌, Option, None, Some, option_map, append_assoc, append-nil, refl, sym, ap, ◌∙◌, subst}
-use Rattle.std.specs.Prelude.{Result, Ok, Err}
-use Rattle.std.proofs.lemmas.List.{map-append}
 use Rattle.std.proofs.lemmas.Grind.{flat_map-append}
-use Rattle.links.specs.Links.{Piece, Told, Grew, pieces_in}
-use Rattle.rx_io.specs.Outside.{Stream}
-use Rattle.rx_io.specs.Prefix.{Prefix}
-use Rattle.rx_io.specs.Sends.{Send}
 use Rattle.links.specs.declared.journal.Given.{Given}
 use Rattle.links.specs.declared.journal.Given.TheVariants.{All, Gone}
 use Rattle.links.specs.declared.journal.LinkFault.{LinkFault}
 use Rattle.links.specs.declared.journal.LinkFault.TheVariants.{Refused, ReadFault, WriteFault, Memory}
 use Rattle.rx_io.proofs.Composing.{gave_more}
-use Rattle.replay.specs.Giving.{piece_of, AreGiven, BreaksOff}
-use Rattle.trunk_wire.specs.Calls.{Writes, WritesBy}
-use Rattle.trunk_wire.specs.Frames.{piece_frame, frames}
-use Rattle.trunk_wire.specs.Going.{Output, WroteFrames, GivesOn}
-use Rattle.trunk_wire.specs.Tellings.{told_pieces, told_nothing}
-use Rattle.trunk_wire.specs.TrunkLinks.{TrunkWent, told_of, seen_of, output_of}
 use Rattle.trunk_wire.specs.declared.trunk_link.TrunkLink.{TrunkLink}
-use Rattle.over_trunk.specs.Trunk.{WritesWhole}
+use Rattle.over_trunk.proofs.Terms.{Bool, List, None, Option, Some, [], ap, append-nil, append_assoc, false, option_map, refl, subst, sym, true, ℕ, ◌++◌, ◌∙◌, ◌∷◌, ◌≡◌, map-append, Err, Ok, Result, Stream, Prefix, Send, Grew, Piece, Told, pieces_in, Writes, WritesBy, frames, piece_frame, GivesOn, Output, WroteFrames, told_nothing, told_pieces, TrunkWent, output_of, seen_of, told_of, AreGiven, BreaksOff, piece_of, WritesWhole, WritesFirst, WritesFront, WritesSends, sent_pieces}
 use Rattle.over_trunk.proofs.WriteLemmas.{Short}
 use Rattle.over_trunk.proofs.ServeLemmas.{writes_whole}
-use Rattle.over_trunk.specs.Replaying.{sent_pieces, WritesSends, WritesFirst, WritesFront}
 use Rattle.over_trunk.proofs.SendLemmas.{sends_written}
 
 -- what one call wrote

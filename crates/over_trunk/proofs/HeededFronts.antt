@@ -1,19 +1,9 @@
 -- First parts of lists, and of the events that a session heeds.
-use Rattle.std.proofs.Common.{◌≡◌, ◌≢◌, ◌⊎◌, inl, inr, ◌<◌, ◌≤◌, Bool, true, false, cond, List, [], ◌∷◌, ◌++◌, length, drop, Option, Some, None, arith, append_assoc, append-nil, length-append, refl, sym, ap, ◌∙◌}
-use Rattle.std.specs.Prelude.{is_none, nat_le, nat_lt, if◌then◌else◌}
-use Rattle.std.proofs.Math.Seq.{drop-append_seam}
-use Rattle.std.proofs.lemmas.Bool.{leb-false, ltb-false, lt-leb, le-ltb}
-use Rattle.std.proofs.lemmas.Option.{none-some}
-use Rattle.links.specs.Links.{events_in}
-use Rattle.rx_io.specs.Prefix.{Prefix}
+use Rattle.std.specs.Prelude.{nat_lt, if◌then◌else◌}
 use Rattle.links.specs.declared.journal.Entry.TheVariants as entry
-use Rattle.links.specs.declared.journal.LinkEvent.{LinkEvent}
 use Rattle.links.specs.declared.journal.LinkEvent.TheVariants as event
 use Rattle.links.specs.declared.journal.LinkEvent.TheVariants.{Ends}
-use Rattle.item_log.specs.Heard.{heard, items_of}
-use Rattle.session_history.specs.Heeding.{Bounds, Unheeded, LimitEvents, TooLong, LimitItems, refusal, heeded_behind}
-use Rattle.replay.proofs.StreamLemmas.{two_fronts}
-use Rattle.over_trunk.specs.Laws.{IsWithin}
+use Rattle.over_trunk.proofs.Terms.{Bool, List, None, Option, Some, [], ap, append-nil, append_assoc, arith, cond, drop, false, inl, inr, length, length-append, refl, sym, true, ◌++◌, ◌<◌, ◌∙◌, ◌∷◌, ◌≡◌, ◌≢◌, ◌≤◌, ◌⊎◌, drop-append_seam, le-ltb, leb-false, lt-leb, ltb-false, none-some, is_none, nat_le, Prefix, LinkEvent, events_in, heard, items_of, Bounds, LimitEvents, LimitItems, TooLong, Unheeded, heeded_behind, refusal, two_fronts, IsWithin}
 
 no_element : {X : Type 0} (xs : List X) → length xs ≡ 0 → xs ≡ []
 no_element [] none = refl

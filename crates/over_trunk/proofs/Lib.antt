@@ -1,3 +1,4 @@
+pub mod Terms
 pub mod Shown
 pub mod ReadLemmas
 pub mod WriteLemmas
@@ -11,3 +12,4 @@ mod SameRun
 mod FrontLemmas
 mod SendLemmas
 mod TrunkLemmas
+pub mod EndLemmas

@@ -1,16 +1,6 @@
 -- The payload of what a trunk's session wrote is what its account says was passed.
-use Rattle.std.proofs.Common.{◌≡◌, ℕ, Bool, List, [], ◌∷◌, ◌++◌, length, Option, Some, if◌then◌else◌, ◌==◌, refl, ap, ◌∙◌}
-use Rattle.std.specs.Io.KnownBytes.{Appends}
-use Rattle.links.specs.Links.{Grew, pieces_in}
-use Rattle.rx_io.specs.Sends.{sent_to}
-use Rattle.links.specs.declared.journal.Entry.{Entry}
 use Rattle.links.specs.declared.journal.Entry.TheVariants as entry
-use Rattle.session_history.specs.Heeding.{Bounds}
-use Rattle.session_history.specs.Passing.{passed_behind}
-use Rattle.trunk_wire.specs.Calls.{count_after}
-use Rattle.trunk_wire.specs.Pieces.{given_to}
-use Rattle.trunk_wire.specs.Tellings.{told_pieces}
-use Rattle.over_trunk.specs.Trunk.{Carried}
+use Rattle.over_trunk.proofs.Terms.{Bool, List, Option, Some, [], ap, if◌then◌else◌, length, refl, ℕ, ◌++◌, ◌==◌, ◌∙◌, ◌∷◌, ◌≡◌, Appends, sent_to, Entry, Grew, pieces_in, count_after, given_to, told_pieces, Bounds, passed_behind, Carried}
 use Rattle.over_trunk.proofs.WriteLemmas.{Short, pieces_told}
 
 -- the pieces of a journal have for each connection what was passed to it

@@ -1,22 +1,8 @@
 -- What a trunk's session took, by what its link told.
-use Rattle.std.proofs.Common.{◌≡◌, ◌≢◌, ℕ, ◌+◌, ◌-◌, ◌^◌, ◌<◌, Bool, true, false, List, [], ◌∷◌, ◌++◌, length, Option, None, Some, IfSome, if◌then◌else◌, arith, append_assoc, append-nil, length-append, refl, sym, ap, ◌∙◌, inl, inr}
-use Rattle.std.proofs.Math.Path.{fun_ext}
-use Rattle.std.proofs.Math.Seq.{drop-length}
-use Rattle.links.specs.Links.{Phases, phases_after, Refuses, Grew}
-use Rattle.rx_io.specs.Outside.{Stream, Took, IsDrained}
-use Rattle.links.specs.declared.journal.LinkEvent.{LinkEvent}
-use Rattle.trunk_wire.specs.Calls.{IsRefused, count_after}
-use Rattle.trunk_wire.specs.Frames.{AreFramesOf}
-use Rattle.trunk_wire.specs.Going.{AreInOrder, phases_behind, IsTail}
-use Rattle.trunk_wire.specs.Grammar.{front, event_at}
-use Rattle.trunk_wire.specs.Parts.{put_bytes, last_bytes}
-use Rattle.trunk_wire.specs.Pieces.{whole_event, event_reader, events, fresh}
-use Rattle.trunk_wire.specs.Tellings.{is_in_step, told_events, told_coming}
-use Rattle.trunk_wire.specs.declared.refusal.Refusal.{Refusal}
-use Rattle.trunk_wire.proofs.GrammarLemmas.{frame-accepted, events_steady, put_bytes-frame}
+use Rattle.std.proofs.Common.{IfSome}
 use Rattle.trunk_wire.proofs.ProgressLemmas.{put_bytes-append, put_bytes-part}
 use Rattle.trunk_wire.proofs.TellingLemmas.{last_bytes-append}
-use Rattle.over_trunk.specs.Trunk.{IsBehind}
+use Rattle.over_trunk.proofs.Terms.{Bool, List, None, Option, Some, [], ap, append-nil, append_assoc, arith, false, if◌then◌else◌, inl, inr, length, length-append, refl, sym, true, ℕ, ◌++◌, ◌+◌, ◌-◌, ◌<◌, ◌^◌, ◌∙◌, ◌∷◌, ◌≡◌, ◌≢◌, fun_ext, drop-length, IsDrained, Stream, Took, LinkEvent, Grew, Phases, Refuses, phases_after, Refusal, events_steady, frame-accepted, put_bytes-frame, IsRefused, count_after, AreFramesOf, AreInOrder, IsTail, phases_behind, event_at, front, last_bytes, put_bytes, event_reader, events, fresh, whole_event, is_in_step, told_coming, told_events, IsBehind}
 
 -- the frames of events in order bring these events, and their phases
 read_frames : (phases : Phases) (before list : List LinkEvent) (bytes : List ℕ) → AreInOrder phases list → AreFramesOf list bytes

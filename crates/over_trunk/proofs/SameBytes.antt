@@ -1,36 +1,13 @@
 -- A session's record is replayed over the bytes that the session had.
-use Rattle.std.proofs.Common.{◌≡◌, ◌⊎◌, inl, inr, ℕ, Bool, List, [], ◌∷◌, ◌++◌, Option, Some, None, append_assoc, append-nil, sym, ap, ◌∙◌, subst}
-use Rattle.links.specs.Links.{Coming, Phases, events_in}
-use Rattle.rx_io.specs.Outside.{Stream, Took, IsDrained}
-use Rattle.rx_io.specs.Prefix.{Prefix}
-use Rattle.links.specs.declared.journal.Entry.{Entry}
-use Rattle.links.specs.declared.journal.LinkEvent.{LinkEvent}
-use Rattle.elf_image.specs.declared.image.Image.{Image}
-use Rattle.run_history.specs.declared.answer.Answer.{Answer}
 use Rattle.run_history.specs.declared.answer.Answer.TheVariants as answer
-use Rattle.run_history.specs.Machine.{State}
-use Rattle.session_history.specs.Account.{Session, journal_of, IsAccount}
 use Rattle.session_history.specs.Heeding as unheeded
-use Rattle.session_history.specs.Lawful.{Rules}
-use Rattle.schedule_file.specs.declared.recorded.Recorded.{Recorded}
-use Rattle.replay.specs.Laws.{HasSession}
-use Rattle.replay.specs.Replaying.{Replay, IsReplay, IsAsking, AreAsked, EndsBy, bounds_of}
-use Rattle.replay.proofs.StreamLemmas.{heeded_first}
-use Rattle.trunk_wire.specs.Calls.{IsRefused}
-use Rattle.trunk_wire.specs.Frames.{AreFramesOf}
-use Rattle.trunk_wire.specs.Going.{AreInOrder, phases_behind}
-use Rattle.trunk_wire.specs.Grammar.{front, Whole, Part, Bad}
-use Rattle.trunk_wire.specs.Pieces.{fresh}
-use Rattle.trunk_wire.proofs.GrammarLemmas.{front-bad}
-use Rattle.over_trunk.specs.Trunk.{TookWhole, TookRefused}
-use Rattle.over_trunk.specs.Laws.{IsWithin, IsAsRecorded, SameBytesAreReplayed}
-use Rattle.over_trunk.specs.Replaying.{TakesReplay, WritesReplay, WritesSends, IsRecordedRun}
+use Rattle.over_trunk.proofs.Terms.{List, None, Option, Some, [], ap, append-nil, append_assoc, inl, inr, subst, sym, ℕ, ◌++◌, ◌∙◌, ◌∷◌, ◌≡◌, ◌⊎◌, IsDrained, Stream, Took, Prefix, Entry, LinkEvent, Coming, Phases, events_in, front-bad, IsRefused, AreFramesOf, AreInOrder, phases_behind, Bad, Part, Whole, front, fresh, Image, Answer, State, IsAccount, Session, journal_of, Rules, Recorded, heeded_first, HasSession, AreAsked, EndsBy, IsAsking, IsReplay, Replay, bounds_of, TookRefused, TookWhole, IsAsRecorded, IsWithin, SameBytesAreReplayed, IsRecordedRun, TakesReplay, WritesReplay, WritesSends}
 use Rattle.over_trunk.proofs.FrameFronts.{two_readings, whole_reading, next_frame}
 use Rattle.over_trunk.proofs.HeededFronts.{front_on}
 use Rattle.over_trunk.proofs.SameRun.{brought_not, refused_not, mismatch_not, same_end}
 
 -- what a source had, where bytes were taken from it
-left_is : (old : Stream) (later : Option Stream) (bytes : List ℕ) → Took (Some old) later bytes → (rest : List ℕ) × (old.left ≡ bytes ++ rest) × (IsDrained later → rest ≡ [])
+pub left_is : (old : Stream) (later : Option Stream) (bytes : List ℕ) → Took (Some old) later bytes → (rest : List ℕ) × (old.left ≡ bytes ++ rest) × (IsDrained later → rest ≡ [])
 left_is old None bytes took = absurd took
 left_is old (Some new) bytes took = (new.left, took.1, λ drained. drained)
 
@@ -40,7 +17,7 @@ left_all old later bytes took drained =
     rest.1 ∙ ap (λ l. bytes ++ l) (rest.2 drained) ∙ append-nil bytes
 
 -- where a whole frame comes, nothing is refused
-whole_not : (phases : Phases) (drained : Type 0) (kind : ℕ) (tail rest : List ℕ) (next : LinkEvent) → IsRefused phases drained kind tail → (drained → rest ≡ []) → front phases (tail ++ rest) ≡ Whole next → ⊥
+pub whole_not : (phases : Phases) (drained : Type 0) (kind : ℕ) (tail rest : List ℕ) (next : LinkEvent) → IsRefused phases drained kind tail → (drained → rest ≡ []) → front phases (tail ++ rest) ≡ Whole next → ⊥
 whole_not phases drained kind tail rest next (inl bad) none whole =
     let still : Bad kind ≡ Whole next = sym (front-bad phases tail rest kind bad.0) ∙ whole in
     cc
@@ -49,7 +26,7 @@ whole_not phases drained kind tail rest next (inr cut) none whole =
     cc
 
 -- Of the bytes that a session had: its events, their frames, and what stands behind them.
-module _ (rules : Rules) (image : Image) (session : Session) (at_end : Bool) (recording : Recorded) (entries : List Entry) (replay : Replay) (coming : Option Coming) (account : IsAccount rules image session at_end)
+module _ (rules : Rules) (image : Image) (session : Session) (recording : Recorded) (entries : List Entry) (replay : Replay) (coming : Option Coming) (account : IsAccount rules image session)
     (has : HasSession rules session recording) (within : IsWithin rules.bounds (bounds_of recording)) (asked : AreAsked image recording entries) (is : IsReplay image recording entries replay) (again : Stream) (again_later : Option Stream) (bytes more : List ℕ)
     (order : AreInOrder fresh (events_in (journal_of session))) (other_order : AreInOrder fresh (events_in entries)) (are : AreFramesOf (events_in (journal_of session)) bytes) (left : again.left ≡ bytes ++ more)
     (near : Prefix (events_in (journal_of session)) (events_in entries) ⊎ Prefix (events_in entries) (events_in (journal_of session))) where
@@ -63,13 +40,13 @@ module _ (rules : Rules) (image : Image) (session : Session) (at_end : Bool) (re
   taken_not kind offset asks took =
       let first = heeded_first rules.bounds [] (events_in (journal_of session)) in
       elim near [
-        | inl short ↦ brought_not rules image session at_end recording entries account has asked (inl short) entries (record { replay = replay; asks = asks }) (front_on _ _ _ first short)
+        | inl short ↦ brought_not rules image session recording entries account has asked (inl short) entries (record { replay = replay; asks = asks }) (front_on _ _ _ first short)
         | inr longer ↦ by_rest longer.0 longer.1
       ]
     where
       by_rest : (rest : List LinkEvent) → events_in entries ++ rest ≡ events_in (journal_of session) → ⊥
       by_rest [] same =
-          brought_not rules image session at_end recording entries account has asked near entries (record { replay = replay; asks = asks })
+          brought_not rules image session recording entries account has asked near entries (record { replay = replay; asks = asks })
           (front_on _ _ _ (heeded_first rules.bounds [] (events_in (journal_of session))) ([], append-nil (events_in (journal_of session)) ∙ sym same ∙ append-nil (events_in entries)))
       by_rest (next ∷ rest) same =
           let behind = left_is again again_later (took.whole ++ took.tail) took.took in
@@ -83,24 +60,24 @@ module _ (rules : Rules) (image : Image) (session : Session) (at_end : Bool) (re
   answers_so answer.WriteFault ends takes = tt
   answers_so answer.Memory ends takes = tt
   answers_so (answer.InputRefused kind offset) ends takes = taken_not kind offset ends.0 takes
-  answers_so (answer.MessageTooLong conn) ends takes = refused_not rules image session at_end recording entries account has asked near within unheeded.TooLong ends.0.refused
-  answers_so answer.LimitItems ends takes = refused_not rules image session at_end recording entries account has asked near within unheeded.LimitItems ends.0
-  answers_so answer.LimitEvents ends takes = refused_not rules image session at_end recording entries account has asked near within unheeded.LimitEvents ends.0
+  answers_so (answer.MessageTooLong conn) ends takes = refused_not rules image session recording entries account has asked near within unheeded.TooLong ends.0.refused
+  answers_so answer.LimitItems ends takes = refused_not rules image session recording entries account has asked near within unheeded.LimitItems ends.0
+  answers_so answer.LimitEvents ends takes = refused_not rules image session recording entries account has asked near within unheeded.LimitEvents ends.0
   answers_so (answer.Mismatch step) ends takes =
-      mismatch_not rules image session at_end recording entries account has asked near replay coming step is ends (λ ended. all_read takes.0 (takes.1 ended))
+      mismatch_not rules image session recording entries account has asked near replay coming step is ends (λ ended. all_read takes.0 (takes.1 ended))
   answers_so _ ends takes = absurd ends
 
 pub same_bytes : SameBytesAreReplayed
-same_bytes rules keeping image input again input_later again_later output output_later written written_later end answered noted_before noted_now noted_choices tail taken steps counted counted_again recording served replayed has within same =
-    let ours = left_is input input_later (served.took.whole ++ served.took.tail) served.took.took in
+same_bytes rules keeping image input again input_later again_later output output_later written written_later outcome answered noted_before noted_now counted counted_again recording served replayed has within same =
+    let ours = left_is input input_later (served.bytes.took.whole ++ served.bytes.took.tail) served.bytes.took.took in
     let theirs = left_is again again_later (replayed.took.whole ++ replayed.took.tail) replayed.took.took in
-    let left : again.left ≡ served.took.whole ++ (served.took.tail ++ ours.0) = same ∙ ours.1 ∙ append_assoc served.took.whole served.took.tail ours.0 in
-    let near = two_readings fresh (events_in (journal_of served.session)) (events_in replayed.entries) served.took.whole (served.took.tail ++ ours.0) replayed.took.whole (replayed.took.tail ++ theirs.0)
-    served.took.order replayed.took.order served.took.are replayed.took.are (sym left ∙ theirs.1 ∙ append_assoc replayed.took.whole replayed.took.tail theirs.0) in (
-      answers_so rules image served.session served.at_end recording replayed.entries replayed.replay replayed.coming served.account has within replayed.asked replayed.is again again_later served.took.whole
-          (served.took.tail ++ ours.0) served.took.order replayed.took.order served.took.are left near answered replayed.ends replayed.takes,
+    let left : again.left ≡ served.bytes.took.whole ++ (served.bytes.took.tail ++ ours.0) = same ∙ ours.1 ∙ append_assoc served.bytes.took.whole served.bytes.took.tail ours.0 in
+    let near = two_readings fresh (events_in (journal_of served.telling.account)) (events_in replayed.entries) served.bytes.took.whole (served.bytes.took.tail ++ ours.0) replayed.took.whole (replayed.took.tail ++ theirs.0)
+    served.bytes.took.order replayed.took.order served.bytes.took.are replayed.took.are (sym left ∙ theirs.1 ∙ append_assoc replayed.took.whole replayed.took.tail theirs.0) in (
+      answers_so rules image served.telling.account recording replayed.entries replayed.replay replayed.coming served.is.is.ended.account has within replayed.asked replayed.is again again_later served.bytes.took.whole
+          (served.bytes.took.tail ++ ours.0) served.bytes.took.order replayed.took.order served.bytes.took.are left near answered replayed.ends replayed.takes,
       λ finished.
-          let state_is = same_end rules image served.session served.at_end recording replayed.entries served.account has replayed.asked near replayed.replay
+          let state_is = same_end rules image served.telling.account recording replayed.entries served.is.is.ended.account has replayed.asked near replayed.replay
           (subst (IsRecordedRun image recording replayed.entries replayed.replay) finished replayed.whole) in
           subst (λ (s : State). WritesSends written written_later s.sends) state_is (subst (WritesReplay written written_later replayed.replay.state.sends) finished replayed.writes),
     )

@@ -1,35 +1,14 @@
 -- A session's run, and a replay of its record over the first of its events.
-use Rattle.std.proofs.Common.{◌≡◌, ◌⊎◌, inl, inr, ℕ, ◌≤◌, Bool, true, List, [], ◌∷◌, ◌++◌, length, Option, Some, None, arith, append_assoc, append-nil, refl, sym, ap, ◌∙◌, subst}
 use Rattle.std.proofs.lemmas.Bool.{true≢false}
-use Rattle.std.proofs.lemmas.Option.{none-some, same_Some}
-use Rattle.links.specs.Links.{Unopened, Coming, events_in, HasEnded}
-use Rattle.links.specs.Seen.{Seen, no_faults}
-use Rattle.rx_io.specs.Prefix.{Prefix}
 use Rattle.rx_io.specs.declared.bytes.Item.{Item}
-use Rattle.links.specs.declared.journal.Entry.{Entry}
 use Rattle.links.specs.declared.journal.Entry.TheVariants as entry
-use Rattle.links.specs.declared.journal.LinkEvent.{LinkEvent}
-use Rattle.block_book.specs.declared.choice.Choice.{Choice}
-use Rattle.item_log.specs.Heard.{items_of}
-use Rattle.elf_image.specs.declared.image.Image.{Image}
 use Rattle.run_history.specs.declared.answer.Answer.TheVariants as answer
-use Rattle.run_history.specs.Machine.{State, start}
-use Rattle.run_history.specs.Run.{run}
 use Rattle.run_history.proofs.Runs.{run_more}
-use Rattle.session_history.proofs.Heeding.{events_in-append}
-use Rattle.session_history.specs.Account.{Session, journal_of, IsAccount}
-use Rattle.session_history.specs.Ends.{IsLastRefused}
-use Rattle.session_history.specs.Heeding.{Unheeded, heeded, items_in}
-use Rattle.session_history.specs.Lawful.{Rules}
-use Rattle.schedule_file.specs.declared.recorded.Recorded.{Recorded}
-use Rattle.replay.specs.Laws.{IsRecordOf, HasSession, BringsFirst, HadOneStream}
-use Rattle.replay.specs.Replaying.{Replay, IsReplay, WasAsked, AreAsked, EndsBy, HasReplayed, bounds_of}
+use Rattle.replay.specs.Replaying.{WasAsked}
 use Rattle.replay.proofs.RecordLemmas.{begins, goes_on, starved_not}
 use Rattle.replay.proofs.RoomLemmas.{session_leaves_record}
 use Rattle.replay.proofs.SessionLemmas.{session_is_replayed}
-use Rattle.replay.proofs.StreamLemmas.{heeded_first, two_fronts, items_grow}
-use Rattle.over_trunk.specs.Laws.{IsWithin}
-use Rattle.over_trunk.specs.Replaying.{IsRecordedRun}
+use Rattle.over_trunk.proofs.Terms.{List, None, Option, Some, [], ap, append-nil, append_assoc, arith, inl, inr, length, refl, subst, sym, true, ℕ, ◌++◌, ◌∙◌, ◌∷◌, ◌≡◌, ◌≤◌, ◌⊎◌, none-some, same_Some, Prefix, Entry, LinkEvent, Coming, HasEnded, Unopened, events_in, Seen, no_faults, Choice, items_of, Image, State, start, run, events_in-append, IsAccount, Session, journal_of, IsLastRefused, Unheeded, heeded, items_in, Rules, Recorded, heeded_first, items_grow, two_fronts, BringsFirst, HadOneStream, HasSession, IsRecordOf, AreAsked, EndsBy, HasReplayed, IsReplay, Replay, bounds_of, IsWithin, IsRecordedRun}
 use Rattle.over_trunk.proofs.HeededFronts.{both_ways, front_on, two_of_one, same_next, event_counts, heeded_next, wider}
 
 -- a run is one on more items too
@@ -51,10 +30,10 @@ untold coming = record {
   counts = no_faults;
 }
 
-module _ (rules : Rules) (image : Image) (session : Session) (at_end : Bool) (recording : Recorded) (entries : List Entry) (account : IsAccount rules image session at_end)
+module _ (rules : Rules) (image : Image) (session : Session) (recording : Recorded) (entries : List Entry) (account : IsAccount rules image session)
     (has : HasSession rules session recording) (asked : AreAsked image recording entries) (near : Prefix (events_in (journal_of session)) (events_in entries) ⊎ Prefix (events_in entries) (events_in (journal_of session))) where
   of_run : IsRecordOf image (items_in rules.bounds (journal_of session)) session.survivor.now.state recording
-  of_run = session_leaves_record rules image session at_end recording account has
+  of_run = session_leaves_record rules image session recording account has
 
   -- where a replay asked for an event, there is more in the session than was taken
   pub brought_not : (before : List Entry) → WasAsked image recording before → Prefix (heeded rules.bounds (events_in (journal_of session))) (events_in before) → ⊥
@@ -108,7 +87,7 @@ module _ (rules : Rules) (image : Image) (session : Session) (at_end : Bool) (re
       let stream = of near in
       let over_a_link : HasReplayed image recording (untold coming) (untold coming) (answer.Mismatch step) 0 replay.steps =
       record { entries = entries; replay = replay; tells = record { events = tt; pieces = tt; journal = tt }; asked = asked; is = is; ends = ends; failed = λ no. absurd (true≢false no); counted = omega arith } in
-      (session_is_replayed rules image session at_end stream.0 recording (untold coming) (untold coming) (answer.Mismatch step) 0 replay.steps over_a_link account has stream.1).0
+      (session_is_replayed rules image session stream.0 recording (untold coming) (untold coming) (answer.Mismatch step) 0 replay.steps over_a_link account has stream.1).0
     where
       of : Prefix (events_in (journal_of session)) (events_in entries) ⊎ Prefix (events_in entries) (events_in (journal_of session)) → (events : List LinkEvent) × HadOneStream events (journal_of session) entries
       of (inl front) = (events_in entries, record { session_took = front; replay_took = ([], append-nil (events_in entries)); all = λ ended. refl })

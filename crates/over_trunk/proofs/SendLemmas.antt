@@ -1,17 +1,7 @@
 -- The pieces of a trunk are the sends of its run.
-use Rattle.std.proofs.Common.{◌≡◌, ℕ, Bool, true, false, true≢false, List, [], ◌∷◌, ◌++◌, Option, None, Some, refl, sym, ap, ◌∙◌, subst}
-use Rattle.std.specs.Prelude.{◌&&◌, ◌||◌, ◌==◌}
-use Rattle.std.specs.Io.KnownBytes.{Appends}
-use Rattle.std.specs.List.{AllByRecursion}
-use Rattle.std.proofs.lemmas.List.{map-append}
-use Rattle.links.specs.Links.{Piece}
-use Rattle.rx_io.specs.Sends.{Send}
-use Rattle.replay.specs.Giving.{found_gone, piece_of, AreGiven}
+use Rattle.std.specs.Prelude.{◌==◌}
 use Rattle.replay.specs.Giving as giving
-use Rattle.trunk_wire.specs.Frames.{frames}
-use Rattle.trunk_wire.proofs.StreamLaws.{IsSent, framed_sent}
-use Rattle.over_trunk.specs.Trunk.{WritesWhole}
-use Rattle.over_trunk.specs.Replaying.{WritesSends, sent_pieces}
+use Rattle.over_trunk.proofs.Terms.{Bool, List, None, Option, Some, [], ap, false, refl, subst, sym, true, true≢false, ℕ, ◌++◌, ◌∙◌, ◌∷◌, ◌≡◌, map-append, Appends, AllByRecursion, ◌&&◌, ◌||◌, Send, Piece, IsSent, framed_sent, frames, AreGiven, found_gone, piece_of, WritesWhole, WritesSends, sent_pieces}
 
 front_sent : (xs ys : List Piece) → AllByRecursion IsSent (xs ++ ys) → AllByRecursion IsSent xs × AllByRecursion IsSent ys
 front_sent [] ys all = (tt, all)

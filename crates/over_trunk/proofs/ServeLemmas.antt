@@ -1,33 +1,8 @@
 -- What a session over a trunk leaves, by what it leaves over a link.
-use Rattle.std.proofs.Common.{◌≡◌, arith, ◌+◌, ℕ, Bool, true, false, List, [], ◌++◌, length, map, Option, None, Some, option_map, refl, sym, ap, ◌∙◌, subst, inl, inr}
-use Rattle.std.proofs.Math.Path.{fun_ext}
-use Rattle.std.specs.Prelude.{IsSome}
-use Rattle.std.specs.Io.KnownBytes.{Appends}
-use Rattle.block_book.specs.declared.choice.Choice.{Choice}
-use Rattle.links.specs.Links.{IsFresh, Told, Coming, Grew, Piece, events_in, pieces_in}
-use Rattle.rx_io.specs.Outside.{Stream, Took, IsDrained}
-use Rattle.links.specs.declared.journal.Entry.{Entry}
-use Rattle.links.specs.declared.journal.LinkEvent.{LinkEvent}
-use Rattle.elf_image.specs.declared.image.Image.{Image}
-use Rattle.run_history.specs.declared.answer.Answer.{Answer}
 use Rattle.run_history.specs.declared.answer.Answer.TheVariants as answer
-use Rattle.session_history.specs.Account.{Session, journal_of}
-use Rattle.session_history.specs.Ends.{IsEnd, EndsBy, WasAsked}
-use Rattle.recovery.specs.Handling.{Keeping}
-use Rattle.session_state.specs.Recovered.{HasRecovered, HasNoted}
-use Rattle.session_notes.specs.Noting.{Noted}
-use Rattle.trials.specs.Episodes.{episode_of}
-use Rattle.session_history.specs.Heeding.{Bounds}
-use Rattle.session_history.specs.Lawful.{Rules}
-use Rattle.links.specs.Seen.{Seen}
-use Rattle.session_state.specs.Serving.{StaysKnown, TakesAtEnd, BreaksAt, LinkAnswers}
-use Rattle.trunk_wire.specs.Calls.{count_after}
-use Rattle.trunk_wire.specs.Frames.{frames}
-use Rattle.trunk_wire.specs.Going.{AreInOrder, phases_behind, Intake, IsTail, TookFrames, TakesOn, Output, WroteFrames, GivesOn}
-use Rattle.trunk_wire.specs.Pieces.{fresh}
-use Rattle.trunk_wire.specs.Tellings.{told_events, told_pieces, told_coming, trunk_told, told_nothing}
-use Rattle.over_trunk.specs.Trunk.{TookTrunk, TakesTrunk, StopsTrunk, WritesTrunk, WritesWhole, TakesNoPart, BreaksTrunk, Carries}
-use Rattle.over_trunk.specs.Serving.{IsOfSession, ServesTrunk}
+use Rattle.session_history.specs.Ends.{EndsBy}
+use Rattle.recovery.proofs.Handled.{has_ring}
+use Rattle.over_trunk.proofs.Terms.{Bool, List, None, Option, Some, [], ap, false, inl, inr, length, option_map, refl, subst, true, ℕ, ◌++◌, ◌+◌, ◌∙◌, ◌≡◌, fun_ext, Appends, IfSome, IsSome, IsDrained, Stream, Took, Entry, LinkEvent, Coming, Grew, IsFresh, Piece, Told, events_in, pieces_in, Seen, count_after, frames, AreInOrder, GivesOn, Intake, IsTail, Output, TakesOn, TookFrames, WroteFrames, phases_behind, fresh, told_coming, told_events, told_nothing, told_pieces, trunk_told, Image, Answer, came_to, Session, journal_of, HasComeTo, IsEnd, IsEnded, StaysKnown, TakesAtEnd, WasAsked, before_end, Bounds, Rules, Noted, HasHandled, Keeping, stands_of, HandledAt, HasLeft, keeping_of, HasRecovered, Outcome, Telling, BreaksAt, LinkAnswers, UnlessNoteFault, outcome_of, SessionState, BreaksTrunk, Carries, StopsTrunk, TakesNoPart, TakesTrunk, TookTrunk, WritesTrunk, WritesWhole, IsOfSession, IsRecordedUpTo, IsTrunkFault, ServesTrunk}
 use Rattle.over_trunk.proofs.ReadLemmas.{Countable, tail_none, tail_asked, events_told, stands_behind}
 use Rattle.over_trunk.proofs.StopLemmas.{HasTaken, stops_at, took_no_part}
 use Rattle.over_trunk.proofs.PayloadLemmas.{carried}
@@ -83,15 +58,23 @@ known_still old before next told takes known =
     by_takes true is known = known
     by_takes false is known = let no : ⊥ = cc in absurd no
 
-stops_trunk : (rules : Rules) (session : Session) (old new : Intake) (list : List LinkEvent) (end : Answer) → IsFresh old.phases → old.took ≡ 0 → old.takes ≡ true → Countable new.told → TookFrames old new
-    → Grew (option_map (λ _. []) old.told) (told_events new.told new.took new.phases new.takes) list → TakesAtEnd new.takes end → (IsEnd end → StaysKnown (upcoming old) (upcoming new))
-    → EndsBy rules (upcoming new) session end → StopsTrunk old.told new.told list end
-stops_trunk rules session old new list end is_fresh none takes few went grew still known ends = by_told old.told refl grew
+-- at an end that the session came to, by what is known of the link there
+stops_trunk : {rules : Rules} {session : Session} (old new : Intake) (list : List LinkEvent) (end : Answer) → IsFresh old.phases → old.took ≡ 0 → old.takes ≡ true → Countable new.told → TookFrames old new
+    → Grew (option_map (λ _. []) old.told) (told_events new.told new.took new.phases new.takes) list → TakesAtEnd new.takes end → StaysKnown (upcoming old) (upcoming new)
+    → HasComeTo rules (upcoming new) session end → StopsTrunk old.told new.told list end
+stops_trunk old new list end is_fresh none takes few went grew still known come = by_told old.told refl grew
   where
     by_told : (before : Option Stream) → old.told ≡ before → Grew (option_map (λ _. []) before) (told_events new.told new.took new.phases new.takes) list → StopsTrunk before new.told list end
     by_told None told grew = tt
     by_told (Some before) told grew =
-        stops_at rules session new before list end few (has_taken old new before list told is_fresh none few went grew) still (λ is. known_still old before (upcoming new) told takes (known is)) ends
+        stops_at new before list end few (has_taken old new before list told is_fresh none few went grew) still (known_still old before (upcoming new) told takes known) come
+
+-- if it came to one
+stops_if : (rules : Rules) (session : Session) (came : Option Answer) (old new : Intake) (list : List LinkEvent) → IsFresh old.phases → old.took ≡ 0 → old.takes ≡ true → Countable new.told → TookFrames old new
+    → Grew (option_map (λ _. []) old.told) (told_events new.told new.took new.phases new.takes) list → IfSome came (λ end. TakesAtEnd new.takes end × StaysKnown (upcoming old) (upcoming new))
+    → IfSome came (HasComeTo rules (upcoming new) session) → IfSome came (StopsTrunk old.told new.told list)
+stops_if rules session None old new list is_fresh none takes few went grew known come = tt
+stops_if rules session (Some end) old new list is_fresh none takes few went grew known come = stops_trunk old new list end is_fresh none takes few went grew known.0 known.1 come
 
 -- what was written, where the sink tells its bytes
 wrote_told : (old new : Output) (before : List ℕ) (bytes : List ℕ) → old.told ≡ Some before → Appends old.told new.told bytes → Appends (Some before) new.told bytes
@@ -173,58 +156,75 @@ pub record WentTrunk (old new : Intake) (out later : Output) : Type 0 where
   pub taken : TakesOn old.takes old new
   pub given : GivesOn out.gives out later
 
+recorded_up_to : {R : Type 0} {rules : Rules} {image : Image} {keeping : Keeping} {telling : Telling} {session : SessionState R} (end : Answer) → keeping_of session ≡ keeping → HasLeft rules image telling session end → (IsEnd end → ⊥)
+    → IsRecordedUpTo rules image keeping telling (outcome_of end session)
+recorded_up_to {rules = rules} {image = image} {keeping = keeping} {telling = telling} {session = session} end same left no_end =
+    let h = left.holds in
+    let account : Session = telling.account in
+    record {
+      ring = h.paths;
+      chained = h.chained;
+      checkpoints = h.are;
+      stands = stands_of session.cpu.slots.saved;
+      ringed = has_ring session.cpu.slots.saved h.paths h.as_many h.saved;
+      handled =
+          subst (λ (k : Keeping). HandledAt end (HasHandled rules image k account.earlier (before_end account) telling.recoveries account.survivor account.survivor.now.state.machine.taken (stands_of session.cpu.slots.saved))
+          (HasHandled rules image k account.earlier (before_end account) telling.recoveries account.survivor (account.survivor.now.state.machine.taken + 1) (stands_of session.cpu.slots.saved))) same left.requests;
+      oldest = left.oldest;
+      oldest_is = left.oldest_is;
+      recorded = left.recorded no_end;
+    }
+
+-- what is recorded where the link failed, by what the session left
+pub left_recorded : {R : Type 0} {rules : Rules} {image : Image} {keeping : Keeping} {telling : Telling} (session : SessionState R) (end : Answer) → keeping_of session ≡ keeping → UnlessNoteFault end (HasLeft rules image telling session end) → IsTrunkFault end
+    → IsRecordedUpTo rules image keeping telling (outcome_of end session)
+left_recorded session answer.ReadFault same left is = recorded_up_to answer.ReadFault same left (λ no. no)
+left_recorded session answer.WriteFault same left is = recorded_up_to answer.WriteFault same left (λ no. no)
+left_recorded session _ same left is = absurd is
+
 -- a session over a link that was made
-pub serves : (rules : Rules) (keeping : Keeping) (image : Image) {old new : Intake} {out later : Output} (before rest : Seen) {began : Told} (end : Answer) {noted_before noted_now : Noted} {recorded : ℕ} {tail : List Choice} {taken steps first last : ℕ} (counted : ℕ)
-    → StartsTrunk began old out → WentTrunk old new out later → LinkAnswers (shows_by old out before) (shows_by new later rest) end
-    → HasRecovered rules image keeping began (shows_by new later rest) end noted_before noted_now recorded tail taken steps first last → last ≡ first + counted
-    → ServesTrunk rules keeping image old.told new.told out.told later.told end noted_before noted_now recorded tail taken steps counted
-serves rules keeping image {old = old} {new = new} {out = out} {later = later} before rest end {noted_before = noted_before} {noted_now = noted_now} {recorded = recorded} {tail = tail} counted starts went answers recovered count =
-    let served = recovered.served in
+pub serves : (rules : Rules) (keeping : Keeping) (image : Image) {old new : Intake} {out later : Output} (before rest : Seen) {outcome : Outcome} {noted_before noted_now : Noted} {counted : ℕ}
+    → StartsTrunk (shows_by old out before).told old out → WentTrunk old new out later → LinkAnswers (shows_by old out before) (shows_by new later rest) outcome.end
+    → (recovered : HasRecovered rules image keeping (shows_by old out before) (shows_by new later rest) outcome noted_before noted_now counted) → (IsTrunkFault outcome.end → IsRecordedUpTo rules image keeping recovered.telling outcome)
+    → ServesTrunk rules keeping image old.told new.told out.told later.told outcome noted_before noted_now counted
+serves rules keeping image {old = old} {new = new} {out = out} {later = later} before rest {outcome = outcome} starts went answers recovered recorded =
+    let session : Session = recovered.telling.account in
     let took : TookFrames old new = subst (λ b. TakesOn b old new) starts.takes went.taken in
     let wrote : WroteFrames out later = subst (λ b. GivesOn b out later) starts.gives went.given in
-    let list = events_in (journal_of served.session) in
-    let given = pieces_in (journal_of served.session) in
-    let events = subst (λ (told : Told). Grew told.events (told_events new.told new.took new.phases new.takes) list) starts.told served.tells.events in
-    let pieces = subst (λ (told : Told). Grew told.pieces (told_pieces later.told later.wrote later.gives) given) starts.told served.tells.pieces in record {
-      session = served.session;
-      at_end = served.at_end;
+    let list = events_in (journal_of session) in
+    let given = pieces_in (journal_of session) in
+    let events = subst (λ (told : Told). Grew told.events (told_events new.told new.took new.phases new.takes) list) starts.told recovered.shows.tells.events in
+    let pieces = subst (λ (told : Told). Grew told.pieces (told_pieces later.told later.wrote later.gives) given) starts.told recovered.shows.tells.pieces in record {
       coming = upcoming new;
-      account = served.account;
-      recoveries = recovered.recoveries;
-      recovered = recovered.recovered;
-      ringed = recovered.ringed;
-      trials = recovered.trials;
-      last = recovered.last;
-      tried = recovered.tried;
-      gave_up = recovered.gave_up;
-      all_counted = λ others. let all = recovered.counted others in omega (arith, all, count);
-      comes = served.comes;
-      ends = served.ends;
-      pieces = served.pieces;
-      notes = subst (λ (cs : List Choice). HasNoted noted_before noted_now end cs (map episode_of recovered.recoveries ++ recovered.last) recorded tail) (sym served.choices_are) recovered.notes;
-      taken_is = served.taken_is;
-      steps_are = served.steps_are;
-      took = takes_trunk old new list (WasAsked rules served.session) served.asked starts.phases starts.took went.countable took events;
-      stops = stops_trunk rules served.session old new list end starts.phases starts.took starts.takes went.countable took events answers.takes answers.known served.ends;
-      wrote = writes_trunk out later given starts.wrote went.short wrote pieces;
-      wrote_whole = λ is. writes_whole out later given starts.wrote went.short wrote (answers.gives is) pieces;
-      breaks = breaks_trunk old new out later list given end
-          (takes_no_part old new list starts.phases starts.took starts.takes went.countable took events)
-          (λ is. writes_whole out later given starts.wrote went.short wrote is pieces) answers.once;
-      carried = carries rules.bounds out later (journal_of served.session) starts.wrote went.short wrote pieces;
+      telling = recovered.telling;
+      is = recovered.is;
+      recorded = recorded;
+      bytes = record {
+        took = takes_trunk old new list (WasAsked rules session) recovered.shows.asked starts.phases starts.took went.countable took events;
+        stops = stops_if rules session session.came old new list starts.phases starts.took starts.takes went.countable took events recovered.shows.at_end recovered.is.is.ended.comes;
+        wrote = writes_trunk out later given starts.wrote went.short wrote pieces;
+        wrote_whole = λ is. writes_whole out later given starts.wrote went.short wrote (answers.gives is) pieces;
+        breaks = breaks_trunk old new out later list given outcome.end
+            (takes_no_part old new list starts.phases starts.took starts.takes went.countable took events)
+            (λ is. writes_whole out later given starts.wrote went.short wrote is pieces) answers.once;
+        carried = carries rules.bounds out later (journal_of session) starts.wrote went.short wrote pieces;
+      };
     }
 
 -- no other answer has an account
-pub of_session : (rules : Rules) (coming : Option Coming) (session : Session) (end : Answer) → EndsBy rules coming session end → IsOfSession end
-of_session rules coming session answer.ReadFault ends = tt
-of_session rules coming session answer.WriteFault ends = tt
-of_session rules coming session answer.FileFault ends = tt
-of_session rules coming session answer.Memory ends = tt
-of_session rules coming session answer.Finished ends = tt
-of_session rules coming session (answer.Exited code) ends = tt
-of_session rules coming session (answer.GaveUp point cause) ends = tt
-of_session rules coming session (answer.InputRefused kind offset) ends = tt
-of_session rules coming session (answer.MessageTooLong conn) ends = tt
-of_session rules coming session answer.LimitItems ends = tt
-of_session rules coming session answer.LimitEvents ends = tt
-of_session rules coming session _ ends = absurd ends.0
+pub of_session : {rules : Rules} {image : Image} {coming : Option Coming} {session : Session} {end : Answer} → IsEnded rules image coming session end → IsOfSession end
+of_session {rules = rules} {coming = coming} {session = session} {end = end} is = of end is.ends
+  where
+    of : (end : Answer) → EndsBy rules session end → IsOfSession end
+    of answer.ReadFault ends = tt
+    of answer.WriteFault ends = tt
+    of answer.FileFault ends = tt
+    of answer.Memory ends = tt
+    of (answer.GaveUp point cause) ends = tt
+    of answer.Finished ends = tt
+    of (answer.Exited code) ends = tt
+    of (answer.InputRefused kind offset) ends = tt
+    of (answer.MessageTooLong conn) ends = tt
+    of answer.LimitItems ends = tt
+    of answer.LimitEvents ends = tt
+    of _ ends = absurd (let to : HasComeTo rules coming session _ = came_to is.comes ends.came in to.is_end)

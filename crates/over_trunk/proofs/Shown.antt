@@ -1,10 +1,6 @@
 -- What a trunk shows, by its source's side and its sink's.
 use Rattle.std.specs.Prelude.{Option}
-use Rattle.links.specs.Links.{Handed, Counts}
-use Rattle.links.specs.LinkForms.{gives_below_4096}
-use Rattle.links.specs.Seen.{Seen}
-use Rattle.trunk_wire.specs.Going.{Intake, Output}
-use Rattle.trunk_wire.specs.Tellings.{told_events, told_pieces, told_coming, trunk_told}
+use Rattle.over_trunk.proofs.Terms.{gives_below_4096, Counts, Handed, Seen, Intake, Output, told_coming, told_events, told_pieces, trunk_told}
 
 abbrev pub shown : Intake → Output → Option Handed → Counts → Seen
 shown intake output handed counts = record {

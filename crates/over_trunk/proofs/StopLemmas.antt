@@ -1,26 +1,10 @@
 -- What a trunk's session had taken where it came to its end.
-use Rattle.std.proofs.Common.{◌≡◌, ℕ, Bool, true, false, List, [], ◌∷◌, ◌++◌, length, take, Option, None, Some, IfSome, if◌then◌else◌, nat_lt, ◌==◌, arith, append-nil, length-append, refl, sym, ap, ◌∙◌, subst, inl, inr}
-use Rattle.std.specs.Prelude.{IsSome}
-use Rattle.links.specs.Links.{Phases, Comes, Refuses}
-use Rattle.rx_io.specs.Outside.{Stream, Took, IsDrained}
-use Rattle.links.specs.declared.journal.LinkEvent.{LinkEvent}
+use Rattle.std.proofs.Common.{IfSome}
 use Rattle.links.specs.declared.journal.LinkEvent.TheVariants as event
-use Rattle.run_history.specs.declared.answer.Answer.{Answer}
 use Rattle.run_history.specs.declared.answer.Answer.TheVariants as answer
-use Rattle.session_history.specs.Account.{Session}
-use Rattle.session_history.specs.Ends.{IsEnd, EndsBy}
-use Rattle.session_history.specs.Lawful.{Rules}
-use Rattle.session_state.specs.Serving.{TakesAtEnd}
-use Rattle.trunk_wire.specs.Calls.{count_after, IsRefused}
-use Rattle.trunk_wire.specs.Frames.{header_of, AreFramesOf}
-use Rattle.trunk_wire.specs.Going.{AreInOrder, phases_behind, Intake, IsTail}
-use Rattle.trunk_wire.specs.Grammar.{Whole, Part, front, front_by, front_accepted, header_refusal, event_of, coming_of, event_at}
-use Rattle.trunk_wire.specs.Pieces.{fresh}
-use Rattle.trunk_wire.specs.Tellings.{told_coming}
 use Rattle.trunk_wire.specs.declared.header.Header.{Header}
 use Rattle.trunk_wire.specs.declared.header.TheConstants.{OPEN, BYTES, CLOSE}
-use Rattle.trunk_wire.specs.declared.refusal.Refusal.{Refusal}
-use Rattle.over_trunk.specs.Trunk.{TookWhole, TookRefused, TookNoPart, StopsAt}
+use Rattle.over_trunk.proofs.Terms.{Bool, List, None, Option, Some, [], ap, append-nil, arith, false, if◌then◌else◌, inl, inr, length, length-append, nat_lt, refl, subst, sym, take, true, ℕ, ◌++◌, ◌==◌, ◌∙◌, ◌∷◌, ◌≡◌, IsSome, IsDrained, Stream, Took, LinkEvent, Comes, Phases, Refuses, Refusal, IsRefused, count_after, AreFramesOf, header_of, AreInOrder, Intake, IsTail, phases_behind, Part, Whole, coming_of, event_at, event_of, front, front_accepted, front_by, header_refusal, fresh, told_coming, Answer, Session, HasComeTo, TakesAtEnd, Rules, StopsAt, TookNoPart, TookRefused, TookWhole}
 use Rattle.over_trunk.proofs.ReadLemmas.{Countable, few_taken}
 
 -- a frame is no end
@@ -116,13 +100,13 @@ took_refused new before list kind offset few taken takes known next =
       offset_is = refused.1 ∙ count_whole before new.told taken.whole taken.tail few taken.took;
     }
 
--- so it stopped, by its answer
-pub stops_at : (rules : Rules) (session : Session) (new : Intake) (before : Stream) (list : List LinkEvent) (end : Answer) → Countable new.told → HasTaken new before list → TakesAtEnd new.takes end
-    → (IsEnd end → IsSome (told_coming new.told new.took new.phases new.takes new.refused)) → EndsBy rules (told_coming new.told new.took new.phases new.takes new.refused) session end → StopsAt (Some before) new.told list end
-stops_at rules session new before list answer.Finished few taken takes known ends =
-    (took_whole new before list taken (takes tt), drained new.told new.took new.phases new.takes new.refused (takes tt) ends.0.2)
-stops_at rules session new before list (answer.InputRefused kind offset) few taken takes known ends = took_refused new before list kind offset few taken takes (known tt) ends.0.2
-stops_at rules session new before list _ few taken takes known ends = λ is. took_whole new before list taken (takes is)
+-- so it stopped, at an end that the session came to
+pub stops_at : {rules : Rules} {session : Session} (new : Intake) (before : Stream) (list : List LinkEvent) (end : Answer) → Countable new.told → HasTaken new before list → TakesAtEnd new.takes end
+    → IsSome (told_coming new.told new.took new.phases new.takes new.refused) → HasComeTo rules (told_coming new.told new.took new.phases new.takes new.refused) session end → StopsAt (Some before) new.told list end
+stops_at new before list answer.Finished few taken takes known come =
+    (took_whole new before list taken (takes tt), drained new.told new.took new.phases new.takes new.refused (takes tt) come.stands.2)
+stops_at new before list (answer.InputRefused kind offset) few taken takes known come = took_refused new before list kind offset few taken takes known come.stands.2
+stops_at new before list _ few taken takes known come = λ is. took_whole new before list taken (takes is)
 
 refusal_of : (told : Option Stream) (took : ℕ) (phases : Phases) (takes : Bool) (refused : Option Refusal) → takes ≡ false → IsSome (told_coming told took phases takes refused)
     → (refusal : Refusal) × IfSome (told_coming told took phases takes refused) (λ next. next ≡ Refuses refusal.kind refusal.offset)

@@ -1,29 +1,12 @@
 -- What a replay over a trunk leaves, by what it leaves over a link.
-use Rattle.std.proofs.Common.{◌≡◌, ◌+◌, ℕ, true, List, [], take, Option, None, Some, option_map, refl, sym, ◌∙◌, subst, inl, inr, arith}
-use Rattle.std.proofs.lemmas.List.{take_all}
-use Rattle.std.specs.Prelude.{IsSome}
-use Rattle.block_book.specs.declared.choice.Choice.{Choice}
-use Rattle.links.specs.Links.{IsFresh, Told, Coming, Handed, Counts, Grew, events_in, pieces_in}
-use Rattle.links.specs.Seen.{Seen}
-use Rattle.rx_io.specs.Outside.{Stream}
-use Rattle.links.specs.declared.journal.Entry.{Entry}
-use Rattle.elf_image.specs.declared.image.Image.{Image}
-use Rattle.run_history.specs.declared.answer.Answer.{Answer}
 use Rattle.run_history.specs.declared.answer.Answer.TheVariants as answer
-use Rattle.run_history.specs.Run.{Run}
 use Rattle.session_state.specs.Serving.{StaysKnown}
-use Rattle.session_history.specs.Heeding.{items_in}
-use Rattle.schedule_file.specs.declared.recorded.Recorded.{Recorded}
-use Rattle.replay.specs.Replaying.{Replay, IsReplay, IsAsking, EndsBy, HasReplayedBy, LeavesLink, bounds_of}
-use Rattle.trunk_wire.specs.Going.{Intake, TookFrames, TakesOn, Output, WroteFrames, GivesOn}
-use Rattle.trunk_wire.specs.Tellings.{told_events, told_pieces, told_nothing}
-use Rattle.over_trunk.specs.Trunk.{WritesWhole, BreaksTrunk, TakesNoPart}
+use Rattle.over_trunk.proofs.Terms.{List, None, Option, Some, [], arith, inl, inr, option_map, refl, subst, sym, take, true, ℕ, ◌+◌, ◌∙◌, ◌≡◌, take_all, IsSome, Stream, Entry, Coming, Counts, Grew, Handed, IsFresh, Told, events_in, pieces_in, Seen, Choice, GivesOn, Intake, Output, TakesOn, TookFrames, WroteFrames, told_events, told_nothing, told_pieces, Image, Answer, Run, items_in, Recorded, EndsBy, HasReplayedBy, IsAsking, IsReplay, LeavesLink, Replay, bounds_of, BreaksTrunk, TakesNoPart, WritesWhole, IsRecordedRun, ReplaysTrunk, TakesReplay, TookReplay, WritesFront, WritesReplay}
 use Rattle.over_trunk.proofs.Shown.{shown}
 use Rattle.over_trunk.proofs.ReadLemmas.{Countable}
 use Rattle.over_trunk.proofs.WriteLemmas.{Short}
 use Rattle.over_trunk.proofs.StopLemmas.{HasTaken, took_whole, took_refused, drained}
 use Rattle.over_trunk.proofs.ServeLemmas.{upcoming, has_taken, known_still, takes_trunk, writes_trunk, writes_whole}
-use Rattle.over_trunk.specs.Replaying.{TookReplay, TakesReplay, WritesFront, WritesReplay, IsRecordedRun, ReplaysTrunk}
 use Rattle.over_trunk.proofs.FrontLemmas.{front_by}
 use Rattle.over_trunk.proofs.SendLemmas.{sends_written}
 

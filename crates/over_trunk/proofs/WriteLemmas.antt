@@ -1,16 +1,6 @@
 -- What a trunk's session wrote, by what its link told.
-use Rattle.std.proofs.Common.{◌≡◌, ℕ, ◌^◌, ◌-◌, ◌<◌, Bool, true, false, List, [], ◌∷◌, ◌++◌, All, length, Option, None, Some, IfSome, if◌then◌else◌, arith, append-nil, length-append, refl, sym, ap, ◌∙◌, subst}
-use Rattle.std.specs.Io.KnownBytes.{Appends}
-use Rattle.links.specs.Links.{Piece, Grew}
-use Rattle.rx_io.specs.Prefix.{Prefix}
-use Rattle.trunk_wire.specs.Calls.{count_after}
-use Rattle.trunk_wire.specs.Frames.{piece_frame, frames}
-use Rattle.trunk_wire.specs.Going.{IsFramed, IsCut}
-use Rattle.trunk_wire.specs.Parts.{last_bytes}
-use Rattle.trunk_wire.specs.Pieces.{pieces}
-use Rattle.trunk_wire.specs.Tellings.{is_whole, told_pieces}
-use Rattle.trunk_wire.proofs.StreamLaws.{framed_sent, pieces-frames, pieces-cut}
-use Rattle.over_trunk.specs.Trunk.{WroteTrunk, WroteWhole}
+use Rattle.std.proofs.Common.{IfSome}
+use Rattle.over_trunk.proofs.Terms.{All, Bool, List, None, Option, Some, [], ap, append-nil, arith, false, if◌then◌else◌, length, length-append, refl, subst, sym, true, ℕ, ◌++◌, ◌-◌, ◌<◌, ◌^◌, ◌∙◌, ◌∷◌, ◌≡◌, Appends, Prefix, Grew, Piece, framed_sent, pieces-cut, pieces-frames, count_after, frames, piece_frame, IsCut, IsFramed, last_bytes, pieces, is_whole, told_pieces, WroteTrunk, WroteWhole}
 use Rattle.over_trunk.proofs.ReadLemmas.{last_all}
 
 abbrev pub Short : Option (List ℕ) → Type 0

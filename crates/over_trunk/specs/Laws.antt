@@ -1,17 +1,7 @@
 -- What holds of a session over a trunk, and of a replay of its record over the same bytes.
 use Rattle.std.specs.Prelude.{◌≡◌, ℕ, ◌≤◌, List, Option, Some}
-use Rattle.block_book.specs.declared.choice.Choice.{Choice}
-use Rattle.rx_io.specs.Outside.{Stream}
-use Rattle.elf_image.specs.declared.image.Image.{Image}
-use Rattle.run_history.specs.declared.answer.Answer.{Answer}
 use Rattle.run_history.specs.declared.answer.Answer.TheVariants as answer
-use Rattle.session_history.specs.Heeding.{Bounds}
-use Rattle.session_history.specs.Lawful.{Rules}
-use Rattle.schedule_file.specs.declared.recorded.Recorded.{Recorded}
-use Rattle.session_notes.specs.Noting.{Noted}
-use Rattle.recovery.specs.Handling.{Keeping}
-use Rattle.replay.specs.Laws.{HasSession}
-use Rattle.replay.specs.Replaying.{bounds_of}
+use Rattle.over_trunk.specs.Terms.{Stream, Image, Answer, Bounds, Rules, Noted, Keeping, Recorded, Outcome, HasSession, bounds_of}
 use Rattle.over_trunk.specs.Serving.{ServesTrunk}
 use Rattle.over_trunk.specs.Replaying.{ReplaysTrunk, WritesSends}
 
@@ -32,9 +22,9 @@ IsAsRecorded _ = ⊥
 -- input is refused. At Finished the frames of the sends of the session's run were written, and no byte more.
 abbrev pub SameBytesAreReplayed : Type 0
 SameBytesAreReplayed =
-    (rules : Rules) (keeping : Keeping) (image : Image) (input again : Stream) (input_later again_later : Option Stream) (output output_later written written_later : Option (List ℕ)) (end answered : Answer)
-    (noted_before noted_now : Noted) (noted_choices : ℕ) (tail : List Choice) (taken steps counted counted_again : ℕ) (recorded : Recorded)
-    (served : ServesTrunk rules keeping image (Some input) input_later output output_later end noted_before noted_now noted_choices tail taken steps counted)
+    (rules : Rules) (keeping : Keeping) (image : Image) (input again : Stream) (input_later again_later : Option Stream) (output output_later written written_later : Option (List ℕ)) (outcome : Outcome) (answered : Answer)
+    (noted_before noted_now : Noted) (counted counted_again : ℕ) (recorded : Recorded)
+    (served : ServesTrunk rules keeping image (Some input) input_later output output_later outcome noted_before noted_now counted)
     (replayed : ReplaysTrunk image recorded (Some again) again_later written written_later answered counted_again) →
-    HasSession rules served.session recorded → IsWithin rules.bounds (bounds_of recorded) → again.left ≡ input.left →
-    IsAsRecorded answered × (answered ≡ answer.Finished → WritesSends written written_later served.session.survivor.now.state.sends)
+    HasSession rules served.telling.account recorded → IsWithin rules.bounds (bounds_of recorded) → again.left ≡ input.left →
+    IsAsRecorded answered × (answered ≡ answer.Finished → WritesSends written written_later served.telling.account.survivor.now.state.sends)

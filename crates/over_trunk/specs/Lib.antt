@@ -1,4 +1,6 @@
+pub mod Terms
 pub mod Trunk
 pub mod Serving
 pub mod Laws
 pub mod Replaying
+pub mod EndLaws

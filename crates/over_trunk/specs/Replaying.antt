@@ -1,20 +1,7 @@
 -- What a replay over a trunk leaves: the bytes that its source lost, and those that its sink gained.
 use Rattle.std.specs.Prelude.{◌≡◌, ℕ, List, map, false, Option, None, Some}
-use Rattle.std.specs.Io.KnownBytes.{Appends}
-use Rattle.links.specs.Links.{Coming, Piece, events_in, pieces_in, HasEnded}
-use Rattle.rx_io.specs.Outside.{Stream, IsDrained}
-use Rattle.rx_io.specs.Prefix.{Prefix}
-use Rattle.rx_io.specs.Sends.{Send}
-use Rattle.links.specs.declared.journal.Entry.{Entry}
-use Rattle.elf_image.specs.declared.image.Image.{Image}
-use Rattle.run_history.specs.declared.answer.Answer.{Answer}
 use Rattle.run_history.specs.declared.answer.Answer.TheVariants as answer
-use Rattle.run_history.specs.Run.{Run}
-use Rattle.session_history.specs.Heeding.{items_in}
-use Rattle.schedule_file.specs.declared.recorded.Recorded.{Recorded}
-use Rattle.replay.specs.Giving.{piece_of}
-use Rattle.replay.specs.Replaying.{Replay, IsReplay, IsAsking, AreAsked, EndsBy, bounds_of}
-use Rattle.trunk_wire.specs.Frames.{frames}
+use Rattle.over_trunk.specs.Terms.{Appends, IsDrained, Stream, Prefix, Send, Entry, Coming, HasEnded, Piece, events_in, pieces_in, frames, Image, Answer, Run, items_in, Recorded, piece_of, AreAsked, EndsBy, IsAsking, IsReplay, Replay, bounds_of}
 use Rattle.over_trunk.specs.Trunk.{TakesTrunk, TookWhole, TookRefused, WritesTrunk, BreaksTrunk}
 
 -- each send as one whole piece

@@ -1,23 +1,9 @@
 -- What a session leaves that served a trunk.
-use Rattle.std.specs.Prelude.{◌≡◌, ◌≢◌, ℕ, ◌+◌, ◌-◌, List, [], ◌++◌, map, Bool, true, Option}
-use Rattle.block_book.specs.declared.choice.Choice.{Choice}
-use Rattle.links.specs.Links.{Coming, Counts, events_in, pieces_in}
-use Rattle.rx_io.specs.Outside.{Stream}
-use Rattle.elf_image.specs.declared.image.Image.{Image}
-use Rattle.run_history.specs.declared.answer.Answer.{Answer}
+use Rattle.std.specs.Prelude.{◌≡◌, ℕ, ◌+◌, ◌-◌, List, length, Option, Some, IfSome, slice_get}
 use Rattle.run_history.specs.declared.answer.Answer.TheVariants as answer
-use Rattle.session_history.specs.Account.{Session, journal_of, IsAccount}
-use Rattle.session_history.specs.Ends.{IsEnd, HasCome, EndsBy, WasAsked}
-use Rattle.session_history.specs.Giving.{AreGiven}
-use Rattle.session_history.specs.Lawful.{Rules}
-use Rattle.session_history.specs.Serving.{first_survivor}
-use Rattle.trials.specs.Tables.{Trial}
-use Rattle.session_notes.specs.declared.episode.Episode.{Episode}
-use Rattle.session_notes.specs.Noting.{Noted}
-use Rattle.trials.specs.Episodes.{Recovery, episode_of, AreRecovered}
-use Rattle.recovery.specs.Trying.{steps_of}
-use Rattle.recovery.specs.Handling.{Keeping, HaveRings}
-use Rattle.session_state.specs.Recovered.{spent, AreLastTrials, GivesUpBy, HasNoted}
+use Rattle.run_history.specs.Served.{Path}
+use Rattle.trials.specs.Chains.{AreChained, AreCheckpoints}
+use Rattle.over_trunk.specs.Terms.{Stream, Coming, Counts, events_in, pieces_in, Image, Answer, Session, journal_of, IsEnd, WasAsked, before_end, items_in, Rules, Noted, HasHandled, HasRing, Keeping, Stand, HandledAt, IsOutcome, Outcome, Telling}
 use Rattle.over_trunk.specs.Trunk.{TakesTrunk, StopsTrunk, WritesTrunk, WritesWhole, BreaksTrunk, Carries}
 
 -- an answer of a session: one of its ends, a fault of reading, of writing or of its notes, or want of memory
@@ -32,33 +18,43 @@ IsOfSession end = IsEnd end
 abbrev pub trunk_counts : ℕ → ℕ → Counts
 trunk_counts source sink = record { takes = source; gives = sink; gones = 0 }
 
--- What a session leaves that served a trunk over a source and a sink: one account of it, told by survivors of which each later one
--- was adopted behind a failure from a checkpoint that stood there, what stands behind its answer, what its notes tell, and its counts: all instructions were counted, those of
--- trials too. The bytes that the source lost are the frames of the account's events, and at an end no more than its answer says; a part of a frame behind them was asked for. Those that the sink gained are the frames of its pieces, of which a last one may be
--- cut, but not at an end; and for each connection they carry what the account says was passed to it. A frame was broken off on one
--- side at most.
-pub record ServesTrunk (rules : Rules) (keeping : Keeping) (image : Image) (source source_later : Option Stream) (sink sink_later : Option (List ℕ)) (end : Answer) (noted_before noted_now : Noted) (recorded : ℕ) (tail : List Choice) (taken steps counted : ℕ) : Type 0 where
-  pub session : Session
-  pub at_end : Bool
-  pub coming : Option Coming
-  pub account : IsAccount rules image session at_end
-  pub recoveries : List Recovery
-  pub recovered : AreRecovered rules image [] (first_survivor image) session.earlier recoveries session.survivor
-  pub ringed : HaveRings rules image keeping session.earlier recoveries
-  pub trials : List Trial
-  pub last : List Episode
-  pub tried : AreLastTrials rules image keeping session.earlier session.since recoveries session.survivor trials last
-  pub gave_up : GivesUpBy rules image keeping session.earlier session.since recoveries session.survivor trials end
-  pub all_counted : end ≢ answer.Memory → counted ≡ spent recoveries + (session.survivor.now.steps - session.survivor.begun.steps) + steps_of trials
-  pub comes : at_end ≡ true → HasCome rules coming session
-  pub ends : EndsBy rules coming session end
-  pub pieces : AreGiven session.ending
-  pub notes : HasNoted noted_before noted_now end session.survivor.now.choices (map episode_of recoveries ++ last) recorded tail
-  pub taken_is : session.survivor.now.state.machine.taken ≡ taken
-  pub steps_are : session.survivor.now.steps ≡ steps
+-- The bytes of a session over a trunk, by its account. Those that the source lost are the frames of the account's events; a part of a frame behind
+-- them was asked for; and where the session came to an end, no more was taken than that end says, whatever was answered then. Those that the
+-- sink gained are the frames of its pieces, of which a last one may be cut, but not at an end; and for each connection they carry what the
+-- account says was passed to it. A frame was broken off on one side at most.
+pub record GoesOverTrunk (rules : Rules) (source source_later : Option Stream) (sink sink_later : Option (List ℕ)) (coming : Option Coming) (session : Session) (end : Answer) : Type 0 where
   pub took : TakesTrunk source source_later (events_in (journal_of session)) coming (WasAsked rules session)
-  pub stops : StopsTrunk source source_later (events_in (journal_of session)) end
+  pub stops : IfSome session.came (StopsTrunk source source_later (events_in (journal_of session)))
   pub wrote : WritesTrunk sink sink_later (pieces_in (journal_of session))
   pub wrote_whole : IsEnd end → WritesWhole sink sink_later (pieces_in (journal_of session))
   pub breaks : BreaksTrunk source source_later sink sink_later (events_in (journal_of session)) (pieces_in (journal_of session)) end
   pub carried : Carries rules.bounds sink sink_later (journal_of session)
+
+-- How much is recorded of a session whose source or sink failed. These checkpoints of its survivor's run stand, those that its requests left; and of the
+-- run's answers of malloc as many are recorded as the oldest of them had used, which no trial could have taken back.
+pub record IsRecordedUpTo (rules : Rules) (image : Image) (keeping : Keeping) (telling : Telling) (outcome : Outcome) : Type 0 where
+  pub ring : List Path
+  pub chained : AreChained rules.limits (items_in rules.bounds (before_end telling.account)) telling.account.survivor.plan image telling.account.survivor.now ring
+  pub checkpoints : AreCheckpoints rules.limits image ring
+  pub stands : List Stand
+  pub ringed : HasRing stands ring
+  pub handled : HandledAt outcome.end (HasHandled rules image keeping telling.account.earlier (before_end telling.account) telling.recoveries telling.account.survivor telling.account.survivor.now.state.machine.taken stands)
+      (HasHandled rules image keeping telling.account.earlier (before_end telling.account) telling.recoveries telling.account.survivor (telling.account.survivor.now.state.machine.taken + 1) stands)
+  pub oldest : Path
+  pub oldest_is : slice_get ring (length ring - 1) ≡ Some oldest
+  pub recorded : outcome.recorded ≡ length oldest.choices
+
+-- a fault of the source or of the sink
+abbrev pub IsTrunkFault : Answer → Type 0
+IsTrunkFault answer.ReadFault = Unit {0}
+IsTrunkFault answer.WriteFault = Unit {0}
+IsTrunkFault _ = ⊥
+
+-- What a session leaves that served a trunk over a source and a sink: its outcome, by one telling of it; how much is recorded, where one of both
+-- failed; and beside it the trunk's bytes.
+pub record ServesTrunk (rules : Rules) (keeping : Keeping) (image : Image) (source source_later : Option Stream) (sink sink_later : Option (List ℕ)) (outcome : Outcome) (noted_before noted_now : Noted) (counted : ℕ) : Type 0 where
+  pub coming : Option Coming
+  pub telling : Telling
+  pub is : IsOutcome rules image keeping coming telling outcome noted_before noted_now counted
+  pub recorded : IsTrunkFault outcome.end → IsRecordedUpTo rules image keeping telling outcome
+  pub bytes : GoesOverTrunk rules source source_later sink sink_later coming telling.account outcome.end

@@ -1,22 +1,7 @@
 -- What a session that served a trunk took from the source and wrote to the sink.
 use Rattle.std.specs.Prelude.{◌≡◌, ◌≢◌, ◌⊎◌, ℕ, List, [], ◌++◌, All, length, drop, Option, None, Some, IfSome}
-use Rattle.std.specs.Io.KnownBytes.{Appends}
-use Rattle.links.specs.Links.{Phases, Coming, Refuses, Piece, pieces_in, cut_entries}
-use Rattle.rx_io.specs.Outside.{Stream, Took, IsDrained}
-use Rattle.rx_io.specs.Prefix.{Prefix}
-use Rattle.rx_io.specs.Sends.{sent_to}
-use Rattle.links.specs.declared.journal.Entry.{Entry}
-use Rattle.links.specs.declared.journal.LinkEvent.{LinkEvent}
-use Rattle.run_history.specs.declared.answer.Answer.{Answer}
 use Rattle.run_history.specs.declared.answer.Answer.TheVariants as answer
-use Rattle.session_history.specs.Ends.{IsEnd}
-use Rattle.session_history.specs.Heeding.{Bounds}
-use Rattle.session_history.specs.Passing.{passed_in}
-use Rattle.trunk_wire.specs.Calls.{IsRefused}
-use Rattle.trunk_wire.specs.Frames.{AreFramesOf, piece_frame, frames}
-use Rattle.trunk_wire.specs.Going.{AreInOrder, phases_behind, IsFramed}
-use Rattle.trunk_wire.specs.Grammar.{Part, front, event_at}
-use Rattle.trunk_wire.specs.Pieces.{fresh, payload}
+use Rattle.over_trunk.specs.Terms.{Appends, IsDrained, Stream, Took, Prefix, sent_to, Entry, LinkEvent, Coming, Phases, Piece, Refuses, cut_entries, pieces_in, IsRefused, AreFramesOf, frames, piece_frame, AreInOrder, IsFramed, phases_behind, Part, event_at, front, fresh, payload, Answer, IsEnd, Bounds, passed_in}
 
 -- What was taken behind whole frames, so many bytes of them, and what comes there. Nothing was taken, and what comes is the grammar's
 -- at what is left. Or a part of a frame was, and nothing is told of what comes. Or what is refused was, and its refusal comes.

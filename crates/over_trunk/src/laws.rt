@@ -1,7 +1,18 @@
-//! A law of sessions and replays over a trunk, as the contract of a function that does nothing.
+//! Laws of sessions and replays over a trunk, each as the contract of a function that does nothing.
+ghost use Rattle.over_trunk.specs.EndLaws.{NoOtherEnd, SendsAreWritten};
 ghost use Rattle.over_trunk.specs.Laws.{SameBytesAreReplayed};
 
 /// A session's record is replayed over the bytes that the session had, to the frames of its run's sends.
 pub fn same_bytes_are_replayed()
     ensures { SameBytesAreReplayed }
+{}
+
+/// Where the input has the frames of events that are all heeded, no answer says that it is refused.
+pub fn no_other_end()
+    ensures { NoOtherEnd }
+{}
+
+/// At an end the frames of all sends were written, where nothing was held back or recovered.
+pub fn sends_are_written()
+    ensures { SendsAreWritten }
 {}

@@ -1,17 +1,6 @@
 -- What the calls of a store and of its line ask for. For who implements a Snapshot.
-use Rattle.std.proofs.Common.{◌≡◌, ◌≢◌, ℕ, ◌+◌, ◌-◌, ◌<◌, ◌≤◌, false, None, IsSome, [], ◌∷◌, ◌++◌, length, All, Contains, nat_eq, ◌⊎◌, ⊎_elim, refl, sym, ◌∙◌, arith}
-use Rattle.std.specs.List.{list_any, IsDistinct}
-use Rattle.std.proofs.lemmas.Bool.{false_from_ne_true}
-use Rattle.std.proofs.lemmas.Cmp.{nat_eq_equiv}
-use Rattle.std.proofs.lemmas.List.{length_push}
-use Rattle.std.proofs.lemmas.List.Elements.{All-contains, All-push}
-use Rattle.std.proofs.lemmas.Map.Keys.{IsDistinct-push}
 use Rattle.std.proofs.lemmas.Map.Steps.{length-le_from_distinct_below}
-use Rattle.cow_pages.specs.Pages.{Pages, slot_at, used_of, IsLawful}
-use Rattle.ckpt_ring.specs.Slots.{Slots, slot_numbers, newest_slot, used_pages, IsUnusedNewest, IsOldest}
-use Rattle.ckpt_ring.proofs.SlotLemmas.{contains_at}
-use Rattle.ckpt_ring.proofs.SoundLemmas.{stands_apart}
-use Rattle.page_line.specs.Line.{Line, IsLine, newest_of, slots_of}
+use Rattle.page_line.proofs.Terms.{All, Contains, IsSome, None, [], arith, false, length, nat_eq, refl, sym, ℕ, ⊎_elim, ◌++◌, ◌+◌, ◌-◌, ◌<◌, ◌∙◌, ◌∷◌, ◌≡◌, ◌≢◌, ◌≤◌, ◌⊎◌, false_from_ne_true, nat_eq_equiv, length_push, All-contains, All-push, IsDistinct-push, IsDistinct, list_any, IsLawful, Pages, slot_at, used_of, contains_at, stands_apart, IsOldest, IsUnusedNewest, Slots, newest_slot, slot_numbers, used_pages, IsLine, Line, newest_of, slots_of}
 use Rattle.page_line.proofs.Saved.{line_has, contains_any}
 use Rattle.page_line.proofs.Changes.{newest_slot-is}
 use Rattle.page_line.proofs.Saves.{apart_from_empty}

@@ -1,10 +1,5 @@
 -- Another value in one slot, and one more slot at the end of a line.
-use Rattle.std.proofs.Common.{◌≡◌, ◌≢◌, ℕ, suc, ◌-◌, ◌<◌, Option, Some, None, IfSome, MatchOption, List, [], ◌∷◌, ◌++◌, length, get_or, set, slice_get, All, Contains, refl, sym, ap, subst, ◌∙◌, arith, append_assoc, append-nil}
-use Rattle.std.proofs.lemmas.List.{get_or-set_other, get_or-set_same}
-use Rattle.std.proofs.lemmas.List.Elements.{All-contains}
-use Rattle.cow_pages.specs.Pages.{Space, Pages, slot_at}
-use Rattle.ckpt_ring.specs.Slots.{Saved, newest_slot}
-use Rattle.page_line.specs.Line.{IsFresh, AreFresh, newest_of, frames_of, frames_in, written_since, count_true, saved_behind}
+use Rattle.page_line.proofs.Terms.{All, Contains, IfSome, List, MatchOption, None, Option, Some, [], ap, append-nil, append_assoc, arith, get_or, length, refl, set, slice_get, subst, suc, sym, ℕ, ◌++◌, ◌-◌, ◌<◌, ◌∙◌, ◌∷◌, ◌≡◌, ◌≢◌, get_or-set_other, get_or-set_same, All-contains, Pages, Space, slot_at, Saved, newest_slot, AreFresh, IsFresh, count_true, frames_in, frames_of, newest_of, saved_behind, written_since}
 use Rattle.page_line.proofs.Saved.{numbers_behind, length_behind}
 use Rattle.page_line.proofs.Same.{Stays}
 

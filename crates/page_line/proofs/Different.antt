@@ -1,10 +1,5 @@
 -- How many different numbers lists have together.
-use Rattle.std.proofs.Common.{◌≡◌, ℕ, zero, suc, ◌+◌, ◌<◌, Bool, true, false, ◌||◌, cond, Some, List, [], ◌∷◌, ◌++◌, length, get_or, slice_get, refl, sym, ap, subst, ◌∙◌, arith}
-use Rattle.std.proofs.lemmas.Bool.{or_from}
-use Rattle.cow_pages.specs.Pages.{has, different}
-use Rattle.cow_pages.proofs.Counting.{AreBelow, has-append, has-nowhere, different-same}
-use Rattle.cow_pages.proofs.Frames.{IsOnce}
-use Rattle.page_line.specs.Line.{count_true}
+use Rattle.page_line.proofs.Terms.{Bool, List, Some, [], ap, arith, cond, false, get_or, length, refl, slice_get, subst, suc, sym, true, zero, ℕ, ◌++◌, ◌+◌, ◌<◌, ◌||◌, ◌∙◌, ◌∷◌, ◌≡◌, or_from, AreBelow, different-same, has-append, has-nowhere, IsOnce, different, has, count_true}
 
 -- a number above all of a list
 top_of : List ℕ → ℕ

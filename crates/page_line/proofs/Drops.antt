@@ -1,14 +1,5 @@
 -- The slot that was saved last is given up.
-use Rattle.std.proofs.Common.{◌≡◌, ◌≢◌, ℕ, suc, ◌+◌, ◌-◌, ◌<◌, false, Option, Some, None, IfSome, IsSome, IsSomeAnd, MatchOption, List, [], ◌∷◌, ◌++◌, length, get_or, set, slice_set, slice_get, take, All, Contains, nat_eq, inl, inr, refl, sym, ap, subst, ◌∙◌, arith}
-use Rattle.std.specs.List.{IsDistinct}
-use Rattle.std.proofs.lemmas.Bool.{cases_eq, eqb-false, or_parts, or_from}
-use Rattle.std.proofs.lemmas.List.{length-set, length_push, get_or_push, get_or_append_left, take_at, take-map}
-use Rattle.std.proofs.lemmas.List.Elements.{Contains-push_cases}
-use Rattle.std.proofs.lemmas.Map.Keys.{apart_from_distinct, IsDistinct-from_apart}
-use Rattle.cow_pages.specs.Pages.{Space, Pages, slot_at, has}
-use Rattle.cow_pages.proofs.Counting.{has-append}
-use Rattle.ckpt_ring.specs.Slots.{Saved, slot_numbers, without_newest, IsUnusedNewest}
-use Rattle.page_line.specs.Line.{Line, line_of, IsLine, AreFresh, frames_in, frames_of_all, written_since, written_pages, count_true, saved_behind, slots_of}
+use Rattle.page_line.proofs.Terms.{All, Contains, IfSome, IsSome, IsSomeAnd, List, MatchOption, None, Option, Some, [], ap, arith, false, get_or, inl, inr, length, nat_eq, refl, set, slice_get, slice_set, subst, suc, sym, take, ℕ, ◌++◌, ◌+◌, ◌-◌, ◌<◌, ◌∙◌, ◌∷◌, ◌≡◌, ◌≢◌, cases_eq, eqb-false, or_from, or_parts, get_or_append_left, get_or_push, length-set, length_push, take-map, take_at, All-take, Contains-push_cases, IsDistinct-from_apart, apart_from_distinct, IsDistinct, has-append, Pages, Space, has, slot_at, IsUnusedNewest, Saved, slot_numbers, without_newest, AreFresh, IsLine, Line, count_true, frames_in, frames_of_all, line_of, saved_behind, slots_of, written_pages, written_since}
 use Rattle.page_line.proofs.Saved.{numbers_behind, length_behind}
 use Rattle.page_line.proofs.Same.{Stays, since-same, fresh-same, are_fresh-same, saved-same}
 use Rattle.page_line.proofs.Restores.{made_slots}
@@ -40,9 +31,7 @@ distinct_front front slot distinct =
     sym (ap (λ n. nat_eq n (get_or (front ++ slot ∷ []) j d)) (get_or_append_left front (slot ∷ []) d i (omega arith)) ∙ ap (nat_eq (get_or front i d)) (get_or_append_left front (slot ∷ []) d j less)) ∙ differ)
 
 pub all_front : (P : ℕ → Type 0) (front : List ℕ) (slot : ℕ) → All P (front ++ slot ∷ []) → All P front
-all_front P front slot all = λ k d less.
-    let long : length (front ++ slot ∷ []) ≡ length front + 1 = length_push front slot in
-    subst P (get_or_append_left front (slot ∷ []) d k less) (all k d (omega arith))
+all_front P front slot all = subst (All P) (take_at front (slot ∷ []) (length front) refl) (All-take P (length front) (front ++ slot ∷ []) all)
 
 are_fresh_front : (store : Pages) (previous : Option ℕ) (before front : List ℕ) (slot : ℕ) → AreFresh store previous before (front ++ slot ∷ []) → AreFresh store previous before front
 are_fresh_front store previous before [] slot fresh = tt

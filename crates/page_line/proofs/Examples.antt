@@ -1,8 +1,6 @@
 -- The definitions at values: two pages, two saved slots.
-use Rattle.std.proofs.Common.{◌≡◌, ℕ, ◌+◌, true, false, Some, None, List, [], ◌∷◌, refl}
-use Rattle.cow_pages.specs.Pages.{Space, Pages, used_of}
-use Rattle.ckpt_ring.specs.Slots.{Slots, used_pages, without_oldest}
-use Rattle.page_line.specs.Line.{line_of, newest_of, base_without_oldest, written_pages, slots_of, with_reached}
+use Rattle.cow_pages.specs.declared.frame_copy.TheConstants.{PAGE}
+use Rattle.page_line.proofs.Terms.{List, None, Some, [], false, refl, true, ℕ, ◌+◌, ◌-◌, ◌∷◌, ◌≡◌, Pages, Space, used_of, Slots, used_pages, without_oldest, base_without_oldest, line_of, newest_of, slots_of, with_reached, written_pages}
 
 abbrev space : List ℕ → Space
 space numbers = record { numbers = numbers; bytes = [] }
@@ -52,11 +50,11 @@ newest_is : newest_of (1 ∷ 0 ∷ []) ≡ Some 0
 newest_is = refl
 
 -- two bytes over a page's end, one byte behind it, and no byte
-over_the_end : with_reached 4095 2 (false ∷ false ∷ false ∷ []) ≡ true ∷ true ∷ false ∷ []
+over_the_end : with_reached (PAGE - 1) 2 (false ∷ false ∷ false ∷ []) ≡ true ∷ true ∷ false ∷ []
 over_the_end = refl
 
-behind_the_end : with_reached 4096 1 (false ∷ false ∷ true ∷ []) ≡ false ∷ true ∷ true ∷ []
+behind_the_end : with_reached PAGE 1 (false ∷ false ∷ true ∷ []) ≡ false ∷ true ∷ true ∷ []
 behind_the_end = refl
 
-of_nothing : with_reached 4096 0 (false ∷ false ∷ []) ≡ false ∷ false ∷ []
+of_nothing : with_reached PAGE 0 (false ∷ false ∷ []) ≡ false ∷ false ∷ []
 of_nothing = refl

@@ -1,8 +1,5 @@
 -- Flags of pages: which differ, how many are set, and where a write reaches.
-use Rattle.std.proofs.Common.{◌≡◌, ℕ, zero, suc, ◌+◌, ◌<◌, Bool, true, not, ◌||◌, ◌==◌, Some, List, [], ◌∷◌, length, replicate, get_or, slice_get, option_map, refl, ap, ◌∙◌, arith}
-use Rattle.std.proofs.lemmas.Bool.{eq-eqb}
-use Rattle.cow_pages.specs.Writes.{reaches}
-use Rattle.page_line.specs.Line.{differ, count_true, with_reached_from}
+use Rattle.page_line.proofs.Terms.{Bool, List, Some, [], ap, arith, get_or, length, not, option_map, refl, replicate, slice_get, suc, true, zero, ℕ, ◌+◌, ◌<◌, ◌==◌, ◌||◌, ◌∙◌, ◌∷◌, ◌≡◌, eq-eqb, reaches, count_true, differ, with_reached_from}
 
 pub length-differ : (xs ys : List ℕ) → length xs ≡ length ys → length (differ xs ys) ≡ length xs
 length-differ [] ys e = refl

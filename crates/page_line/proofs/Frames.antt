@@ -1,9 +1,5 @@
 -- The frames of saved slots among those of all.
-use Rattle.std.proofs.Common.{◌≡◌, ℕ, zero, suc, false, Option, Some, None, IsSome, List, [], ◌∷◌, length, get_or, inr, refl, sym, ap, ◌∙◌}
-use Rattle.std.proofs.lemmas.Bool.{or_parts, or_from}
-use Rattle.cow_pages.specs.Pages.{Space, Pages, slot_at, has, saved_numbers, IsSpace, IsLawful}
-use Rattle.cow_pages.proofs.Counting.{has-append}
-use Rattle.page_line.specs.Line.{frames_of, frames_in, frames_of_all}
+use Rattle.page_line.proofs.Terms.{IsSome, List, None, Option, Some, [], ap, false, get_or, inr, length, refl, suc, sym, zero, ℕ, ◌∙◌, ◌∷◌, ◌≡◌, or_from, or_parts, has-append, IsLawful, IsSpace, Pages, Space, has, saved_numbers, slot_at, frames_in, frames_of, frames_of_all}
 
 pub some_space : (o : Option Space) → IsSome o → (space : Space) × (o ≡ Some space)
 some_space None some = cc

@@ -1,3 +1,4 @@
+pub mod Terms
 pub mod Flags
 pub mod Starts
 pub mod Saved

@@ -1,17 +1,6 @@
 -- The oldest slot is given up.
-use Rattle.std.proofs.Common.{◌≡◌, ◌≢◌, ℕ, zero, suc, ◌-◌, ◌<◌, true, false, cond, nat_lt, Option, Some, None, IfSome, IsSome, MatchOption, List, [], ◌∷◌, ◌++◌, length, replicate, get_or, set, slice_set, slice_get, drop, All, Contains, nat_eq, inl, inr, refl, sym, ap, subst, ◌∙◌, arith}
-use Rattle.std.specs.List.{IsDistinct}
-use Rattle.std.proofs.lemmas.Bool.{cases_eq, eqb-false, or_parts, lt-ltb}
-use Rattle.std.proofs.lemmas.List.{length-set}
-use Rattle.std.proofs.lemmas.List.Elements.{All-tail}
 use Rattle.std.proofs.lemmas.Option.{slice_get-get_or}
-use Rattle.std.proofs.lemmas.Map.Keys.{apart_from_distinct, IsDistinct-tail}
-use Rattle.cow_pages.specs.Pages.{Pages, slot_at, has}
-use Rattle.cow_pages.proofs.Counting.{has-append}
-use Rattle.ckpt_ring.specs.Slots.{without_oldest, IsOldest}
-use Rattle.ckpt_ring.proofs.SlotLemmas.{contains_at}
-use Rattle.ckpt_ring.proofs.SoundLemmas.{distinct-none}
-use Rattle.page_line.specs.Line.{Line, line_of, IsLine, AreFresh, newest_of, base_without_oldest, frames_in, frames_of_all, written_since, count_true, saved_behind, slots_of}
+use Rattle.page_line.proofs.Terms.{All, Contains, IfSome, IsSome, List, MatchOption, None, Option, Some, [], ap, arith, cond, drop, false, get_or, inl, inr, length, nat_eq, nat_lt, refl, replicate, set, slice_get, slice_set, subst, suc, sym, true, zero, ℕ, ◌++◌, ◌-◌, ◌<◌, ◌∙◌, ◌∷◌, ◌≡◌, ◌≢◌, cases_eq, eqb-false, lt-ltb, or_parts, length-set, All-tail, IsDistinct-tail, apart_from_distinct, IsDistinct, has-append, Pages, has, slot_at, contains_at, distinct-none, IsOldest, without_oldest, AreFresh, IsLine, Line, base_without_oldest, count_true, frames_in, frames_of_all, line_of, newest_of, saved_behind, slots_of, written_since}
 use Rattle.page_line.proofs.Flags.{count_true-all}
 use Rattle.page_line.proofs.Saved.{numbers_behind}
 use Rattle.page_line.proofs.Same.{Stays, since-same, fresh-same, are_fresh-same, saved-same}

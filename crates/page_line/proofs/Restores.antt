@@ -1,9 +1,5 @@
 -- The live space becomes what is saved in a slot.
-use Rattle.std.proofs.Common.{◌≡◌, ℕ, Option, Some, None, List, [], ◌∷◌, length, get_or, slice_get, All, Contains, refl, sym, ap, subst, ◌∙◌, arith}
-use Rattle.std.proofs.lemmas.List.Elements.{All-cons}
-use Rattle.cow_pages.specs.Pages.{Space, Pages, slot_at}
-use Rattle.ckpt_ring.specs.Slots.{Saved, Slots, restored}
-use Rattle.page_line.specs.Line.{Line, line_of, IsLine, IsFresh, frames_of, frames_in, differ, count_true, saved_behind, slots_of}
+use Rattle.page_line.proofs.Terms.{All, Contains, List, None, Option, Some, [], ap, arith, get_or, length, refl, slice_get, subst, sym, ℕ, ◌∙◌, ◌∷◌, ◌≡◌, All-cons, Pages, Space, slot_at, Saved, Slots, restored, IsFresh, IsLine, Line, count_true, differ, frames_in, frames_of, line_of, saved_behind, slots_of}
 use Rattle.page_line.proofs.Flags.{differ-itself, count_true-itself}
 use Rattle.page_line.proofs.Same.{are_fresh-same, saved-same}
 

@@ -1,8 +1,5 @@
 -- What is said of saved slots stays where their frames do.
-use Rattle.std.proofs.Common.{◌≡◌, ℕ, ◌<◌, true, Option, Some, None, IfSome, List, [], ◌∷◌, ◌++◌, replicate, get_or, slice_get, All, refl, sym, ap, ◌∙◌, arith}
-use Rattle.std.proofs.lemmas.List.Elements.{All-head, All-tail, All-push}
-use Rattle.cow_pages.specs.Pages.{Pages, has}
-use Rattle.page_line.specs.Line.{frames_in, written_since, count_true, saved_behind, frames_of_all, IsFresh, AreFresh}
+use Rattle.page_line.proofs.Terms.{All, IfSome, List, None, Option, Some, [], ap, arith, get_or, refl, replicate, slice_get, sym, true, ℕ, ◌++◌, ◌<◌, ◌∙◌, ◌∷◌, ◌≡◌, All-head, All-push, All-tail, Pages, has, AreFresh, IsFresh, count_true, frames_in, frames_of_all, saved_behind, written_since}
 
 -- a slot has the frames that it had
 abbrev pub Stays : Pages → Pages → ℕ → Type 0

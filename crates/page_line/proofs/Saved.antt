@@ -1,12 +1,5 @@
 -- What the saved slots of a line say of the store.
-use Rattle.std.proofs.Common.{◌≡◌, ℕ, suc, ◌<◌, ◌≤◌, true, Option, Some, None, IsSome, List, [], ◌∷◌, length, Contains, eqb, inl, inr, refl, sym, ap, subst, arith}
-use Rattle.std.specs.List.{list_any}
-use Rattle.std.proofs.lemmas.Bool.{eqb-true, cases_Bool}
-use Rattle.std.proofs.lemmas.List.Elements.{All-contains}
-use Rattle.std.proofs.lemmas.Map.Steps.{length-le_from_distinct_below}
-use Rattle.cow_pages.specs.Pages.{Space, Pages, slot_at}
-use Rattle.ckpt_ring.specs.Slots.{slot_numbers}
-use Rattle.page_line.specs.Line.{Line, IsLine, saved_behind, slots_of}
+use Rattle.page_line.proofs.Terms.{Contains, IsSome, List, None, Option, Some, [], ap, arith, eqb, inl, inr, length, refl, subst, suc, sym, true, ℕ, ◌<◌, ◌∷◌, ◌≡◌, cases_Bool, eqb-true, All-contains, list_any, Pages, Space, slot_at, slot_numbers, IsLine, Line, saved_behind, slots_of}
 
 module _ {State : Type 0} where
   -- the numbers of the saved slots are the line
@@ -45,12 +38,3 @@ contains_any slot (x ∷ xs) any =
       | inl same ↦ (0, omega arith, sym (eqb-true slot x same))
       | inr other ↦ (let found : Contains xs slot = contains_any slot xs (rw other at any) in (suc found.0, omega (arith, found.1), found.2))
     ]
-
--- there are no more saved slots than slots
-pub line_fits : (store : Pages) (line : Line) → IsLine store line → length line.order ≤ length store.slots
-line_fits store line so =
-    length-le_from_distinct_below line.order (length store.slots) so.distinct
-    (λ slot any.
-    let P : ℕ → Type 0 = λ n. (n < length store.slots) × IsSome (slot_at store n) in
-    let both : P slot = All-contains P line.order slot so.each_saved (contains_any slot line.order any) in
-    both.0)

@@ -1,28 +1,17 @@
 -- The live space is saved in a slot that was empty.
-use Rattle.std.proofs.Common.{◌≡◌, ◌≢◌, ℕ, ◌<◌, false, Option, Some, None, IfSome, IsSome, [], ◌∷◌, ◌++◌, length, get_or, set, slice_set, All, Contains, nat_eq, inl, inr, refl, sym, ap, subst, ◌∙◌, arith}
-use Rattle.std.specs.List.{list_any}
-use Rattle.std.proofs.lemmas.Bool.{cases_eq, false_from_ne_true}
-use Rattle.std.proofs.lemmas.Cmp.{nat_eq_equiv}
-use Rattle.std.proofs.lemmas.List.{length-set}
-use Rattle.std.proofs.lemmas.List.Elements.{All-contains, All-push, Contains-append_left, Contains-push}
-use Rattle.std.proofs.lemmas.Map.Keys.{IsDistinct-push}
-use Rattle.cow_pages.specs.Pages.{Space, Pages, slot_at}
-use Rattle.ckpt_ring.specs.Slots.{newest_slot, saved_to}
-use Rattle.page_line.specs.Line.{Line, line_of, IsLine, IsFresh, newest_of, frames_of, frames_in, written_since, differ, count_true, saved_behind, slots_of}
+use Rattle.page_line.proofs.Terms.{All, Contains, IfSome, IsSome, None, Option, Some, [], ap, arith, false, get_or, inl, inr, length, nat_eq, refl, set, slice_set, subst, sym, ℕ, ◌++◌, ◌<◌, ◌∙◌, ◌∷◌, ◌≡◌, ◌≢◌, cases_eq, false_from_ne_true, nat_eq_equiv, length-set, All-contains, All-push, Contains-append_left, Contains-push, IsDistinct-push, list_any, Pages, Space, slot_at, newest_slot, saved_to, IsFresh, IsLine, Line, count_true, differ, frames_in, frames_of, line_of, newest_of, saved_behind, slots_of, written_since}
+use Rattle.page_line.proofs.Drops.{emptied}
 use Rattle.page_line.proofs.Saved.{contains_any}
 use Rattle.page_line.proofs.Same.{Stays, since-same, fresh-same, are_fresh-same, saved-same}
 use Rattle.page_line.proofs.Restores.{fresh_itself, none_written, made_slots}
 use Rattle.page_line.proofs.Changes.{with_slot, other_slot, all_stay, this_slot, of_base, newest_from, newest_from-none, are_fresh-push, newest_slot-is, saved_on, saved_behind-push}
-
-not_both : (o : Option Space) → o ≡ None → IsSome o → ⊥
-not_both o e some = cc
 
 some_is : (o : Option Space) (space : Space) → o ≡ Some space → IsSome o
 some_is o space e = cc
 
 -- an empty slot is none of a line
 pub apart_from_empty : (store : Pages) (line : Line) (slot : ℕ) → IsLine store line → slot_at store slot ≡ None → All (λ other. other ≢ slot) line.order
-apart_from_empty store line slot so empty = λ k d less same. not_both (slot_at store (get_or line.order k d)) (ap (slot_at store) same ∙ empty) (so.each_saved k d less).1
+apart_from_empty store line slot so empty = λ k d less same. emptied (slot_at store (get_or line.order k d)) (ap (slot_at store) same ∙ empty) (so.each_saved k d less).1
 
 module _ (old : Pages) (line : Line) (slot : ℕ) (so : IsLine old line) (less : slot < length old.slots) (empty : slot_at old slot ≡ None) (stands : line.base ≡ newest_of line.order) where
   stay_each : All (Stays old (with_slot old slot (Some old.live))) line.order

@@ -1,9 +1,5 @@
 -- The slots of a line are sound.
-use Rattle.std.proofs.Common.{◌≡◌, ℕ, ◌<◌, Option, Some, None, IfSome, MatchOption, List, [], ◌∷◌, length, slice_get, nat_eq, All, Contains, sym, ap, subst}
-use Rattle.std.specs.List.{IsDistinct}
-use Rattle.cow_pages.specs.Pages.{Pages}
-use Rattle.ckpt_ring.specs.Slots.{AreSound, slot_numbers}
-use Rattle.page_line.specs.Line.{Line, IsLine, count_true, written_since, saved_behind, slots_of}
+use Rattle.page_line.proofs.Terms.{All, Contains, IfSome, List, MatchOption, None, Option, Some, [], ap, length, nat_eq, slice_get, subst, sym, ℕ, ◌<◌, ◌∷◌, ◌≡◌, IsDistinct, Pages, AreSound, slot_numbers, IsLine, Line, count_true, saved_behind, slots_of, written_since}
 use Rattle.page_line.proofs.Flags.{count_true-all}
 use Rattle.page_line.proofs.Saved.{numbers_behind}
 

@@ -1,10 +1,5 @@
 -- Slots whose states are read otherwise once a slot is given up.
-use Rattle.std.proofs.Common.{◌≡◌, ◌≢◌, ℕ, ◌-◌, Some, None, List, [], ◌∷◌, ◌++◌, length, slice_get, slice_set, take, drop, All, nat_eq, refl, sym, ap, subst, ◌∙◌}
-use Rattle.std.specs.List.{IsDistinct}
-use Rattle.std.proofs.lemmas.List.Elements.{All-take, All-drop}
-use Rattle.cow_pages.specs.Pages.{Pages}
-use Rattle.ckpt_ring.specs.Slots.{without_newest, without_oldest, IsUnusedNewest, IsOldest}
-use Rattle.page_line.specs.Line.{Line, line_of, IsLine, base_without_oldest, count_true, written_pages, slots_of}
+use Rattle.page_line.proofs.Terms.{All, List, None, Some, [], ap, drop, length, nat_eq, refl, slice_get, slice_set, subst, sym, take, ℕ, ◌++◌, ◌-◌, ◌∙◌, ◌∷◌, ◌≡◌, ◌≢◌, All-drop, All-take, IsDistinct, Pages, IsOldest, IsUnusedNewest, without_newest, without_oldest, IsLine, Line, base_without_oldest, count_true, line_of, slots_of, written_pages}
 use Rattle.page_line.proofs.Saved.{numbers_behind}
 use Rattle.page_line.proofs.Same.{saved-same}
 use Rattle.page_line.proofs.Restores.{made_slots}

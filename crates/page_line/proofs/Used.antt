@@ -1,15 +1,6 @@
 -- How many frames are in use is the sum of the pages that were written from slot to slot.
-use Rattle.std.proofs.Common.{◌≡◌, ℕ, zero, suc, ◌+◌, ◌<◌, Bool, true, false, not, ◌||◌, ◌==◌, cond, Option, Some, None, IfSome, IsSome, MatchOption, List, [], ◌∷◌, ◌++◌, length, get_or, slice_get, All, Contains, inl, inr, refl, sym, ap, subst, ◌∙◌, arith, append_assoc, append-nil}
-use Rattle.std.specs.Prelude.{sum}
-use Rattle.std.proofs.lemmas.Bool.{cases_Bool, or_right, or_cases, eqb-true, false≢true, true≢false}
-use Rattle.std.proofs.lemmas.List.{length-replicate}
-use Rattle.std.proofs.lemmas.List.Elements.{All-head, All-tail, All-contains, Contains-push}
 use Rattle.std.proofs.lemmas.List.Sums.{sum_by_push, sum_by-cons}
-use Rattle.cow_pages.specs.Pages.{Space, Pages, slot_at, has, different, saved_numbers, used_of, Stands, IsLawful}
-use Rattle.cow_pages.proofs.Counting.{has-append, has-get_or}
-use Rattle.cow_pages.proofs.Frames.{IsOnce}
-use Rattle.ckpt_ring.specs.Slots.{page_numbers, used_pages}
-use Rattle.page_line.specs.Line.{Line, IsLine, IsFresh, AreFresh, frames_of, frames_in, frames_of_all, count_true, written_since, written_pages, saved_behind, slots_of}
+use Rattle.page_line.proofs.Terms.{All, Bool, Contains, IfSome, IsSome, List, MatchOption, None, Option, Some, [], ap, append-nil, append_assoc, arith, cond, false, get_or, inl, inr, length, not, refl, slice_get, subst, suc, sym, true, zero, ℕ, ◌++◌, ◌+◌, ◌<◌, ◌==◌, ◌||◌, ◌∙◌, ◌∷◌, ◌≡◌, cases_Bool, eqb-true, false≢true, or_cases, or_right, true≢false, length-replicate, All-contains, All-head, All-tail, Contains-push, sum, has-append, has-get_or, IsOnce, IsLawful, Pages, Space, Stands, different, has, saved_numbers, slot_at, used_of, page_numbers, used_pages, AreFresh, IsFresh, IsLine, Line, count_true, frames_in, frames_of, frames_of_all, saved_behind, slots_of, written_pages, written_since}
 use Rattle.page_line.proofs.Flags.{length-differ, differ-at, all-at}
 use Rattle.page_line.proofs.Frames.{some_space, frames_long, not_in_slots}
 use Rattle.page_line.proofs.Different.{different_alike, different_flags}

@@ -1,11 +1,5 @@
 -- The live space is written.
-use Rattle.std.proofs.Common.{◌≡◌, ℕ, zero, suc, ◌+◌, ◌<◌, Bool, true, false, not, ◌&&◌, ◌||◌, ◌==◌, Option, Some, None, IfSome, IsSome, MatchOption, List, [], ◌∷◌, length, replicate, get_or, slice_get, option_map, All, Contains, ◌⊎◌, inl, inr, refl, sym, ap, subst, ◌∙◌, arith}
-use Rattle.std.proofs.lemmas.Bool.{or_parts, or_right, ne_eqb, true≢false}
-use Rattle.std.proofs.lemmas.List.Elements.{All-contains}
-use Rattle.cow_pages.specs.Pages.{Pages, slot_at, has, saved_numbers, IsLawful}
-use Rattle.cow_pages.specs.Writes.{is_shared, NumberAfter, reaches, Writes}
-use Rattle.cow_pages.proofs.Counting.{has-append, has-get_or}
-use Rattle.page_line.specs.Line.{Line, IsLine, IsFresh, frames_of, frames_in, frames_of_all, differ, written_since, written_pages, saved_behind, with_reached_from, with_reached}
+use Rattle.page_line.proofs.Terms.{All, Bool, Contains, IfSome, IsSome, List, MatchOption, None, Option, Some, [], ap, arith, false, get_or, inl, inr, length, not, option_map, refl, replicate, slice_get, subst, suc, sym, true, zero, ℕ, ◌&&◌, ◌+◌, ◌<◌, ◌==◌, ◌||◌, ◌∙◌, ◌∷◌, ◌≡◌, ◌⊎◌, ne_eqb, or_parts, or_right, true≢false, All-contains, has-append, has-get_or, IsLawful, Pages, has, saved_numbers, slot_at, NumberAfter, Writes, is_shared, reaches, IsFresh, IsLine, Line, differ, frames_in, frames_of, frames_of_all, saved_behind, with_reached, with_reached_from, written_pages, written_since}
 use Rattle.page_line.proofs.Flags.{length-differ, differ-at, length-with_reached_from, with_reached_from-at, same_flags}
 use Rattle.page_line.proofs.Same.{Stays, frames_of_all-same, are_fresh-same, saved-same}
 use Rattle.page_line.proofs.Frames.{frames_long, not_in_slot, not_in_slots}

@@ -11,6 +11,7 @@ pub record Line : Type 0 where
   pub order : List ℕ
   pub base : Option ℕ
 
+-- the line of these saved slots, with the live space on this one
 abbrev pub line_of : List ℕ → Option ℕ → Line
 line_of order base = record { order = order; base = base }
 
@@ -27,6 +28,7 @@ abbrev pub frames_of : Option Space → List ℕ
 frames_of None = []
 frames_of (Some space) = space.numbers
 
+-- the frames of what a store has in a slot
 abbrev pub frames_in : Pages → ℕ → List ℕ
 frames_in store slot = frames_of (slot_at store slot)
 
@@ -42,6 +44,7 @@ abbrev pub written_since : Pages → Option ℕ → List ℕ → List Bool
 written_since store None numbers = replicate store.pages true
 written_since store (Some slot) numbers = differ (frames_in store slot) numbers
 
+-- how many flags are set
 abbrev pub count_true : List Bool → ℕ
 count_true [] = 0
 count_true (flag ∷ flags) = (if flag then 1 else 0) + count_true flags
@@ -103,5 +106,6 @@ abbrev pub with_reached_from : ℕ → ℕ → ℕ → List Bool → List Bool
 with_reached_from page at count [] = []
 with_reached_from page at count (flag ∷ flags) = (flag || reaches at count page) ∷ with_reached_from (page + 1) at count flags
 
+-- the flags of all pages, whose first begins at address 0, after such a write
 abbrev pub with_reached : ℕ → ℕ → List Bool → List Bool
 with_reached at count flags = with_reached_from 0 at count flags

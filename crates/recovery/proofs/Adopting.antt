@@ -1,41 +1,7 @@
 -- A trial that was made, and one that is adopted.
-use Rattle.std.proofs.Common.{◌≡◌, ℕ, ◌+◌, ◌-◌, ◌≤◌, Bool, true, false, ◌&&◌, List, [], ◌∷◌, ◌++◌, length, take, drop, Option, Some, None, refl, sym, ◌∙◌, ap, subst, arith}
-use Rattle.std.specs.Prelude.{slice_get, option_map, IsSomeAnd, IsSome, MatchBool, is_some}
-use Rattle.std.proofs.lemmas.List.{length-map, take-append-le}
-use Rattle.std.proofs.lemmas.Option.{none-some, same_Some, slice_get-map, slice_get_within}
-use Rattle.std.proofs.lemmas.Bool.{true≢false}
-use Rattle.rx_io.specs.Sends.{Send, sent_to}
-use Rattle.alloc_env.specs.declared.env.Env.{Env}
-use Rattle.block_book.specs.declared.choice.Choice.{Choice}
-use Rattle.item_log.specs.Log.{Log}
-use Rattle.ckpt_ring.specs.Slots.{Saved}
-use Rattle.ckpt_ring.specs.Rings.{from_newest, checkpoint_of, checkpoints_of}
-use Rattle.ckpt_ring.specs.declared.checkpoint.Checkpoint.{Checkpoint}
-use Rattle.reply_ledger.specs.Ledger.{Ledger, connection_of}
-use Rattle.reply_ledger.specs.Trials.{agree, trial_sends, adopted}
 use Rattle.reply_ledger.specs.Trials as ledgers
-use Rattle.reply_ledger.specs.Shows.{Shows}
-use Rattle.reply_ledger.proofs.ShowsLemmas.{shown_passed, shows-adopted}
-use Rattle.run_history.specs.Served.{Limits, Override, Path}
-use Rattle.run_history.proofs.Outputs.{sent_to-append}
-use Rattle.rx_io.specs.declared.bytes.Item.{Item}
-use Rattle.guest_cpu.specs.Cpus.{CpuState}
-use Rattle.guest_cpu.specs.Standing.{Standing}
-use Rattle.guest_cpu.specs.Serving.{standing_of}
-use Rattle.session_history.specs.Heeding.{received}
-use Rattle.session_history.specs.Passing.{Covers}
-use Rattle.session_history.specs.Keeping.{KeepsReplies}
-use Rattle.session_notes.specs.declared.episode.Try.{Try}
-use Rattle.session_notes.specs.declared.episode.Tried.{Tried}
 use Rattle.session_notes.specs.declared.episode.Tried.TheVariants as tried
-use Rattle.session_notes.specs.Survival.{survives}
-use Rattle.trials.specs.Trials.{plan_of_trial, IsUnharmed, ComesTo}
-use Rattle.trials.specs.Tables.{Trial, chance_at}
-use Rattle.trials.proofs.Going.{served_grows, steps_later}
-use Rattle.recovery.specs.Sessions.{Failure, items_of, pieces_of, FailedAt, taken_in}
-use Rattle.recovery.specs.Trying.{KeepsLedger, KeepsSaved, StandsOn, HasTried, adopted_of, IsAdopted}
-use Rattle.recovery.specs.declared.walking.Adopted.{Adopted}
-use Rattle.recovery.specs.Walking.{IsMade}
+use Rattle.recovery.proofs.Terms.{Bool, List, None, Option, Some, [], ap, arith, drop, false, length, refl, subst, sym, take, true, ℕ, ◌&&◌, ◌++◌, ◌+◌, ◌-◌, ◌∙◌, ◌∷◌, ◌≡◌, ◌≤◌, true≢false, length-map, take-append-le, none-some, same_Some, slice_get-map, slice_get_within, IsSome, IsSomeAnd, MatchBool, is_some, option_map, slice_get, Item, Send, sent_to, Choice, Env, Checkpoint, checkpoint_of, checkpoints_of, from_newest, Saved, Log, shown_passed, shows-adopted, Ledger, connection_of, Shows, adopted, agree, trial_sends, sent_to-append, Limits, Override, Path, CpuState, standing_of, Standing, received, KeepsReplies, Covers, Tried, Try, survives, served_grows, steps_later, Trial, chance_at, ComesTo, IsUnharmed, plan_of_trial, Adopted, FailedAt, Failure, items_of, pieces_of, taken_in, HasTried, IsAdopted, KeepsLedger, KeepsSaved, StandsOn, adopted_of, IsMade}
 use Rattle.recovery.proofs.Joining.{Beside, agree-append, now_is, now_covers}
 use Rattle.recovery.proofs.Starting.{from_at, failed_still, same_front}
 

@@ -1,27 +1,5 @@
 -- What holds of all checkpoints of a ring, as the session goes on.
-use Rattle.std.proofs.Common.{◌≡◌, ℕ, zero, suc, ◌≤◌, Bool, true, false, Option, Some, None, List, [], ◌∷◌, ◌++◌, length, take, drop, refl, sym, ◌∙◌, subst}
-use Rattle.std.proofs.lemmas.Bool.{both_ways}
-use Rattle.rx_io.specs.declared.bytes.Item.{Item}
-use Rattle.links.specs.declared.journal.Entry.{Entry}
-use Rattle.links.specs.Links.{events_in}
-use Rattle.elf_image.specs.declared.image.Image.{Image}
-use Rattle.item_log.specs.Log.{Log}
-use Rattle.reply_ledger.specs.Ledger.{Ledger}
-use Rattle.reply_ledger.specs.Ledger.{connection_of}
-use Rattle.run_history.specs.Call.{may_send}
-use Rattle.guest_runs.specs.Runs.{IsBounded}
-use Rattle.session_history.specs.Serving.{Carries}
-use Rattle.session_history.specs.Keeping.{KeepsReplies}
-use Rattle.std.specs.Prelude.{is_some}
-use Rattle.run_history.specs.Served.{Limits, Override, Path, origin, Served}
-use Rattle.session_history.specs.Heeding.{heeded}
-use Rattle.session_history.specs.Opened.{opens}
-use Rattle.session_history.specs.Lawful.{Rules}
-use Rattle.session_history.proofs.Paths.{served_on, served_with}
-use Rattle.trials.specs.Chains.{AreCheckpoints, AreChained}
-use Rattle.trials.proofs.Chained.{chained_from}
-use Rattle.recovery.specs.Sessions.{CanGoOn, AreKept}
-use Rattle.recovery.specs.Rings.{Brings}
+use Rattle.recovery.proofs.Terms.{Bool, List, None, Option, Some, [], drop, false, length, refl, subst, suc, sym, take, true, zero, ℕ, ◌++◌, ◌∙◌, ◌∷◌, ◌≡◌, ◌≤◌, both_ways, is_some, Item, Entry, events_in, Log, Ledger, connection_of, Image, may_send, Limits, Override, Path, Served, origin, IsBounded, served_on, served_with, heeded, KeepsReplies, Rules, opens, Carries, chained_from, AreChained, AreCheckpoints, AreKept, CanGoOn, Brings}
 
 -- the latest run goes on
 pub chained_on : (limits : Limits) (items : List Item) (plan : List Override) (image : Image) (now next : Path) (ring : List Path) → Served limits items plan now next → AreChained limits items plan image now ring → AreChained limits items plan image next ring

@@ -1,30 +1,8 @@
 -- A trial comes to its result.
-use Rattle.std.proofs.Common.{◌≡◌, ℕ, true, false, List, ◌++◌, drop, replicate, Some, inl, inr, sym, ◌∙◌, ap, subst, arith}
-use Rattle.std.specs.Prelude.{is_some}
-use Rattle.rx_io.specs.Sends.{Send}
-use Rattle.alloc_env.specs.declared.env.Env.{Env}
-use Rattle.block_book.specs.declared.choice.Choice.{Choice}
-use Rattle.item_log.specs.Log.{Log}
-use Rattle.reply_ledger.specs.Ledger.{Ledger}
+use Rattle.std.proofs.Common.{replicate}
 use Rattle.reply_ledger.specs.Trials as ledgers
-use Rattle.run_history.specs.declared.answer.Cause.{Cause}
-use Rattle.run_history.specs.Served.{Path, Served, AsksFor, FailsBy}
-use Rattle.guest_cpu.specs.Cpus.{CpuState}
-use Rattle.guest_cpu.specs.Serving.{standing_of}
-use Rattle.guest_runs.specs.Runs.{GoesOn, IsSilent}
-use Rattle.guest_runs.specs.Writing.{Writes}
-use Rattle.session_notes.specs.declared.episode.Tried.{Tried}
 use Rattle.session_notes.specs.declared.episode.Tried.TheVariants as tried
-use Rattle.session_notes.specs.Survival.{survives}
-use Rattle.session_history.specs.Heeding.{received}
-use Rattle.session_history.proofs.Paths.{served_on}
-use Rattle.trials.specs.Trials.{IsUnharmed, ComesTo}
-use Rattle.trials.specs.Chains.{IsCheckpoint}
-use Rattle.trials.specs.Laws.{everywhere}
-use Rattle.trials.proofs.Planned.{trial_comes}
-use Rattle.recovery.specs.Sessions.{CanGoOn, Failure, items_of, pieces_of}
-use Rattle.recovery.specs.Trying.{KeepsSaved}
-use Rattle.recovery.specs.Going.{IsJudged, IsTrying, IsAsking, HasCome}
+use Rattle.recovery.proofs.Terms.{List, Some, ap, arith, drop, false, inl, inr, subst, sym, true, ℕ, ◌++◌, ◌∙◌, ◌≡◌, is_some, Send, Choice, Env, Log, Ledger, Cause, AsksFor, FailsBy, Path, Served, CpuState, standing_of, GoesOn, IsSilent, Writes, served_on, received, Tried, survives, trial_comes, IsCheckpoint, everywhere, ComesTo, IsUnharmed, CanGoOn, Failure, items_of, pieces_of, HasCome, IsAsking, IsJudged, IsTrying, KeepsSaved}
 use Rattle.recovery.proofs.Joining.{Beside, covers_now, now_covers, now_covers_before}
 use Rattle.recovery.proofs.Running.{unharmed_still, can_still, wrote_on}
 

@@ -1,29 +1,6 @@
 -- A trial from its checkpoint to its result.
-use Rattle.std.proofs.Common.{refl, false, true, ◌≡◌, ℕ, ◌+◌, ◌<◌, Bool, List, length, drop, Option, Some, None, sym, ◌∙◌, ap, subst, arith}
-use Rattle.std.specs.Prelude.{slice_get, IsSomeAnd, MatchBool}
-use Rattle.std.proofs.lemmas.List.{length-map}
-use Rattle.alloc_env.specs.declared.env.Env.{Env}
-use Rattle.block_book.specs.declared.choice.Choice.{Choice}
-use Rattle.block_book.specs.Heap.{Heap}
-use Rattle.ckpt_ring.specs.Slots.{Saved, slot_numbers}
-use Rattle.ckpt_ring.specs.Rings.{from_newest, checkpoint_of, checkpoints_of}
-use Rattle.ckpt_ring.specs.declared.checkpoint.Checkpoint.{Checkpoint}
-use Rattle.reply_ledger.specs.Ledger.{Ledger}
-use Rattle.reply_ledger.specs.Trials.{discarded}
-use Rattle.run_history.specs.Served.{Path}
-use Rattle.guest_cpu.specs.Cpus.{CpuState}
-use Rattle.guest_cpu.specs.Standing.{Standing}
-use Rattle.session_notes.specs.declared.episode.Tried.{Tried}
-use Rattle.session_notes.specs.Survival.{survives}
-use Rattle.recovery.specs.Sessions.{Failure, IsUnder, taken_in}
-use Rattle.recovery.specs.Trying.{KeepsLedger, KeepsBase, KeepsSaved, StandsOn, HasTried}
-use Rattle.recovery.specs.Going.{HasCome}
+use Rattle.recovery.proofs.Terms.{Bool, List, None, Some, ap, arith, drop, false, length, refl, subst, sym, true, ℕ, ◌<◌, ◌∙◌, ◌≡◌, length-map, MatchBool, slice_get, Choice, Heap, Env, Checkpoint, checkpoint_of, checkpoints_of, Saved, Ledger, discarded, Path, CpuState, Standing, Tried, survives, Failure, IsUnder, taken_in, HasCome, HasTried, KeepsLedger, KeepsSaved}
 use Rattle.recovery.proofs.Starting.{found_at}
-
--- the number of instructions of the state that was restored
-pub counted_from : (o : Option (Saved Standing)) (live : Standing) (before after now : ℕ) → IsSomeAnd o (λ one. live ≡ one.state) → after + live.steps ≡ before + now → IsSomeAnd o (λ one. after + one.state.steps ≡ before + now)
-counted_from None live before after now is counted = is
-counted_from (Some one) live before after now is counted = ap (λ (s : Standing). after + s.steps) (sym is) ∙ counted
 
 -- there is a checkpoint at each index of the ring
 pub checkpoint_there : (saved : List (Saved Standing)) (standing : List Checkpoint) (ring : List Path) (index : ℕ) → length saved ≡ length ring → standing ≡ checkpoints_of taken_in saved → index < length standing
@@ -55,10 +32,6 @@ module _ {R : Type 0} where
 
   pub under_saved : (permits : R → Heap → ℕ → ℕ → Bool) (budget : ℕ) (old new : CpuState R) (failure : Failure) → KeepsSaved old new → IsUnder failure budget (permits old.rule) → IsUnder failure budget (permits new.rule)
   under_saved permits budget old new failure saved under = subst (λ (rule : R). IsUnder failure budget (permits rule)) (sym saved.rule) under
-
-  -- the guest still stands on the checkpoint from which it went on
-  pub stands_still : (old new : CpuState R) (index : ℕ) → KeepsBase old new → StandsOn old index → StandsOn new index
-  stands_still old new index kept stands = kept.base ∙ (stands ∙ ap (λ (all : List (Saved Standing)). from_newest (slot_numbers all) index) (sym kept.saved.saved))
 
 -- all but the trial stays
 pub settled_keeps : (b : Bool) (old mid new : Ledger) → KeepsLedger old mid → MatchBool b (new ≡ mid) (new ≡ discarded mid) → KeepsLedger old new

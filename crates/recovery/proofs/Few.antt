@@ -1,11 +1,7 @@
 -- No more items are received than may be.
-use Rattle.std.proofs.Common.{◌≡◌, ℕ, ◌≤◌, Bool, true, false, if◌then◌else◌, cond, List, [], ◌∷◌, ◌++◌, length, drop, Option, None, Some, refl, sym, ap, subst, arith, append-nil, append_assoc}
-use Rattle.std.specs.Prelude.{is_none, nat_le, nat_lt}
-use Rattle.std.proofs.lemmas.Bool.{true≢false, ltb-false}
-use Rattle.links.specs.declared.journal.LinkEvent.{LinkEvent}
 use Rattle.msg_frame.specs.declared.framing.Framing.{Framing}
 use Rattle.item_log.specs.Heard.{heard, items_from, items_of}
-use Rattle.session_history.specs.Heeding.{Bounds, Unheeded, LimitEvents, TooLong, LimitItems, refusal, heeded, heeded_behind}
+use Rattle.recovery.proofs.Terms.{Bool, List, None, Option, Some, [], ap, append-nil, append_assoc, arith, cond, drop, false, if◌then◌else◌, length, refl, subst, sym, true, ℕ, ◌++◌, ◌∷◌, ◌≡◌, ◌≤◌, ltb-false, true≢false, is_none, nat_le, nat_lt, LinkEvent, Bounds, LimitEvents, LimitItems, TooLong, Unheeded, heeded, heeded_behind, refusal}
 
 -- by three tests
 abbrev refused_by : Bool → Bool → Bool → Option Unheeded

@@ -1,11 +1,5 @@
 -- The flags of pages beside the checkpoints of a ring: which pages the run wrote since the newest one.
-use Rattle.std.proofs.Common.{◌≡◌, ℕ, zero, suc, Bool, true, false, List, [], ◌∷◌, ◌++◌, length, take, IfSome, refl, sym, ◌∙◌, ap, subst, arith}
-use Rattle.std.specs.Prelude.{replicate, slice_get}
-use Rattle.rx_io.specs.declared.bytes.Item.{Item}
-use Rattle.page_line.specs.Line.{count_true}
-use Rattle.run_history.specs.Served.{Limits, Path}
-use Rattle.guest_runs.specs.Writing.{Writes}
-use Rattle.guest_runs.proofs.WritingLemmas.{writes_none, writes_on, writes_more}
+use Rattle.recovery.proofs.Terms.{Bool, IfSome, List, [], ap, arith, false, length, refl, subst, suc, sym, take, true, zero, ℕ, ◌++◌, ◌∙◌, ◌∷◌, ◌≡◌, replicate, slice_get, Item, count_true, Limits, Path, writes_more, writes_none, writes_on, Writes}
 
 -- where none is true, all flags are false
 none_true : (flags : List Bool) → count_true flags ≡ 0 → flags ≡ replicate (length flags) false

@@ -1,29 +1,7 @@
 -- The environment that is in force.
-use Rattle.std.proofs.Common.{◌≡◌, ◌⊎◌, inl, inr, ℕ, ◌+◌, ◌<◌, ◌≤◌, Bool, true, false, cond, eqb, ltb, List, [], Some, refl, sym, ◌∙◌, ap, subst, arith}
-use Rattle.std.proofs.lemmas.Bool.{cond_both, eqb-false, le-ltb}
-use Rattle.std.specs.Prelude.{slice_get}
-use Rattle.rx_io.specs.declared.bytes.Item.{Item}
-use Rattle.links.specs.declared.journal.Entry.{Entry}
-use Rattle.elf_image.specs.declared.image.Image.{Image}
-use Rattle.item_log.specs.Log.{Log}
-use Rattle.reply_ledger.specs.Ledger.{Ledger}
-use Rattle.ckpt_ring.specs.Rings.{Checkpoints}
-use Rattle.run_history.specs.declared.answer.Cause.{Cause}
 use Rattle.run_history.specs.Machine as M
-use Rattle.run_history.specs.Machine.{Wants, Fails}
-use Rattle.guest_cpu.specs.Cpus.{CpuState}
-use Rattle.session_history.specs.Heeding.{items_in}
-use Rattle.session_history.specs.Lawful.{Rules}
-use Rattle.trials.specs.Chains.{IsCheckpoint}
-use Rattle.trials.proofs.Asking.{asks_under_all}
-use Rattle.trials.proofs.Planned.{past_request}
-use Rattle.trials.proofs.Chained.{chained_at}
+use Rattle.recovery.proofs.Terms.{Bool, List, Some, [], ap, arith, cond, eqb, false, inl, inr, ltb, refl, subst, sym, true, ℕ, ◌+◌, ◌<◌, ◌∙◌, ◌≡◌, ◌≤◌, ◌⊎◌, cond_both, eqb-false, le-ltb, slice_get, Item, Entry, Env, Plain, Checkpoints, Log, Ledger, Image, Cause, Fails, Wants, AsksFor, FailsBy, Limits, Override, Path, Served, env_at, origin, CpuState, items_in, Rules, asks_under_all, chained_at, past_request, IsCheckpoint, plan_of_trial, IsInForce, KeepsRing}
 use Rattle.recovery.proofs.Starting.{checkpoint_at}
-use Rattle.alloc_env.specs.declared.env.Env.{Env}
-use Rattle.alloc_env.specs.declared.env.Env.TheVariants.{Plain}
-use Rattle.run_history.specs.Served.{Limits, Override, env_at, Path, origin, Served, FailsBy, AsksFor}
-use Rattle.trials.specs.Trials.{plan_of_trial}
-use Rattle.recovery.specs.Rings.{KeepsRing, IsInForce}
 
 plain_both : (b : Bool) → Plain ≡ cond b Plain Plain
 plain_both true = refl

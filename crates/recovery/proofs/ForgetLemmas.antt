@@ -1,35 +1,10 @@
 -- The oldest checkpoint of a ring, and what a session gives up that lies before it.
-use Rattle.std.proofs.Common.{◌≡◌, ℕ, suc, ◌+◌, ◌-◌, ◌<◌, ◌≤◌, min, max, List, [], ◌∷◌, length, Option, Some, None, IfSome, refl, sym, ◌∙◌, ap, subst, arith, length-append, length-drop}
-use Rattle.std.specs.Prelude.{slice_get}
 use Rattle.std.specs.Option.{option_map}
-use Rattle.std.proofs.lemmas.Option.{none-some, same_Some}
-use Rattle.rx_io.specs.declared.bytes.Item.{Item}
-use Rattle.links.specs.declared.journal.Entry.{Entry}
-use Rattle.elf_image.specs.declared.image.Image.{Image}
-use Rattle.alloc_env.specs.declared.env.Env.{Env}
-use Rattle.item_log.specs.Log.{Log, received, ShowsStill}
+use Rattle.item_log.specs.Log.{received}
 use Rattle.item_log.specs.Log as logs
-use Rattle.reply_ledger.specs.Ledger.{Ledger}
-use Rattle.reply_ledger.specs.Parts.{settled}
 use Rattle.reply_ledger.specs.Trimming as ledgers
-use Rattle.ckpt_ring.specs.Slots.{Saved}
-use Rattle.ckpt_ring.specs.Rings.{Checkpoints, from_newest}
-use Rattle.run_history.specs.Machine.{start, start_machine}
-use Rattle.run_history.specs.Served.{Limits, Override, Path, origin, Served, listed, served_next, planned_next, env_at}
 use Rattle.run_history.proofs.Repeats.{repeated_keeps}
-use Rattle.run_history.proofs.Serves.{IsUsed, served_follows, serves_to, map_some}
-use Rattle.guest_cpu.specs.declared.marks.Marks.{Marks}
-use Rattle.guest_cpu.specs.Standing.{Standing, marks_of}
-use Rattle.guest_cpu.specs.Cpus.{CpuState}
-use Rattle.guest_cpu.specs.Serving.{standing_of}
-use Rattle.session_history.specs.Heeding.{items_in}
-use Rattle.session_history.specs.Lawful.{Rules}
-use Rattle.session_history.specs.Keeping.{KeepsItems, KeepsReplies}
-use Rattle.trials.specs.Chains.{AreChained}
-use Rattle.trials.proofs.Chained.{chained_at}
-use Rattle.trials.proofs.Going.{next_grows}
-use Rattle.recovery.specs.Sessions.{AreKept}
-use Rattle.recovery.specs.Rings.{KeepsRing, AreBehind}
+use Rattle.recovery.proofs.Terms.{IfSome, List, None, Option, Some, [], ap, arith, length, length-append, length-drop, max, min, refl, subst, suc, sym, ℕ, ◌+◌, ◌-◌, ◌<◌, ◌∙◌, ◌∷◌, ◌≡◌, ◌≤◌, none-some, same_Some, slice_get, Item, Entry, Env, Checkpoints, from_newest, Saved, Log, ShowsStill, Ledger, settled, Image, IsUsed, map_some, served_follows, serves_to, start, start_machine, Limits, Override, Path, Served, env_at, listed, origin, planned_next, served_next, Marks, CpuState, standing_of, Standing, marks_of, items_in, KeepsItems, KeepsReplies, Rules, chained_at, next_grows, AreChained, AreKept, AreBehind, KeepsRing}
 use Rattle.recovery.specs.Forgetting.{CanForget, Forgets}
 use Rattle.recovery.proofs.TrimLemmas.{keeps_without}
 
@@ -82,11 +57,6 @@ after_oldest limits items plan image later (newest ∷ (next ∷ older)) oldest 
 behind_after : (oldest : Path) (ring : List Path) → AreAfter oldest ring → AreBehind (length oldest.choices) ring
 behind_after oldest [] are = tt
 behind_after oldest (newest ∷ older) are = (are.0.choices, behind_after oldest older are.1)
-
--- At each checkpoint as many answers of malloc were used as at the oldest one, or more.
-pub behind_oldest : (limits : Limits) (items : List Item) (plan : List Override) (image : Image) (later : Path) (ring : List Path) (oldest : Path) → AreChained limits items plan image later ring → slice_get ring (length ring - 1) ≡ Some oldest
-    → AreBehind (length oldest.choices) ring
-behind_oldest limits items plan image later ring oldest chain last = behind_after oldest ring (after_oldest limits items plan image later ring oldest chain last).1
 
 start_used : (image : Image) → IsUsed (origin image)
 unfolding start start_machine

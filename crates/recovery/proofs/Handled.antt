@@ -1,36 +1,9 @@
 -- Which checkpoints stand: one lemma for each event.
-use Rattle.std.proofs.Common.{◌≡◌, ℕ, zero, suc, ◌+◌, ◌-◌, ◌<◌, Bool, true, false, cond, List, [], ◌∷◌, ◌++◌, length, map, take, drop, Option, Some, None, IfSome, refl, sym, ◌∙◌, ap, subst, arith, append_assoc}
-use Rattle.std.specs.Prelude.{slice_get, replicate, sum, nat_le, ◌&&◌, IsSomeAnd}
+use Rattle.std.proofs.Common.{map}
+use Rattle.std.specs.Prelude.{◌&&◌}
 use Rattle.std.specs.Option.{option_map}
-use Rattle.std.proofs.lemmas.List.{map-append, length-map}
-use Rattle.std.proofs.lemmas.Bool.{lt-leb}
-use Rattle.std.proofs.lemmas.Option.{same_Some}
-use Rattle.rx_io.specs.declared.bytes.Item.{Item}
-use Rattle.links.specs.declared.journal.Entry.{Entry}
-use Rattle.elf_image.specs.declared.image.Image.{Image}
-use Rattle.elf_image.specs.Image.{base}
-use Rattle.item_log.specs.Log.{Log}
-use Rattle.reply_ledger.specs.Ledger.{Ledger}
-use Rattle.ckpt_ring.specs.declared.checkpoint.Checkpoint.{Checkpoint}
-use Rattle.ckpt_ring.specs.Slots.{Saved, Slots, with_whole_oldest}
-use Rattle.ckpt_ring.specs.Rings.{Checkpoints, checkpoint_of, checkpoints_of, from_newest, without_newer, has_room, kept, line, saved_in_ring}
-use Rattle.page_line.specs.Line.{count_true}
-use Rattle.run_history.specs.Served.{Override, Path, origin, Served, AsksFor}
-use Rattle.guest_cpu.specs.Standing.{Standing}
-use Rattle.guest_cpu.specs.Cpus.{CpuState}
-use Rattle.guest_cpu.specs.Serving.{standing_of}
-use Rattle.guest_runs.specs.Writing.{Writes}
-use Rattle.session_history.specs.Heeding.{items_in}
-use Rattle.session_history.specs.Lawful.{Rules, Survivor, Chapter, entries_of}
-use Rattle.session_history.proofs.Paths.{served_same, served_on, served_with}
-use Rattle.trials.specs.Tables.{Trial, survivor_in}
-use Rattle.trials.specs.Episodes.{Recovery}
-use Rattle.recovery.specs.Sessions.{taken_in}
-use Rattle.trials.proofs.Chained.{chained_at}
-use Rattle.recovery.specs.Rings.{KeepsRing, is_due, is_due_after}
-use Rattle.recovery.specs.Handling.{Keeping, Stand, first_stands, whole_oldest, may_stand, stay, is_far, handle, handled, HasRing, HasWritten, AreWritten, IsRinged, AreRinged, HasHandled, stand_of, stands_of, keeping_by}
+use Rattle.recovery.proofs.Terms.{Bool, IfSome, List, None, Option, Some, [], ap, append_assoc, arith, cond, drop, false, length, refl, subst, suc, sym, take, true, zero, ℕ, ◌++◌, ◌+◌, ◌-◌, ◌<◌, ◌∙◌, ◌∷◌, ◌≡◌, lt-leb, length-map, map-append, same_Some, IsSomeAnd, nat_le, replicate, slice_get, sum, Item, Entry, Checkpoint, Checkpoints, checkpoint_of, checkpoints_of, from_newest, has_room, kept, line, saved_in_ring, without_newer, Saved, Slots, with_whole_oldest, count_true, Log, Ledger, Image, base, AsksFor, Override, Path, Served, origin, CpuState, standing_of, Standing, writes_more, Writes, served_on, served_same, served_with, items_in, Chapter, Rules, Survivor, entries_of, chained_at, Recovery, Trial, survivor_in, taken_in, KeepsRing, is_due, is_due_after, AreRinged, AreWritten, HasHandled, HasRing, HasWritten, IsRinged, Keeping, Stand, first_stands, handle, handled, is_far, keeping_by, may_stand, stand_of, stands_of, stay, whole_oldest}
 use Rattle.recovery.proofs.Mirrors.{from_map}
-use Rattle.guest_runs.proofs.WritingLemmas.{writes_more}
 
 -- as slots they have room exactly where they may stand
 room_is : (capacity every : ℕ) (slots : Slots Standing) (list : List (Saved Standing)) → has_room capacity slots.pages slots.frames (map (λ (one : Saved Standing). one.pages) list) ≡ may_stand (keeping_by capacity every slots) (stands_of list)

@@ -1,19 +1,6 @@
 -- What the ledger of a trial says of what was passed is said of its run.
-use Rattle.std.proofs.Common.{◌≡◌, ℕ, ◌+◌, ◌≤◌, Bool, true, false, ◌&&◌, cond, eqb, List, [], ◌∷◌, ◌++◌, length, take, drop, Option, Some, refl, sym, ◌∙◌, ap, subst, arith, append-nil, length-append}
-use Rattle.std.specs.Prelude.{◌==◌, unwrap_or, IsTrue}
-use Rattle.std.specs.List.{AllByRecursion}
-use Rattle.std.proofs.lemmas.List.{take-append-drop, drop_all, drop-drop}
-use Rattle.std.proofs.lemmas.Bool.{eqb-true, eq-eqb, true≢false}
-use Rattle.rx_io.specs.Sends.{Send, sent_to}
-use Rattle.rx_io.specs.Prefix.{Prefix}
-use Rattle.reply_ledger.specs.Ledger.{Passed, Ledger, IsInOrder, stamped, stamps_of}
-use Rattle.reply_ledger.specs.Trials.{agree, trial_sends}
 use Rattle.reply_ledger.specs.Trials as ledgers
-use Rattle.reply_ledger.specs.Shows.{Shows, stamped_of, pieces_until}
-use Rattle.reply_ledger.proofs.ShowsLemmas.{shown_passed, shows-covers, covers-shows, shows-covers_before, covers_before-shows}
-use Rattle.run_history.proofs.Outputs.{sent_to-append, sent_to-more}
-use Rattle.session_history.specs.Passing.{until, AreBetween, AreInOrder}
-use Rattle.recovery.specs.Going.{agrees_next}
+use Rattle.recovery.proofs.Terms.{Bool, List, Option, Some, [], ap, append-nil, arith, cond, drop, eqb, false, length, length-append, refl, subst, sym, take, true, ℕ, ◌&&◌, ◌++◌, ◌+◌, ◌∙◌, ◌∷◌, ◌≡◌, ◌≤◌, eq-eqb, eqb-true, true≢false, drop-drop, drop_all, take-append-drop, AllByRecursion, IsTrue, unwrap_or, ◌==◌, Prefix, Send, sent_to, covers-shows, covers_before-shows, shown_passed, shows-covers, shows-covers_before, IsInOrder, Ledger, Passed, stamped, stamps_of, Shows, pieces_until, stamped_of, agree, trial_sends, sent_to-append, sent_to-more, AreBetween, AreInOrder, until, agrees_next}
 
 -- stamps stand in order
 all_after : (low : ℕ) (stamp : ℕ) (bytes : List ℕ) (rest : List Passed) → low ≤ stamp → AllByRecursion (λ y. low ≤ y) (stamps_of rest) → AllByRecursion (λ y. low ≤ y) (stamps_of (stamped stamp bytes ++ rest))

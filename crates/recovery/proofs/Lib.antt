@@ -1,3 +1,4 @@
+pub mod Terms
 pub mod Joining
 pub mod Few
 pub mod Starting

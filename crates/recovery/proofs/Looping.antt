@@ -1,15 +1,5 @@
 -- What holds of a trial while it goes on.
-use Rattle.std.proofs.Common.{◌≡◌, ◌≤◌, ℕ, ◌+◌, ◌^◌, ◌<◌, Bool, List, refl, sym, subst, arith}
-use Rattle.alloc_env.specs.declared.env.Env.{Env}
-use Rattle.block_book.specs.declared.choice.Choice.{Choice}
-use Rattle.block_book.specs.Heap.{Heap}
-use Rattle.item_log.specs.Log.{Log}
-use Rattle.reply_ledger.specs.Ledger.{Ledger}
-use Rattle.run_history.specs.Served.{Path}
-use Rattle.guest_cpu.specs.Cpus.{CpuState}
-use Rattle.recovery.specs.Sessions.{Failure, IsUnder}
-use Rattle.recovery.specs.Trying.{KeepsLedger, KeepsBase}
-use Rattle.recovery.specs.Going.{IsTrying, TriesSomewhere}
+use Rattle.recovery.proofs.Terms.{Bool, List, arith, refl, subst, sym, ℕ, ◌+◌, ◌<◌, ◌^◌, ◌≡◌, ◌≤◌, Choice, Heap, Env, Log, Ledger, Path, CpuState, Failure, IsUnder, IsTrying, TriesSomewhere, KeepsBase, KeepsLedger}
 use Rattle.recovery.proofs.Running.{same_base, trying_room}
 
 module _ {R : Type 0} where

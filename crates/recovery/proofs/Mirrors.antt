@@ -1,12 +1,8 @@
 -- Two lists of which one is the other from its end: saved slots from the oldest on, and checkpoints from the newest on.
-use Rattle.std.proofs.Common.{◌≡◌, ℕ, zero, suc, ◌+◌, ◌-◌, ◌<◌, List, [], ◌∷◌, ◌++◌, length, map, take, drop, Some, refl, sym, ◌∙◌, ap, arith, length-append, length-drop}
-use Rattle.std.specs.Prelude.{slice_get}
+use Rattle.std.proofs.Common.{map}
 use Rattle.std.specs.Option.{option_map}
-use Rattle.std.proofs.lemmas.Option.{slice_get-map}
-use Rattle.std.proofs.lemmas.List.{length-map, length-take-le}
-use Rattle.circular_buffer.proofs.Places.{slice_get-append_left, slice_get-drop, slice_get-take}
-use Rattle.ckpt_ring.specs.Rings.{from_newest}
 use Rattle.ckpt_ring.proofs.SlotLemmas.{from_newest_push}
+use Rattle.recovery.proofs.Terms.{List, Some, [], ap, arith, drop, length, length-append, length-drop, refl, suc, sym, take, zero, ℕ, ◌++◌, ◌+◌, ◌-◌, ◌<◌, ◌∙◌, ◌∷◌, ◌≡◌, length-map, length-take-le, slice_get-map, slice_get, slice_get-append_left, slice_get-drop, slice_get-take, from_newest}
 
 module _ {X S : Type 0} where
   -- what is read of the newest ones

@@ -1,30 +1,5 @@
 -- What a recovery makes of a failure, from what its walk left.
-use Rattle.std.proofs.Common.{◌≡◌, ℕ, ◌+◌, ◌-◌, ◌<◌, ◌≤◌, List, [], ◌++◌, length, take, drop, Option, Some, refl, sym, ◌∙◌, ap, subst, arith}
-use Rattle.std.proofs.lemmas.Option.{slice_get_within}
-use Rattle.block_book.specs.declared.choice.Choice.{Choice}
-use Rattle.item_log.specs.Log.{Log}
-use Rattle.reply_ledger.specs.Ledger.{Ledger}
-use Rattle.ckpt_ring.specs.Rings.{Checkpoints, without_newer}
-use Rattle.ckpt_ring.specs.Slots.{Saved, Slots}
-use Rattle.run_history.specs.Served.{Path, Served, AsksFor}
-use Rattle.guest_cpu.specs.Standing.{Standing}
-use Rattle.guest_cpu.specs.Cpus.{CpuState}
-use Rattle.guest_cpu.specs.Serving.{standing_of}
-use Rattle.session_notes.specs.declared.episode.Episode.{Episode}
-use Rattle.session_notes.specs.declared.episode.Try.{Try}
-use Rattle.trials.specs.Trials.{plan_of_trial}
-use Rattle.trials.specs.Tables.{Trial, table, WalksOver}
-use Rattle.trials.specs.Episodes.{episode_of, IsRecovery}
-use Rattle.trials.proofs.Chained.{chained_at}
-use Rattle.trials.proofs.Going.{steps_later}
-use Rattle.recovery.specs.Sessions.{Failure, items_of, pieces_of}
-use Rattle.recovery.specs.Trying.{KeepsSaved, steps_of, StandsOn, HasWalked}
-use Rattle.recovery.specs.Walking.{IsEpisode, HasSameBytes}
-use Rattle.recovery.specs.declared.walking.Adopted.{Adopted}
-use Rattle.recovery.specs.declared.walking.FailureSite.{FailureSite}
-use Rattle.recovery.specs.Rings.{IsInForce}
-use Rattle.recovery.specs.Handling.{keeping_by}
-use Rattle.recovery.specs.Recovering.{recovery_of, HasToRecover, HasAdoptedRun, Adopts, KeepsSlots}
+use Rattle.recovery.proofs.Terms.{List, Option, Some, [], ap, arith, drop, length, refl, subst, sym, take, ℕ, ◌++◌, ◌+◌, ◌-◌, ◌<◌, ◌∙◌, ◌≡◌, ◌≤◌, slice_get_within, Choice, Checkpoints, without_newer, Saved, Slots, Log, Ledger, AsksFor, Path, Served, CpuState, standing_of, Standing, Episode, Try, chained_at, steps_later, IsRecovery, episode_of, Trial, WalksOver, table, plan_of_trial, Adopted, FailureSite, Failure, items_of, pieces_of, HasWalked, KeepsSaved, StandsOn, steps_of, HasSameBytes, IsEpisode, IsInForce, Adopts, HasAdoptedRun, HasToRecover, KeepsSlots, recovery_of, keeping_by}
 use Rattle.recovery.proofs.RingLemmas.{as_many_stand, ring_beside, ring_adopts}
 use Rattle.recovery.proofs.Forces.{in_force_from}
 use Rattle.recovery.proofs.Survived.{HasSurvived, adopted_asks, OwnAnswers, own_answers}

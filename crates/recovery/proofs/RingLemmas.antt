@@ -1,45 +1,10 @@
 -- The ring of a session's checkpoints, one lemma for each event of a session.
-use Rattle.std.proofs.Common.{◌≡◌, inl, inr, ℕ, zero, suc, ◌+◌, ◌-◌, ◌<◌, ◌≤◌, true, false, List, [], ◌∷◌, ◌++◌, length, map, take, drop, Option, Some, None, IfSome, refl, sym, ◌∙◌, ap, subst, arith, length-drop, append-nil}
-use Rattle.std.specs.Prelude.{slice_get, replicate, ◌^◌, Bool, IsSomeAnd, nat_le}
-use Rattle.std.specs.Option.{option_map}
-use Rattle.std.proofs.lemmas.List.{length-map, length-take-le}
-use Rattle.std.proofs.lemmas.Bool.{both_ways, le-leb, lt-leb}
-use Rattle.circular_buffer.proofs.Places.{slice_get-drop}
+use Rattle.std.proofs.Common.{map}
+use Rattle.std.specs.Prelude.{◌^◌, Bool}
 use Rattle.run_history.specs.Machine as M
-use Rattle.run_history.specs.Call.{may_send}
-use Rattle.run_history.proofs.Connections.{no_connections_may}
-use Rattle.guest_runs.proofs.RunLemmas.{runs_start}
-use Rattle.std.proofs.lemmas.Option.{none-some, same_Some, slice_get_within}
-use Rattle.rx_io.specs.declared.bytes.Item.{Item}
-use Rattle.links.specs.declared.journal.Entry.{Entry}
-use Rattle.elf_image.specs.declared.image.Image.{Image}
-use Rattle.elf_image.specs.Image.{base}
-use Rattle.alloc_env.specs.declared.env.Env.{Env}
-use Rattle.item_log.specs.Log.{Log}
-use Rattle.reply_ledger.specs.Ledger.{Ledger}
-use Rattle.ckpt_ring.specs.declared.checkpoint.Checkpoint.{Checkpoint}
-use Rattle.ckpt_ring.specs.Slots.{Saved, Slots, newest_slot, with_whole_oldest, without_newer_slots}
-use Rattle.ckpt_ring.specs.Rings.{Checkpoints, checkpoint_of, checkpoints_of, from_newest, kept, saved_in_ring, has_room}
 use Rattle.ckpt_ring.proofs.KeptLemmas.{longest_end_drops}
-use Rattle.run_history.specs.Served.{Limits, Override, Path, origin, Served, AsksFor}
-use Rattle.guest_cpu.specs.Standing.{Standing, Live}
-use Rattle.guest_cpu.specs.Cpus.{CpuState, with_live}
-use Rattle.guest_cpu.specs.Serving.{standing_of}
-use Rattle.page_line.specs.Line.{count_true}
-use Rattle.guest_runs.specs.Writing.{Writes}
-use Rattle.session_history.specs.Heeding.{items_in}
-use Rattle.session_history.specs.Lawful.{Rules}
-use Rattle.session_history.specs.Serving.{Carries}
-use Rattle.session_history.specs.Keeping.{KeepsReplies, KeepsItems}
-use Rattle.session_history.proofs.Paths.{served_same}
-use Rattle.trials.specs.Trials.{plan_of_trial}
-use Rattle.trials.specs.Chains.{AreCheckpoints, AreChained}
-use Rattle.trials.proofs.Chained.{chained_adopt}
-use Rattle.trials.proofs.Asking.{asks_under_all}
-use Rattle.recovery.specs.Sessions.{CanGoOn, IsKept, AreKept, HasFailed, taken_in}
-use Rattle.recovery.specs.Trying.{KeepsSaved}
-use Rattle.recovery.specs.Rings.{IsRingOf, KeepsRing, Brings, is_due, is_due_after}
-use Rattle.recovery.proofs.Mirrors.{Mirrors, from_map, mirrors_none, mirrors_push, mirrors_later, mirrors_earlier, mirrors_as}
+use Rattle.recovery.proofs.Terms.{IfSome, List, None, Option, Some, [], ap, append-nil, arith, drop, false, inl, inr, length, length-drop, refl, subst, suc, sym, take, true, zero, ℕ, ◌++◌, ◌+◌, ◌-◌, ◌<◌, ◌∙◌, ◌∷◌, ◌≡◌, ◌≤◌, both_ways, le-leb, lt-leb, length-map, length-take-le, none-some, slice_get_within, IsSomeAnd, replicate, slice_get, slice_get-drop, Item, Entry, Env, Checkpoint, Checkpoints, checkpoint_of, checkpoints_of, has_room, kept, saved_in_ring, Saved, Slots, newest_slot, with_whole_oldest, without_newer_slots, count_true, Log, Ledger, Image, base, no_connections_may, may_send, AsksFor, Limits, Override, Path, Served, origin, CpuState, with_live, standing_of, Live, Standing, runs_start, Writes, served_same, items_in, KeepsItems, KeepsReplies, Rules, Carries, asks_under_all, chained_adopt, AreChained, AreCheckpoints, plan_of_trial, AreKept, CanGoOn, HasFailed, IsKept, taken_in, KeepsSaved, Brings, IsRingOf, KeepsRing, is_due_after}
+use Rattle.recovery.proofs.Mirrors.{Mirrors, mirrors_none, mirrors_push, mirrors_later, mirrors_earlier, mirrors_as}
 use Rattle.recovery.proofs.Flags.{WroteSince, flags_clear, wrote_none, wrote_on, wrote_more}
 use Rattle.recovery.proofs.Chains.{chained_on, chained_with, chained_take, are_take, kept_take, kept_drop, kept_with}
 
@@ -157,15 +122,6 @@ module _ {R : Type 0} where
       (inr (omega (arith, some, number), asks_under_all rules.limits plan [] now now.state.machine.taken here), k.are)
       (record { lives = asks.lives; goes = goes; items = omega (arith, items, number); sends = sends }, k.kept) (record { many = k.as_many; each = k.saved }) live saves standing (omega (arith, few, same)) stands_on (window ∙ k.window) flags
 
--- a saved slot of a run has taken as many items
-read_of : (o : Option (Saved Standing)) (path : Path) → option_map state_of o ≡ Some (standing_of path) → IsSomeAnd (option_map (checkpoint_of taken_in) o) (λ one. one.taken ≡ path.state.machine.taken)
-read_of None path is = absurd (none-some (standing_of path) is)
-read_of (Some one) path is = ap taken_in (same_Some one.state (standing_of path) is)
-
-due_by : (every taken number : ℕ) (newest : Option Checkpoint) → IsSomeAnd newest (λ one. one.taken ≡ number) → is_due_after every taken newest ≡ nat_le every (taken - number)
-due_by every taken number None is = absurd is
-due_by every taken number (Some newest) is = ap (λ n. nat_le every (taken - n)) is
-
 module _ {R : Type 0} where
   saved_of : (rules : Rules) (image : Image) (entries : List Entry) (plan : List Override) (now : Path) (ring : List Path) (cpu : CpuState R) (checkpoints : Checkpoints) (log : Log) (ledger : Ledger)
       → KeepsRing rules image entries plan now ring cpu checkpoints log ledger → AreSaved cpu.slots.saved ring
@@ -177,25 +133,11 @@ module _ {R : Type 0} where
   as_many_stand rules image entries plan now ring cpu checkpoints log ledger k =
       ap length k.standing ∙ (length-map {A = Saved Standing} {B = Checkpoint} cpu.slots.saved (checkpoint_of taken_in) ∙ k.as_many)
 
-  -- and each has taken as many items as the run
-  pub taken_there : (rules : Rules) (image : Image) (entries : List Entry) (plan : List Override) (now : Path) (ring : List Path) (cpu : CpuState R) (checkpoints : Checkpoints) (log : Log) (ledger : Ledger) (index : ℕ) (checkpoint : Path)
-      → KeepsRing rules image entries plan now ring cpu checkpoints log ledger → slice_get ring index ≡ Some checkpoint → IsSomeAnd (from_newest checkpoints.standing index) (λ one. one.taken ≡ checkpoint.state.machine.taken)
-  taken_there rules image entries plan now ring cpu checkpoints log ledger index checkpoint k found =
-      subst (λ (o : Option Checkpoint). IsSomeAnd o (λ one. one.taken ≡ checkpoint.state.machine.taken))
-      (from_map (checkpoint_of taken_in) cpu.slots.saved index ∙ ap (λ list. from_newest list index) (sym k.standing))
-      (read_of (from_newest cpu.slots.saved index) checkpoint (k.saved index (slice_get_within ring index checkpoint found) ∙ ap (option_map standing_of) found))
-
   -- what the ring and the slots have in common
   pub is_ring_of : (rules : Rules) (image : Image) (entries : List Entry) (plan : List Override) (now : Path) (ring : List Path) (cpu : CpuState R) (checkpoints : Checkpoints) (log : Log) (ledger : Ledger)
       → KeepsRing rules image entries plan now ring cpu checkpoints log ledger → IsRingOf cpu checkpoints
   is_ring_of rules image entries plan now ring cpu checkpoints log ledger k =
       record { some = omega (arith, as_many_stand rules image entries plan now ring cpu checkpoints log ledger k, k.some); standing = k.standing; capacity = k.capacity; base = k.base }
-
-  -- Whether a checkpoint is due, by the newest run of the ring.
-  pub due_by_runs : (rules : Rules) (image : Image) (entries : List Entry) (plan : List Override) (now newest : Path) (older : List Path) (cpu : CpuState R) (checkpoints : Checkpoints) (log : Log) (ledger : Ledger) (every taken : ℕ)
-      → KeepsRing rules image entries plan now (newest ∷ older) cpu checkpoints log ledger → is_due every taken checkpoints.standing ≡ nat_le every (taken - newest.state.machine.taken)
-  due_by_runs rules image entries plan now newest older cpu checkpoints log ledger every taken k =
-      due_by every taken newest.state.machine.taken (from_newest checkpoints.standing 0) (taken_there rules image entries plan now (newest ∷ older) cpu checkpoints log ledger 0 newest k refl)
 
   -- The survivor's run goes on, and writes pages: of the guest the live state changes alone.
   pub ring_on : (rules : Rules) (image : Image) (entries : List Entry) (plan : List Override) (now next : Path) (ring : List Path) (old new : CpuState R) (live : Live) (checkpoints : Checkpoints) (log : Log) (ledger : Ledger)

@@ -1,50 +1,16 @@
 -- The guest of a trial runs to its next event: what that makes of the trial.
-use Rattle.std.proofs.Common.{◌≡◌, ℕ, ◌+◌, ◌-◌, ◌*◌, ◌^◌, ◌<◌, ◌≤◌, Bool, true, false, List, [], ◌∷◌, ◌++◌, length, take, drop, replicate, Option, Some, None, refl, sym, ◌∙◌, ap, subst, arith}
-use Rattle.std.specs.Prelude.{Ok, Result, slice_get, unwrap_or}
-use Rattle.std.specs.declared.alloc.AllocError.{AllocError}
+use Rattle.std.proofs.Common.{replicate}
 use Rattle.std.proofs.lemmas.Nat.{mul-le}
-use Rattle.rx_io.specs.declared.bytes.Item.{Item}
-use Rattle.links.specs.declared.journal.LinkEvent.{LinkEvent}
-use Rattle.links.specs.Links.{events_in}
-use Rattle.rx_io.specs.Sends.{Send, sent_to}
-use Rattle.alloc_env.specs.declared.env.Env.{Env}
-use Rattle.block_book.specs.declared.choice.Choice.{Choice}
-use Rattle.block_book.specs.Heap.{Heap}
-use Rattle.item_log.specs.Log.{Log}
 use Rattle.item_log.specs.Heard as heard
-use Rattle.reply_ledger.specs.Ledger.{Ledger}
-use Rattle.reply_ledger.specs.Trials.{agree}
-use Rattle.run_history.specs.Machine.{Machine, State}
-use Rattle.run_history.specs.Call.{may_send}
-use Rattle.run_history.specs.Served.{Limits, Override, Path, env_at, planned_next, served_next}
-use Rattle.rv_exec.specs.Stepping.{limits_of}
-use Rattle.guest_cpu.specs.declared.event.Event.{Event}
 use Rattle.guest_cpu.specs.declared.event.Event.TheVariants as event
 use Rattle.run_history.specs.Touching.{Range}
-use Rattle.guest_cpu.specs.Standing.{Standing, Turn, turn, Live, live_after, with_range}
-use Rattle.guest_cpu.specs.Cpus.{CpuState, live_of, with_live}
 use Rattle.guest_cpu.specs.Running.{RunsBy}
-use Rattle.guest_cpu.specs.Serving.{standing_of, Adds}
 use Rattle.guest_cpu.proofs.ServingLemmas.{turns_serve}
-use Rattle.guest_runs.specs.Runs.{GoesOn, IsSilent}
-use Rattle.guest_runs.specs.Writing.{writes, Writes, RunsWriting}
 use Rattle.guest_runs.proofs.OneMore.{one_more}
 use Rattle.guest_runs.proofs.TurnEvents.{Means, turn_means}
 use Rattle.guest_runs.proofs.TurnWrites.{WritesAs, turn_writes}
-use Rattle.guest_runs.proofs.WritingLemmas.{writes_on, writes_then}
 use Rattle.guest_runs.proofs.QuietRuns.{goes_one, goes_on, ComesWriting, comes_writing}
-use Rattle.guest_runs.proofs.RunLemmas.{runs_write}
-use Rattle.run_history.proofs.Serves.{served_next_more}
-use Rattle.session_history.specs.Heeding.{Bounds, received}
-use Rattle.session_history.specs.Passing.{IsFeasible}
-use Rattle.session_history.proofs.Paths.{served_on}
-use Rattle.session_history.specs.Keeping.{KeepsItems}
-use Rattle.trials.specs.Trials.{IsUnharmed}
-use Rattle.trials.specs.Laws.{everywhere}
-use Rattle.trials.proofs.Planned.{env_within}
-use Rattle.recovery.specs.Sessions.{CanGoOn, Failure, items_of, pieces_of, IsUnder}
-use Rattle.recovery.specs.Trying.{KeepsSaved, KeepsBase}
-use Rattle.recovery.specs.Going.{IsTrying}
+use Rattle.recovery.proofs.Terms.{AllocError, Bool, List, None, Option, Some, [], ap, arith, drop, false, length, refl, subst, sym, take, true, ℕ, ◌*◌, ◌++◌, ◌+◌, ◌-◌, ◌<◌, ◌^◌, ◌∙◌, ◌∷◌, ◌≡◌, ◌≤◌, Ok, Result, slice_get, unwrap_or, Item, Send, sent_to, LinkEvent, events_in, Choice, Heap, Env, Log, Ledger, agree, served_next_more, may_send, Machine, State, Limits, Override, Path, env_at, planned_next, served_next, limits_of, Event, CpuState, live_of, with_live, Adds, standing_of, Live, Standing, Turn, live_after, turn, with_range, runs_write, writes_on, writes_then, GoesOn, IsSilent, RunsWriting, Writes, writes, served_on, Bounds, received, KeepsItems, env_within, everywhere, IsUnharmed, CanGoOn, Failure, IsUnder, items_of, pieces_of, IsTrying, KeepsBase, KeepsSaved}
 use Rattle.recovery.proofs.Few.{few_items}
 use Rattle.recovery.proofs.Starting.{failed_still}
 

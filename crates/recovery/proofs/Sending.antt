@@ -1,46 +1,15 @@
 -- A trial sends bytes, or takes an item.
-use Rattle.std.proofs.Common.{◌≡◌, ℕ, zero, suc, ◌+◌, ◌-◌, ◌^◌, ◌<◌, ◌≤◌, Bool, true, false, cond, eqb, List, [], ◌∷◌, ◌++◌, length, take, drop, Option, Some, None, inl, inr, ◌⊎◌, refl, sym, ◌∙◌, ap, subst, arith, append-nil, length-append}
-use Rattle.std.specs.Prelude.{IsSome, is_some, unwrap_or, slice_get}
-use Rattle.std.proofs.lemmas.Bool.{eqb-true, true≢false}
-use Rattle.std.proofs.lemmas.List.{take-append-le, drop-append-le}
 use Rattle.std.proofs.lemmas.List.Elements.{filter-append}
-use Rattle.rx_io.specs.declared.bytes.Item.{Item}
-use Rattle.links.specs.Links.{events_in}
-use Rattle.rx_io.specs.Sends.{Send, sent_to}
-use Rattle.rx_io.specs.Prefix.{Prefix}
-use Rattle.alloc_env.specs.declared.env.Env.{Env}
-use Rattle.block_book.specs.declared.choice.Choice.{Choice}
-use Rattle.item_log.specs.Log.{Log, IsItemOf}
 use Rattle.item_log.specs.Log as logs
-use Rattle.reply_ledger.specs.Ledger.{Ledger, connection_of, IsOpened, NotBefore, times_of}
-use Rattle.reply_ledger.specs.Trials.{agree, trial_sends, with_trial_send, discarded}
 use Rattle.reply_ledger.specs.Trials as ledgers
-use Rattle.run_history.specs.Machine.{State, Wants}
 use Rattle.run_history.specs.Run.{does}
-use Rattle.run_history.specs.Call.{may_send}
-use Rattle.run_history.specs.Served.{Path}
-use Rattle.run_history.proofs.Connections.{OpenWithin, within_after}
-use Rattle.run_history.proofs.Outputs.{sent_to-more, prefix_sent, prefix_trans}
-use Rattle.guest_cpu.specs.Cpus.{CpuState, live_of}
-use Rattle.guest_cpu.specs.Standing.{Standing, Live, with_range}
 use Rattle.guest_cpu.specs.Receiving.{received_range, taken_standing, live_with_item}
-use Rattle.guest_runs.specs.Runs.{TakesOn}
-use Rattle.guest_runs.specs.Writing.{Writes, TakesWriting}
 use Rattle.guest_runs.proofs.TakeLemmas.{takes_write, asks_wants}
 use Rattle.session_notes.specs.declared.episode.Tried.TheVariants as tried
-use Rattle.session_history.specs.Heeding.{heeded, received}
-use Rattle.session_history.specs.Opened.{opens}
-use Rattle.session_history.specs.Passing.{until, AreBetween, CoversBefore, IsFeasible}
-use Rattle.session_history.specs.Keeping.{IsSendable, AreSendable}
-use Rattle.session_history.proofs.Growing.{Grows, between_append, between_wider}
+use Rattle.session_history.specs.Passing.{CoversBefore}
 use Rattle.session_history.proofs.Passing.{all_until}
-use Rattle.session_history.proofs.Paths.{served_on}
 use Rattle.link_gate.proofs.ItemLemmas.{item_is, item_fits, opened_items, received_is}
-use Rattle.trials.specs.Trials.{IsContradicted}
-use Rattle.trials.specs.Laws.{everywhere}
-use Rattle.recovery.specs.Sessions.{CanGoOn, Failure, items_of, pieces_of}
-use Rattle.recovery.specs.Trying.{KeepsSaved}
-use Rattle.recovery.specs.Going.{agrees_next, IsTrying, IsAsking, HasCome}
+use Rattle.recovery.proofs.Terms.{Bool, List, None, Option, Some, [], ap, append-nil, arith, cond, drop, eqb, false, inl, inr, length, length-append, refl, subst, suc, sym, take, true, zero, ℕ, ◌++◌, ◌+◌, ◌-◌, ◌<◌, ◌^◌, ◌∙◌, ◌∷◌, ◌≡◌, ◌≤◌, ◌⊎◌, eqb-true, true≢false, drop-append-le, take-append-le, IsSome, is_some, slice_get, unwrap_or, Item, Prefix, Send, sent_to, events_in, Choice, Env, IsItemOf, Log, IsOpened, Ledger, NotBefore, connection_of, times_of, agree, discarded, trial_sends, with_trial_send, OpenWithin, within_after, prefix_sent, prefix_trans, sent_to-more, may_send, State, Wants, Path, CpuState, live_of, Live, Standing, with_range, TakesOn, TakesWriting, Writes, Grows, between_append, between_wider, served_on, heeded, received, AreSendable, IsSendable, opens, AreBetween, IsFeasible, until, everywhere, IsContradicted, CanGoOn, Failure, items_of, pieces_of, HasCome, IsAsking, IsTrying, agrees_next, KeepsSaved}
 use Rattle.recovery.proofs.Joining.{next_agrees, agree_more, differs_more, covers_before_now}
 use Rattle.recovery.proofs.Starting.{failed_still}
 use Rattle.recovery.proofs.Running.{SendsOn, unharmed_still, may_send_by, trying_room, wrote_on}

@@ -1,41 +1,8 @@
 -- Where a trial begins.
-use Rattle.std.proofs.Common.{◌≡◌, ℕ, zero, suc, ◌+◌, ◌-◌, ◌<◌, ◌≤◌, Bool, true, false, List, [], ◌∷◌, ◌++◌, length, take, drop, replicate, Option, Some, None, refl, sym, ◌∙◌, ap, subst, arith, append-nil, length-append, length-drop}
-use Rattle.std.specs.Prelude.{slice_get, option_map, IsSomeAnd}
-use Rattle.std.proofs.lemmas.List.{drop-append-le, take-append-le, length-map}
-use Rattle.std.proofs.lemmas.Option.{same_Some, none-some, slice_get_within}
-use Rattle.std.proofs.Math.Seq.{take-append_seam}
-use Rattle.links.specs.declared.journal.Entry.{Entry}
-use Rattle.rx_io.specs.Sends.{Send}
-use Rattle.elf_image.specs.declared.image.Image.{Image}
-use Rattle.alloc_env.specs.declared.env.Env.{Env}
-use Rattle.item_log.specs.Log.{Log}
-use Rattle.ckpt_ring.specs.Slots.{Saved, Slots, restored}
-use Rattle.ckpt_ring.specs.Rings.{from_newest, checkpoint_of, checkpoints_of}
-use Rattle.ckpt_ring.specs.declared.checkpoint.Checkpoint.{Checkpoint}
-use Rattle.reply_ledger.specs.Ledger.{Ledger}
-use Rattle.reply_ledger.specs.Trials.{begun, discarded}
+use Rattle.std.proofs.Common.{replicate}
 use Rattle.reply_ledger.specs.Trials as ledgers
-use Rattle.run_history.specs.Served.{Limits, Path, Served}
-use Rattle.guest_cpu.specs.Standing.{Standing}
-use Rattle.guest_cpu.specs.Cpus.{CpuState}
-use Rattle.guest_cpu.specs.Serving.{standing_of}
-use Rattle.page_line.specs.Line.{count_true}
-use Rattle.guest_runs.specs.Writing.{Writes}
-use Rattle.guest_runs.proofs.WritingLemmas.{writes_none}
-use Rattle.session_history.specs.Heeding.{Bounds}
-use Rattle.session_history.specs.Lawful.{Rules}
-use Rattle.session_history.specs.Keeping.{KeepsReplies}
-use Rattle.session_history.proofs.Growing.{Grows}
-use Rattle.session_history.proofs.Paths.{served_same}
-use Rattle.trials.specs.Trials.{IsUnharmed}
-use Rattle.trials.specs.Chains.{IsCheckpoint, AreCheckpoints}
-use Rattle.trials.specs.Laws.{everywhere}
-use Rattle.trials.proofs.Going.{served_grows}
-use Rattle.trials.proofs.Chained.{chained_at}
 use Rattle.trials.proofs.Agreeing.{checkpoint_unharmed}
-use Rattle.recovery.specs.Sessions.{IsKept, AreKept, Failure, items_of, pieces_of, FailedAt, taken_in}
-use Rattle.recovery.specs.Trying.{KeepsLedger, KeepsSaved}
-use Rattle.recovery.specs.Going.{IsTrying}
+use Rattle.recovery.proofs.Terms.{Bool, List, None, Option, Some, [], ap, append-nil, arith, drop, false, length, length-append, length-drop, refl, subst, suc, sym, take, true, zero, ℕ, ◌++◌, ◌+◌, ◌-◌, ◌<◌, ◌∙◌, ◌∷◌, ◌≡◌, ◌≤◌, take-append_seam, drop-append-le, length-map, take-append-le, none-some, same_Some, slice_get_within, IsSomeAnd, option_map, slice_get, Send, Entry, Env, Checkpoint, checkpoint_of, checkpoints_of, from_newest, Saved, Slots, restored, count_true, Log, Ledger, begun, discarded, Image, Limits, Path, Served, CpuState, standing_of, Standing, writes_none, Writes, Grows, served_same, Bounds, KeepsReplies, Rules, chained_at, served_grows, AreCheckpoints, IsCheckpoint, everywhere, IsUnharmed, AreKept, FailedAt, Failure, IsKept, items_of, pieces_of, taken_in, IsTrying, KeepsLedger, KeepsSaved}
 
 -- what holds of each checkpoint holds of the one at an index
 pub kept_at : (rules : Rules) (entries : List Entry) (log : Log) (ledger : Ledger) (ring : List Path) (index : ℕ) (checkpoint : Path) → AreKept rules entries log ledger ring → slice_get ring index ≡ Some checkpoint → IsKept rules entries log ledger checkpoint

@@ -1,32 +1,7 @@
 -- What a walk leaves: none of its trials survived, or the last one is adopted.
-use Rattle.std.proofs.Common.{◌≡◌, ℕ, zero, suc, ◌+◌, ◌-◌, ◌≤◌, List, [], ◌∷◌, ◌++◌, length, take, drop, Option, Some, None, refl, sym, ◌∙◌, ap, subst, arith, length-append, length-drop}
-use Rattle.std.specs.Prelude.{slice_get, option_map}
-use Rattle.std.proofs.lemmas.Option.{same_Some, none-some}
-use Rattle.std.proofs.Math.Seq.{take-append_seam}
-use Rattle.rx_io.specs.declared.bytes.Item.{Item}
-use Rattle.rx_io.specs.Sends.{Send}
-use Rattle.elf_image.specs.declared.image.Image.{Image}
-use Rattle.alloc_env.specs.declared.env.Env.{Env}
-use Rattle.block_book.specs.declared.choice.Choice.{Choice}
-use Rattle.reply_ledger.specs.Ledger.{Ledger}
-use Rattle.reply_ledger.specs.Trials.{discarded}
-use Rattle.run_history.specs.Machine.{start, start_machine}
-use Rattle.run_history.specs.Served.{Limits, Override, Path, origin, Served, AsksFor}
-use Rattle.run_history.proofs.Serves.{IsUsed, served_follows}
-use Rattle.guest_cpu.specs.Cpus.{CpuState}
-use Rattle.session_notes.specs.declared.episode.Tried.{Tried}
 use Rattle.session_notes.specs.declared.episode.Tried.TheVariants as tried
-use Rattle.session_notes.specs.declared.episode.Try.{Try}
-use Rattle.trials.specs.Trials.{ComesTo}
-use Rattle.trials.specs.Tables.{Chance, Trial, chance_at, IsRight, survivor_in}
-use Rattle.trials.specs.Chains.{AreChained}
-use Rattle.trials.proofs.Asking.{asks_under_all}
-use Rattle.trials.proofs.Chained.{chained_at}
 use Rattle.trials.proofs.Walked.{walk_adopts}
-use Rattle.recovery.specs.Sessions.{Failure, items_of, pieces_of}
-use Rattle.recovery.specs.Trying.{steps_of, adopted_of, IsAdopted, LeavesBy, HasWalked}
-use Rattle.recovery.specs.declared.walking.Adopted.{Adopted}
-use Rattle.recovery.specs.Rings.{AreBehind}
+use Rattle.recovery.proofs.Terms.{List, None, Option, Some, [], ap, arith, drop, length, length-append, length-drop, refl, subst, suc, sym, take, zero, ℕ, ◌++◌, ◌+◌, ◌-◌, ◌∙◌, ◌∷◌, ◌≡◌, ◌≤◌, take-append_seam, none-some, same_Some, option_map, slice_get, Item, Send, Choice, Env, Ledger, discarded, Image, IsUsed, served_follows, start, start_machine, AsksFor, Limits, Override, Path, Served, origin, CpuState, Tried, Try, asks_under_all, chained_at, AreChained, Chance, IsRight, Trial, chance_at, survivor_in, ComesTo, Adopted, Failure, items_of, pieces_of, HasWalked, IsAdopted, LeavesBy, adopted_of, steps_of, AreBehind}
 use Rattle.recovery.proofs.WalkLemmas.{steps_of-more}
 
 -- the chance at an index is one at its checkpoint

@@ -1,24 +1,13 @@
 -- What a ledger gives up was passed, wherever it might still be.
-use Rattle.std.proofs.Common.{◌≡◌, ℕ, zero, suc, ◌+◌, ◌-◌, ◌≤◌, Bool, true, false, ◌&&◌, not, List, [], ◌∷◌, ◌++◌, length, take, drop, Option, None, Some, is_some, refl, sym, ◌∙◌, ap, arith, cond, append-nil, append_assoc, length-append, length-drop}
-use Rattle.std.specs.List.{position_or_len}
+use Rattle.std.proofs.Common.{is_some}
 use Rattle.std.specs.Option.{option_map}
-use Rattle.std.proofs.Math.Seq.{take-add}
-use Rattle.links.specs.declared.journal.Entry.{Entry}
-use Rattle.rx_io.specs.Sends.{Send, sent_to}
-use Rattle.reply_ledger.specs.Ledger.{Connection, Ledger, connection_of, is_open, stamped_to}
-use Rattle.reply_ledger.specs.Parts.{unpassed, parts_behind, parts, is_left, waits, settled}
 use Rattle.reply_ledger.specs.Trimming.{trimmed_connection, trimmed_connections, without}
 use Rattle.reply_ledger.specs.Inside.{earlier_at}
-use Rattle.reply_ledger.specs.Shows.{stamped_of}
 use Rattle.reply_ledger.proofs.RunLemmas.{length-bytes_of}
 use Rattle.reply_ledger.proofs.EntryLemmas.{sent_to-append}
 use Rattle.reply_ledger.proofs.PositionLemmas.{position-le}
-use Rattle.reply_ledger.proofs.ConnectionLemmas.{connection_of-trimmed, is_open-trimmed}
 use Rattle.reply_ledger.proofs.PartLemmas.{come, come_past}
-use Rattle.reply_ledger.proofs.ShowsLemmas.{shows-trimmed, bytes_of-stamped_of}
-use Rattle.session_history.specs.Heeding.{Bounds}
-use Rattle.session_history.specs.Passing.{passed_in}
-use Rattle.session_history.specs.Keeping.{KeepsReplies, may_pass}
+use Rattle.recovery.proofs.Terms.{Bool, List, None, Option, Some, [], ap, append-nil, append_assoc, arith, cond, drop, false, length, length-append, length-drop, not, refl, suc, sym, take, true, zero, ℕ, ◌&&◌, ◌++◌, ◌+◌, ◌-◌, ◌∙◌, ◌∷◌, ◌≡◌, ◌≤◌, take-add, position_or_len, Send, sent_to, Entry, connection_of-trimmed, is_open-trimmed, bytes_of-stamped_of, shows-trimmed, Connection, Ledger, connection_of, is_open, stamped_to, is_left, parts, parts_behind, settled, unpassed, waits, stamped_of, Bounds, KeepsReplies, may_pass, passed_in}
 
 -- the parts before the first that passes a test fail it
 parts_before : (p : Send → Bool) (C : List Connection) (front sends : List Send) (count : ℕ) → count ≤ position_or_len p (parts_behind C front sends)

@@ -1,28 +1,8 @@
 -- What each event of its guest makes of a trial.
-use Rattle.std.proofs.Common.{◌≡◌, ℕ, ◌<◌, ◌≤◌, Bool, List, [], ◌∷◌, ◌++◌, length, Option, Some, None, refl, sym, ◌∙◌, ap, subst, arith, append_assoc}
-use Rattle.std.specs.Prelude.{Ok, Err, Result, IsSome}
-use Rattle.std.specs.declared.alloc.AllocError.{AllocError}
-use Rattle.rx_io.specs.Sends.{Send}
-use Rattle.alloc_env.specs.declared.env.Env.{Env}
-use Rattle.block_book.specs.declared.choice.Choice.{Choice}
-use Rattle.block_book.specs.Heap.{Heap}
-use Rattle.item_log.specs.Log.{Log}
-use Rattle.reply_ledger.specs.Ledger.{Ledger, IsOpened, NotBefore, times_of}
-use Rattle.reply_ledger.specs.Trials.{trial_sends, discarded}
 use Rattle.reply_ledger.specs.Trials as ledgers
-use Rattle.run_history.specs.declared.answer.Cause.{Cause}
-use Rattle.run_history.specs.Served.{Path, AsksFor, FailsBy}
-use Rattle.guest_cpu.specs.declared.event.Event.{Event}
 use Rattle.guest_cpu.specs.declared.event.Event.TheVariants as event
-use Rattle.guest_cpu.specs.Standing.{Standing}
-use Rattle.guest_cpu.specs.Cpus.{CpuState, live_of}
-use Rattle.guest_runs.specs.Runs.{IsSilent}
-use Rattle.session_notes.specs.declared.episode.Tried.{Tried}
 use Rattle.session_notes.specs.declared.episode.Tried.TheVariants as tried
-use Rattle.trials.specs.Laws.{everywhere}
-use Rattle.recovery.specs.Sessions.{Failure, items_of, IsUnder}
-use Rattle.recovery.specs.Trying.{KeepsLedger, KeepsSaved}
-use Rattle.recovery.specs.Going.{IsJudged, SendsBy, IsLaterIf, IsLater, IsTrying, IsAsking, HasCome, TurnsBy}
+use Rattle.recovery.proofs.Terms.{AllocError, Bool, List, None, Option, Some, [], ap, append_assoc, arith, length, refl, subst, sym, ℕ, ◌++◌, ◌<◌, ◌∙◌, ◌∷◌, ◌≡◌, ◌≤◌, Err, IsSome, Ok, Result, Send, Choice, Heap, Env, Log, IsOpened, Ledger, NotBefore, times_of, discarded, trial_sends, Cause, AsksFor, FailsBy, Path, Event, CpuState, live_of, Standing, IsSilent, Tried, everywhere, Failure, IsUnder, items_of, HasCome, IsAsking, IsJudged, IsLater, IsLaterIf, IsTrying, SendsBy, TurnsBy, KeepsLedger, KeepsSaved}
 use Rattle.recovery.proofs.Running.{Ran, ran_on, goes_silently, SendsOn, ran_sends}
 use Rattle.recovery.proofs.Coming.{fails_here, exits_past}
 use Rattle.recovery.proofs.Sending.{sends_opened, sends_later, sends_same, sends_other}

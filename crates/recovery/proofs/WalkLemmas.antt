@@ -1,24 +1,6 @@
 -- A walk goes on from chance to chance.
-use Rattle.std.proofs.Common.{◌≡◌, ℕ, zero, suc, ◌+◌, ◌-◌, ◌≤◌, Bool, true, false, cond, List, [], ◌∷◌, ◌++◌, length, take, Some, None, refl, sym, ◌∙◌, ap, subst, arith, append-nil, append_assoc, add-one}
-use Rattle.std.specs.Prelude.{slice_get, map, sum, MatchBool}
-use Rattle.std.proofs.lemmas.List.{take_all}
 use Rattle.std.proofs.lemmas.List.Sums.{sum_by-append}
-use Rattle.std.proofs.lemmas.Option.{same_Some, none-some}
-use Rattle.alloc_env.specs.declared.env.Env.{Env}
-use Rattle.block_book.specs.declared.choice.Choice.{Choice}
-use Rattle.block_book.specs.Heap.{Heap}
-use Rattle.item_log.specs.Log.{Log}
-use Rattle.reply_ledger.specs.Ledger.{Ledger}
-use Rattle.reply_ledger.specs.Trials.{discarded}
-use Rattle.run_history.specs.Served.{Path}
-use Rattle.guest_cpu.specs.Cpus.{CpuState}
-use Rattle.session_notes.specs.declared.episode.Try.{Try}
-use Rattle.session_notes.specs.Survival.{survives}
-use Rattle.trials.specs.Tables.{Chance, Trial, try_of, chances_at, environments, table, IsRight, WalksOver, survivor_in}
-use Rattle.recovery.specs.Sessions.{Failure, items_of, pieces_of, IsUnder, FailedAt, CanTry}
-use Rattle.recovery.specs.Trying.{KeepsLedger, KeepsSaved, steps_of, HasWalked}
-use Rattle.recovery.specs.Walking.{AreTried, FailedOne, FailedSome, AdoptedOne, AdoptedLast, HasSameBytes}
-use Rattle.recovery.specs.declared.walking.Adopted.{Adopted}
+use Rattle.recovery.proofs.Terms.{Bool, List, None, Some, [], add-one, ap, append-nil, append_assoc, arith, cond, false, length, refl, subst, suc, sym, take, true, zero, ℕ, ◌++◌, ◌+◌, ◌-◌, ◌∙◌, ◌∷◌, ◌≡◌, ◌≤◌, take_all, none-some, same_Some, MatchBool, map, slice_get, sum, Choice, Heap, Env, Log, Ledger, discarded, Path, CpuState, Try, survives, Chance, IsRight, Trial, WalksOver, chances_at, environments, survivor_in, table, try_of, Adopted, CanTry, FailedAt, Failure, IsUnder, items_of, pieces_of, HasWalked, KeepsLedger, KeepsSaved, steps_of, AdoptedLast, AdoptedOne, AreTried, FailedOne, FailedSome, HasSameBytes}
 use Rattle.recovery.proofs.Starting.{failed_still}
 use Rattle.recovery.proofs.Adopting.{adopted_survives}
 

@@ -1,23 +1,8 @@
 -- What a survivor's run fixes: the pages that it wrote before its requests, and the checkpoints that stand behind them.
-use Rattle.std.proofs.Common.{◌≡◌, inl, inr, ℕ, ◌+◌, ◌-◌, ◌<◌, Bool, true, false, cond, List, [], ◌∷◌, ◌++◌, length, get_or, replicate, Option, Some, IfSome, refl, sym, ◌∙◌, ap, subst, arith}
-use Rattle.std.proofs.lemmas.Option.{slice_get-get_or}
-use Rattle.rx_io.specs.declared.bytes.Item.{Item}
-use Rattle.links.specs.declared.journal.Entry.{Entry}
-use Rattle.elf_image.specs.declared.image.Image.{Image}
-use Rattle.elf_image.specs.Image.{base}
-use Rattle.ckpt_ring.specs.Rings.{from_newest}
-use Rattle.page_line.specs.Line.{count_true}
-use Rattle.run_history.specs.Served.{Limits, Override, Path, origin, Served, AsksFor}
-use Rattle.guest_runs.specs.Writing.{Writes}
+use Rattle.std.proofs.Common.{replicate}
 use Rattle.guest_runs.proofs.WritingOnce.{writes_once}
-use Rattle.session_history.specs.Heeding.{items_in}
-use Rattle.session_history.specs.Lawful.{Rules, Survivor}
-use Rattle.session_history.proofs.Paths.{served_on}
-use Rattle.trials.specs.Chains.{IsCheckpoint}
-use Rattle.trials.proofs.Asking.{asks_under_all}
-use Rattle.trials.proofs.Going.{Later, Compared, Equal, Before, Behind, compare}
 use Rattle.trials.proofs.Results.{asks_on}
-use Rattle.recovery.specs.Handling.{Keeping, Stand, first_stands, whole_oldest, may_stand, stay, is_far, handle, handled, HasWritten, AreWritten}
+use Rattle.recovery.proofs.Terms.{Bool, IfSome, List, Option, Some, [], ap, arith, cond, false, get_or, inl, inr, length, refl, subst, sym, true, ℕ, ◌++◌, ◌+◌, ◌-◌, ◌<◌, ◌∙◌, ◌∷◌, ◌≡◌, slice_get-get_or, Item, Entry, from_newest, count_true, Image, base, AsksFor, Limits, Override, Path, Served, origin, Writes, served_on, items_in, Rules, Survivor, asks_under_all, Before, Behind, Compared, Equal, Later, compare, IsCheckpoint, AreWritten, HasWritten, Keeping, Stand, first_stands, handle, handled, is_far, may_stand, stay, whole_oldest}
 use Rattle.recovery.specs.Laws.{OneNumber, OneRing, SameNumbers}
 use Rattle.recovery.proofs.Forces.{start_taken}
 

@@ -1,14 +1,7 @@
 -- What a session gives up: the items and the replies from before the oldest checkpoint.
 use Rattle.std.specs.Prelude.{◌≡◌, ◌+◌, ◌<◌, ◌≤◌, List, length, None, IfSome, slice_get}
-use Rattle.links.specs.declared.journal.Entry.{Entry}
-use Rattle.elf_image.specs.declared.image.Image.{Image}
-use Rattle.item_log.specs.Log.{Log, received}
-use Rattle.reply_ledger.specs.Ledger.{Ledger}
-use Rattle.ckpt_ring.specs.Rings.{Checkpoints}
-use Rattle.run_history.specs.Served.{Override, Path}
-use Rattle.guest_cpu.specs.Cpus.{CpuState}
-use Rattle.session_history.specs.Keeping.{KeepsItems, KeepsReplies}
-use Rattle.session_history.specs.Lawful.{Rules}
+use Rattle.item_log.specs.Log.{received}
+use Rattle.recovery.specs.Terms.{Entry, Checkpoints, Log, Ledger, Image, Override, Path, CpuState, KeepsItems, KeepsReplies, Rules}
 use Rattle.recovery.specs.Rings.{KeepsRing}
 
 module _ {R : Type 0} where

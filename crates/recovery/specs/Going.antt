@@ -1,24 +1,8 @@
 -- A trial on its way: what its guest, its answers of malloc and its ledger are, before each of its events.
 use Rattle.std.specs.Prelude.{◌≡◌, ◌⊎◌, ℕ, ◌<◌, ◌≤◌, Bool, true, false, List, ◌++◌, length, take, drop, replicate, Option, None, Some, Result, Ok, Err}
-use Rattle.std.specs.declared.alloc.AllocError.{AllocError}
-use Rattle.rx_io.specs.Sends.{Send, sent_to}
-use Rattle.alloc_env.specs.declared.env.Env.{Env}
-use Rattle.block_book.specs.declared.choice.Choice.{Choice}
-use Rattle.block_book.specs.Heap.{Heap}
-use Rattle.item_log.specs.Log.{Log}
-use Rattle.reply_ledger.specs.Ledger.{Ledger, passed_to}
-use Rattle.reply_ledger.specs.Trials.{agree, trial_sends, with_trial_send}
 use Rattle.reply_ledger.specs.Trials as ledgers
-use Rattle.run_history.specs.Served.{Path, Served, AsksFor}
-use Rattle.guest_cpu.specs.Cpus.{CpuState}
-use Rattle.guest_cpu.specs.Serving.{standing_of}
-use Rattle.guest_runs.specs.Writing.{Writes}
-use Rattle.session_notes.specs.declared.episode.Tried.{Tried}
 use Rattle.session_notes.specs.declared.episode.Tried.TheVariants as tried
-use Rattle.session_notes.specs.Survival.{survives}
-use Rattle.trials.specs.Trials.{plan_of_trial, IsUnharmed, IsTrial}
-use Rattle.trials.specs.Chains.{IsCheckpoint}
-use Rattle.trials.specs.Laws.{everywhere}
+use Rattle.recovery.specs.Terms.{AllocError, Send, sent_to, Choice, Heap, Env, Log, Ledger, passed_to, agree, trial_sends, with_trial_send, AsksFor, Path, Served, CpuState, standing_of, Writes, Tried, survives, IsCheckpoint, everywhere, IsTrial, IsUnharmed, plan_of_trial}
 use Rattle.recovery.specs.Sessions.{CanGoOn, Failure, items_of, pieces_of, IsUnder, FailedAt}
 
 -- what a trial that has come past the failure is, by whether it sent all that was passed

@@ -1,19 +1,6 @@
 -- Which checkpoints stand: what a session makes of the requests of its survivors.
 use Rattle.std.specs.Prelude.{◌≡◌, ℕ, ◌+◌, ◌-◌, ◌<◌, ◌&&◌, Bool, true, false, List, [], ◌∷◌, ◌++◌, length, map, sum, drop, replicate, nat_le, if◌then◌else◌, Option, Some, None, IfSome, option_map, slice_get}
-use Rattle.links.specs.declared.journal.Entry.{Entry}
-use Rattle.elf_image.specs.declared.image.Image.{Image}
-use Rattle.elf_image.specs.Image.{base}
-use Rattle.ckpt_ring.specs.Slots.{Saved, Slots}
-use Rattle.ckpt_ring.specs.Rings.{from_newest, without_newer}
-use Rattle.page_line.specs.Line.{count_true}
-use Rattle.run_history.specs.Served.{Path, origin, Served, AsksFor}
-use Rattle.guest_cpu.specs.Standing.{Standing}
-use Rattle.guest_runs.specs.Writing.{Writes}
-use Rattle.session_history.specs.Heeding.{items_in}
-use Rattle.session_history.specs.Lawful.{Rules, Survivor, Chapter}
-use Rattle.trials.specs.Chains.{IsCheckpoint}
-use Rattle.trials.specs.Tables.{Trial, survivor_in}
-use Rattle.trials.specs.Episodes.{Recovery}
+use Rattle.recovery.specs.Terms.{Entry, from_newest, without_newer, Saved, Slots, count_true, Image, base, AsksFor, Path, Served, origin, Standing, Writes, items_in, Chapter, Rules, Survivor, IsCheckpoint, Recovery, Trial, survivor_in}
 use Rattle.recovery.specs.Sessions.{taken_in}
 
 -- How a session keeps its checkpoints: how many stand at most, how many items lie between two at least, how many pages the program's window

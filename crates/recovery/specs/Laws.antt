@@ -1,8 +1,6 @@
 -- What the run of a survivor fixes: how many pages were written before its requests, and which checkpoints stand behind them.
 use Rattle.std.specs.Prelude.{◌≡◌, ℕ, ◌<◌, true, List, length}
-use Rattle.links.specs.declared.journal.Entry.{Entry}
-use Rattle.elf_image.specs.declared.image.Image.{Image}
-use Rattle.session_history.specs.Lawful.{Rules, Survivor}
+use Rattle.recovery.specs.Terms.{Entry, Image, Rules, Survivor}
 use Rattle.recovery.specs.Handling.{Keeping, Stand, first_stands, may_stand, handled, HasWritten, AreWritten}
 
 -- the number of pages that a survivor's run wrote from a checkpoint to a request is one

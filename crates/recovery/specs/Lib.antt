@@ -1,3 +1,4 @@
+pub mod Terms
 pub mod Sessions
 pub mod Going
 pub mod Trying

@@ -1,21 +1,6 @@
 -- What a recovery makes of a session whose program failed.
 use Rattle.std.specs.Prelude.{◌≡◌, ◌⊎◌, ℕ, ◌+◌, ◌-◌, ◌<◌, ◌≤◌, Bool, List, [], ◌++◌, length, take, drop, Option, None, Some, Result, Ok, Err, slice_get}
-use Rattle.std.specs.declared.alloc.AllocError.{AllocError}
-use Rattle.block_book.specs.declared.choice.Choice.{Choice}
-use Rattle.block_book.specs.Heap.{Heap}
-use Rattle.item_log.specs.Log.{Log}
-use Rattle.reply_ledger.specs.Ledger.{Ledger}
-use Rattle.reply_ledger.specs.Trials.{discarded}
-use Rattle.ckpt_ring.specs.Slots.{newest_slot, without_newer_slots}
-use Rattle.ckpt_ring.specs.Rings.{Checkpoints, checkpoints_of, without_newer}
-use Rattle.run_history.specs.declared.answer.Cause.{Cause}
-use Rattle.run_history.specs.Served.{Path, FailsBy, AsksFor}
-use Rattle.guest_cpu.specs.Cpus.{CpuState}
-use Rattle.guest_cpu.specs.Serving.{standing_of}
-use Rattle.session_history.specs.Keeping.{KeepsReplies}
-use Rattle.session_notes.specs.declared.episode.Try.{Try}
-use Rattle.trials.specs.Tables.{Trial, survivor_in}
-use Rattle.trials.specs.Episodes.{Recovery, episode_of, IsRecovery, adopted_by}
+use Rattle.recovery.specs.Terms.{AllocError, Choice, Heap, Checkpoints, checkpoints_of, without_newer, newest_slot, without_newer_slots, Log, Ledger, discarded, Cause, AsksFor, FailsBy, Path, CpuState, standing_of, KeepsReplies, Try, IsRecovery, Recovery, adopted_by, episode_of, Trial, survivor_in}
 use Rattle.recovery.specs.Sessions.{CanGoOn, Failure, IsUnder, FailedAt, taken_in}
 use Rattle.recovery.specs.Trying.{steps_of}
 use Rattle.recovery.specs.Walking.{HasSameBytes}

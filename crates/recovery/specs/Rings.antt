@@ -1,25 +1,7 @@
 -- The ring of a session's checkpoints beside its guest, its log and its ledger.
 use Rattle.std.specs.Prelude.{◌≡◌, ℕ, ◌-◌, ◌<◌, ◌≤◌, Bool, true, false, List, [], ◌∷◌, ◌++◌, length, take, replicate, nat_le, nat_lt, if◌then◌else◌, Option, Some, None, IfSome, option_map, slice_get}
-use Rattle.rx_io.specs.declared.bytes.Item.{Item}
-use Rattle.links.specs.declared.journal.Entry.{Entry}
-use Rattle.links.specs.Links.{events_in}
-use Rattle.elf_image.specs.declared.image.Image.{Image}
 use Rattle.elf_image.specs.Image as images
-use Rattle.alloc_env.specs.declared.env.Env.{Env}
-use Rattle.alloc_env.specs.declared.env.Env.TheVariants.{Plain}
-use Rattle.item_log.specs.Log.{Log}
-use Rattle.reply_ledger.specs.Ledger.{Ledger}
-use Rattle.ckpt_ring.specs.declared.checkpoint.Checkpoint.{Checkpoint}
-use Rattle.ckpt_ring.specs.Slots.{newest_slot}
-use Rattle.ckpt_ring.specs.Rings.{Checkpoints, checkpoints_of, from_newest, saved_in_ring}
-use Rattle.run_history.specs.Served.{Override, env_at, Path, origin, AsksFor}
-use Rattle.guest_cpu.specs.Cpus.{CpuState}
-use Rattle.guest_cpu.specs.Serving.{standing_of}
-use Rattle.guest_runs.specs.Writing.{Writes}
-use Rattle.session_history.specs.Heeding.{heeded, items_in}
-use Rattle.session_history.specs.Opened.{opens}
-use Rattle.session_history.specs.Lawful.{Rules}
-use Rattle.trials.specs.Chains.{AreCheckpoints, AreChained}
+use Rattle.recovery.specs.Terms.{Item, Entry, events_in, Env, Plain, Checkpoint, Checkpoints, checkpoints_of, from_newest, saved_in_ring, newest_slot, Log, Ledger, Image, AsksFor, Override, Path, env_at, origin, CpuState, standing_of, Writes, heeded, items_in, Rules, opens, AreChained, AreCheckpoints}
 use Rattle.recovery.specs.Sessions.{AreKept, CanGoOn, taken_in}
 
 -- what a ring and the slots of its guest have in common: both have the same checkpoints, at least one, and the guest stands on the newest

@@ -1,27 +1,6 @@
 -- Where a session stands whose program failed.
 use Rattle.std.specs.Prelude.{◌≡◌, ℕ, ◌<◌, ◌≤◌, ◌^◌, List, [], ◌∷◌, length, Bool, true, false, None, option_map, slice_get}
-use Rattle.links.specs.declared.journal.Entry.{Entry}
-use Rattle.links.specs.Links.{events_in}
-use Rattle.rx_io.specs.Sends.{Send, sent_to}
-use Rattle.elf_image.specs.declared.image.Image.{Image}
-use Rattle.block_book.specs.Heap.{Heap}
-use Rattle.rv_exec.specs.Stepping.{limits_of}
-use Rattle.guest_cpu.specs.Standing.{Standing}
-use Rattle.rx_io.specs.declared.bytes.Item.{Item}
-use Rattle.item_log.specs.Log.{Log}
-use Rattle.reply_ledger.specs.Ledger.{Ledger}
-use Rattle.ckpt_ring.specs.Rings.{from_newest}
-use Rattle.run_history.specs.Call.{may_send}
-use Rattle.run_history.specs.Served.{Override, Path}
-use Rattle.guest_cpu.specs.Cpus.{CpuState}
-use Rattle.guest_cpu.specs.Serving.{standing_of}
-use Rattle.guest_runs.specs.Runs.{IsBounded}
-use Rattle.session_history.specs.Heeding.{heeded, items_in, received}
-use Rattle.session_history.specs.Opened.{opens}
-use Rattle.session_history.specs.Passing.{passed_in, Covers, IsFeasible, AreBetween, AreInOrder}
-use Rattle.session_history.specs.Lawful.{Rules}
-use Rattle.session_history.specs.Keeping.{KeepsReplies, KeepsItems, AreSendable}
-use Rattle.trials.specs.Chains.{AreCheckpoints, AreChained}
+use Rattle.recovery.specs.Terms.{Item, Send, sent_to, Entry, events_in, Heap, from_newest, Log, Ledger, Image, may_send, Override, Path, limits_of, CpuState, standing_of, Standing, IsBounded, heeded, items_in, received, AreSendable, KeepsItems, KeepsReplies, Rules, opens, AreBetween, AreInOrder, Covers, IsFeasible, passed_in, AreChained, AreCheckpoints}
 
 -- A run of a session, from which its guest can go on unless it has ended: it is within the budget, it may send to connections alone that
 -- were opened, it did so, and its sends stand in the order of time and have as many bytes as a piece may.

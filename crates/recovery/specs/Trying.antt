@@ -1,24 +1,7 @@
 -- What a trial, and a walk over the table, make of a session whose program failed.
 use Rattle.std.specs.Prelude.{◌≡◌, ℕ, ◌+◌, ◌-◌, ◌≤◌, List, ◌++◌, map, sum, drop, replicate, false, Option, None, Some, IsSomeAnd, MatchBool, Result, Ok, Err}
-use Rattle.std.specs.declared.alloc.AllocError.{AllocError}
-use Rattle.alloc_env.specs.declared.env.Env.{Env}
-use Rattle.block_book.specs.declared.choice.Choice.{Choice}
-use Rattle.reply_ledger.specs.Ledger.{Ledger}
-use Rattle.reply_ledger.specs.Trials.{discarded}
-use Rattle.ckpt_ring.specs.Slots.{Saved, slot_numbers}
-use Rattle.ckpt_ring.specs.Rings.{from_newest}
-use Rattle.run_history.specs.Served.{Path}
-use Rattle.guest_cpu.specs.Standing.{Standing}
-use Rattle.guest_cpu.specs.Cpus.{CpuState}
-use Rattle.guest_cpu.specs.Serving.{standing_of}
-use Rattle.guest_runs.specs.Writing.{Writes}
-use Rattle.session_history.specs.Keeping.{KeepsReplies}
-use Rattle.session_notes.specs.declared.episode.Tried.{Tried}
 use Rattle.session_notes.specs.declared.episode.Tried.TheVariants as tried
-use Rattle.session_notes.specs.declared.episode.Try.{Try}
-use Rattle.session_notes.specs.Survival.{survives}
-use Rattle.trials.specs.Trials.{plan_of_trial, IsTrial}
-use Rattle.trials.specs.Tables.{Trial, try_of, chance_at, table, WalksOver, survivor_in}
+use Rattle.recovery.specs.Terms.{AllocError, Choice, Env, from_newest, Saved, slot_numbers, Ledger, discarded, Path, CpuState, standing_of, Standing, Writes, KeepsReplies, Tried, Try, survives, Trial, WalksOver, chance_at, survivor_in, table, try_of, IsTrial, plan_of_trial}
 use Rattle.recovery.specs.Sessions.{CanGoOn, Failure, items_of, pieces_of}
 use Rattle.recovery.specs.declared.walking.Adopted.{Adopted}
 

@@ -1,16 +1,6 @@
 -- A walk on its way over the table of trials.
 use Rattle.std.specs.Prelude.{◌≡◌, ℕ, ◌+◌, ◌-◌, List, [], ◌∷◌, ◌++◌, map, take, false, Option, None, Some, slice_get, Result, Ok, Err}
-use Rattle.std.specs.declared.alloc.AllocError.{AllocError}
-use Rattle.alloc_env.specs.declared.env.Env.{Env}
-use Rattle.block_book.specs.declared.choice.Choice.{Choice}
-use Rattle.reply_ledger.specs.Ledger.{Ledger}
-use Rattle.reply_ledger.specs.Trials.{discarded}
-use Rattle.run_history.specs.Served.{Path}
-use Rattle.guest_cpu.specs.Cpus.{CpuState}
-use Rattle.session_notes.specs.declared.episode.Try.{Try}
-use Rattle.session_notes.specs.declared.episode.Episode.{Episode}
-use Rattle.session_notes.specs.Survival.{survives}
-use Rattle.trials.specs.Tables.{Chance, Trial, try_of, chances_at, environments, IsRight}
+use Rattle.recovery.specs.Terms.{AllocError, Choice, Env, Ledger, discarded, Path, CpuState, Episode, Try, survives, Chance, IsRight, Trial, chances_at, environments, try_of}
 use Rattle.recovery.specs.declared.walking.Adopted.{Adopted}
 use Rattle.recovery.specs.declared.walking.Walked.{Walked}
 use Rattle.recovery.specs.declared.walking.FailureSite.{FailureSite}

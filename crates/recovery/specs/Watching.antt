@@ -1,11 +1,6 @@
 -- What a watch tells of the failures at which it looked.
 use Rattle.std.specs.Prelude.{◌≡◌, ℕ, List, [], ◌∷◌, ◌++◌, map, All, Option, None, Some, Result, Ok, Err}
-use Rattle.std.specs.declared.alloc.AllocError.{AllocError}
-use Rattle.rx_io.specs.declared.bytes.Item.{Item}
-use Rattle.rx_io.specs.Sends.{Send}
-use Rattle.run_history.specs.Served.{Limits, Override, Path}
-use Rattle.session_notes.specs.declared.episode.Try.{Try}
-use Rattle.trials.specs.Tables.{Trial, try_of, table, IsRight}
+use Rattle.recovery.specs.Terms.{AllocError, Item, Send, Limits, Override, Path, Try, IsRight, Trial, table, try_of}
 use Rattle.recovery.specs.Sessions.{Failure, items_of, pieces_of}
 
 -- the tries of a whole table: each chance of it was tried, in order, with the result that it has

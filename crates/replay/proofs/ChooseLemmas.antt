@@ -1,25 +1,8 @@
 -- An answer of malloc is used, or can't be.
-use Rattle.std.proofs.Common.{◌≡◌, inl, inr, ℕ, Bool, true, false, not, ◌&&◌, ◌||◌, cond, List, [], ◌∷◌, length, drop, map, filter, Some, refl, sym, ◌∙◌, ap, subst, arith}
-use Rattle.std.specs.Prelude.{slice_get, nat_lt, ◌==◌}
+use Rattle.std.proofs.Common.{◌&&◌, ◌||◌}
 use Rattle.std.specs.List.{list_all}
-use Rattle.std.proofs.lemmas.Bool.{and_parts, ltb-false, eqb-false, both_ways}
-use Rattle.links.specs.Links.{Told}
-use Rattle.links.specs.Seen.{Seen}
-use Rattle.block_book.specs.declared.block.Block.{Block}
-use Rattle.block_book.specs.declared.choice.Choice.{Choice}
-use Rattle.block_book.specs.Answer.{live_blocks, is_allowed}
-use Rattle.block_book.specs.Heap.{is_bare, most_blocks}
-use Rattle.elf_image.specs.declared.image.Image.{Image}
 use Rattle.run_history.specs.declared.answer.Answer.TheVariants as answer
-use Rattle.run_history.specs.Machine.{Machine, register}
-use Rattle.run_history.specs.Served.{Guest, IsLaidOut}
-use Rattle.run_history.proofs.Runs.{allocated_keeps}
-use Rattle.guest_cpu.specs.Standing.{Standing}
-use Rattle.guest_cpu.specs.Recording.{is_usable, chosen_standing}
-use Rattle.session_history.specs.Heeding.{items_in}
-use Rattle.schedule_file.specs.declared.recorded.Recorded.{Recorded}
-use Rattle.replay.specs.Replaying.{IsReplay, IsUnusable, Unanswered, bounds_of}
-use Rattle.replay.specs.Playing.{Stage, AreOpen, AreOpenThen, IsBetween, IsWanting, IsWholeEnd, replay_of}
+use Rattle.replay.proofs.Terms.{Bool, List, Some, [], ap, arith, cond, drop, false, filter, inl, inr, length, map, not, refl, subst, sym, true, ℕ, ◌∙◌, ◌∷◌, ◌≡◌, and_parts, both_ways, eqb-false, ltb-false, nat_lt, slice_get, ◌==◌, Told, Seen, Block, Choice, is_allowed, live_blocks, is_bare, most_blocks, Image, allocated_keeps, Machine, register, Guest, IsLaidOut, chosen_standing, is_usable, Standing, items_in, Recorded, IsReplay, IsUnusable, Unanswered, bounds_of, AreOpen, AreOpenThen, IsBetween, IsWanting, IsWholeEnd, Stage, replay_of}
 use Rattle.replay.proofs.ReplayLemmas.{replay_chooses}
 
 -- in a bare heap as many blocks are live as stand

@@ -1,29 +1,9 @@
 -- A send of the guest is given to its connection.
-use Rattle.std.proofs.Common.{◌≡◌, ℕ, ◌<◌, Bool, true, false, List, [], ◌∷◌, ◌++◌, length, take, drop, set, refl, sym, ◌∙◌, ap, subst, arith, length-set}
-use Rattle.std.specs.Prelude.{Err, slice_set, ◌==◌, ◌&&◌, ◌||◌}
-use Rattle.std.proofs.lemmas.Bool.{eqb-true, eqb-false, both_ways}
-use Rattle.std.proofs.lemmas.Option.{unwrap_or-slice_get}
-use Rattle.std.proofs.lemmas.List.{get_or-set_same, get_or-set_other, take-append-drop}
-use Rattle.links.specs.declared.journal.Entry.{Entry}
 use Rattle.links.specs.declared.journal.Entry.TheVariants as entry
-use Rattle.links.specs.declared.journal.LinkFault.{LinkFault}
 use Rattle.links.specs.declared.journal.LinkFault.TheVariants as fault
-use Rattle.links.specs.Links.{Told, Tells, Phases, Gives, cut_entries, pieces_in}
-use Rattle.links.specs.Seen.{Seen}
-use Rattle.rx_io.specs.Prefix.{Prefix}
-use Rattle.rx_io.specs.Sends.{Send}
-use Rattle.elf_image.specs.declared.image.Image.{Image}
 use Rattle.item_log.specs.Log as logs
-use Rattle.run_history.specs.declared.answer.Answer.{Answer}
-use Rattle.session_history.specs.Heeding.{heeded, items_in}
-use Rattle.session_history.specs.Keeping.{phase_after}
-use Rattle.session_history.proofs.Heeding.{events_in-gave, items_in-gave}
-use Rattle.schedule_file.specs.declared.recorded.Recorded.{Recorded}
-use Rattle.replay.specs.Giving.{found_gone, piece_of, AreGiven, AreGivenInPart, IsLastSend}
+use Rattle.replay.proofs.Terms.{Bool, List, [], ap, arith, drop, false, length, length-set, refl, set, subst, sym, take, true, ℕ, ◌++◌, ◌<◌, ◌∙◌, ◌∷◌, ◌≡◌, both_ways, eqb-false, eqb-true, get_or-set_other, get_or-set_same, take-append-drop, unwrap_or-slice_get, Err, slice_set, ◌&&◌, ◌==◌, ◌||◌, Prefix, Send, Entry, LinkFault, Gives, Phases, Tells, Told, cut_entries, pieces_in, Seen, Image, Answer, events_in-gave, items_in-gave, heeded, items_in, phase_after, Recorded, AreGiven, AreGivenInPart, IsLastSend, found_gone, AreAsked, EndsBy, IsReplay, bounds_of, AreOpen, AreOpenThen, IsBase, IsBetween, IsEnd, IsSending, Stage, has, replay_of, answer_of}
 use Rattle.replay.specs.Giving as giving
-use Rattle.replay.specs.Replaying.{IsReplay, AreAsked, EndsBy, bounds_of}
-use Rattle.replay.specs.Hearing.{answer_of}
-use Rattle.replay.specs.Playing.{Stage, has, AreOpen, AreOpenThen, IsBase, IsBetween, IsSending, IsEnd, replay_of}
 use Rattle.replay.proofs.ReplayLemmas.{replay_same}
 use Rattle.replay.proofs.JournalLemmas.{asked_gave, tells_on, tells_still, last_taken-gave, pieces_in-gave, found_gone-more}
 

@@ -1,44 +1,17 @@
 -- The next event of a link comes into the log, while the guest asks for an item.
-use Rattle.std.proofs.Common.{◌≡◌, ℕ, zero, suc, ◌+◌, ◌<◌, ◌≤◌, ◌^◌, Bool, true, false, cond, List, [], ◌∷◌, ◌++◌, length, drop, map, Option, Some, None, refl, sym, ◌∙◌, ap, subst, arith, length-append}
-use Rattle.std.specs.Prelude.{Result, Ok, Err, slice_get, unwrap_or, ◌==◌, if◌then◌else◌}
-use Rattle.std.proofs.Math.Seq.{drop-append_seam}
 use Rattle.std.proofs.Math.ListN.{drop_of_length-le}
-use Rattle.std.proofs.lemmas.Bool.{eqb-true, eqb-false, eq-eqb, both_ways}
-use Rattle.std.proofs.lemmas.Option.{same_Some}
-use Rattle.rx_io.specs.declared.bytes.Item.{Item}
-use Rattle.links.specs.declared.journal.Entry.{Entry}
 use Rattle.links.specs.declared.journal.Entry.TheVariants as entry
-use Rattle.links.specs.declared.journal.LinkEvent.{LinkEvent}
 use Rattle.links.specs.declared.journal.LinkEvent.TheVariants as event
-use Rattle.links.specs.declared.journal.LinkFault.{LinkFault}
 use Rattle.links.specs.declared.journal.LinkFault.TheVariants as fault
-use Rattle.links.specs.Links.{Told, Tells, Phases, Open, Closed, IsInOrder, phases_after, StillComes, events_in, pieces_in}
-use Rattle.links.specs.Seen.{Seen, NextShows}
-use Rattle.elf_image.specs.declared.image.Image.{Image}
-use Rattle.msg_frame.specs.declared.framing.Framing.{Framing}
 use Rattle.msg_frame.specs.Messages.{Parts, cut}
 use Rattle.item_log.specs.declared.kinds.TheConstants.{OPENED, CLOSED}
 use Rattle.item_log.specs.Connections.{rest_of, in_order}
-use Rattle.item_log.specs.Heard.{bare_item, message_item, hear_parts, brought, hear, items_by, items_of}
-use Rattle.item_log.specs.Log.{Log, logged, Fits}
 use Rattle.item_log.specs.Log as logs
-use Rattle.run_history.specs.declared.answer.Answer.{Answer}
 use Rattle.run_history.specs.declared.answer.Answer.TheVariants as answer
-use Rattle.run_history.specs.Call.{connections_after}
-use Rattle.run_history.proofs.Connections.{closed_may, others_may}
-use Rattle.session_history.specs.Heeding.{Bounds, Unheeded, refusal, heeded, items_in, received}
-use Rattle.session_history.specs.Keeping.{KeepsItems, phase_after}
-use Rattle.session_history.specs.Ends.{IsLastRefused}
 use Rattle.link_gate.proofs.Phasing.{phases_behind}
-use Rattle.link_gate.proofs.Ordering.{in_order_shown}
 use Rattle.link_gate.proofs.Refusing.{IsEvent, events_behind, items_behind, logged_keeps, limit_events, too_long, limit_items, is_heeded, heeded_with, keeps_items, heeded_without, events_ended}
-use Rattle.link_gate.proofs.ItemLemmas.{received_is}
-use Rattle.schedule_file.specs.declared.recorded.Recorded.{Recorded}
-use Rattle.replay.specs.Giving.{found_gone, AreGiven}
+use Rattle.replay.proofs.Terms.{Bool, List, None, Option, Some, [], ap, arith, cond, drop, false, length, length-append, map, refl, subst, suc, sym, true, zero, ℕ, ◌++◌, ◌+◌, ◌<◌, ◌^◌, ◌∙◌, ◌∷◌, ◌≡◌, ◌≤◌, drop-append_seam, both_ways, eq-eqb, eqb-false, eqb-true, same_Some, Err, Ok, Result, if◌then◌else◌, slice_get, unwrap_or, ◌==◌, Item, Entry, LinkEvent, LinkFault, Closed, IsInOrder, Open, Phases, StillComes, Tells, Told, events_in, phases_after, pieces_in, NextShows, Seen, Framing, bare_item, brought, hear, hear_parts, items_by, items_of, message_item, Fits, Log, logged, Image, Answer, closed_may, others_may, connections_after, IsLastRefused, Bounds, Unheeded, heeded, items_in, received, refusal, KeepsItems, phase_after, received_is, in_order_shown, Recorded, AreGiven, found_gone, AreAsked, IsAsking, IsReplay, Starved, bounds_of, AreOpen, AreOpenThen, IsWaiting, IsWholeEnd, Stage, WaitsBy, has, replay_of, HeedsEvent, LogsEvent, answer_of}
 use Rattle.replay.specs.Giving as giving
-use Rattle.replay.specs.Replaying.{IsReplay, IsAsking, AreAsked, Starved, bounds_of}
-use Rattle.replay.specs.Hearing.{answer_of, LogsEvent, HeedsEvent}
-use Rattle.replay.specs.Playing.{Stage, has, AreOpen, AreOpenThen, IsWaiting, WaitsBy, IsWholeEnd, replay_of}
 use Rattle.replay.proofs.ReplayLemmas.{replay_more, replay_same}
 use Rattle.replay.proofs.JournalLemmas.{asked_took, tells_on, tells_still, last_taken-took, pieces_in-took}
 use Rattle.replay.proofs.OpenLemmas.{messages_open, item_opens, stays_then}

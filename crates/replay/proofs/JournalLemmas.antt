@@ -1,16 +1,7 @@
 -- One more entry behind the journal of a replay.
-use Rattle.std.proofs.Common.{◌≡◌, ◌⊎◌, inl, inr, ℕ, Bool, true, false, List, [], ◌∷◌, ◌++◌, drop, Option, Some, None, refl, sym, ◌∙◌, ap, subst, append-nil, append_assoc}
-use Rattle.std.specs.Prelude.{◌&&◌, ◌||◌, ◌==◌, unwrap_or}
-use Rattle.links.specs.declared.journal.Entry.{Entry}
 use Rattle.links.specs.declared.journal.Entry.TheVariants as entry
-use Rattle.links.specs.declared.journal.LinkEvent.{LinkEvent}
-use Rattle.links.specs.Links.{Piece, Told, Tells, Grew, events_in, pieces_in, last_taken}
 use Rattle.links.proofs.Journaled.{pieces_in-append}
-use Rattle.session_history.proofs.Heeding.{events_in-append}
-use Rattle.elf_image.specs.declared.image.Image.{Image}
-use Rattle.schedule_file.specs.declared.recorded.Recorded.{Recorded}
-use Rattle.replay.specs.Giving.{found_gone, piece_of}
-use Rattle.replay.specs.Replaying.{WasAsked, AreAsked}
+use Rattle.replay.proofs.Terms.{Bool, List, None, Option, Some, [], ap, append-nil, append_assoc, drop, false, inl, inr, refl, subst, sym, true, ℕ, ◌++◌, ◌∙◌, ◌∷◌, ◌≡◌, ◌⊎◌, unwrap_or, ◌&&◌, ◌==◌, ◌||◌, Entry, LinkEvent, Grew, Piece, Tells, Told, events_in, last_taken, pieces_in, Image, events_in-append, Recorded, found_gone, piece_of, AreAsked, WasAsked}
 
 -- a place in a journal with one more entry is the last one, or stood there before
 last_split : (xs : List Entry) {x : Entry} (before : List Entry) {y : Entry} (after : List Entry) → xs ++ x ∷ [] ≡ before ++ y ∷ after

@@ -1,17 +1,8 @@
 -- Which calls of its link have failed behind a turn, and where a replay has ended.
-use Rattle.std.proofs.Common.{◌≡◌, ℕ, true, true≢false, Option, None, Some, sym, ◌∙◌, subst, inl, inr}
-use Rattle.std.specs.Prelude.{Result, Ok, Err, IsSome}
-use Rattle.links.specs.Links.{Coming, StaysTold}
-use Rattle.links.specs.Seen.{Seen, NextShows}
-use Rattle.links.specs.declared.journal.LinkEvent.{LinkEvent}
 use Rattle.links.specs.declared.journal.LinkEvent.TheVariants as event
-use Rattle.links.specs.declared.journal.LinkFault.{LinkFault}
 use Rattle.links.specs.declared.journal.LinkFault.TheVariants as fault
-use Rattle.run_history.specs.declared.answer.Answer.{Answer}
 use Rattle.run_history.specs.declared.answer.Answer.TheVariants as answer
-use Rattle.replay.specs.Hearing.{answer_of, LogsEvent, HeedsEvent}
-use Rattle.replay.specs.Replaying.{LeavesLink}
-use Rattle.replay.specs.Playing.{Stage, LeavesBy, HasNoFault}
+use Rattle.replay.proofs.Terms.{None, Option, Some, inl, inr, subst, sym, true, true≢false, ℕ, ◌∙◌, ◌≡◌, Err, IsSome, Ok, Result, LinkEvent, LinkFault, Coming, StaysTold, NextShows, Seen, Answer, LeavesLink, HasNoFault, LeavesBy, Stage, HeedsEvent, LogsEvent, answer_of}
 
 -- no call failed
 pub leaves_both : (before now : Seen) (result : Result (Unit {0}) Answer) → now.takes ≡ true → now.gives ≡ true → (IsSome before.coming → IsSome now.coming) → HasNoFault result → LeavesBy before now result

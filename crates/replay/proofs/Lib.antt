@@ -1,3 +1,4 @@
+pub mod Terms
 pub mod TurnLemmas
 pub mod RunLemmas
 pub mod ReplayLemmas

@@ -1,14 +1,6 @@
 -- What the loops of a replay keep.
-use Rattle.std.proofs.Common.{◌≡◌, ℕ, ◌+◌, ◌≤◌, true, sym, ◌∙◌, arith}
-use Rattle.std.specs.Prelude.{Result, Ok, IsSome}
-use Rattle.links.specs.Links.{Told, Counts}
-use Rattle.links.specs.Seen.{Seen}
 use Rattle.rx_io.proofs.Composing.{rose_later}
-use Rattle.elf_image.specs.declared.image.Image.{Image}
-use Rattle.run_history.specs.declared.answer.Answer.{Answer}
-use Rattle.schedule_file.specs.declared.recorded.Recorded.{Recorded}
-use Rattle.replay.specs.declared.player.Player.{Player}
-use Rattle.replay.specs.Playing.{stage_of, IsBetween, IsWaiting, HasCause, LinkTurns, LinkHears}
+use Rattle.replay.proofs.Terms.{arith, sym, true, ℕ, ◌+◌, ◌∙◌, ◌≡◌, ◌≤◌, IsSome, Ok, Result, Counts, Told, Seen, Image, Answer, Recorded, Player, HasCause, IsBetween, IsWaiting, LinkHears, LinkTurns, stage_of}
 use Rattle.replay.proofs.LeavingLemmas.{leaves_after}
 
 -- no call of a link has failed so far

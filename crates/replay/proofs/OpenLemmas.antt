@@ -1,13 +1,5 @@
 -- Which connections stay open while a guest takes items.
-use Rattle.std.proofs.Common.{◌≡◌, ℕ, suc, ◌+◌, Bool, List, [], ◌∷◌, drop, Some, refl, sym, ◌∙◌, ap, subst, add-one}
-use Rattle.std.specs.Prelude.{slice_get}
-use Rattle.std.proofs.Math.Seq.{drop-cons}
-use Rattle.std.proofs.lemmas.Option.{slice_get_within, get_or_from_slice_get}
-use Rattle.rx_io.specs.declared.bytes.Item.{Item}
-use Rattle.links.specs.Links.{Phases, Open}
-use Rattle.run_history.specs.Call.{connections_after}
-use Rattle.run_history.proofs.Connections.{within_after}
-use Rattle.replay.specs.Playing.{AreOpen, StayOpen, AreOpenThen}
+use Rattle.replay.proofs.Terms.{Bool, List, Some, [], add-one, ap, drop, refl, subst, suc, sym, ℕ, ◌+◌, ◌∙◌, ◌∷◌, ◌≡◌, drop-cons, get_or_from_slice_get, slice_get_within, slice_get, Item, Open, Phases, within_after, connections_after, AreOpen, AreOpenThen, StayOpen}
 
 -- what stays open is open behind the first item
 pub stays_then : (phases : Phases) (items : List Item) (connections : List Bool) → StayOpen phases items connections → AreOpenThen phases items connections

@@ -1,29 +1,9 @@
 -- Where a replay stands behind each question of its guest.
-use Rattle.std.proofs.Common.{◌≡◌, ℕ, ◌<◌, Bool, true, false, cond, List, length, drop, None, refl, sym, ◌∙◌, ap, subst, arith}
-use Rattle.std.specs.Prelude.{Result, Ok, Err, IfOk, IsSome, is_some, ◌==◌}
-use Rattle.std.proofs.lemmas.Bool.{eqb-true, eqb-false, both_ways}
-use Rattle.links.specs.declared.journal.Entry.{Entry}
-use Rattle.links.specs.Links.{Told, pieces_in}
-use Rattle.links.specs.Seen.{Seen}
-use Rattle.rx_io.specs.Sends.{Send}
-use Rattle.elf_image.specs.declared.image.Image.{Image}
-use Rattle.run_history.specs.declared.answer.Answer.{Answer}
 use Rattle.run_history.specs.declared.answer.Answer.TheVariants as answer
-use Rattle.run_history.specs.declared.answer.Cause.{Cause}
-use Rattle.run_history.specs.Machine.{register, Chooses}
-use Rattle.run_history.specs.Run.{does}
-use Rattle.guest_cpu.specs.declared.event.Question.{Question}
 use Rattle.guest_cpu.specs.declared.event.Question.TheVariants as question
-use Rattle.guest_cpu.specs.Standing.{Standing, Live}
-use Rattle.guest_cpu.specs.Running.{RunsBy}
-use Rattle.guest_cpu.specs.Recording.{recorded}
-use Rattle.session_history.specs.Heeding.{items_in}
-use Rattle.schedule_file.specs.declared.recorded.Recorded.{Recorded}
-use Rattle.replay.specs.Giving.{AreGiven}
+use Rattle.replay.proofs.Terms.{Bool, List, None, ap, arith, cond, drop, false, length, refl, subst, sym, true, ℕ, ◌<◌, ◌∙◌, ◌≡◌, both_ways, eqb-false, eqb-true, Err, IfOk, IsSome, Ok, Result, is_some, ◌==◌, Send, Entry, Told, pieces_in, Seen, Image, Answer, Cause, Chooses, register, does, Question, recorded, RunsBy, Live, Standing, items_in, Recorded, Ended, EndsBy, Failed, Untaken, Unused, bounds_of, AreOpen, AreOpenThen, GoesOnBy, IsBase, IsBetween, IsEnd, IsPlaying, IsSending, IsWaiting, IsWanting, IsWholeEnd, Stage, TurnsBy, has, replay_of}
 use Rattle.replay.specs.Giving as giving
 use Rattle.replay.specs.Judging.{judged}
-use Rattle.replay.specs.Replaying.{EndsBy, Ended, Failed, Unused, Untaken, bounds_of}
-use Rattle.replay.specs.Playing.{Stage, has, AreOpen, AreOpenThen, IsBase, IsPlaying, IsBetween, IsWaiting, IsWanting, IsSending, IsEnd, IsWholeEnd, TurnsBy, GoesOnBy, replay_of}
 use Rattle.replay.proofs.RunLemmas.{Ran, same_sends, with_send, ComesTo, comes_by}
 use Rattle.replay.proofs.ReplayLemmas.{replay_ran, asked_size}
 

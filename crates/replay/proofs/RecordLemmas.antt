@@ -1,37 +1,8 @@
 -- A replay of a record that a run left is the beginning of that run, and the run's next instruction contradicts each way to differ.
-use Rattle.std.proofs.Common.{◌≡◌, ◌≢◌, inl, inr, ℕ, zero, suc, ◌+◌, ◌-◌, ◌<◌, ◌≤◌, Bool, true, false, cond, List, [], ◌∷◌, ◌++◌, length, take, drop, Option, Some, None, refl, sym, ◌∙◌, ap, subst, arith, append-nil, append_assoc, length-append}
-use Rattle.std.specs.Prelude.{slice_get, is_none, IsSome, nat_lt}
-use Rattle.std.proofs.lemmas.Bool.{cases_Bool, ne_eqb}
-use Rattle.std.proofs.lemmas.List.{take-append-drop, length-take-le}
-use Rattle.std.proofs.lemmas.Option.{option_and_then_some, none-some, same_Some, slice_get_past}
-use Rattle.rx_io.specs.declared.bytes.Item.{Item}
-use Rattle.links.specs.declared.journal.Entry.{Entry}
 use Rattle.links.specs.declared.journal.Entry.TheVariants as entry
-use Rattle.links.specs.declared.journal.LinkEvent.{LinkEvent}
 use Rattle.links.specs.declared.journal.LinkEvent.TheVariants as event
-use Rattle.links.specs.declared.journal.LinkEvent.TheVariants.{Ends}
-use Rattle.links.specs.Links.{Coming, events_in, pieces_in}
-use Rattle.links.specs.Seen.{Seen}
-use Rattle.block_book.specs.declared.choice.Choice.{Choice}
-use Rattle.block_book.specs.Answer.{is_allowed, insert_live}
-use Rattle.block_book.specs.Heap.{most_blocks}
-use Rattle.elf_image.specs.declared.image.Image.{Image}
-use Rattle.run_history.specs.declared.answer.Cause.{Cause}
-use Rattle.run_history.specs.declared.answer.Answer.{Answer}
 use Rattle.run_history.specs.declared.answer.Answer.TheVariants as answer
-use Rattle.run_history.specs.Machine.{State, register, start, Goes, Wants, Chooses, Fails}
-use Rattle.run_history.specs.Call.{takes, chooses, allocated}
-use Rattle.run_history.specs.Repeating.{repeated}
-use Rattle.run_history.specs.Run.{does, effect, after, next, run}
-use Rattle.run_history.proofs.Repeats.{repeated_add}
-use Rattle.run_history.proofs.Runs.{Later, does_more, next_parts, run_from, run_more, run_one}
-use Rattle.session_history.specs.Heeding.{Bounds, Unheeded, refusal, heeded_behind, heeded, items_in, AreHeeded}
-use Rattle.session_history.specs.Ends.{IsLastRefused}
-use Rattle.session_history.proofs.Heeding.{events_in-append}
-use Rattle.schedule_file.specs.declared.recorded.Recorded.{Recorded}
-use Rattle.replay.specs.Giving.{AreGiven}
-use Rattle.replay.specs.Replaying.{bounds_of, Replay, IsReplay, IsUnusable, Differs, Ended, Failed, Unanswered, Starved, Unused, Untaken, EndsBy, HasReplayed}
-use Rattle.replay.specs.Laws.{IsRecordOf, BringsFirst, IsNoMismatch}
+use Rattle.replay.proofs.Terms.{Bool, List, None, Option, Some, [], ap, append-nil, append_assoc, arith, cond, drop, false, inl, inr, length, length-append, refl, subst, suc, sym, take, true, zero, ℕ, ◌++◌, ◌+◌, ◌-◌, ◌<◌, ◌∙◌, ◌∷◌, ◌≡◌, ◌≢◌, ◌≤◌, cases_Bool, ne_eqb, length-take-le, take-append-drop, none-some, option_and_then_some, same_Some, slice_get_past, IsSome, is_none, nat_lt, slice_get, Item, Entry, LinkEvent, Ends, Coming, events_in, pieces_in, Seen, Choice, insert_live, is_allowed, most_blocks, Image, Answer, Cause, repeated_add, Later, does_more, next_parts, run_from, run_more, run_one, allocated, chooses, takes, Chooses, Fails, Goes, State, Wants, register, start, repeated, after, does, effect, next, run, events_in-append, IsLastRefused, AreHeeded, Bounds, Unheeded, heeded, heeded_behind, items_in, refusal, Recorded, AreGiven, Differs, Ended, EndsBy, Failed, HasReplayed, IsReplay, IsUnusable, Replay, Starved, Unanswered, Untaken, Unused, bounds_of, BringsFirst, IsNoMismatch, IsRecordOf}
 use Rattle.replay.proofs.ReplayLemmas.{wants_takes, wants_chooses, asked_size}
 
 -- of so many steps there is the first

@@ -1,27 +1,6 @@
 -- What each instruction, each answer of malloc and each item makes of a replay.
-use Rattle.std.proofs.Common.{◌≡◌, ℕ, ◌+◌, ◌<◌, true, List, [], ◌∷◌, ◌++◌, length, take, Option, Some, None, refl, sym, ◌∙◌, ap, subst, arith, append-nil, length-append, add-one}
-use Rattle.std.specs.Prelude.{slice_get}
-use Rattle.std.proofs.Math.Seq.{take-suc}
-use Rattle.std.proofs.lemmas.Option.{slice_get_within, get_or_from_slice_get}
-use Rattle.rx_io.specs.declared.bytes.Item.{Item}
-use Rattle.links.specs.declared.journal.Entry.{Entry}
-use Rattle.rx_io.specs.Sends.{Send}
-use Rattle.block_book.specs.declared.choice.Choice.{Choice}
-use Rattle.block_book.specs.Answer.{is_allowed}
-use Rattle.elf_image.specs.declared.image.Image.{Image}
-use Rattle.run_history.specs.Machine.{Machine, register, start, start_machine, Goes, Wants, Chooses}
-use Rattle.run_history.specs.Call.{takes, received, chooses, allocated}
-use Rattle.run_history.specs.Run.{does, after, run}
-use Rattle.run_history.proofs.Shapes.{Alone, Shape, Same, Takes, Picks, does_shape}
-use Rattle.run_history.proofs.Runs.{run_more, run_one, run_join, run_chosen, next_after, received_keeps, allocated_keeps, element_behind}
-use Rattle.guest_cpu.specs.Standing.{Standing}
-use Rattle.guest_cpu.specs.Cpus.{start_standing}
-use Rattle.guest_cpu.specs.Receiving.{taken_standing}
-use Rattle.guest_cpu.specs.Recording.{chosen_standing}
-use Rattle.session_history.specs.Heeding.{items_in}
-use Rattle.schedule_file.specs.declared.recorded.Recorded.{Recorded}
-use Rattle.replay.specs.Replaying.{Replay, IsReplay, bounds_of}
-use Rattle.replay.specs.Playing.{state_of, replay_of}
+use Rattle.run_history.specs.Call.{received}
+use Rattle.replay.proofs.Terms.{List, None, Option, Some, [], add-one, ap, append-nil, arith, length, length-append, refl, subst, sym, take, true, ℕ, ◌++◌, ◌+◌, ◌<◌, ◌∙◌, ◌∷◌, ◌≡◌, take-suc, get_or_from_slice_get, slice_get_within, slice_get, Item, Send, Entry, Choice, is_allowed, Image, allocated_keeps, element_behind, next_after, received_keeps, run_chosen, run_join, run_more, run_one, Alone, Picks, Same, Shape, Takes, does_shape, allocated, chooses, takes, Chooses, Goes, Machine, Wants, register, start, start_machine, after, does, run, start_standing, taken_standing, chosen_standing, Standing, items_in, Recorded, IsReplay, Replay, bounds_of, replay_of, state_of}
 use Rattle.replay.proofs.RunLemmas.{Ran}
 
 -- a guest at its start is a replay of no instruction

@@ -1,28 +1,10 @@
 -- At no time of a session's run more blocks are live than may be, so what the session knows of it is a record.
-use Rattle.std.proofs.Common.{◌≡◌, ℕ, zero, suc, ◌+◌, ◌-◌, ◌≤◌, Bool, not, List, length, filter, Some, refl, sym, ◌∙◌, ap, subst, arith}
-use Rattle.std.proofs.lemmas.List.{length-map}
 use Rattle.std.proofs.lemmas.List.Sums.{length-filter, count_by-le-length}
-use Rattle.std.proofs.lemmas.Option.{option_and_then_some, same_Some}
-use Rattle.rx_io.specs.declared.bytes.Item.{Item}
-use Rattle.block_book.specs.declared.block.Block.{Block}
-use Rattle.block_book.specs.declared.choice.Choice.{Choice}
-use Rattle.block_book.specs.Answer.{live_blocks}
-use Rattle.block_book.specs.Heap.{IsHeap, most_blocks, empty_heap}
-use Rattle.elf_image.specs.declared.image.Image.{Image}
 use Rattle.elf_image.specs.Image.{heap_start, heap_end}
-use Rattle.run_history.specs.Machine.{State, start, start_machine}
-use Rattle.run_history.specs.Run.{Run, run}
-use Rattle.run_history.specs.Served.{Limits, IsLaidOut, Override, Path, env_at, guest_of, origin, planned_next, serve}
-use Rattle.run_history.proofs.Repeats.{repeated_add}
-use Rattle.run_history.proofs.Runs.{run_chosen}
 use Rattle.run_history.proofs.Serves.{serves_to, served_follows}
 use Rattle.run_history.proofs.Layouts.{laid_out_next}
 use Rattle.guest_cpu.proofs.StartLemmas.{heap_above_null, heap_ordered}
-use Rattle.session_history.specs.Heeding.{items_in}
-use Rattle.session_history.specs.Lawful.{Rules}
-use Rattle.session_history.specs.Account.{Session, journal_of, IsAccount}
-use Rattle.schedule_file.specs.declared.recorded.Recorded.{Recorded}
-use Rattle.replay.specs.Laws.{HasRoom, IsRecordOf, HasSession}
+use Rattle.replay.proofs.Terms.{Bool, List, Some, ap, arith, filter, length, not, refl, subst, suc, sym, zero, ℕ, ◌+◌, ◌-◌, ◌∙◌, ◌≡◌, ◌≤◌, length-map, option_and_then_some, same_Some, Item, Block, Choice, live_blocks, IsHeap, empty_heap, most_blocks, Image, repeated_add, run_chosen, State, start, start_machine, Run, run, IsLaidOut, Limits, Override, Path, env_at, guest_of, origin, planned_next, serve, IsAccount, Session, journal_of, items_in, Rules, Recorded, HasRoom, HasSession, IsRecordOf}
 
 -- the empty heap of an image is one
 begins_empty : (image : Image) → IsHeap (empty_heap (heap_start image) (heap_end image))
@@ -79,10 +61,10 @@ served_has_room limits image items plan {path = path} {count = count} ran earlie
     subst (λ (s : State). length s.machine.blocks ≤ most_blocks) same (room_in mid (laid_out_behind limits items plan (origin image) earlier (begins_laid_out image) before)))
 
 -- so what a session knows of its run is a record of it
-pub session_leaves_record : (rules : Rules) (image : Image) (session : Session) (at_end : Bool) (recording : Recorded) → IsAccount rules image session at_end → HasSession rules session recording
+pub session_leaves_record : (rules : Rules) (image : Image) (session : Session) (recording : Recorded) → IsAccount rules image session → HasSession rules session recording
     → IsRecordOf image (items_in rules.bounds (journal_of session)) session.survivor.now.state recording
 unfolding start start_machine
-session_leaves_record rules image session at_end recording account has =
+session_leaves_record rules image session recording account has =
     let items = items_in rules.bounds (journal_of session) in
     let now = session.survivor.now in
     let served = account.served in

@@ -1,21 +1,7 @@
 -- A guest that runs as recorded to its next question is a run that goes on.
-use Rattle.std.proofs.Common.{◌≡◌, ℕ, zero, suc, ◌+◌, ◌<◌, ◌≤◌, true, List, [], ◌∷◌, ◌++◌, Option, Some, None, refl, sym, ◌∙◌, ap, subst, arith}
-use Rattle.std.specs.Prelude.{Result, Ok, Err}
 use Rattle.std.specs.declared.alloc.AllocError.{AllocError}
-use Rattle.std.proofs.lemmas.Option.{option_and_then_some, same_Some, none-some}
-use Rattle.rx_io.specs.Sends.{Send}
-use Rattle.block_book.specs.Heap.{is_bare}
-use Rattle.run_history.specs.Machine.{Machine, Wants, Chooses, Fails}
-use Rattle.run_history.specs.Run.{does, run}
-use Rattle.run_history.specs.Repeating.{repeated}
-use Rattle.run_history.proofs.Shapes.{MaySend}
-use Rattle.run_history.proofs.Runs.{run_one}
-use Rattle.guest_cpu.specs.declared.event.Question.{Question}
 use Rattle.guest_cpu.specs.declared.event.Question.TheVariants as question
-use Rattle.guest_cpu.specs.Standing.{Standing, Turn, Live, live_after, quietly, unless_event, quiet_next}
-use Rattle.guest_cpu.specs.Running.{RunsBy}
-use Rattle.guest_cpu.specs.Recording.{recorded}
-use Rattle.replay.specs.Playing.{state_of}
+use Rattle.replay.proofs.Terms.{List, None, Option, Some, [], ap, arith, refl, subst, suc, sym, true, zero, ℕ, ◌++◌, ◌+◌, ◌<◌, ◌∙◌, ◌∷◌, ◌≡◌, ◌≤◌, none-some, option_and_then_some, same_Some, Err, Ok, Result, Send, is_bare, run_one, MaySend, Chooses, Fails, Machine, Wants, repeated, does, run, Question, recorded, RunsBy, Live, Standing, Turn, live_after, quiet_next, quietly, unless_event, state_of}
 use Rattle.replay.proofs.TurnLemmas.{IsStep, Means, IsWithin, turn_means}
 
 -- A run goes on with these sends, and takes no item and no answer of malloc, to where it has those; no further than so many instructions.

@@ -1,24 +1,6 @@
 -- A session's record is replayed over the session's stream.
-use Rattle.std.proofs.Common.{◌≡◌, inl, inr, ℕ, ◌≤◌, Bool, List, [], ◌∷◌, ◌++◌, length, refl, sym, ◌∙◌, ap, subst, arith, append-nil, append_assoc, length-append}
-use Rattle.rx_io.specs.Prefix.{Prefix}
-use Rattle.rx_io.specs.declared.bytes.Item.{Item}
-use Rattle.links.specs.declared.journal.Entry.{Entry}
-use Rattle.links.specs.declared.journal.LinkEvent.{LinkEvent}
-use Rattle.links.specs.declared.journal.LinkEvent.TheVariants.{Ends}
-use Rattle.links.specs.Links.{events_in, pieces_in, HasEnded}
-use Rattle.links.specs.Seen.{Seen}
-use Rattle.item_log.specs.Heard.{items_of}
-use Rattle.elf_image.specs.declared.image.Image.{Image}
-use Rattle.run_history.specs.declared.answer.Answer.{Answer}
 use Rattle.run_history.specs.declared.answer.Answer.TheVariants as answer
-use Rattle.run_history.specs.Machine.{State}
-use Rattle.session_history.specs.Heeding.{Bounds, heeded, items_in}
-use Rattle.session_history.specs.Lawful.{Rules}
-use Rattle.session_history.specs.Account.{Session, journal_of, IsAccount}
-use Rattle.schedule_file.specs.declared.recorded.Recorded.{Recorded}
-use Rattle.replay.specs.Giving.{AreGiven}
-use Rattle.replay.specs.Replaying.{bounds_of, WasAsked, AreAsked, HasReplayed}
-use Rattle.replay.specs.Laws.{IsRecordOf, BringsFirst, IsNoMismatch, HasSession, HadOneStream}
+use Rattle.replay.proofs.Terms.{List, [], ap, append-nil, append_assoc, arith, inl, inr, length, length-append, refl, subst, sym, ℕ, ◌++◌, ◌∙◌, ◌∷◌, ◌≡◌, ◌≤◌, Item, Prefix, Entry, LinkEvent, Ends, HasEnded, events_in, pieces_in, Seen, items_of, Image, Answer, State, IsAccount, Session, journal_of, Bounds, heeded, items_in, Rules, Recorded, AreGiven, AreAsked, HasReplayed, WasAsked, bounds_of, BringsFirst, HadOneStream, HasSession, IsNoMismatch, IsRecordOf}
 use Rattle.replay.proofs.RecordLemmas.{begins, goes_on, starved_not, finished_gives, only_faults}
 use Rattle.replay.proofs.RoomLemmas.{session_leaves_record}
 use Rattle.replay.proofs.StreamLemmas.{heeded_first, two_fronts, items_grow, took_behind, ended_behind}
@@ -117,14 +99,14 @@ pub one_stream_brings : (image : Image) (bounds : Bounds) (journal : List Entry)
 one_stream_brings image bounds journal events state recording began now end before after replayed frame of_run stream =
     stream_brings image bounds journal events state recording replayed.entries replayed.asked frame of_run stream
 
-pub session_is_replayed : (rules : Rules) (image : Image) (session : Session) (at_end : Bool) (events : List LinkEvent) (recording : Recorded) (began now : Seen) (end : Answer) (before after : ℕ)
+pub session_is_replayed : (rules : Rules) (image : Image) (session : Session) (events : List LinkEvent) (recording : Recorded) (began now : Seen) (end : Answer) (before after : ℕ)
     (replayed : HasReplayed image recording began now end before after)
-    → IsAccount rules image session at_end → HasSession rules session recording → HadOneStream events (journal_of session) replayed.entries
+    → IsAccount rules image session → HasSession rules session recording → HadOneStream events (journal_of session) replayed.entries
     → IsNoMismatch recording replayed.entries now.coming end × (end ≡ answer.Finished → AreGiven session.survivor.now.state.sends (pieces_in replayed.entries))
-session_is_replayed rules image session at_end events recording began now end before after replayed account has stream =
+session_is_replayed rules image session events recording began now end before after replayed account has stream =
     let items = items_in rules.bounds (journal_of session) in
     let state = session.survivor.now.state in
-    let of_run = session_leaves_record rules image session at_end recording account has in
+    let of_run = session_leaves_record rules image session recording account has in
     let brings = stream_brings image rules.bounds (journal_of session) events state recording replayed.entries replayed.asked has.frame of_run stream in (
       only_faults image items state recording began now end before after replayed of_run brings,
       λ finished. (finished_gives now.coming replayed.is of_run brings end finished replayed.ends).1,

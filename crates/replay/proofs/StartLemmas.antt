@@ -1,29 +1,8 @@
 -- A replay at its start, and at its end.
-use Rattle.std.proofs.Common.{◌≡◌, ℕ, ◌+◌, ◌^◌, false, List, [], length, drop, refl, sym, ap, subst, arith, true}
-use Rattle.std.specs.Prelude.{Err}
-use Rattle.std.proofs.lemmas.Bool.{both_ways}
-use Rattle.std.proofs.lemmas.List.{length-replicate}
-use Rattle.links.specs.Links.{Phases, IsFresh}
-use Rattle.links.specs.Seen.{Seen}
-use Rattle.rx_io.specs.Sends.{Send}
-use Rattle.elf_image.specs.declared.image.Image.{Image}
-use Rattle.item_log.specs.Heard.{items_of, items_from}
-use Rattle.item_log.specs.Log.{Log}
 use Rattle.item_log.specs.Log as logs
-use Rattle.run_history.specs.declared.answer.Answer.{Answer}
 use Rattle.run_history.specs.declared.answer.Answer.TheVariants as answer
-use Rattle.run_history.specs.Machine.{no_connections, start_machine}
-use Rattle.session_history.specs.Answering.{MayBegin}
-use Rattle.run_history.proofs.Connections.{no_connections_may}
-use Rattle.guest_cpu.specs.Standing.{Standing}
-use Rattle.guest_cpu.specs.Cpus.{start_standing}
-use Rattle.session_history.specs.Heeding.{Bounds, heeded, heeded_behind, items_in}
-use Rattle.schedule_file.specs.declared.recorded.Recorded.{Recorded}
-use Rattle.replay.specs.declared.player.Player.{Player}
-use Rattle.replay.specs.Giving.{IsLastSend, BreaksOff}
+use Rattle.replay.proofs.Terms.{List, [], ap, arith, drop, false, length, refl, subst, sym, true, ℕ, ◌+◌, ◌^◌, ◌≡◌, both_ways, length-replicate, Err, Send, IsFresh, Phases, Seen, items_from, items_of, Log, Image, Answer, no_connections_may, no_connections, start_machine, start_standing, Standing, MayBegin, Bounds, heeded, heeded_behind, items_in, Recorded, Player, BreaksOff, IsLastSend, HasReplayedBy, LinkAnswers, bounds_of, AreOpen, AreOpenThen, IsBetween, IsEnd, LinkTurns, Stage, has, replay_of, stage_of}
 use Rattle.replay.specs.Giving as giving
-use Rattle.replay.specs.Replaying.{HasReplayedBy, LinkAnswers, bounds_of}
-use Rattle.replay.specs.Playing.{Stage, stage_of, has, AreOpen, AreOpenThen, IsBetween, IsEnd, LinkTurns, replay_of}
 use Rattle.replay.specs.Making.{IsMade}
 use Rattle.replay.proofs.ReplayLemmas.{replay_start}
 use Rattle.replay.proofs.JournalLemmas.{asked_none, tells_same}

@@ -1,18 +1,7 @@
 -- Two journals over one stream of events: the one of the session that left a record, and the one of its replay.
-use Rattle.std.proofs.Common.{◌≡◌, ◌⊎◌, inl, inr, ℕ, Bool, true, false, cond, List, [], ◌∷◌, ◌++◌, drop, Option, Some, None, refl, sym, ◌∙◌, ap, subst, append_assoc}
-use Rattle.std.specs.Prelude.{is_none, unwrap_or}
-use Rattle.std.proofs.lemmas.Option.{none-some, same_Some}
-use Rattle.rx_io.specs.Prefix.{Prefix}
-use Rattle.links.specs.declared.journal.Entry.{Entry}
 use Rattle.links.specs.declared.journal.Entry.TheVariants as entry
-use Rattle.links.specs.declared.journal.LinkEvent.{LinkEvent}
 use Rattle.links.specs.declared.journal.LinkEvent.TheVariants as event
-use Rattle.links.specs.declared.journal.LinkEvent.TheVariants.{Ends}
-use Rattle.links.specs.Links.{events_in, last_taken, HasEnded}
-use Rattle.msg_frame.specs.declared.framing.Framing.{Framing}
-use Rattle.item_log.specs.Heard.{Heard, hear, first_items, items_from, items_of}
-use Rattle.session_history.specs.Heeding.{Bounds, refusal, heeded_behind}
-use Rattle.session_history.proofs.Heeding.{events_in-append}
+use Rattle.replay.proofs.Terms.{Bool, List, None, Option, Some, [], ap, append_assoc, cond, drop, false, inl, inr, refl, subst, sym, true, ℕ, ◌++◌, ◌∙◌, ◌∷◌, ◌≡◌, ◌⊎◌, none-some, same_Some, is_none, unwrap_or, Prefix, Entry, LinkEvent, Ends, HasEnded, events_in, last_taken, Framing, Heard, first_items, hear, items_from, items_of, events_in-append, Bounds, heeded_behind, refusal}
 
 -- the events that are heeded are the first ones
 pub heeded_first : (bounds : Bounds) (before events : List LinkEvent) → Prefix (heeded_behind bounds before events) events

@@ -1,22 +1,5 @@
 -- The guest takes the item that it asks for.
-use Rattle.std.proofs.Common.{◌≡◌, ℕ, ◌+◌, ◌<◌, ◌^◌, Bool, List, length, drop, Some, sym, ◌∙◌, ap, subst, arith}
-use Rattle.std.specs.Prelude.{slice_get}
-use Rattle.std.proofs.lemmas.Option.{slice_get_within}
-use Rattle.rx_io.specs.declared.bytes.Item.{Item}
-use Rattle.links.specs.Links.{Told, events_in}
-use Rattle.links.specs.Seen.{Seen}
-use Rattle.block_book.specs.Heap.{is_bare}
-use Rattle.elf_image.specs.declared.image.Image.{Image}
-use Rattle.item_log.specs.Log.{IsItemOf}
-use Rattle.run_history.specs.Call.{connections_after}
-use Rattle.run_history.proofs.Runs.{received_keeps}
-use Rattle.guest_cpu.specs.Standing.{Standing}
-use Rattle.guest_cpu.specs.Receiving.{taken_standing}
-use Rattle.session_history.specs.Heeding.{items_in}
-use Rattle.link_gate.proofs.ItemLemmas.{item_is, item_fits}
-use Rattle.schedule_file.specs.declared.recorded.Recorded.{Recorded}
-use Rattle.replay.specs.Replaying.{IsReplay, bounds_of}
-use Rattle.replay.specs.Playing.{Stage, StayOpen, IsBetween, IsWaiting, replay_of}
+use Rattle.replay.proofs.Terms.{Bool, List, Some, ap, arith, drop, length, subst, sym, ℕ, ◌+◌, ◌<◌, ◌^◌, ◌∙◌, ◌≡◌, slice_get_within, slice_get, Item, Told, events_in, Seen, is_bare, IsItemOf, Image, received_keeps, connections_after, taken_standing, Standing, items_in, item_fits, item_is, Recorded, IsReplay, bounds_of, IsBetween, IsWaiting, Stage, StayOpen, replay_of}
 use Rattle.replay.proofs.ReplayLemmas.{replay_takes}
 use Rattle.replay.proofs.OpenLemmas.{takes_open, stays_then, stays_now}
 

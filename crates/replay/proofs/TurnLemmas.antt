@@ -1,23 +1,10 @@
 -- A turn of a guest as recorded is one more instruction of its run, or says why there is none.
-use Rattle.std.proofs.Common.{◌≡◌, ℕ, ◌+◌, ◌<◌, ◌≤◌, Bool, true, false, not, cond, eqb, leb, List, [], ◌∷◌, ◌++◌, Option, Some, None, refl, subst}
-use Rattle.std.proofs.lemmas.Bool.{leb-false, leb-true, cond_both}
-use Rattle.std.proofs.lemmas.Option.{same_Some}
-use Rattle.rx_io.specs.Sends.{Send}
 use Rattle.rv_isa.specs.declared.instr.Instr.{Instr}
-use Rattle.block_book.specs.declared.block.Block.{Block}
-use Rattle.block_book.specs.Heap.{Heap, is_bare, is_live_at, without_block}
 use Rattle.block_book.proofs.Rooms.{bare-filter}
-use Rattle.run_history.specs.Machine.{Machine, Effect, Goes, Emits, Ends, Wants, Chooses, Fails}
-use Rattle.run_history.specs.Run.{does, next}
+use Rattle.run_history.specs.Machine.{Ends}
 use Rattle.run_history.specs.Touching.{instruction_at}
-use Rattle.run_history.specs.Served.{Request, Malloc, Free, Nothing, request_of}
-use Rattle.run_history.proofs.Shapes.{Keeps, MaySend, Alone}
-use Rattle.run_history.proofs.Runs.{IsSettled, alone_is, next_after}
-use Rattle.guest_cpu.specs.declared.event.Question.{Question}
 use Rattle.guest_cpu.specs.declared.event.Question.TheVariants as question
-use Rattle.guest_cpu.specs.Standing.{Standing, Turn, turn_to}
-use Rattle.guest_cpu.specs.Recording.{released, heap_after, recorded_of, recorded_turn, recorded}
-use Rattle.replay.specs.Playing.{state_of}
+use Rattle.replay.proofs.Terms.{Bool, List, None, Option, Some, [], cond, eqb, false, leb, not, refl, subst, true, ℕ, ◌++◌, ◌+◌, ◌<◌, ◌∷◌, ◌≡◌, ◌≤◌, cond_both, leb-false, leb-true, same_Some, Send, Block, Heap, is_bare, is_live_at, without_block, IsSettled, alone_is, next_after, Alone, Keeps, MaySend, Chooses, Effect, Emits, Fails, Goes, Machine, Wants, does, next, Free, Malloc, Nothing, Request, request_of, Question, heap_after, recorded, recorded_of, recorded_turn, released, Standing, Turn, turn_to, state_of}
 
 -- one more instruction of a run, which takes no item and no answer of malloc
 pub record IsStep (old new : Standing) : Type 0 where

@@ -1,10 +1,6 @@
 -- The pieces that a replay gives, beside the sends of its run.
 use Rattle.std.specs.Prelude.{◌≡◌, ℕ, List, [], ◌∷◌, ◌++◌, Bool, true, false, ◌&&◌, ◌||◌, ◌==◌}
-use Rattle.rx_io.specs.Prefix.{Prefix}
-use Rattle.rx_io.specs.Sends.{Send}
-use Rattle.links.specs.Links.{Piece, Told, Tells, TellsHanded, pieces_in}
-use Rattle.links.specs.Seen.{Seen}
-use Rattle.links.specs.declared.journal.Entry.{Entry}
+use Rattle.replay.specs.Terms.{Prefix, Send, Entry, Piece, Tells, TellsHanded, Told, pieces_in, Seen}
 
 -- whether one of some pieces found its connection gone
 abbrev pub found_gone : ℕ → List Piece → Bool

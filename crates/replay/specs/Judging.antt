@@ -1,9 +1,7 @@
 -- What a replay is at its end.
 use Rattle.std.specs.Prelude.{length, ◌==◌, if◌then◌else◌}
-use Rattle.run_history.specs.declared.answer.Answer.{Answer}
 use Rattle.run_history.specs.declared.answer.Answer.TheVariants as answer
-use Rattle.guest_cpu.specs.Standing.{Standing}
-use Rattle.schedule_file.specs.declared.recorded.Recorded.{Recorded}
+use Rattle.replay.specs.Terms.{Answer, Standing, Recorded}
 
 -- all was as recorded, or the run doesn't go on as recorded
 abbrev pub judged : Recorded → Standing → Answer

@@ -1,22 +1,7 @@
 -- What holds of each replay of a record that a run left, over the items that the run was given.
-use Rattle.std.specs.Prelude.{◌≡◌, ℕ, ◌≤◌, Bool, List, [], ◌++◌, length, Option, Some, IfSome}
-use Rattle.rx_io.specs.declared.bytes.Item.{Item}
-use Rattle.links.specs.declared.journal.Entry.{Entry}
-use Rattle.links.specs.declared.journal.LinkEvent.{LinkEvent}
-use Rattle.links.specs.Links.{Coming, Refuses, events_in, pieces_in, HasEnded}
-use Rattle.links.specs.Seen.{Seen}
-use Rattle.rx_io.specs.Prefix.{Prefix}
-use Rattle.block_book.specs.declared.choice.Choice.{Choice}
-use Rattle.block_book.specs.Heap.{most_blocks}
-use Rattle.elf_image.specs.declared.image.Image.{Image}
-use Rattle.run_history.specs.declared.answer.Answer.{Answer}
+use Rattle.std.specs.Prelude.{◌≡◌, ℕ, ◌≤◌, List, [], ◌++◌, length, Option, Some, IfSome}
 use Rattle.run_history.specs.declared.answer.Answer.TheVariants as answer
-use Rattle.run_history.specs.Machine.{State, start}
-use Rattle.run_history.specs.Run.{Run, run}
-use Rattle.session_history.specs.Heeding.{Bounds, items_in, AreHeeded}
-use Rattle.session_history.specs.Lawful.{Rules}
-use Rattle.session_history.specs.Account.{Session, journal_of, IsAccount}
-use Rattle.schedule_file.specs.declared.recorded.Recorded.{Recorded}
+use Rattle.replay.specs.Terms.{Item, Prefix, Entry, LinkEvent, Coming, HasEnded, Refuses, events_in, pieces_in, Seen, Choice, most_blocks, Image, Answer, State, start, Run, run, IsAccount, Session, journal_of, AreHeeded, Bounds, items_in, Rules, Recorded}
 use Rattle.replay.specs.Giving.{AreGiven}
 use Rattle.replay.specs.Replaying.{bounds_of, HasReplayed}
 
@@ -86,7 +71,7 @@ pub record HasSession (rules : Rules) (session : Session) (recorded : Recorded) 
 -- Then it is a record of the session's run, on the items that the session received.
 abbrev pub SessionLeavesRecord : Type 0
 SessionLeavesRecord =
-    (rules : Rules) (image : Image) (session : Session) (at_end : Bool) (recorded : Recorded) → IsAccount rules image session at_end → HasSession rules session recorded →
+    (rules : Rules) (image : Image) (session : Session) (recorded : Recorded) → IsAccount rules image session → HasSession rules session recorded →
     IsRecordOf image (items_in rules.bounds (journal_of session)) session.survivor.now.state recorded
 
 -- Two journals had one stream of events, a session's and a replay's: each took the first ones of it, and the replay's link ends only behind
@@ -107,7 +92,7 @@ OneStreamBrings =
 -- replay has given the sends of the session's run.
 abbrev pub SessionIsReplayed : Type 0
 SessionIsReplayed =
-    (rules : Rules) (image : Image) (session : Session) (at_end : Bool) (events : List LinkEvent) (recorded : Recorded) (began now : Seen) (end : Answer) (before after : ℕ)
+    (rules : Rules) (image : Image) (session : Session) (events : List LinkEvent) (recorded : Recorded) (began now : Seen) (end : Answer) (before after : ℕ)
     (replayed : HasReplayed image recorded began now end before after) →
-    IsAccount rules image session at_end → HasSession rules session recorded → HadOneStream events (journal_of session) replayed.entries →
+    IsAccount rules image session → HasSession rules session recorded → HadOneStream events (journal_of session) replayed.entries →
     IsNoMismatch recorded replayed.entries now.coming end × (end ≡ answer.Finished → AreGiven session.survivor.now.state.sends (pieces_in replayed.entries))

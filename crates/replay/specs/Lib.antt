@@ -1,3 +1,4 @@
+pub mod Terms
 pub mod Giving
 pub mod Replaying
 pub mod Playing

@@ -1,11 +1,7 @@
 -- A player that was just made.
 use Rattle.std.specs.Prelude.{◌≡◌, ◌^◌, []}
-use Rattle.elf_image.specs.declared.image.Image.{Image}
-use Rattle.msg_frame.specs.declared.framing.Framing.{Framing}
-use Rattle.item_log.specs.Log.{empty_log}
 use Rattle.item_log.specs.Log as logs
-use Rattle.run_history.specs.Machine.{no_connections}
-use Rattle.guest_cpu.specs.Cpus.{start_standing}
+use Rattle.replay.specs.Terms.{Framing, empty_log, Image, no_connections, start_standing}
 use Rattle.replay.specs.declared.player.Player.{Player}
 
 -- its guest stands at the start, and no event came

@@ -1,23 +1,8 @@
 -- What holds while a record is replayed.
 use Rattle.std.specs.Prelude.{◌≡◌, ℕ, ◌+◌, ◌<◌, ◌≤◌, ◌^◌, Bool, true, false, List, [], ◌∷◌, ◌++◌, length, drop, None, Result, Ok, Err, slice_get, unwrap_or, IfOk, IsErrOf, IsSome}
-use Rattle.rx_io.specs.declared.bytes.Item.{Item}
-use Rattle.links.specs.declared.journal.Entry.{Entry}
 use Rattle.rx_io.specs.Faults.{Rose}
-use Rattle.links.specs.Links.{Told, Tells, Counts, Phases, Open, events_in, pieces_in, HasEnded}
-use Rattle.links.specs.Seen.{Seen}
-use Rattle.rx_io.specs.Sends.{Send}
-use Rattle.block_book.specs.Heap.{is_bare}
-use Rattle.elf_image.specs.declared.image.Image.{Image}
-use Rattle.item_log.specs.Log.{Log}
-use Rattle.run_history.specs.declared.answer.Answer.{Answer}
 use Rattle.run_history.specs.declared.answer.Answer.TheVariants as answer
-use Rattle.run_history.specs.Machine.{State, register, Wants, Chooses}
-use Rattle.run_history.specs.Call.{connections_after}
-use Rattle.run_history.specs.Run.{does}
-use Rattle.guest_cpu.specs.Standing.{Standing}
-use Rattle.session_history.specs.Heeding.{items_in, received}
-use Rattle.session_history.specs.Keeping.{KeepsItems, KeepsPhases}
-use Rattle.schedule_file.specs.declared.recorded.Recorded.{Recorded}
+use Rattle.replay.specs.Terms.{Item, Send, Entry, Counts, HasEnded, Open, Phases, Tells, Told, events_in, pieces_in, Seen, is_bare, Log, Image, Answer, connections_after, Chooses, State, Wants, register, does, Standing, items_in, received, KeepsItems, KeepsPhases, Recorded}
 use Rattle.replay.specs.declared.player.Player.{Player}
 use Rattle.replay.specs.Giving.{found_gone, AreGiven}
 use Rattle.replay.specs.Replaying.{Replay, IsReplay, AreAsked, bounds_of, EndsBy, IsAsking, LeavesLink}

@@ -1,26 +1,10 @@
 -- What a replay of a record is: the run that the record tells of, over the events of a link, and its sends given again.
 use Rattle.std.specs.Prelude.{◌≡◌, ◌≢◌, ℕ, ◌+◌, ◌<◌, ◌≤◌, ◌^◌, List, ◌∷◌, ◌++◌, length, take, slice_get, false, None, Some, Option, IsSome, IfSome, ◌⊎◌, true}
-use Rattle.links.specs.declared.journal.Entry.{Entry}
 use Rattle.links.specs.declared.journal.Entry.TheVariants as entry
-use Rattle.links.specs.declared.journal.LinkEvent.{LinkEvent}
 use Rattle.links.specs.declared.journal.LinkEvent.TheVariants as event
-use Rattle.links.specs.Links.{Tells, Coming, Comes, Refuses, events_in, pieces_in, HasEnded}
-use Rattle.links.specs.Seen.{Seen}
-use Rattle.rx_io.specs.Sends.{Send}
-use Rattle.block_book.specs.declared.choice.Choice.{Choice}
-use Rattle.block_book.specs.Answer.{is_allowed}
-use Rattle.block_book.specs.Heap.{most_blocks}
-use Rattle.session_history.specs.Answering.{HasAnswerCause}
-use Rattle.elf_image.specs.declared.image.Image.{Image}
-use Rattle.run_history.specs.declared.answer.Answer.{Answer}
 use Rattle.run_history.specs.declared.answer.Answer.TheVariants as answer
-use Rattle.run_history.specs.declared.answer.Cause.{Cause}
-use Rattle.run_history.specs.Machine.{Machine, State, Wants, Chooses, Fails}
-use Rattle.run_history.specs.Run.{does, Run}
-use Rattle.session_history.specs.Heeding.{Bounds, heeded, items_in, received}
 use Rattle.session_history.specs.Heeding as unheeded
-use Rattle.session_history.specs.Ends.{IsLastRefused, IsLastTooLong}
-use Rattle.schedule_file.specs.declared.recorded.Recorded.{Recorded}
+use Rattle.replay.specs.Terms.{Send, Entry, LinkEvent, Comes, Coming, HasEnded, Refuses, Tells, events_in, pieces_in, Seen, Choice, is_allowed, most_blocks, Image, Answer, Cause, Chooses, Fails, Machine, State, Wants, Run, does, HasAnswerCause, IsLastRefused, IsLastTooLong, Bounds, heeded, items_in, received, Recorded}
 use Rattle.replay.specs.Giving.{AreGiven, AreGivenInPart}
 
 -- what a record allows a link: its own framing, and the most items and events that any session may have

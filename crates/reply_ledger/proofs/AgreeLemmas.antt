@@ -1,8 +1,6 @@
 -- Bytes that agree.
-use Rattle.std.proofs.Common.{◌≡◌, ℕ, suc, ◌+◌, ◌<◌, ◌≤◌, Bool, true, false, ◌&&◌, List, [], ◌∷◌, length, drop, get_or, ◌==◌, refl, sym, ◌∙◌, ap, add-one, drop-cons}
-use Rattle.std.proofs.lemmas.Bool.{eq-eqb, ne_eqb}
-use Rattle.std.proofs.lemmas.List.{drop_all}
-use Rattle.reply_ledger.specs.Trials.{agree}
+use Rattle.std.proofs.Common.{◌==◌}
+use Rattle.reply_ledger.proofs.Terms.{Bool, List, [], add-one, ap, drop, drop-cons, false, get_or, length, refl, suc, sym, true, ℕ, ◌&&◌, ◌+◌, ◌<◌, ◌∙◌, ◌∷◌, ◌≡◌, ◌≤◌, eq-eqb, ne_eqb, drop_all, agree}
 
 pub agree-past : (xs ys : List ℕ) (n : ℕ) → length ys ≤ n → agree xs (drop n ys) ≡ true
 unfolding agree

@@ -1,16 +1,5 @@
 -- Connections as the ledger shows them, beside what is kept of them.
-use Rattle.std.proofs.Common.{◌≡◌, ℕ, ◌+◌, Bool, true, false, ◌&&◌, not, List, [], ◌∷◌, ◌++◌, length, map, drop, Option, None, Some, is_some, refl, sym, ◌∙◌, ap, subst, arith, cond, if◌then◌else◌, append-nil, length-append}
-use Rattle.std.proofs.lemmas.Bool.{eqb-true, eq-eqb, true≢false, and_parts}
-use Rattle.std.proofs.lemmas.List.{drop-drop, drop_all}
-use Rattle.std.proofs.lemmas.List.Concat.{flat_map-append}
-use Rattle.std.specs.Prelude.{nat_eq, ◌==◌, IsSome, find}
-use Rattle.std.specs.Option.{option_map, option_map_or}
-use Rattle.std.specs.Map.{lookup, keys_of}
-use Rattle.rx_io.specs.Sends.{Send, sent_to}
-use Rattle.reply_ledger.specs.Ledger.{Passed, Connection, connection_of, is_open, stamped_to, changed, new_connection, closed_connection, gone_connection, passed_connection}
-use Rattle.reply_ledger.specs.Trimming.{trimmed_connection, trimmed_connections}
-use Rattle.reply_ledger.specs.Tallies.{Tally, seen, connections_of, number_at, passed_at, is_open_in, passed_end, retallied, all_retallied}
-use Rattle.reply_ledger.specs.Inside.{earlier_at}
+use Rattle.reply_ledger.proofs.Terms.{Bool, List, None, Option, Some, [], ap, append-nil, arith, cond, drop, false, if◌then◌else◌, is_some, length, length-append, map, not, refl, subst, sym, true, ℕ, ◌&&◌, ◌++◌, ◌+◌, ◌∙◌, ◌∷◌, ◌≡◌, and_parts, eq-eqb, eqb-true, true≢false, drop-drop, drop_all, flat_map-append, keys_of, lookup, option_map, option_map_or, IsSome, find, nat_eq, ◌==◌, Send, sent_to, Connection, Passed, changed, closed_connection, connection_of, gone_connection, is_open, new_connection, passed_connection, stamped_to, trimmed_connection, trimmed_connections, Tally, all_retallied, connections_of, is_open_in, number_at, passed_at, passed_end, retallied, seen, earlier_at}
 
 -- a connection of the ledger is the tally of that number
 pub connection-of : (tallies : List (ℕ × Tally)) (conn : ℕ) → connection_of (connections_of tallies) conn ≡ option_map (λ (t : Tally). seen (conn, t)) (lookup (nat_eq conn) tallies)

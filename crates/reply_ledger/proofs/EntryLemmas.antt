@@ -1,27 +1,7 @@
 -- Sends that lie in their connections' streams.
-use Rattle.std.proofs.Common.{◌≡◌, ℕ, zero, suc, ◌+◌, ◌-◌, ◌<◌, ◌≤◌, Bool, true, false, List, [], ◌∷◌, ◌++◌, length, map, take, drop, get_or, refl, sym, ◌∙◌, ap, subst, arith, if◌then◌else◌, append-nil, append_assoc, length-append, inl, inr}
-use Rattle.std.specs.Prelude.{◌==◌, ◌⊎◌}
-use Rattle.std.specs.List.{AllByRecursion}
-use Rattle.std.proofs.lemmas.List.{map-append, take-append-drop, get_or-drop, take-append-le, drop_all, take_all, length-take-le}
-use Rattle.std.proofs.Math.ListN.{get_or-append}
-use Rattle.std.proofs.lemmas.List.Concat.{flat_map-append}
-use Rattle.std.proofs.Math.Seq.{take-add, take-suc, get_or-append_seam}
-use Rattle.std.proofs.Common.{Option, None, Some, is_some}
-use Rattle.std.specs.Prelude.{nat_eq}
-use Rattle.std.specs.Map.{lookup}
-use Rattle.reply_ledger.specs.Ledger.{connection_of}
-use Rattle.reply_ledger.specs.Trimming.{trimmed_connections}
-use Rattle.reply_ledger.specs.Tallies.{Tally, retallied, tried_tally, given_up_tally, connections_of, number_at}
-use Rattle.reply_ledger.specs.Inside.{tried_ends, sent_ends}
+use Rattle.reply_ledger.proofs.Terms.{Bool, List, None, Option, Some, [], ap, append-nil, append_assoc, arith, drop, false, get_or, if◌then◌else◌, inl, inr, is_some, length, length-append, map, refl, subst, suc, sym, take, true, zero, ℕ, ◌++◌, ◌+◌, ◌-◌, ◌<◌, ◌∙◌, ◌∷◌, ◌≡◌, ◌≤◌, get_or-append, get_or-append_seam, take-add, take-suc, cases_lt, eq-eqb, eqb-true, drop_all, get_or-drop, length-take-le, map-append, take-append-drop, take-append-le, take_all, flat_map-append, AllByRecursion, lookup, nat_eq, ◌==◌, ◌⊎◌, Send, sent_to, Entry, Connection, IsInOrder, NotBefore, bytes_of, connection_of, stamped_to, times_of, parts_behind, unpassed, trimmed_connections, Tally, connections_of, given_up_tally, number_at, retallied, tried_tally, rest_of, send_of, sends_of, stream_behind, Laid, earlier_at, part_of, sent_ends, tried_ends}
 use Rattle.reply_ledger.proofs.TallyLemmas.{retallied-none, number_at-none}
 use Rattle.reply_ledger.proofs.ConnectionLemmas.{number_at-set, number_at-same, connections_of-retallied, trimmed-one, trimmed-append, earlier_at-of, earlier_at-trimmed, unknown-of}
-use Rattle.std.proofs.lemmas.Bool.{cases_lt, eqb-true, eq-eqb}
-use Rattle.rx_io.specs.Sends.{Send, sent_to}
-use Rattle.reply_ledger.specs.declared.entry.Entry.{Entry}
-use Rattle.reply_ledger.specs.Ledger.{Connection, IsInOrder, NotBefore, times_of, bytes_of, stamped_to}
-use Rattle.reply_ledger.specs.Parts.{unpassed, parts_behind}
-use Rattle.reply_ledger.specs.Entries.{send_of, sends_of, rest_of, stream_behind}
-use Rattle.reply_ledger.specs.Inside.{Laid, earlier_at, part_of}
 use Rattle.reply_ledger.proofs.RunLemmas.{length-bytes_of}
 
 pub sends_of-append : (xs ys : List Entry) → sends_of (xs ++ ys) ≡ sends_of xs ++ sends_of ys

@@ -1,3 +1,4 @@
+pub mod Terms
 pub mod RunLemmas
 pub mod StreamLemmas
 pub mod AgreeLemmas
@@ -9,3 +10,4 @@ pub mod EntryLemmas
 pub mod StandsLemmas
 pub mod ShowsLemmas
 pub mod PartLemmas
+pub mod Lemmas

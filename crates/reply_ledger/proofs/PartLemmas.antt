@@ -1,15 +1,6 @@
 -- Which part of the survivor's sends is found first, what of each connection was passed before it, and what is left when it was.
-use Rattle.std.proofs.Common.{◌≡◌, ℕ, ◌+◌, ◌-◌, ◌<◌, ◌≤◌, Bool, true, false, ◌&&◌, not, List, [], ◌∷◌, ◌++◌, length, take, drop, Option, None, Some, refl, sym, ◌∙◌, ap, subst, arith, cond, eqb, if◌then◌else◌, append-nil, append_assoc, length-append, length-drop}
-use Rattle.std.specs.Prelude.{find, nat_le, is_some, IsSome}
-use Rattle.std.specs.List.{AllByRecursion}
-use Rattle.std.specs.Option.{option_map, option_map_or}
-use Rattle.std.proofs.lemmas.Bool.{eqb-true, eq-eqb, ltb-true, ltb-false, leb-true, le-leb, and_parts, and_from, true≢false}
-use Rattle.std.proofs.lemmas.Option.{none-some, same_Some}
-use Rattle.std.proofs.lemmas.List.{drop-append-le, take-append-le}
-use Rattle.std.proofs.Math.Seq.{drop-append-add}
-use Rattle.rx_io.specs.Sends.{Send, sent_to}
-use Rattle.reply_ledger.specs.Ledger.{Passed, Connection, Ledger, connection_of, is_open, bytes_of, stamped_to, changed, passed_connection, gone_connection, times_of, IsInOrder}
-use Rattle.reply_ledger.specs.Parts.{unpassed, parts_behind, is_left, waits, next_part, rest_part}
+use Rattle.std.specs.Prelude.{is_some}
+use Rattle.reply_ledger.proofs.Terms.{Bool, List, None, Option, Some, [], ap, append-nil, append_assoc, arith, cond, drop, eqb, false, if◌then◌else◌, length, length-append, length-drop, not, refl, subst, sym, take, true, ℕ, ◌&&◌, ◌++◌, ◌+◌, ◌-◌, ◌<◌, ◌∙◌, ◌∷◌, ◌≡◌, ◌≤◌, drop-append-add, and_from, and_parts, eq-eqb, eqb-true, le-leb, leb-true, ltb-false, ltb-true, true≢false, drop-append-le, take-append-le, none-some, same_Some, AllByRecursion, option_map, option_map_or, IsSome, find, nat_le, Send, sent_to, Connection, IsInOrder, Ledger, Passed, bytes_of, changed, connection_of, gone_connection, is_open, passed_connection, stamped_to, times_of, is_left, next_part, parts_behind, rest_part, unpassed, waits}
 use Rattle.reply_ledger.proofs.ConnectionLemmas.{connection_of-changed, connection_of-conn}
 use Rattle.reply_ledger.proofs.RunLemmas.{length-bytes_of}
 use Rattle.reply_ledger.proofs.EntryLemmas.{sent_to-append}

@@ -1,9 +1,5 @@
 -- The first element that passes a test, and what is found at it.
-use Rattle.std.proofs.Common.{◌≡◌, ℕ, zero, suc, ◌+◌, ◌<◌, ◌≤◌, Bool, true, false, not, List, [], ◌∷◌, ◌++◌, length, map, drop, get_or, None, Some, refl, sym, ◌∙◌, ap, arith, cond}
-use Rattle.std.proofs.lemmas.Bool.{true≢false, ne_eqb, lt-ltb}
-use Rattle.std.specs.Prelude.{find, nat_lt, ◌==◌}
-use Rattle.std.specs.List.{position_or_len}
-use Rattle.std.specs.Option.{option_map}
+use Rattle.reply_ledger.proofs.Terms.{Bool, List, None, Some, [], ap, arith, cond, drop, false, get_or, inl, inr, length, map, not, refl, suc, sym, true, zero, ℕ, ◌++◌, ◌+◌, ◌<◌, ◌∙◌, ◌∷◌, ◌≡◌, ◌≤◌, cases_lt, lt-ltb, ne_eqb, true≢false, fails_before_first, passes_at_first, position_or_len_is, prefix_len-le-length, position_or_len, option_map, find, nat_lt, ◌==◌}
 
 -- cases on a test
 pub tested : {P : Type 0} (b : Bool) → (b ≡ true → P) → (b ≡ false → P) → P
@@ -11,32 +7,24 @@ tested true f g = f refl
 tested false f g = g refl
 
 pub position-le : {X : Type 0} (p : X → Bool) (xs : List X) → position_or_len p xs ≤ length xs
-position-le p [] = omega arith
-position-le p (x ∷ xs) = by (p x) (position-le p xs)
-  where
-    by : (b : Bool) → position_or_len p xs ≤ length xs → cond (not b) (1 + position_or_len p xs) 0 ≤ suc (length xs)
-    by true ih = omega arith
-    by false ih = omega (arith, ih)
+position-le p xs = prefix_len-le-length (λ x. not (p x)) xs
+
+pub position-at : {X : Type 0} (p : X → Bool) (xs : List X) (i : ℕ) (d : X) → i ≡ position_or_len p xs → i < length xs → p (get_or xs i d) ≡ true
+position-at p xs i d e lt = ap (λ n. p (get_or xs n d)) e ∙ passes_at_first p xs d (omega arith)
 
 -- the place is found, or stands further behind
 pub position-here : {X : Type 0} (p : X → Bool) (xs : List X) (i : ℕ) (e : X) → i ≤ position_or_len p xs → i < length xs → e ≡ get_or xs i e → p e ≡ true → i ≡ position_or_len p xs
-position-here p [] i e le lt is h = absurd (omega arith)
-position-here p (x ∷ xs) zero e le lt is h = sym (ap (λ (b : Bool). cond (not b) (1 + position_or_len p xs) 0) (ap p (sym is) ∙ h))
-position-here p (x ∷ xs) (suc i) e le lt is h = by (p x) le (λ k. position-here p xs i e k (omega arith) is h)
-  where
-    by : (b : Bool) → suc i ≤ cond (not b) (1 + position_or_len p xs) 0 → (i ≤ position_or_len p xs → i ≡ position_or_len p xs) → suc i ≡ cond (not b) (1 + position_or_len p xs) 0
-    by true le ih = absurd (omega (arith, le))
-    by false le ih = omega (arith, ih (omega (arith, le)))
+position-here p xs i e le lt is h =
+    sym (position_or_len_is p xs i e (omega arith) (λ k before. fails_before_first p xs k e (omega arith)) (λ _. ap p (sym is) ∙ h))
 
 pub position-next : {X : Type 0} (p : X → Bool) (xs : List X) (i : ℕ) (e : X) → i ≤ position_or_len p xs → i < length xs → e ≡ get_or xs i e → p e ≡ false → i + 1 ≤ position_or_len p xs
-position-next p [] i e le lt is h = absurd (omega arith)
-position-next p (x ∷ xs) zero e le lt is h =
-    let at : position_or_len p (x ∷ xs) ≡ 1 + position_or_len p xs = ap (λ (b : Bool). cond (not b) (1 + position_or_len p xs) 0) (ap p (sym is) ∙ h) in omega (arith, at)
-position-next p (x ∷ xs) (suc i) e le lt is h = by (p x) le (λ k. position-next p xs i e k (omega arith) is h)
-  where
-    by : (b : Bool) → suc i ≤ cond (not b) (1 + position_or_len p xs) 0 → (i ≤ position_or_len p xs → i + 1 ≤ position_or_len p xs) → suc i + 1 ≤ cond (not b) (1 + position_or_len p xs) 0
-    by true le ih = absurd (omega (arith, le))
-    by false le ih = omega (arith, ih (omega (arith, le)))
+position-next p xs i e le lt is h =
+    elim (cases_lt i (position_or_len p xs)) [
+      | inl before ↦ omega arith
+      | inr past ↦
+          let here : position_or_len p xs ≡ i = omega arith in
+          absurd (true≢false (sym (position-at p xs i e (sym here) lt) ∙ ap p (sym is) ∙ h))
+    ]
 
 -- a test that less passes is passed later
 pub position-later : {X : Type 0} (p q : X → Bool) → ((x : X) → q x ≡ true → p x ≡ true) → (xs : List X) → position_or_len p xs ≤ position_or_len q xs
@@ -74,24 +62,6 @@ position-drop p (x ∷ xs) (suc n) le = by (p x) le (λ k. position-drop p xs n 
 pub position-map : {X Y : Type 0} (p : Y → Bool) (f : X → Y) (xs : List X) → position_or_len p (map f xs) ≡ position_or_len (λ x. p (f x)) xs
 position-map p f [] = refl
 position-map p f (x ∷ xs) = ap (λ (n : ℕ). cond (not (p (f x))) (1 + n) 0) (position-map p f xs)
-
--- those before the first one fail
-pub position-before : {X : Type 0} (p : X → Bool) (xs : List X) (k : ℕ) (d : X) → k < position_or_len p xs → p (get_or xs k d) ≡ false
-position-before p [] k d lt = absurd (omega (arith, lt))
-position-before p (x ∷ xs) zero d lt = tested (p x)
-    (λ h. let at : position_or_len p (x ∷ xs) ≡ 0 = ap (λ (b : Bool). cond (not b) (1 + position_or_len p xs) 0) h in absurd (omega (arith, lt, at)))
-    (λ h. h)
-position-before p (x ∷ xs) (suc k) d lt = tested (p x)
-    (λ h. let at : position_or_len p (x ∷ xs) ≡ 0 = ap (λ (b : Bool). cond (not b) (1 + position_or_len p xs) 0) h in absurd (omega (arith, lt, at)))
-    (λ h. let at : position_or_len p (x ∷ xs) ≡ 1 + position_or_len p xs = ap (λ (b : Bool). cond (not b) (1 + position_or_len p xs) 0) h in position-before p xs k d (omega (arith, lt, at)))
-
-pub position-at : {X : Type 0} (p : X → Bool) (xs : List X) (i : ℕ) (d : X) → i ≡ position_or_len p xs → i < length xs → p (get_or xs i d) ≡ true
-position-at p [] i d e lt = absurd (omega arith)
-position-at p (x ∷ xs) zero d e lt = tested (p x) (λ h. h)
-    (λ h. let at : position_or_len p (x ∷ xs) ≡ 1 + position_or_len p xs = ap (λ (b : Bool). cond (not b) (1 + position_or_len p xs) 0) h in absurd (omega (arith, e, at)))
-position-at p (x ∷ xs) (suc i) d e lt = tested (p x)
-    (λ h. let at : position_or_len p (x ∷ xs) ≡ 0 = ap (λ (b : Bool). cond (not b) (1 + position_or_len p xs) 0) h in absurd (omega (arith, e, at)))
-    (λ h. let at : position_or_len p (x ∷ xs) ≡ 1 + position_or_len p xs = ap (λ (b : Bool). cond (not b) (1 + position_or_len p xs) 0) h in position-at p xs i d (omega (arith, e, at)) (omega arith))
 
 -- what is found
 pub find-none : {X : Type 0} (p : X → Bool) (xs : List X) → ((k : ℕ) (d : X) → k < length xs → p (get_or xs k d) ≡ false) → find p xs ≡ None

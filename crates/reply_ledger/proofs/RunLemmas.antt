@@ -1,18 +1,7 @@
 -- Passed bytes with their stamps, as bytes beside runs of stamps.
-use Rattle.std.proofs.Common.{◌≡◌, ℕ, zero, suc, ◌+◌, ◌-◌, ◌<◌, ◌≤◌, Bool, true, false, List, [], ◌∷◌, ◌++◌, length, take, drop, get_or, refl, sym, ◌∙◌, ap, subst, arith, cond, inl, inr}
-use Rattle.std.specs.Prelude.{nat_le, if◌then◌else◌}
-use Rattle.std.proofs.Common.{length-append, length-take, length-drop, append_assoc, append-nil}
-use Rattle.std.proofs.lemmas.List.{get_or_default, take-append-le, drop-append-le, drop-drop, take_all, drop_all, take-append-drop, drop-take, map-append, length-map}
-use Rattle.std.proofs.lemmas.List.Elements.{filter-append}
-use Rattle.std.proofs.lemmas.Bool.{leb-true, leb-false, le-leb, lt-leb, true≢false}
-use Rattle.std.proofs.Math.Seq.{drop-append-add, take-suc, take-suc-set}
-use Rattle.std.proofs.Math.ListN.{set, length-set}
-use Rattle.std.specs.List.{AllByRecursion}
+use Rattle.std.specs.Prelude.{if◌then◌else◌}
 use Rattle.std.specs.List.Sorted.{IsPartitionedBy}
-use Rattle.reply_ledger.specs.declared.account.Run.{Run}
-use Rattle.reply_ledger.specs.Ledger.{Passed, bytes_of, stamps_of, stamped, IsInOrder}
-use Rattle.reply_ledger.specs.Trials.{until}
-use Rattle.reply_ledger.specs.Tallies.{passed_in, RunsFrom, runs_past, NotesInLast, Notes}
+use Rattle.reply_ledger.proofs.Terms.{Bool, List, [], ap, append-nil, append_assoc, arith, cond, drop, false, get_or, inl, inr, length, length-append, length-drop, length-take, refl, subst, suc, sym, take, true, zero, ℕ, ◌++◌, ◌+◌, ◌-◌, ◌<◌, ◌∙◌, ◌∷◌, ◌≡◌, ◌≤◌, length-set, set, drop-append-add, take-suc, take-suc-set, le-leb, leb-false, leb-true, lt-leb, true≢false, drop-append-le, drop-drop, drop-take, drop_all, get_or_default, length-map, map-append, nil_from_length, take-append-drop, take-append-le, take_all, All-from_recursion, All-get_or, filter-append, AllByRecursion, nat_le, Run, IsInOrder, Passed, bytes_of, stamped, stamps_of, until, Notes, NotesInLast, RunsFrom, passed_in, runs_past}
 
 -- runs end at or past where they begin
 pub runs_rise : (runs : List Run) (at end : ℕ) → RunsFrom at end runs → at ≤ end
@@ -51,14 +40,10 @@ drop-stamped zero stamp bytes = refl
 drop-stamped (suc n) stamp [] = refl
 drop-stamped (suc n) stamp (b ∷ bytes) = drop-stamped n stamp bytes
 
-pub empty_of_length : {X : Type 0} (xs : List X) → length xs ≡ 0 → xs ≡ []
-empty_of_length [] h = refl
-empty_of_length (x ∷ xs) h = absurd (omega (arith, h))
-
 -- the bytes with stamps are the bytes
 pub bytes_of-passed_in : (runs : List Run) (at end : ℕ) (bytes : List ℕ) → RunsFrom at end runs → end ≡ at + length bytes → bytes_of (passed_in at bytes runs) ≡ bytes
 unfolding RunsFrom passed_in bytes_of
-bytes_of-passed_in [] at end bytes h e = sym (empty_of_length bytes (omega (arith, h, e)))
+bytes_of-passed_in [] at end bytes h e = sym (nil_from_length bytes (omega (arith, h, e)))
 bytes_of-passed_in (run ∷ runs) at end bytes h e =
     let rise = runs_rise runs run.end end h.1 in
     let long : end ≡ run.end + length (drop (run.end - at) bytes) = omega (arith, h.0, length-drop (run.end - at) bytes) in
@@ -75,7 +60,7 @@ pub passed_in-push : (runs : List Run) (at end after stamp : ℕ) (bytes more : 
     → (passed_in at (bytes ++ more) (runs ++ record { end = after; stamp = stamp } ∷ []) ≡ passed_in at bytes runs ++ stamped stamp more) × RunsFrom at after (runs ++ record { end = after; stamp = stamp } ∷ [])
 unfolding RunsFrom passed_in
 passed_in-push [] at end after stamp bytes more h e a lt =
-    let none = empty_of_length bytes (omega (arith, h, e)) in
+    let none = nil_from_length bytes (omega (arith, h, e)) in
     let all : length more ≤ after - at = omega (arith, h, a) in
     let joined : bytes ++ more ≡ more = ap (λ l. l ++ more) none in
     (append-nil _ ∙ ap (λ l. stamped stamp (take (after - at) l)) joined ∙ ap (stamped stamp) (take_all (after - at) more all), (omega (arith, h, lt), refl))
@@ -121,7 +106,7 @@ pub passed_in-Notes : (old new : List Run) (at end after stamp : ℕ) (bytes mor
 unfolding RunsFrom passed_in stamped
 passed_in-Notes old new at end after stamp bytes more h e a notes = elim notes [
   | inl same ↦
-      let none = empty_of_length more (omega (arith, same.0, a)) in
+      let none = nil_from_length more (omega (arith, same.0, a)) in
       let P : List ℕ → Type 0 = λ m. (passed_in at (bytes ++ m) old ≡ passed_in at bytes old ++ stamped stamp m) in
       let here : P [] = ap (λ l. passed_in at l old) (append-nil bytes) ∙ sym (append-nil _) in
       let kept : P more = subst P (sym none) here in
@@ -197,14 +182,6 @@ pub AreInOrder : List Run → Type 0
 AreInOrder [] = Unit {0}
 AreInOrder (run ∷ runs) = AllByRecursion (λ (r : Run). run.stamp ≤ r.stamp) runs × AreInOrder runs
 
-all-append : {X : Type 0} (P : X → Type 0) (xs ys : List X) → AllByRecursion P (xs ++ ys) → AllByRecursion P ys
-all-append P [] ys h = h
-all-append P (x ∷ xs) ys h = all-append P xs ys h.1
-
-order-append : (xs ys : List ℕ) → IsInOrder (xs ++ ys) → IsInOrder ys
-order-append [] ys h = h
-order-append (x ∷ xs) ys h = order-append xs ys h.1
-
 -- a run that isn't empty shows its stamp
 shows_stamp : (s m : ℕ) (bytes : List ℕ) (rest : List Passed) (P : ℕ → Type 0) → 0 < m → m ≤ length bytes → AllByRecursion P (stamps_of (stamped s (take m bytes) ++ rest)) → P s
 unfolding stamps_of stamped
@@ -253,18 +230,13 @@ runs_in_order (run ∷ runs) at end bytes h e order =
       runs_in_order runs run.end end (drop (run.end - at) bytes) h.1 long parts.1,
     )
 
-all_at : {X : Type 0} (P : X → Type 0) (xs : List X) (j : ℕ) (d : X) → AllByRecursion P xs → j < length xs → P (get_or xs j d)
-all_at P [] j d h lt = absurd (omega arith)
-all_at P (x ∷ xs) zero d h lt = h.0
-all_at P (x ∷ xs) (suc j) d h lt = all_at P xs j d h.1 (omega arith)
-
 -- the test of a run's stamp parts the runs
 pub runs-IsPartitionedBy : (runs : List Run) (item : ℕ) → AreInOrder runs → IsPartitionedBy (λ (r : Run). nat_le r.stamp item) runs
 unfolding AreInOrder
 runs-IsPartitionedBy [] item order i j d le lt h = absurd (omega arith)
 runs-IsPartitionedBy (run ∷ runs) item order zero zero d le lt h = h
 runs-IsPartitionedBy (run ∷ runs) item order zero (suc j) d le lt h =
-    let later : run.stamp ≤ (get_or runs j d).stamp = all_at (λ (r : Run). run.stamp ≤ r.stamp) runs j d order.0 (omega arith) in
+    let later : run.stamp ≤ (get_or runs j d).stamp = All-get_or (λ (r : Run). run.stamp ≤ r.stamp) runs j d (omega arith) (All-from_recursion (λ (r : Run). run.stamp ≤ r.stamp) runs order.0) in
     let early : (get_or runs j d).stamp ≤ item = leb-true (get_or runs j d).stamp item h in
     le-leb run.stamp item (omega (arith, later, early))
 runs-IsPartitionedBy (run ∷ runs) item order (suc i) zero d le lt h = absurd (omega arith)

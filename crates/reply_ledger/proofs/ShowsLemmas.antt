@@ -1,21 +1,8 @@
 -- What the calls make of a ledger beside all that was sent and passed.
-use Rattle.std.proofs.Common.{◌≡◌, ℕ, zero, suc, ◌+◌, ◌<◌, ◌≤◌, Bool, true, false, List, [], ◌∷◌, ◌++◌, length, take, drop, Option, None, Some, is_some, refl, sym, ◌∙◌, ap, subst, arith, cond, if◌then◌else◌, append-nil, append_assoc, length-append, length-drop}
-use Rattle.std.specs.Prelude.{IsSome, nat_le, ◌==◌}
-use Rattle.std.specs.List.{flat_map}
-use Rattle.std.specs.List.{AllByRecursion}
-use Rattle.std.proofs.lemmas.Bool.{eqb-true, true≢false, leb-false, lt-leb}
-use Rattle.std.proofs.lemmas.List.{drop-append-le, take-append-le, drop-drop, take-append-drop, length-take-le, drop_all}
-use Rattle.std.proofs.lemmas.List.Concat.{flat_map-append}
-use Rattle.std.proofs.Math.Seq.{take-add, drop-append_seam, take-append_seam}
-use Rattle.rx_io.specs.Sends.{Send, sent_to}
-use Rattle.rx_io.specs.Prefix.{Prefix}
-use Rattle.reply_ledger.specs.Ledger.{Passed, Connection, Ledger, connection_of, stamped, stamped_to, bytes_of, stamps_of, IsInOrder, passed_to, new_connection, passed_connection, with_connection, with_change, with_send, with_passed}
-use Rattle.reply_ledger.specs.Trials.{until, trial_sends, adopted, Covers, CoversBefore}
-use Rattle.reply_ledger.specs.Trimming.{trimmed_connections, without}
-use Rattle.reply_ledger.specs.Inside.{earlier_at}
+use Rattle.reply_ledger.proofs.Terms.{Bool, List, None, Option, Some, [], ap, append-nil, append_assoc, arith, cond, drop, false, if◌then◌else◌, is_some, length, length-append, length-drop, refl, subst, suc, sym, take, true, zero, ℕ, ◌++◌, ◌+◌, ◌<◌, ◌∙◌, ◌∷◌, ◌≡◌, ◌≤◌, drop-append_seam, take-add, take-append_seam, eqb-true, leb-false, lt-leb, true≢false, drop-append-le, drop-drop, drop_all, length-take-le, take-append-drop, take-append-le, flat_map-append, AllByRecursion, flat_map, IsSome, nat_le, ◌==◌, Prefix, Send, sent_to, Connection, IsInOrder, Ledger, Passed, bytes_of, connection_of, new_connection, passed_connection, passed_to, stamped, stamped_to, stamps_of, with_change, with_connection, with_passed, with_send, Covers, CoversBefore, adopted, trial_sends, until, trimmed_connections, without, earlier_at}
 use Rattle.reply_ledger.specs.Shows.{Shows, stamped_of, pieces_until}
 use Rattle.reply_ledger.proofs.RunLemmas.{bytes_of-append, bytes_of-stamped, until-stamped, until-append}
-use Rattle.reply_ledger.proofs.StandsLemmas.{until-front}
+use Rattle.reply_ledger.proofs.StandsLemmas.{until-front, bytes_of-drop, prefix-drop}
 use Rattle.reply_ledger.proofs.ConnectionLemmas.{connection_of-changed, connection_of-push, connection_of-trimmed, stamped_to-changed, earlier_at-changed, stamped_to-passed, stamped_to-push, earlier_at-push, stamped_to-trimmed, earlier_at-trimmed}
 use Rattle.reply_ledger.proofs.EntryLemmas.{sent_to-append}
 
@@ -184,17 +171,6 @@ fronts-agree (f ∷ front) xs ys (x ∷ p) h k =
     let rest = fronts-agree front xs ys p (h.0, tail) k in
     (rest.0, (λ i. same i ∷ rest.1 i))
 
-fronts-drop : (front ys p : List ℕ) → Prefix p (front ++ ys) → Prefix (drop (length front) p) ys
-fronts-drop [] ys p h = h
-fronts-drop (f ∷ front) ys [] h = (ys, refl)
-fronts-drop (f ∷ front) ys (x ∷ p) h = fronts-drop front ys p (h.0, (let e : p ++ h.0 ≡ front ++ ys = (cc (h.1)) in e))
-
-bytes_of-drop : (n : ℕ) (xs : List Passed) → bytes_of (drop n xs) ≡ drop n (bytes_of xs)
-unfolding bytes_of
-bytes_of-drop zero xs = refl
-bytes_of-drop (suc n) [] = refl
-bytes_of-drop (suc n) (x ∷ xs) = bytes_of-drop n xs
-
 -- what the ledger has of the passed bytes
 pub shown_passed : (ledger : Ledger) (sends passed : List Send) → Shows ledger sends passed → (conn : ℕ) → passed_to ledger conn ≡ drop (length (sent_to conn (take ledger.first sends))) (sent_to conn passed)
 shown_passed ledger sends passed h conn =
@@ -212,7 +188,7 @@ shows-covers ledger sends passed h survivor covers conn =
 pub covers-shows : (ledger : Ledger) (sends passed : List Send) → Shows ledger sends passed → ((conn : ℕ) → Prefix (sent_to conn passed) (sent_to conn (take ledger.first sends ++ trial_sends ledger))) → Covers ledger
 covers-shows ledger sends passed h all conn =
     subst (λ (l : List ℕ). Prefix l (sent_to conn (trial_sends ledger))) (sym (shown_passed ledger sends passed h conn))
-    (fronts-drop (sent_to conn (take ledger.first sends)) (sent_to conn (trial_sends ledger)) (sent_to conn passed) (subst (Prefix (sent_to conn passed)) (sent_to-append conn (take ledger.first sends) (trial_sends ledger)) (all conn)))
+    (prefix-drop (sent_to conn (take ledger.first sends)) (sent_to conn (trial_sends ledger)) (sent_to conn passed) (subst (Prefix (sent_to conn passed)) (sent_to-append conn (take ledger.first sends) (trial_sends ledger)) (all conn)))
 
 -- the pieces in time are what was passed in time
 until-one : (item stamp : ℕ) (bytes : List ℕ) (b : Bool) → nat_le stamp item ≡ b → until item (stamped stamp bytes) ≡ (if b then stamped stamp bytes else [])
@@ -283,4 +259,4 @@ pub covers_before-shows : (ledger : Ledger) (sends passed : List Send) (item : �
     → ((conn : ℕ) → Prefix (sent_to conn (pieces_until item passed)) (sent_to conn (take ledger.first sends ++ trial_sends ledger))) → CoversBefore ledger item
 covers_before-shows ledger sends passed item h order all conn =
     subst (λ (l : List ℕ). Prefix l (sent_to conn (trial_sends ledger))) (sym (shown_until ledger sends passed item h conn (order conn)))
-    (fronts-drop (sent_to conn (take ledger.first sends)) (sent_to conn (trial_sends ledger)) (sent_to conn (pieces_until item passed)) (subst (Prefix (sent_to conn (pieces_until item passed))) (sent_to-append conn (take ledger.first sends) (trial_sends ledger)) (all conn)))
+    (prefix-drop (sent_to conn (take ledger.first sends)) (sent_to conn (trial_sends ledger)) (sent_to conn (pieces_until item passed)) (subst (Prefix (sent_to conn (pieces_until item passed))) (sent_to-append conn (take ledger.first sends) (trial_sends ledger)) (all conn)))

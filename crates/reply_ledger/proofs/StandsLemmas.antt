@@ -1,36 +1,11 @@
 -- What a ledger's calls keep.
-use Rattle.std.proofs.Common.{◌≡◌, ℕ, zero, suc, ◌+◌, ◌-◌, ◌<◌, ◌≤◌, Bool, true, false, ◌&&◌, not, List, [], ◌∷◌, ◌++◌, length, map, take, drop, get_or, Option, None, Some, refl, sym, ◌∙◌, ap, subst, arith, cond, if◌then◌else◌, append-nil, append_assoc, length-append, length-drop}
-use Rattle.std.specs.Prelude.{nat_eq, nat_lt, nat_le, ◌==◌, IsSome, min, unwrap_or}
-use Rattle.std.specs.List.{AllByRecursion, IsDistinct, list_all, position_or_len}
-use Rattle.std.specs.Map.{lookup, keys_of, values_of}
-use Rattle.reply_ledger.specs.Trials.{agree, until}
-use Rattle.reply_ledger.specs.Tallies.{Tally, retallied, connections_of, number_at}
-use Rattle.reply_ledger.specs.Inside.{tried_ends}
+use Rattle.std.specs.Prelude.{min}
+use Rattle.reply_ledger.proofs.Terms.{Bool, List, None, Option, Some, [], ap, append-nil, append_assoc, arith, cond, drop, false, get_or, if◌then◌else◌, inl, inr, length, length-append, length-drop, map, not, refl, subst, suc, sym, take, true, zero, ℕ, ◌&&◌, ◌++◌, ◌+◌, ◌-◌, ◌<◌, ◌∙◌, ◌∷◌, ◌≡◌, ◌≤◌, drop-append_seam, and_from, and_left, and_parts, and_right, cases_lt, eq-eqb, eqb-true, le-leb, leb-false, leb-true, lt-leb, lt-ltb, ltb-true, true≢false, drop_all, get_or_default, nil_from_length, take-append-drop, All-from_recursion, All-get_or, fails_before_first, AllByRecursion, IsDistinct, list_all, position_or_len, keys_of, lookup, values_of, option_map, option_map_or, IsSome, find, nat_eq, nat_le, nat_lt, unwrap_or, ◌==◌, ◌⊎◌, Prefix, Send, sent_to, Entry, Connection, IsInOrder, NotBefore, Passed, bytes_of, changed, connection_of, is_open, new_connection, passed_connection, stamped, stamped_to, stamps_of, times_of, parts_behind, waits, agree, until, trimmed_connections, Tally, connections_of, number_at, retallied, rest_of, send_of, sends_of, stream_behind, Laid, Stands, Tries, TriesIfAny, earlier_at, part_of, trial_of, tried_ends, waits_in}
 use Rattle.reply_ledger.proofs.TallyLemmas.{number_at-some, passed_at-some, passed_at-none}
-use Rattle.reply_ledger.proofs.ConnectionLemmas.{number_at-set, earlier_at-of, stamped_to-of, keys-of}
-use Rattle.reply_ledger.proofs.PositionLemmas.{tested, not-empty, position-map, position-at, find-none, find-at, find-map}
-use Rattle.std.proofs.lemmas.Bool.{and_left, and_right, cases_lt}
-use Rattle.std.proofs.lemmas.List.{get_or_default}
-use Rattle.std.proofs.Common.{inl, inr}
-use Rattle.std.specs.Prelude.{find, ◌⊎◌}
-use Rattle.std.specs.Option.{option_map, option_map_or}
-use Rattle.reply_ledger.proofs.EntryLemmas.{later-at}
-use Rattle.std.proofs.lemmas.Bool.{leb-true, leb-false, le-leb, lt-leb}
-use Rattle.std.proofs.lemmas.Bool.{eqb-true, eq-eqb, true≢false, and_parts, and_from, ltb-true, lt-ltb}
-use Rattle.std.proofs.lemmas.List.{drop_all, take-append-drop}
-use Rattle.std.proofs.Math.Seq.{drop-append_seam}
-use Rattle.rx_io.specs.Sends.{Send, sent_to}
-use Rattle.rx_io.specs.Prefix.{Prefix}
-use Rattle.reply_ledger.specs.declared.entry.Entry.{Entry}
-use Rattle.reply_ledger.specs.Ledger.{Passed, Connection, connection_of, is_open, stamped_to, bytes_of, stamps_of, stamped, times_of, changed, new_connection, passed_connection, NotBefore, IsInOrder}
-use Rattle.reply_ledger.specs.Parts.{waits, parts_behind}
-use Rattle.reply_ledger.specs.Trimming.{trimmed_connections}
-use Rattle.reply_ledger.specs.Entries.{send_of, sends_of, rest_of, stream_behind}
-use Rattle.reply_ledger.specs.Inside.{Laid, Stands, Tries, TriesIfAny, earlier_at, part_of, waits_in, trial_of}
-use Rattle.reply_ledger.proofs.RunLemmas.{length-bytes_of, bytes_of-append, bytes_of-stamped, stamps_of-append, empty_of_length}
-use Rattle.reply_ledger.proofs.PositionLemmas.{position-le, position-same, position-later, position-drop, position-before}
-use Rattle.reply_ledger.proofs.ConnectionLemmas.{keys-changed, stamped_to-changed, earlier_at-changed, is_open-changed, is_open-marked, stamped_to-passed, stamped_to-push, earlier_at-push, is_open-push, stamped_to-trimmed, earlier_at-trimmed, is_open-trimmed, keys-trimmed}
-use Rattle.reply_ledger.proofs.EntryLemmas.{laid-same, laid-none, laid-push, laid-take, laid-drop, parts-laid, stream-laid, stream-from, no_bytes, of_parts, sends_of-append, sends_of-one, sent_to-append, order-behind, length_parts}
+use Rattle.reply_ledger.proofs.ConnectionLemmas.{number_at-set, earlier_at-of, stamped_to-of, keys-of, keys-changed, stamped_to-changed, earlier_at-changed, is_open-changed, is_open-marked, stamped_to-passed, stamped_to-push, earlier_at-push, is_open-push, stamped_to-trimmed, earlier_at-trimmed, is_open-trimmed, keys-trimmed}
+use Rattle.reply_ledger.proofs.PositionLemmas.{tested, not-empty, position-map, position-at, find-none, find-at, find-map, position-le, position-same, position-later, position-drop}
+use Rattle.reply_ledger.proofs.EntryLemmas.{later-at, laid-same, laid-none, laid-push, laid-take, laid-drop, parts-laid, stream-laid, stream-from, no_bytes, of_parts, sends_of-append, sends_of-one, sent_to-append, order-behind, length_parts}
+use Rattle.reply_ledger.proofs.RunLemmas.{length-bytes_of, bytes_of-append, bytes_of-stamped, stamps_of-append}
 
 -- which sends wait, by readings of their connections
 pub waits-same : (C C' : List Connection) (e : Entry) → is_open C' e.conn ≡ is_open C e.conn → earlier_at C' e.conn ≡ earlier_at C e.conn → stamped_to C' e.conn ≡ stamped_to C e.conn → waits_in C' e ≡ waits_in C e
@@ -256,9 +231,9 @@ stream-is {C = C} {E = E} {n = n} conn from at h is place =
     by true o e k d lt within same =
         let before : k < position_or_len (waits_in C) E = omega (arith, lt, e, h.cursor) in
         let opened : is_open C (get_or E k d).conn ≡ true = ap (is_open C) same ∙ o in
-        let none = waits-not C (get_or E k d) opened (position-before (waits_in C) E k d before) in
+        let none = waits-not C (get_or E k d) opened (fails_before_first (waits_in C) E k d before) in
         let here : earlier_at C (get_or E k d).conn + length (stamped_to C (get_or E k d).conn) ≡ at = ap (λ (q : ℕ). earlier_at C q + length (stamped_to C q)) same ∙ sym place in
-        empty_of_length (rest_of at (get_or E k d)) (ap (λ (m : ℕ). length (rest_of m (get_or E k d))) (sym here) ∙ none)
+        nil_from_length (rest_of at (get_or E k d)) (ap (λ (m : ℕ). length (rest_of m (get_or E k d))) (sym here) ∙ none)
     by false o e k d lt within same = absurd (omega (arith, lt, e))
 
 -- the parts as the contracts see them
@@ -378,9 +353,7 @@ each-list_all p [] h = tt
 each-list_all p (v ∷ vs) h = let parts = and_parts (p v) (list_all p vs) h in (parts.0, each-list_all p vs parts.1)
 
 pub all-each : (P : Tally → Type 0) (vs : List Tally) → AllByRecursion P vs → (k : ℕ) (d : Tally) → k < length vs → P (get_or vs k d)
-all-each P [] h k d lt = absurd (omega arith)
-all-each P (v ∷ vs) h zero d lt = h.0
-all-each P (v ∷ vs) h (suc k) d lt = all-each P vs h.1 k d (omega arith)
+all-each P vs h k d lt = All-get_or P vs k d lt (All-from_recursion P vs h)
 
 bytes_of-none : bytes_of [] ≡ []
 unfolding bytes_of
@@ -470,9 +443,9 @@ settled-passed {C = C} {s = s} {E = E} {n = n} count q h le o =
     let same = stream-from q (earlier_at C q + length (stamped_to C q)) count E (λ k d lt in_range at_q.
     let opened : is_open C (get_or E k d).conn ≡ true = ap (is_open C) at_q ∙ o in
     let before : k < position_or_len (waits_in C) E = omega (arith, lt, le, h.cursor) in
-    let none = waits-not C (get_or E k d) opened (position-before (waits_in C) E k d before) in
+    let none = waits-not C (get_or E k d) opened (fails_before_first (waits_in C) E k d before) in
     let here : earlier_at C (get_or E k d).conn + length (stamped_to C (get_or E k d).conn) ≡ earlier_at C q + length (stamped_to C q) = ap (λ (c : ℕ). earlier_at C c + length (stamped_to C c)) at_q in
-    empty_of_length (rest_of (earlier_at C q + length (stamped_to C q)) (get_or E k d)) (ap (λ (m : ℕ). length (rest_of m (get_or E k d))) (sym here) ∙ none)) in
+    nil_from_length (rest_of (earlier_at C q + length (stamped_to C q)) (get_or E k d)) (ap (λ (m : ℕ). length (rest_of m (get_or E k d))) (sym here) ∙ none)) in
     let long = ap length (sym rest ∙ same ∙ all) in
     let whole : length (sent_to q (sends_of (take count E))) + length (sent_to q (sends_of (drop count E))) ≡ length (sent_to q (sends_of E)) = sym (length_parts q (take count E) (drop count E)) ∙ ap (λ (l : List Entry). length (sent_to q (sends_of l))) (take-append-drop count E) in
     let left = length-drop (earlier_at C q + length (stamped_to C q) - earlier_at C q - 0) (sent_to q (sends_of E)) in
@@ -499,12 +472,12 @@ waits-trimmed {C = C} {E = E} count e h le false o =
     ap (λ (b : Bool). b && nat_lt 0 (length (rest_of (earlier_at (trimmed_connections (sends_of (take count E)) C) e.conn + length (stamped_to (trimmed_connections (sends_of (take count E)) C) e.conn)) e))) shut
     ∙ sym (ap (λ (b : Bool). b && nat_lt 0 (length (rest_of (earlier_at C e.conn + length (stamped_to C e.conn)) e))) o)
 
-prefix-drop : (front rest passed : List ℕ) → Prefix passed (front ++ rest) → Prefix (drop (length front) passed) rest
+pub prefix-drop : (front rest passed : List ℕ) → Prefix passed (front ++ rest) → Prefix (drop (length front) passed) rest
 prefix-drop [] rest passed p = p
 prefix-drop (f ∷ front) rest [] p = (rest, refl)
 prefix-drop (f ∷ front) rest (x ∷ passed) p = prefix-drop front rest passed (p.0, (let e : passed ++ p.0 ≡ front ++ rest = (cc (p.1)) in e))
 
-bytes_of-drop : (n : ℕ) (xs : List Passed) → bytes_of (drop n xs) ≡ drop n (bytes_of xs)
+pub bytes_of-drop : (n : ℕ) (xs : List Passed) → bytes_of (drop n xs) ≡ drop n (bytes_of xs)
 unfolding bytes_of
 bytes_of-drop zero xs = refl
 bytes_of-drop (suc n) [] = refl
@@ -553,14 +526,14 @@ next-found {C = C} {E = E} {n = n} until e h lt is le =
     let here : waits_in C e ≡ true = ap (waits_in C) is ∙ position-at (waits_in C) E n e h.cursor lt in
     ap (find (λ (p : Send). waits C p && nat_le p.taken until)) (parts-are h) ∙ find-map (λ (p : Send). waits C p && nat_le p.taken until) (part_of C) E
     ∙ ap (option_map (part_of C)) (find-at (λ (x : Entry). waits_in C x && nat_le x.taken until) E n e lt is (and_from (waits_in C e) (nat_le e.taken until) here (le-leb e.taken until le))
-    (λ k d before. and_left (waits_in C (get_or E k d)) (nat_le (get_or E k d).taken until) (position-before (waits_in C) E k d (omega (arith, before, h.cursor)))))
+    (λ k d before. and_left (waits_in C (get_or E k d)) (nat_le (get_or E k d).taken until) (fails_before_first (waits_in C) E k d (omega (arith, before, h.cursor)))))
 
 pub next-none : {C : List Connection} {s : ℕ → ℕ} {E : List Entry} {n : ℕ} (until : ℕ) → Stands C s E n → length E ≤ n
     → find (λ (p : Send). waits C p && nat_le p.taken until) (parts_behind C [] (sends_of E)) ≡ None
 next-none {C = C} {E = E} {n = n} until h le =
     ap (find (λ (p : Send). waits C p && nat_le p.taken until)) (parts-are h) ∙ find-map (λ (p : Send). waits C p && nat_le p.taken until) (part_of C) E
     ∙ ap (option_map (part_of C)) (find-none (λ (x : Entry). waits_in C x && nat_le x.taken until) E
-    (λ k d lt. and_left (waits_in C (get_or E k d)) (nat_le (get_or E k d).taken until) (position-before (waits_in C) E k d (omega (arith, lt, le, h.cursor)))))
+    (λ k d lt. and_left (waits_in C (get_or E k d)) (nat_le (get_or E k d).taken until) (fails_before_first (waits_in C) E k d (omega (arith, lt, le, h.cursor)))))
 
 pub next-late : {C : List Connection} {s : ℕ → ℕ} {E : List Entry} {n : ℕ} (until : ℕ) (e : Entry) → Stands C s E n → n < length E → e ≡ get_or E n e → until < e.taken
     → find (λ (p : Send). waits C p && nat_le p.taken until) (parts_behind C [] (sends_of E)) ≡ None
@@ -569,7 +542,7 @@ next-late {C = C} {E = E} {n = n} until e h lt is late =
     ∙ ap (option_map (part_of C)) (find-none (λ (x : Entry). waits_in C x && nat_le x.taken until) E (λ k d within. by k d within (cases_lt k n)))
   where
     by : (k : ℕ) (d : Entry) → k < length E → (k < n) ⊎ (n ≤ k) → (waits_in C (get_or E k d) && nat_le (get_or E k d).taken until) ≡ false
-    by k d within (inl before) = and_left (waits_in C (get_or E k d)) (nat_le (get_or E k d).taken until) (position-before (waits_in C) E k d (omega (arith, before, h.cursor)))
+    by k d within (inl before) = and_left (waits_in C (get_or E k d)) (nat_le (get_or E k d).taken until) (fails_before_first (waits_in C) E k d (omega (arith, before, h.cursor)))
     by k d within (inr behind) =
         let same : get_or E n d ≡ e = get_or_default E n d e lt ∙ sym is in
         let after : e.taken ≤ (get_or E k d).taken = subst (λ (x : Entry). x.taken ≤ (get_or E k d).taken) same (later-at E n k d h.laid.times behind within) in
@@ -598,7 +571,7 @@ rests-before {C = C} {E = E} {n = n} conn from h is k d lt = by (is_open C conn)
     by true o e = tested ((get_or E k d).conn == conn)
         (λ p.
         let opened : is_open C (get_or E k d).conn ≡ true = ap (is_open C) (eqb-true (get_or E k d).conn conn p) ∙ o in
-        let none = waits-not C (get_or E k d) opened (position-before (waits_in C) E k d (omega (arith, lt, e, h.cursor))) in
+        let none = waits-not C (get_or E k d) opened (fails_before_first (waits_in C) E k d (omega (arith, lt, e, h.cursor))) in
         and_right ((get_or E k d).conn == conn) _ (ap (nat_lt 0) none))
         (λ p. and_left ((get_or E k d).conn == conn) _ p)
     by false o e = absurd (omega (arith, lt, e))

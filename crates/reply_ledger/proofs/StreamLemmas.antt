@@ -1,8 +1,6 @@
 -- Streams of bytes, taken from sends.
-use Rattle.std.proofs.Common.{◌≡◌, ℕ, zero, suc, ◌+◌, ◌-◌, ◌<◌, ◌≤◌, List, [], ◌∷◌, ◌++◌, length, take, drop, get_or, min, if◌then◌else◌, ◌==◌, refl, sym, ◌∙◌, ap, arith, add-one, append_assoc, drop-cons, append-nil}
-use Rattle.std.proofs.lemmas.List.{take_all, take_min, drop_all}
-use Rattle.reply_ledger.specs.declared.entry.Entry.{Entry}
-use Rattle.reply_ledger.specs.Entries.{rest_of, stream_behind}
+use Rattle.std.proofs.Common.{◌==◌}
+use Rattle.reply_ledger.proofs.Terms.{List, [], add-one, ap, append-nil, append_assoc, arith, drop, drop-cons, get_or, if◌then◌else◌, length, min, refl, suc, sym, take, zero, ℕ, ◌++◌, ◌+◌, ◌-◌, ◌<◌, ◌∙◌, ◌∷◌, ◌≡◌, ◌≤◌, drop_all, take_all, take_min, Entry, rest_of, stream_behind}
 
 -- the stream of the sends from one on begins with that one's part
 pub stream-here : (conn at i : ℕ) (entries : List Entry) (e : Entry) → i < length entries → e ≡ get_or entries i e

@@ -1,16 +1,7 @@
 -- What is kept of connections: one of them read or changed, or all of them.
-use Rattle.std.proofs.Common.{◌≡◌, ℕ, zero, suc, ◌+◌, ◌<◌, Bool, true, false, List, [], ◌∷◌, ◌++◌, length, take, drop, Option, None, Some, refl, sym, ◌∙◌, ap, subst, arith, cond, if◌then◌else◌, add-one}
-use Rattle.std.proofs.lemmas.Bool.{eqb-true, and_parts}
-use Rattle.std.specs.Prelude.{nat_eq}
-use Rattle.std.specs.Option.{option_map_or}
-use Rattle.std.specs.List.{IsDistinct, AllByRecursion, list_all}
-use Rattle.std.proofs.Common.{length-append}
-use Rattle.std.specs.Map.{lookup, keys_of, values_of, set_value}
-use Rattle.std.specs.Prelude.{slice_get, OnOk, OnErr}
-use Rattle.std.proofs.Common.{Result, Ok, Err}
 use Rattle.indexmap.specs.IndexMap.{set_value_at}
-use Rattle.std.proofs.lemmas.List.{length-map, take-append-drop}
-use Rattle.reply_ledger.specs.Tallies.{Tally, retallied, all_retallied, number_at, passed_at}
+use Rattle.std.proofs.lemmas.List.Recursion.{and_at}
+use Rattle.reply_ledger.proofs.Terms.{Bool, List, None, Option, Some, [], add-one, ap, arith, cond, drop, false, if◌then◌else◌, length, length-append, refl, subst, suc, sym, take, true, zero, ℕ, ◌++◌, ◌+◌, ◌<◌, ◌∙◌, ◌∷◌, ◌≡◌, eqb-true, length-map, take-append-drop, get_or_from_slice_get, slice_get_within, AllByRecursion, IsDistinct, list_all, keys_of, lookup, set_value, values_of, option_map_or, nat_eq, slice_get, Tally, all_retallied, number_at, passed_at, retallied}
 
 -- keys are distinct, so none behind the first is like it
 none_like : (conn : ℕ) (change : Tally → Tally) (es : List (ℕ × Tally)) → AllByRecursion (λ (y : ℕ). nat_eq conn y ≡ false) (keys_of es) → retallied conn change es ≡ es
@@ -80,14 +71,6 @@ pub passed_at-none : (es : List (ℕ × Tally)) (conn : ℕ) → None ≡ lookup
 unfolding passed_at
 passed_at-none es conn h = ap (λ (o : Option Tally). option_map_or (λ (t : Tally). t.passed) o []) (sym h)
 
-pub on_ok : {T E P Q : Type 0} (r : Result T E) → (P → Q) → OnOk r P → OnOk r Q
-on_ok (Ok x) f h = f h
-on_ok (Err e) f h = h
-
-pub on_err : {T E P Q : Type 0} (r : Result T E) → (P → Q) → OnErr r P → OnErr r Q
-on_err (Ok x) f h = h
-on_err (Err e) f h = f h
-
 -- one more of all is changed
 more_at : (change : Tally → Tally) (es : List (ℕ × Tally)) (i : ℕ) (v : Tally) → i < length es → slice_get (values_of (all_retallied change (take i es) ++ drop i es)) i ≡ Some v
     → set_value_at (all_retallied change (take i es) ++ drop i es) i (change v) ≡ all_retallied change (take (suc i) es) ++ drop (suc i) es
@@ -124,6 +107,4 @@ value_unchanged change (e ∷ es) zero = refl
 value_unchanged change (e ∷ es) (suc i) = value_unchanged change es i
 
 pub list_all-at : (p : Tally → Bool) (vs : List Tally) (i : ℕ) (v : Tally) → list_all p vs ≡ true → slice_get vs i ≡ Some v → p v ≡ true
-list_all-at p [] i v h g = absurd (let no : ⊥ = cc in no)
-list_all-at p (x ∷ vs) zero v h g = let same : x ≡ v = (cc) in ap p (sym same) ∙ (and_parts (p x) (list_all p vs) h).0
-list_all-at p (x ∷ vs) (suc i) v h g = list_all-at p vs i v (and_parts (p x) (list_all p vs) h).1 g
+list_all-at p vs i v h g = ap p (sym (get_or_from_slice_get vs i v v g)) ∙ and_at (list_all p) p refl (λ x xs. refl) vs i v (slice_get_within vs i v g) h

@@ -1,14 +1,5 @@
 -- Which sends may still be passed.
-use Rattle.std.proofs.Common.{◌≡◌, ℕ, ◌+◌, Bool, false, ◌&&◌, not, List, length, Option, None, Some, sym, ◌∙◌, ap}
-use Rattle.std.specs.Prelude.{nat_eq, nat_lt, ◌==◌}
-use Rattle.std.specs.Option.{option_map_or}
-use Rattle.std.specs.Map.{lookup}
-use Rattle.reply_ledger.specs.declared.entry.Entry.{Entry}
-use Rattle.reply_ledger.specs.Ledger.{stamped_to}
-use Rattle.reply_ledger.specs.Parts.{waits}
-use Rattle.reply_ledger.specs.Tallies.{Tally, connections_of, is_open_in, open_tally, passed_end}
-use Rattle.reply_ledger.specs.Entries.{rest_of}
-use Rattle.reply_ledger.specs.Inside.{earlier_at, waits_in}
+use Rattle.reply_ledger.proofs.Terms.{Bool, List, None, Option, Some, ap, false, length, not, sym, ℕ, ◌&&◌, ◌+◌, ◌∙◌, ◌≡◌, lookup, option_map_or, nat_eq, nat_lt, ◌==◌, Entry, stamped_to, waits, Tally, connections_of, is_open_in, open_tally, passed_end, rest_of, earlier_at, waits_in}
 use Rattle.reply_ledger.proofs.TallyLemmas.{number_at-some}
 use Rattle.reply_ledger.proofs.ConnectionLemmas.{is_open-of, passed_end-of}
 use Rattle.reply_ledger.proofs.PositionLemmas.{not-empty}

@@ -1,13 +1,13 @@
 -- What the code keeps of each send.
 use Rattle.std.specs.Prelude.{ℕ, ◌-◌, List, [], map, drop, if◌then◌else◌, ◌==◌}
-use Rattle.std.specs.List.{flat_map}
-use Rattle.rx_io.specs.Sends.{Send}
+use Rattle.reply_ledger.specs.Terms.{flat_map, Send}
 use Rattle.reply_ledger.specs.declared.entry.Entry.{Entry}
 
 -- a send without its place
 abbrev pub send_of : Entry → Send
 send_of e = record { conn = e.conn; bytes = e.bytes; taken = e.taken }
 
+-- all of them without their places
 unfoldable pub sends_of : List Entry → List Send
 sends_of entries = map send_of entries
 

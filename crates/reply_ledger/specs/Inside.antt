@@ -1,9 +1,6 @@
 -- What the fields of a ledger stand for, and what always holds of them.
 use Rattle.std.specs.Prelude.{◌≡◌, ℕ, ◌+◌, ◌<◌, ◌≤◌, Bool, List, [], ◌++◌, length, map, take, Option, None, Some, slice_index_or, nat_eq}
-use Rattle.std.specs.Option.{option_map_or}
-use Rattle.std.specs.List.{position_or_len, IsDistinct}
-use Rattle.rx_io.specs.Sends.{Send, sent_to}
-use Rattle.rx_io.specs.Prefix.{Prefix}
+use Rattle.reply_ledger.specs.Terms.{IsDistinct, position_or_len, option_map_or, Prefix, Send, sent_to}
 use Rattle.reply_ledger.specs.Ledger.{Connection, connection_of, bytes_of, stamped_to, stamps_of, times_of, IsInOrder}
 use Rattle.reply_ledger.specs.Parts.{waits}
 use Rattle.reply_ledger.specs.Tallies.{Tally, number_at}
@@ -22,6 +19,7 @@ part_of connections e = record {
   taken = e.taken;
 }
 
+-- whether bytes of a send wait to be passed
 abbrev pub waits_in : List Connection → Entry → Bool
 waits_in connections e = waits connections (part_of connections e)
 
@@ -46,9 +44,11 @@ pub record Tries (connections : List Connection) (finish : ℕ → ℕ) (entries
   pub room : shared + length own ≤ capacity
   pub laid : Laid (earlier_at connections) finish (take shared entries ++ own)
 
+-- where in each connection's stream the survivor's bytes end
 abbrev pub sent_ends : List (ℕ × Tally) → ℕ → ℕ
 sent_ends tallies = number_at (λ t. t.sent) tallies
 
+-- where in each connection's stream the trial's bytes end
 abbrev pub tried_ends : List (ℕ × Tally) → ℕ → ℕ
 tried_ends tallies = number_at (λ t. t.tried) tallies
 
@@ -57,6 +57,7 @@ abbrev pub trial_of : List Entry → List Entry → Option ℕ → Option (List 
 trial_of entries own None = None
 trial_of entries own (Some shared) = Some (sends_of (take shared entries ++ own))
 
+-- that holds of a trial's sends, if there is a trial
 abbrev pub TriesIfAny : List Connection → (ℕ → ℕ) → List Entry → List Entry → ℕ → Option ℕ → Type 0
 TriesIfAny connections finish entries own room None = own ≡ []
 TriesIfAny connections finish entries own room (Some shared) = Tries connections finish entries own room shared

@@ -1,3 +1,4 @@
+pub mod Terms
 pub mod Ledger
 pub mod Parts
 pub mod Trials

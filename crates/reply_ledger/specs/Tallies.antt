@@ -1,7 +1,6 @@
 -- What the code keeps of each connection.
 use Rattle.std.specs.Prelude.{◌≡◌, ℕ, ◌+◌, ◌-◌, ◌<◌, Bool, false, true, ◌⊎◌, ◌&&◌, not, nat_le, is_some, List, [], ◌∷◌, ◌++◌, length, map, take, drop, nat_eq, if◌then◌else◌, ◌==◌}
-use Rattle.std.specs.Option.{option_map_or}
-use Rattle.std.specs.Map.{lookup}
+use Rattle.reply_ledger.specs.Terms.{lookup, option_map_or}
 use Rattle.reply_ledger.specs.Ledger.{Passed, Connection, stamped}
 use Rattle.reply_ledger.specs.Trials.{until}
 use Rattle.reply_ledger.specs.declared.account.Run.{Run}
@@ -16,6 +15,7 @@ pub record Tally : Type 0 where
   pub sent : ℕ
   pub tried : ℕ
 
+-- what is kept of a connection that has just opened
 abbrev pub new_tally : Tally
 new_tally = record { closed = false; gone = false; earlier = 0; passed = []; sent = 0; tried = 0 }
 
@@ -34,6 +34,7 @@ RunsFrom at end (run ∷ runs) = (at < run.end) × RunsFrom run.end end runs
 abbrev pub seen : ℕ × Tally → Connection
 seen entry = record { conn = entry.0; closed = entry.1.closed; gone = entry.1.gone; earlier = entry.1.earlier; passed = entry.1.passed }
 
+-- all connections, as contracts see them
 unfoldable pub connections_of : List (ℕ × Tally) → List Connection
 connections_of tallies = map seen tallies
 
@@ -45,12 +46,15 @@ number_at reading tallies conn = option_map_or reading (lookup (nat_eq conn) tal
 abbrev pub passed_end : Tally → ℕ
 passed_end t = t.earlier + length t.passed
 
+-- the connection hasn't closed, and isn't gone
 abbrev pub open_tally : Tally → Bool
 open_tally t = not t.closed && not t.gone
 
+-- a connection with this number opened, hasn't closed, and isn't gone
 unfoldable pub is_open_in : List (ℕ × Tally) → ℕ → Bool
 is_open_in tallies conn = option_map_or open_tally (lookup (nat_eq conn) tallies) false
 
+-- a connection with this number has opened
 abbrev pub is_known : List (ℕ × Tally) → ℕ → Bool
 is_known tallies conn = is_some (lookup (nat_eq conn) tallies)
 
@@ -58,6 +62,7 @@ is_known tallies conn = is_some (lookup (nat_eq conn) tallies)
 unfoldable pub passed_at : List (ℕ × Tally) → ℕ → List Passed
 passed_at tallies conn = option_map_or (λ t. t.passed) (lookup (nat_eq conn) tallies) []
 
+-- a tally after its connection closed or was found gone, was sent to, tried, begun or adopted, or its bytes were passed or given up
 abbrev pub closed_tally : Tally → Tally
 closed_tally t = record t { closed = true }
 
@@ -99,6 +104,7 @@ runs_past at (run ∷ runs) = if nat_le run.end at then runs_past at runs else r
 abbrev pub NotesInLast : ℕ → ℕ → List Run → List Run → Type 0
 NotesInLast end stamp old new = (front : List Run) × (last : Run) × (old ≡ front ++ last ∷ []) × (last.stamp ≡ stamp) × (new ≡ front ++ record { end = end; stamp = stamp } ∷ [])
 
+-- the stamp of the bytes from one place up to another is noted, in the last run or in one more; no byte needs none
 abbrev pub Notes : ℕ → ℕ → ℕ → List Run → List Run → Type 0
 Notes at end stamp old new = ((at ≡ end) × (new ≡ old)) ⊎ ((at < end) × ((new ≡ old ++ record { end = end; stamp = stamp } ∷ []) ⊎ NotesInLast end stamp old new))
 

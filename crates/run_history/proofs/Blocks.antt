@@ -1,28 +1,5 @@
 -- The live blocks of a machine are those of the layout of its heap, and stay so along a served run.
-use Rattle.std.proofs.Common.{◌≡◌, inl, inr, ℕ, zero, suc, ◌+◌, Bool, true, false, not, cond, eqb, ltb, List, Option, Some, None, refl, sym, ◌∙◌, ap, subst, arith}
-use Rattle.std.specs.Prelude.{ℤ, slice_get}
-use Rattle.std.proofs.lemmas.Bool.{cases_Bool, cond_both}
-use Rattle.std.proofs.lemmas.Option.{none-some, same_Some}
-use Rattle.rx_io.specs.declared.bytes.Item.{Item}
-use Rattle.rv_isa.specs.declared.instr.Instr.{Instr}
-use Rattle.rv_isa.specs.declared.instr.Instr.TheVariants.{Lui, Auipc, Jal, Jalr, Branch, Load, Store, OpImm, Op, Fence, Ecall, Ebreak}
-use Rattle.rv_isa.specs.declared.instr.BranchOp.{BranchOp}
-use Rattle.rv_isa.specs.Table.{row}
-use Rattle.rv_isa.specs.Meaning.{is_taken, displaced}
-use Rattle.block_book.specs.declared.choice.Choice.{Choice}
-use Rattle.block_book.specs.Heap.{Heap, IsHeap}
-use Rattle.block_book.specs.Answer.{is_allowed, live_blocks, without_live}
-use Rattle.alloc_env.specs.declared.env.Env.{Env}
-use Rattle.alloc_env.specs.Serving.{served_malloc, served_free, live_with}
-use Rattle.alloc_env.specs.Laws.{MallocServes, FreeFollows}
-use Rattle.elf_image.specs.Memory.{Area, read, write, execute, permitted, bytes_at}
-use Rattle.run_history.specs.declared.answer.Cause.TheVariants.{AssertFailed, BadAccess, BadJump, BadInstruction, BadCall}
-use Rattle.run_history.specs.Machine.{Machine, State, register, with_register, next_pc, Effect, Goes, Emits, Ends, Wants, Chooses, Fails}
-use Rattle.run_history.specs.Instruction.{goes_on, writes, jumps, branch}
-use Rattle.run_history.specs.Call.{takes, received, recv, may_send, answered, send, chooses, malloc, allocated, freed, free, call}
-use Rattle.run_history.specs.Run.{instruction, executed, word_at, does, after}
-use Rattle.run_history.specs.Touching.{instruction_at}
-use Rattle.run_history.specs.Served.{Guest, Request, Malloc, Free, Nothing, request_of, Grant, granted, grant}
+use Rattle.run_history.proofs.Terms.{Bool, List, None, Option, Some, arith, cond, eqb, false, inl, inr, ltb, not, refl, true, ℕ, ◌≡◌, cases_Bool, cond_both, ℤ, Item, Choice, BranchOp, Instr, Auipc, Branch, Ebreak, Ecall, Fence, Jal, Jalr, Load, Lui, Op, OpImm, Store, displaced, is_taken, row, Area, execute, permitted, read, AssertFailed, BadAccess, BadCall, BadJump, Chooses, Effect, Emits, Ends, Fails, Goes, Machine, Wants, next_pc, register, branch, goes_on, jumps, answered, call, free, may_send, received, recv, send, takes, does, executed, instruction, word_at, instruction_at, Free, Malloc, Nothing, Request, request_of}
 
 -- the live blocks and the ends of the heap are as they were
 pub record SameHeap (m new : Machine) : Type 0 where

@@ -1,15 +1,5 @@
 -- Laws of the connections that may be sent to: an open adds its own, a close removes it, and no send goes elsewhere.
-use Rattle.std.proofs.Common.{◌≡◌, ◌≢◌, ◌⊎◌, ℕ, ◌<◌, Bool, true, false, List, [], length, set, replicate, refl, sym, ◌∙◌, ap, subst, inl, inr, length-set, None}
-use Rattle.std.specs.Prelude.{slice_get, unwrap_or}
-use Rattle.std.proofs.lemmas.Bool.{cases_eq, cases_lt, eq-eqb, ne_eqb, both_ways}
-use Rattle.std.proofs.lemmas.Option.{unwrap_or-slice_get}
-use Rattle.std.proofs.lemmas.List.{length-replicate, get_or-replicate, get_or-set_same, get_or-set_other, get_or_past}
-use Rattle.rx_io.specs.declared.bytes.Item.{Item}
-use Rattle.run_history.specs.Machine.{Machine, no_connections, Emits}
-use Rattle.run_history.specs.Call.{connections_after, received}
-use Rattle.run_history.specs.Run.{does}
-use Rattle.run_history.proofs.Shapes.{Keeps}
-use Rattle.run_history.proofs.Runs.{emits_may, received_keeps}
+use Rattle.run_history.proofs.Terms.{Bool, List, ap, false, inl, inr, length, length-set, refl, replicate, set, subst, sym, true, ℕ, ◌<◌, ◌∙◌, ◌≡◌, ◌≢◌, ◌⊎◌, both_ways, cases_eq, cases_lt, eq-eqb, ne_eqb, get_or-replicate, get_or-set_other, get_or-set_same, get_or_past, length-replicate, unwrap_or-slice_get, slice_get, unwrap_or, Item, no_connections, connections_after}
 
 -- whether a connection may be sent to
 abbrev pub may : List Bool → ℕ → Bool
@@ -64,10 +54,6 @@ pub other_after : (item : Item) (connections : List Bool) → item.kind ≢ 1 �
 other_after item connections open_not close_not =
     let h = ne_eqb item.kind 1 open_not in let k = ne_eqb item.kind 3 close_not in rw (h, k) refl
 
--- an open's connection may be sent to
-pub opened_may : (item : Item) (connections : List Bool) → item.kind ≡ 1 → item.conn < length connections → may (connections_after item connections) item.conn ≡ true
-opened_may item connections kind low = rw (after_open item connections kind) (set_may connections item.conn true low)
-
 -- a close's connection may not be sent to
 pub closed_may : (item : Item) (connections : List Bool) → item.kind ≡ 3 → may (connections_after item connections) item.conn ≡ false
 closed_may item connections kind = rw (after_close item connections kind) (set_closed connections item.conn)
@@ -79,17 +65,6 @@ others_may item connections other apart =
       | inl opens ↦ rw (after_open item connections opens) (set_others connections item.conn other true apart)
       | inr opens_not ↦ elim (cases_eq item.kind 3) [
         | inl closes ↦ rw (after_close item connections closes) (set_others connections item.conn other false apart)
-        | inr closes_not ↦ rw (other_after item connections opens_not closes_not) refl
-      ]
-    ]
-
--- the list keeps its length
-pub length-connections_after : (item : Item) (connections : List Bool) → length (connections_after item connections) ≡ length connections
-length-connections_after item connections =
-    elim (cases_eq item.kind 1) [
-      | inl opens ↦ rw (after_open item connections opens) (length-set connections item.conn true)
-      | inr opens_not ↦ elim (cases_eq item.kind 3) [
-        | inl closes ↦ rw (after_close item connections closes) (length-set connections item.conn false)
         | inr closes_not ↦ rw (other_after item connections opens_not closes_not) refl
       ]
     ]
@@ -123,15 +98,3 @@ within_after P item connections before opens =
             | inr apart ↦ before.each conn (sym (others_may item connections conn apart) ∙ may_be)
           ];
     }
-
--- a recv of such an item keeps it
-pub within_received : (P : ℕ → Type 0) (item : Item) (m : Machine) → OpenWithin P m.connections → (item.kind ≡ 1 → P item.conn) → OpenWithin P (received item m).connections
-within_received P item m before opens = rw (received_keeps item m).connections (within_after P item m.connections before opens)
-
--- instructions that take no item keep it
-pub within_keeps : (P : ℕ → Type 0) (m new : Machine) (steps : ℕ) → Keeps m new steps → OpenWithin P m.connections → OpenWithin P new.connections
-within_keeps P m new steps keeps before = rw keeps.connections before
-
--- a send goes to a connection that has it
-pub within_sends : (P : ℕ → Type 0) (m new : Machine) (conn : ℕ) (bytes : List ℕ) → OpenWithin P m.connections → does None None m ≡ Emits conn bytes new → P conn
-within_sends P m new conn bytes within acts = within.each conn (emits_may m new conn bytes acts).allowed

@@ -1,33 +1,14 @@
 -- The definitions at values that were worked out by hand from the RISC-V manual's formats and the ELF specification.
-use Rattle.std.proofs.Common.{◌≡◌, ℕ, true, false, List, [], ◌∷◌, ◌++◌, length, map, Some, None, refl, lit<, lit≤, Option, None, Bool}
 use Rattle.std.specs.List.{All}
 use Rattle.std.proofs.lemmas.List.Elements.{All-cons, All-nil}
-use Rattle.std.specs.Prelude.{pos, negsuc, flat_map, option_and_then}
-use Rattle.rx_io.specs.declared.bytes.Item.{Item}
-use Rattle.rv_isa.specs.declared.instr.Instr.TheVariants.{Lui, Jal, Branch, Load, Store, OpImm, Op, Ecall}
 use Rattle.rv_isa.specs.declared.instr.BranchOp.TheVariants.{Beq, Blt, Bgeu}
 use Rattle.rv_isa.specs.declared.instr.LoadOp.TheVariants.{Lb, Lh, Lw, Lbu, Lhu}
 use Rattle.rv_isa.specs.declared.instr.StoreOp.TheVariants.{Sb, Sh, Sw}
 use Rattle.rv_isa.specs.declared.instr.ImmOp.TheVariants.{Addi, Srai}
 use Rattle.rv_isa.specs.declared.instr.RegOp.TheVariants.{Add, Div}
-use Rattle.rv_isa.specs.Words.{little_bytes, little_number, opcode, rd, funct3, rs1, rs2, funct7, imm_i, imm_s, imm_b, imm_u, imm_j}
-use Rattle.rv_isa.specs.Table.{row, branch_row, branch_op, load_row, load_op, store_row, store_op, imm_row, imm_op, op_row, reg_op, base_op, system_row}
-use Rattle.rv_isa.specs.Meaning.{displaced, indirect_target, word_sum, is_less_signed, shifted_right_signed, quotient_signed, extended}
-use Rattle.elf_image.specs.declared.image.Image.{Image}
 use Rattle.elf_image.specs.declared.segment.Segment.{Segment}
 use Rattle.elf_image.specs.Layout.{heap_floor, IsPlaced, overlap, no_load, bad_entry, too_large, layout_refusal}
-use Rattle.rx_io.specs.Sends.{sent_to}
-use Rattle.run_history.specs.declared.answer.Cause.TheVariants.{BadAccess, BadJump, AssertFailed, BadCall, Hang}
-use Rattle.elf_image.specs.Memory.{Area, execute, read, write, byte_at, permitted, bytes_at, put_bytes}
-use Rattle.elf_image.specs.Image.{base, heap_start, heap_end, stack_top, zeros, memory_of, written}
-use Rattle.run_history.specs.Machine.{Machine, State, register, with_register, start_machine, Goes, Emits, Ends, Chooses, Fails}
-use Rattle.run_history.specs.Instruction.{auipc, jal, jalr, branch, load, store, op_imm, op, fence, ebreak}
-use Rattle.run_history.specs.Call.{received, answered, send, allocated, freed, call}
-use Rattle.run_history.specs.Run.{instruction, does, next, run}
-use Rattle.run_history.specs.Served.{Limits, Guest, serves, Override, env_at}
-use Rattle.block_book.specs.declared.choice.Choice.{Choice}
-use Rattle.block_book.specs.Answer.{is_allowed, is_clear}
-use Rattle.alloc_env.specs.declared.env.Env.TheVariants.{Plain, Pad, Delay}
+use Rattle.run_history.proofs.Terms.{Bool, List, None, Option, Some, [], false, length, lit<, lit≤, map, refl, true, ℕ, ◌++◌, ◌∷◌, ◌≡◌, flat_map, negsuc, option_and_then, pos, Item, sent_to, Choice, is_allowed, is_clear, Delay, Pad, Plain, Branch, Ecall, Jal, Load, Lui, Op, OpImm, Store, displaced, extended, indirect_target, is_less_signed, quotient_signed, shifted_right_signed, word_sum, base_op, branch_op, branch_row, imm_op, imm_row, load_op, load_row, op_row, reg_op, row, store_op, store_row, system_row, funct3, funct7, imm_b, imm_i, imm_j, imm_s, imm_u, little_bytes, little_number, opcode, rd, rs1, rs2, Image, base, heap_end, heap_start, memory_of, stack_top, written, zeros, Area, byte_at, bytes_at, execute, permitted, put_bytes, read, write, AssertFailed, BadAccess, BadCall, BadJump, Hang, Chooses, Emits, Ends, Fails, Goes, Machine, State, register, start_machine, with_register, auipc, branch, ebreak, fence, jal, jalr, load, op, op_imm, store, allocated, answered, call, freed, received, send, does, instruction, next, run, Guest, Limits, Override, env_at, serves}
 
 -- A program that sends back each message. Its words, as an assembler gives them:
 abbrev pub echo : List ℕ

@@ -1,22 +1,8 @@
 -- Along a served run the live blocks of the machine are those of the layout of its heap, so each malloc is answered.
-use Rattle.std.proofs.Common.{◌≡◌, ℕ, zero, suc, ◌+◌, Bool, true, false, cond, eqb, List, Option, Some, None, refl, sym, ◌∙◌, ap, subst}
-use Rattle.std.specs.Prelude.{slice_get, option_map}
-use Rattle.std.proofs.lemmas.Option.{none-some, same_Some}
-use Rattle.rx_io.specs.declared.bytes.Item.{Item}
-use Rattle.block_book.specs.declared.choice.Choice.{Choice}
-use Rattle.block_book.specs.Heap.{Heap, IsHeap}
-use Rattle.block_book.specs.Answer.{is_allowed, live_blocks, without_live}
-use Rattle.alloc_env.specs.declared.env.Env.{Env}
-use Rattle.alloc_env.specs.Serving.{Served, served_malloc, served_free, live_with}
-use Rattle.alloc_env.specs.Laws.{Serves, Follows}
 use Rattle.alloc_env.proofs.Mallocs.{malloc-serves}
 use Rattle.alloc_env.proofs.Frees.{free-follows}
-use Rattle.run_history.specs.Machine.{Machine, State, register, Effect, Goes, Emits, Ends, Wants, Chooses, Fails}
-use Rattle.run_history.specs.Call.{chooses, allocated, freed, free}
-use Rattle.run_history.specs.Run.{does, after}
-use Rattle.run_history.specs.Touching.{instruction_at}
-use Rattle.run_history.specs.Served.{Limits, Guest, IsLaidOut, Request, Malloc, Free, Nothing, request_of, Grant, granted, grant, Path, guest_of, served_next}
-use Rattle.run_history.proofs.Serves.{ServesTo, serves_to, mallocs, map_some}
+use Rattle.run_history.proofs.Terms.{Bool, List, Some, ap, cond, false, refl, subst, sym, true, ℕ, ◌∙◌, ◌≡◌, none-some, same_Some, slice_get, Item, Choice, is_allowed, live_blocks, without_live, Heap, IsHeap, Env, live_with, served_malloc, Chooses, Effect, Emits, Ends, Fails, Goes, Machine, State, Wants, register, allocated, chooses, free, freed, after, does, instruction_at, Free, Grant, IsLaidOut, Limits, Malloc, Nothing, Path, Request, grant, granted, guest_of, request_of}
+use Rattle.run_history.proofs.Serves.{ServesTo, mallocs, map_some}
 use Rattle.run_history.proofs.Blocks.{SameHeap, LeavesHeap, does_leaves, frees, requested_size, requested_address}
 
 -- where nothing was asked of the allocator, the machine's heap is as it was
@@ -95,16 +81,3 @@ laid_out_next limits items env path to out parts = of_request (request_of (instr
         with_heap found.0 (sym (ap (λ (g : Grant). g.heap) found.2))
         (laid to.state.machine found.0 (without_live at (live_blocks path.heap.blocks)) law.sound (kept.1 ∙ out.start ∙ sym law.start) (kept.2 ∙ out.end ∙ sym law.end)
         (kept.0 ∙ ap (λ n. without_live n path.state.machine.blocks) here ∙ ap (without_live at) out.live) law.live)
-
--- so a malloc of a guest that is laid out so is never left without an answer
-pub malloc_goes : (env : Env) (guest : Guest) (size : ℕ) → IsLaidOut guest
-    → chooses size guest.machine (Some (served_malloc env guest.heap size).choice) ≡ Goes (allocated size (served_malloc env guest.heap size).choice guest.machine)
-malloc_goes env guest size out =
-    let served = served_malloc env guest.heap size in
-    let law = malloc-serves env guest.heap size out.sound in
-    let may : is_allowed guest.machine.heap_start guest.machine.heap_end guest.machine.blocks size served.choice ≡ true =
-    ap (λ s. is_allowed s guest.machine.heap_end guest.machine.blocks size served.choice) out.start
-    ∙ ap (λ e. is_allowed guest.heap.start e guest.machine.blocks size served.choice) out.end
-    ∙ ap (λ b. is_allowed guest.heap.start guest.heap.end b size served.choice) out.live
-    ∙ law.allowed in
-    ap (λ b. cond b (Goes (allocated size served.choice guest.machine)) (Chooses size)) may

@@ -1,3 +1,4 @@
+pub mod Terms
 pub mod Repeats
 pub mod Shapes
 pub mod Runs
@@ -7,3 +8,4 @@ pub mod Serves
 pub mod Blocks
 pub mod Layouts
 pub mod Examples
+pub mod Wanting

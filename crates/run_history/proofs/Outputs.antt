@@ -1,23 +1,12 @@
 -- Laws of the output: it only grows.
-use Rattle.std.proofs.Common.{◌≡◌, ℕ, zero, suc, ◌+◌, cond, eqb, List, [], ◌∷◌, ◌++◌, Some, refl, sym, ◌∙◌, ap, append_assoc, append-nil}
 use Rattle.std.proofs.lemmas.Grind.{flat_map-append}
-use Rattle.std.proofs.lemmas.Option.{none-some, same_Some}
-use Rattle.rx_io.specs.declared.bytes.Item.{Item}
-use Rattle.rx_io.specs.Prefix.{Prefix}
-use Rattle.rx_io.specs.Sends.{Send, sent_to}
-use Rattle.block_book.specs.declared.choice.Choice.{Choice}
-use Rattle.run_history.specs.Machine.{State, Effect, Goes, Emits, Ends, Wants, Chooses, Fails}
-use Rattle.run_history.specs.Run.{effect, after, next, run, output}
+use Rattle.run_history.proofs.Terms.{List, Some, [], ap, append-nil, append_assoc, cond, eqb, sym, ℕ, ◌++◌, ◌+◌, ◌∙◌, ◌∷◌, ◌≡◌, none-some, same_Some, Item, Prefix, Send, sent_to, Choice, Chooses, Effect, Emits, Ends, Fails, Goes, State, Wants, after, effect, next, output, run}
 use Rattle.run_history.proofs.Repeats.{repeated_keeps}
 use Rattle.run_history.proofs.Runs.{next_parts, run_from}
 
 -- a list is its own front
 pub prefix_same : {X : Type 0} (xs : List X) → Prefix xs xs
 prefix_same xs = ([], append-nil xs)
-
--- a list is a front of itself with more behind
-pub prefix_more : {X : Type 0} (xs ys : List X) → Prefix xs (xs ++ ys)
-prefix_more xs ys = (ys, refl)
 
 -- a front of a front is a front
 pub prefix_trans : {X : Type 0} (xs ys zs : List X) → Prefix xs ys → Prefix ys zs → Prefix xs zs

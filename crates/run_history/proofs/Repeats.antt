@@ -1,8 +1,5 @@
 -- Laws of steps that are repeated.
-use Rattle.std.proofs.Common.{◌≡◌, ℕ, zero, suc, ◌+◌, Option, Some, None, refl, sym, ◌∙◌, ap, subst, add-zero, add-suc, add-one}
-use Rattle.std.specs.Prelude.{option_and_then}
-use Rattle.std.proofs.lemmas.Option.{option_and_then_some, same_Some}
-use Rattle.run_history.specs.Repeating.{repeated}
+use Rattle.run_history.proofs.Terms.{None, Option, Some, add-one, add-suc, add-zero, ap, refl, subst, suc, sym, zero, ℕ, ◌+◌, ◌∙◌, ◌≡◌, option_and_then_some, same_Some, option_and_then, repeated}
 
 -- to go on by nothing changes nothing
 pub and_then_same : {X : Type 0} (o : Option X) → option_and_then (λ x. Some x) o ≡ o
@@ -32,17 +29,6 @@ repeated_join step x y z n m first second = repeated_from step x y n m first ∙
 -- n steps, and one more
 pub repeated_one : {X : Type 0} (step : X → Option X) (x y z : X) (n : ℕ) → repeated step n x ≡ Some y → step y ≡ Some z → repeated step (n + 1) x ≡ Some z
 repeated_one step x y z n first second = rw add-one (ap (option_and_then step) first ∙ second)
-
--- where each step of one kind is matched by one of another, so are n steps
-pub carried : {X Y : Type 0} (f : X → Option X) (g : Y → Option Y) (R : X → Y → Type 0)
-    → ((x : X) (y : Y) (next : X) → R x y → f x ≡ Some next → (other : Y) × (g y ≡ Some other) × R next other)
-    → (n : ℕ) (x last : X) (y : Y) → R x y → repeated f n x ≡ Some last → (other : Y) × (repeated g n y ≡ Some other) × R last other
-carried f g R step zero x last y meets ran = (y, refl, subst (λ v. R v y) (same_Some x last ran) meets)
-carried f g R step (suc n) x last y meets ran =
-    option_and_then_some f (repeated f n x) last ran (λ mid before goes.
-    let first = carried f g R step n x mid y meets before in
-    let second = step mid first.0 last first.2 goes in
-    (second.0, ap (option_and_then g) first.1 ∙ second.1, second.2))
 
 -- where each step of one kind is one of another, so are n steps
 pub repeated_as : {X : Type 0} (f g : X → Option X) → ((x next : X) → f x ≡ Some next → g x ≡ Some next)

@@ -1,21 +1,8 @@
 -- Laws of runs: they compose, they don't depend on items and answers of malloc behind those that they take, and what a
 -- machine does by itself is what a run does.
-use Rattle.std.proofs.Common.{◌≡◌, ◌≢◌, inl, inr, ℕ, zero, suc, ◌+◌, ◌<◌, ◌≤◌, true, false, cond, List, [], ◌∷◌, ◌++◌, length, Option, Some, None, refl, sym, ◌∙◌, ap, arith, add-zero, add_assoc}
-use Rattle.std.specs.Prelude.{slice_get, option_and_then}
-use Rattle.std.proofs.lemmas.Bool.{cases_Bool, cond_both}
-use Rattle.std.proofs.lemmas.Option.{option_and_then_some, none-some, same_Some, slice_get_past}
-use Rattle.rx_io.specs.declared.bytes.Item.{Item}
-use Rattle.block_book.specs.declared.choice.Choice.{Choice}
-use Rattle.block_book.specs.Answer.{is_allowed}
-use Rattle.run_history.specs.declared.answer.Cause.{Cause}
-use Rattle.elf_image.specs.declared.image.Image.{Image}
-use Rattle.elf_image.specs.Memory.{write, permitted}
-use Rattle.run_history.specs.Machine.{Machine, State, register, with_register, start, Effect, Goes, Emits, Ends, Wants, Chooses, Fails}
-use Rattle.run_history.specs.Call.{takes, received, connections_after, chooses, malloc, allocated}
-use Rattle.run_history.specs.Repeating.{repeated}
-use Rattle.run_history.specs.Run.{does, effect, after, next, run}
+use Rattle.run_history.proofs.Terms.{List, None, Option, Some, [], ap, arith, length, refl, suc, sym, zero, ℕ, ◌++◌, ◌+◌, ◌∙◌, ◌∷◌, ◌≡◌, ◌≢◌, get_or_push, length_push, none-some, slice_get-get_or, slice_get_past, slice_get, Item, Choice, Chooses, Effect, Emits, Ends, Fails, Goes, Machine, State, Wants, register, with_register, allocated, chooses, connections_after, received, takes, after, does, effect, next, run}
 use Rattle.run_history.proofs.Repeats.{repeated_from, repeated_join, repeated_one, repeated_as}
-use Rattle.run_history.proofs.Shapes.{Keeps, MaySend, Alone, Shape, Same, Takes, Picks, does_shape, length-with_register}
+use Rattle.run_history.proofs.Shapes.{MaySend, Alone, Shape, Same, Takes, Picks, does_shape, length-with_register}
 
 -- an element keeps its number when others come behind
 pub slice_get_longer : {X : Type 0} (xs ys : List X) (i : ℕ) (x : X) → slice_get xs i ≡ Some x → slice_get (xs ++ ys) i ≡ Some x
@@ -25,10 +12,7 @@ slice_get_longer (y ∷ xs) ys (suc i) x h = slice_get_longer xs ys i x h
 
 -- the element behind n others has number n
 pub element_behind : {X : Type 0} (xs : List X) (x : X) (n : ℕ) → length xs ≡ n → slice_get (xs ++ x ∷ []) n ≡ Some x
-element_behind [] x zero e = refl
-element_behind [] x (suc n) e = cc
-element_behind (first ∷ xs) x zero e = cc
-element_behind (first ∷ xs) x (suc n) e = element_behind xs x n (omega arith)
+element_behind xs x n e = slice_get-get_or (xs ++ x ∷ []) n x (omega (arith, length_push xs x)) ∙ ap (λ y. Some y) (get_or_push xs x x n e)
 
 -- before it comes, number n has none
 pub element_none : {X : Type 0} (xs : List X) (n : ℕ) → length xs ≡ n → slice_get xs n ≡ None
@@ -79,11 +63,6 @@ effect_longer items more choices others m e was settled =
 pub next_after : (items : List Item) (choices : List Choice) (s : State) (e : Effect) → s.ended ≡ None → effect items choices s.machine ≡ e → next items choices s ≡ after s e
 unfolding next
 next_after items choices s e lives does = rw (lives, does) refl
-
--- after a state that has ended comes none
-pub ended_stops : (items : List Item) (choices : List Choice) (s : State) (code : ℕ) → s.ended ≡ Some code → next items choices s ≡ None
-unfolding next
-ended_stops items choices s code ended = rw ended refl
 
 -- an effect after which something comes is settled
 pub settled_after : (s t : State) (e : Effect) → after s e ≡ Some t → IsSettled e

@@ -1,28 +1,8 @@
 -- A served run is a run: its mallocs took the choices of the environments, each in its turn.
-use Rattle.std.proofs.Common.{◌≡◌, ◌≢◌, inl, inr, ℕ, zero, suc, ◌+◌, ◌<◌, ◌≤◌, Bool, true, false, cond, eqb, leb, List, [], ◌∷◌, ◌++◌, length, Option, Some, None, refl, sym, ◌∙◌, ap, subst, arith, add-zero, add-suc, append-nil, length-append, append_assoc}
-use Rattle.std.specs.Prelude.{slice_get, option_and_then, option_map, is_some}
-use Rattle.std.proofs.lemmas.Bool.{cases_Bool, cond_both, leb-false}
-use Rattle.std.proofs.lemmas.Option.{option_and_then_some, none-some, same_Some}
-use Rattle.rx_io.specs.declared.bytes.Item.{Item}
-use Rattle.rv_isa.specs.declared.instr.Instr.{Instr}
-use Rattle.rv_isa.specs.declared.instr.Instr.TheVariants.{Ecall}
-use Rattle.rv_isa.specs.Table.{row}
-use Rattle.block_book.specs.declared.choice.Choice.{Choice}
-use Rattle.block_book.specs.Answer.{is_allowed}
-use Rattle.block_book.specs.Heap.{Heap}
-use Rattle.alloc_env.specs.declared.env.Env.{Env}
-use Rattle.elf_image.specs.Memory.{execute, permitted}
-use Rattle.run_history.specs.Machine.{Machine, State, register, start, start_machine, Effect, Goes, Emits, Ends, Wants, Chooses, Fails}
-use Rattle.run_history.specs.Call.{takes, chooses, malloc, allocated, received}
-use Rattle.run_history.specs.Repeating.{repeated}
-use Rattle.elf_image.specs.declared.image.Image.{Image}
-use Rattle.run_history.specs.declared.answer.Cause.TheVariants.{Hang, BadAccess}
-use Rattle.run_history.specs.Run.{Run, does, effect, after, next, run, word_at, instruction, executed}
-use Rattle.run_history.specs.Touching.{instruction_at, touched}
-use Rattle.run_history.specs.Served.{Limits, Guest, Request, Malloc, Free, Nothing, request_of, Grant, granted, grant, is_refused, does_with, serves, Path, origin, guest_of, listed, longer, served_next, Override, env_at, planned_next, serve}
+use Rattle.run_history.proofs.Terms.{Bool, List, None, Option, Some, [], add-zero, ap, append-nil, append_assoc, arith, cond, eqb, false, inl, inr, leb, length, length-append, refl, subst, suc, sym, true, zero, ℕ, ◌++◌, ◌+◌, ◌<◌, ◌∙◌, ◌∷◌, ◌≡◌, cases_Bool, leb-false, none-some, option_and_then_some, same_Some, is_some, option_and_then, option_map, slice_get, Item, Choice, is_allowed, Env, Instr, Ecall, row, Image, execute, permitted, BadAccess, Hang, Chooses, Effect, Emits, Ends, Fails, Goes, Machine, State, Wants, register, start, start_machine, allocated, chooses, malloc, takes, Run, after, does, executed, instruction, next, run, word_at, instruction_at, touched, Free, Grant, Guest, Limits, Malloc, Nothing, Override, Path, Request, does_with, env_at, grant, granted, guest_of, is_refused, listed, longer, origin, planned_next, request_of, serve, served_next, serves}
 use Rattle.run_history.proofs.Repeats.{repeated_as}
-use Rattle.run_history.proofs.Shapes.{Shape, Same, Takes, Picks, does_shape, Alone, Keeps}
-use Rattle.run_history.proofs.Runs.{IsSettled, Extends, Later, Kept, extends_longer, settled_after, does_more, extends_same, next_after, run_chosen, run_one, element_behind, element_none, allocated_keeps, received_keeps}
+use Rattle.run_history.proofs.Shapes.{Shape, Same, Takes, Picks, does_shape, Alone}
+use Rattle.run_history.proofs.Runs.{IsSettled, Extends, extends_longer, settled_after, does_more, extends_same, next_after, run_chosen, element_behind, element_none, allocated_keeps, received_keeps}
 
 -- a value that was mapped
 pub map_some : {A B : Type 0} (f : A → B) (o : Option A) (y : B) → option_map f o ≡ Some y → (x : A) × (o ≡ Some x) × (f x ≡ y)
@@ -78,35 +58,6 @@ mallocs m size h item choice =
     of_row None e = absurd (never e)
     of_row (Some Ecall) e = call_mallocs m size e item choice
     of_row (Some _) e = absurd (never e)
-
--- how many answers of malloc an effect without one uses: none
-pub unchosen_keeps : (m new : Machine) (item : Option Item) → does item None m ≡ Goes new → new.allocations ≡ m.allocations
-unchosen_keeps m new item acts = of_shape (does_shape m)
-  where
-    of_alone : (e : Effect) → Alone m e → e ≡ Goes new → new.allocations ≡ m.allocations
-    of_alone (Goes other) alone e = let same : other ≡ new = cc in rw (← same) alone.allocations
-    of_alone (Emits conn bytes other) alone e = cc
-    of_alone (Ends code) alone e = cc
-    of_alone Wants alone e = cc
-    of_alone (Chooses size) alone e = cc
-    of_alone (Fails cause) alone e = cc
-
-    of_next : (found : Option Item) → takes m found ≡ Goes new → new.allocations ≡ m.allocations
-    of_next None e = cc
-    of_next (Some it) e = let same : received it m ≡ new = cc in rw (← same) (received_keeps it m).allocations
-
-    of_shape : Shape m (λ item choice. does item choice m) → new.allocations ≡ m.allocations
-    of_shape (Same e alone is) = of_alone e alone (sym (is item None) ∙ acts)
-    of_shape (Takes may is) = of_next item (sym (is item None) ∙ acts)
-    of_shape (Picks is) = let wants : chooses (register m 10) m None ≡ Goes new = sym (is item None) ∙ acts in cc
-
--- a malloc that is answered uses one
-pub chosen_keeps : (m new : Machine) (size : ℕ) (choice : Choice) → chooses size m (Some choice) ≡ Goes new → new.allocations ≡ m.allocations + 1
-chosen_keeps m new size choice acts = of_test (is_allowed m.heap_start m.heap_end m.blocks size choice) acts
-  where
-    of_test : (b : _) → cond b (Goes (allocated size choice m)) (Chooses size) ≡ Goes new → new.allocations ≡ m.allocations + 1
-    of_test true e = let same : allocated size choice m ≡ new = cc in rw (← same) (allocated_keeps size choice m).allocations
-    of_test false e = cc
 
 -- an instruction without an answer of malloc uses none
 pub unchosen_after : (s t : State) (item : Option Item) → after s (does item None s.machine) ≡ Some t → t.machine.allocations ≡ s.machine.allocations

@@ -1,22 +1,5 @@
 -- How what a machine does depends on the item and the answer of malloc that are next, and what it keeps of the machine.
-use Rattle.std.proofs.Common.{inl, inr, ◌≡◌, ◌≢◌, ℕ, zero, suc, ◌+◌, ◌<◌, ◌≤◌, true, false, not, eqb, ltb, List, [], length, set, Option, Some, None, refl, ◌∙◌, arith, length-set, length-append}
-use Rattle.std.specs.Prelude.{ℤ}
-use Rattle.std.proofs.lemmas.Bool.{cond_both, cases_Bool, not-false, ltb-false, eqb-false}
-use Rattle.rx_io.specs.declared.bytes.Item.{Item}
-use Rattle.rv_isa.specs.declared.instr.Instr.{Instr}
-use Rattle.rv_isa.specs.declared.instr.Instr.TheVariants.{Lui, Auipc, Jal, Jalr, Branch, Load, Store, OpImm, Op, Fence, Ecall, Ebreak}
-use Rattle.rv_isa.specs.declared.instr.BranchOp.{BranchOp}
-use Rattle.rv_isa.specs.declared.instr.LoadOp.{LoadOp}
-use Rattle.rv_isa.specs.declared.instr.StoreOp.{StoreOp}
-use Rattle.rv_isa.specs.Table.{row}
-use Rattle.rv_isa.specs.Meaning.{is_taken, displaced}
-use Rattle.block_book.specs.declared.choice.Choice.{Choice}
-use Rattle.run_history.specs.declared.answer.Cause.TheVariants.{AssertFailed, BadAccess, BadJump, BadInstruction, BadCall, BadFree, Hang}
-use Rattle.elf_image.specs.Memory.{Area, read, write, execute, permitted, bytes_at}
-use Rattle.run_history.specs.Machine.{Machine, register, with_register, next_pc, Effect, Goes, Emits, Ends, Wants, Chooses, Fails}
-use Rattle.run_history.specs.Instruction.{goes_on, writes, jumps, branch, load, store}
-use Rattle.run_history.specs.Call.{takes, may_send, answered, send, freed, free, chooses, malloc, call}
-use Rattle.run_history.specs.Run.{instruction, executed, word_at, does}
+use Rattle.run_history.proofs.Terms.{List, None, Option, Some, arith, eqb, false, inl, inr, length, length-append, length-set, ltb, not, refl, set, suc, true, zero, ℕ, ◌+◌, ◌<◌, ◌∙◌, ◌≡◌, ◌≢◌, ◌≤◌, cases_Bool, cond_both, eqb-false, ltb-false, not-false, ℤ, Item, Choice, BranchOp, Instr, Auipc, Branch, Ebreak, Ecall, Fence, Jal, Jalr, Load, Lui, Op, OpImm, Store, LoadOp, StoreOp, displaced, is_taken, row, Area, bytes_at, execute, permitted, read, write, AssertFailed, BadAccess, BadCall, BadFree, BadInstruction, BadJump, Hang, Chooses, Effect, Emits, Ends, Fails, Goes, Machine, Wants, next_pc, register, with_register, branch, goes_on, jumps, load, store, writes, answered, call, free, freed, malloc, may_send, send, takes, does, executed, instruction, word_at}
 
 -- what so many instructions that take no item and no answer of malloc keep
 pub record Keeps (m new : Machine) (steps : ℕ) : Type 0 where

@@ -1,10 +1,6 @@
 -- One guest call: an ECALL, with its number in x17. A call that answers goes on behind the ECALL.
-use Rattle.std.specs.Prelude.{ℕ, ◌+◌, Bool, true, false, not, List, length, take, replicate, filter, Option, Some, None, slice_get, slice_set, unwrap_or, nat_lt, if◌then◌else◌, ◌==◌}
-use Rattle.rx_io.specs.declared.bytes.Item.{Item}
-use Rattle.block_book.specs.declared.choice.Choice.{Choice}
-use Rattle.block_book.specs.Answer.{is_allowed, insert_live, without_live}
-use Rattle.run_history.specs.declared.answer.Cause.TheVariants.{AssertFailed, BadAccess, BadCall}
-use Rattle.elf_image.specs.Memory.{read, write, permitted, bytes_at, put_bytes}
+use Rattle.std.specs.Prelude.{ℕ, ◌+◌, Bool, true, false, not, List, length, take, replicate, Option, Some, None, slice_get, slice_set, unwrap_or, nat_lt, if◌then◌else◌, ◌==◌}
+use Rattle.run_history.specs.Terms.{Item, Choice, insert_live, is_allowed, without_live, bytes_at, permitted, put_bytes, read, write, AssertFailed, BadAccess, BadCall}
 use Rattle.run_history.specs.Machine.{Machine, register, with_register, next_pc, Effect, Goes, Emits, Ends, Wants, Chooses, Fails}
 
 -- the connections that may be sent to, once an item was taken: an open (kind 1) adds its own, a close (3) removes it
@@ -39,6 +35,7 @@ recv item m = if permitted write m.memory (register m 10) (register m 11) then t
 abbrev pub answered : ℕ → Machine → Machine
 answered value m = record m { pc = next_pc m; registers = with_register 10 value m.registers; since = m.since + 1 }
 
+-- a connection is open to the guest
 abbrev pub may_send : Machine → ℕ → Bool
 may_send m conn = unwrap_or (slice_get m.connections conn) false
 

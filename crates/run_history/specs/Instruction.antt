@@ -1,15 +1,9 @@
 -- One instruction other than a call (RISC-V unprivileged manual, "RV32I Base Integer Instruction Set" and the "M"
 -- standard extension). What the operations give is in `Meaning`.
 use Rattle.std.specs.Prelude.{ℕ, ◌+◌, ◌%◌, ℤ, List, if◌then◌else◌, ◌==◌}
-use Rattle.rv_isa.specs.declared.instr.BranchOp.{BranchOp}
-use Rattle.rv_isa.specs.declared.instr.LoadOp.{LoadOp}
-use Rattle.rv_isa.specs.declared.instr.StoreOp.{StoreOp}
 use Rattle.rv_isa.specs.declared.instr.ImmOp.{ImmOp}
 use Rattle.rv_isa.specs.declared.instr.RegOp.{RegOp}
-use Rattle.rv_isa.specs.Words.{little_bytes, little_number}
-use Rattle.rv_isa.specs.Meaning.{value_of, imm_value_of, is_taken, displaced, indirect_target, to_word, load_size, loaded, store_size}
-use Rattle.run_history.specs.declared.answer.Cause.TheVariants.{BadAccess, BadJump, AssertFailed}
-use Rattle.elf_image.specs.Memory.{Area, read, write, permitted, bytes_at, put_bytes}
+use Rattle.run_history.specs.Terms.{BranchOp, LoadOp, StoreOp, displaced, imm_value_of, indirect_target, is_taken, load_size, loaded, store_size, to_word, value_of, little_bytes, little_number, Area, bytes_at, permitted, put_bytes, read, write, AssertFailed, BadAccess, BadJump}
 use Rattle.run_history.specs.Machine.{Machine, register, with_register, next_pc, Effect, Goes, Fails}
 
 -- the machine goes on at an address, with these registers and this memory
@@ -24,24 +18,30 @@ writes rd value m = goes_on (next_pc m) (with_register rd value m.registers) m.m
 abbrev pub jumps : ℕ → List ℕ → Machine → Effect
 jumps target registers m = if target % 4 == 0 then goes_on target registers m.memory m else Fails BadJump
 
+-- LUI: the U-immediate goes into rd
 abbrev pub lui : ℕ → ℤ → Machine → Effect
 lui rd imm m = writes rd (to_word imm) m
 
+-- AUIPC: the sum of pc and the U-immediate goes into rd
 abbrev pub auipc : ℕ → ℤ → Machine → Effect
 auipc rd imm m = writes rd (displaced m.pc imm) m
 
+-- JAL: a jump relative to pc; the address of the next instruction goes into rd
 abbrev pub jal : ℕ → ℤ → Machine → Effect
 jal rd imm m = jumps (displaced m.pc imm) (with_register rd (next_pc m) m.registers) m
 
+-- JALR: a jump relative to rs1; the address of the next instruction goes into rd
 abbrev pub jalr : ℕ → ℕ → ℤ → Machine → Effect
 jalr rd rs1 imm m = jumps (indirect_target (register m rs1) imm) (with_register rd (next_pc m) m.registers) m
 
+-- conditional branches: a jump relative to pc where the comparison of rs1 and rs2 holds
 abbrev pub branch : BranchOp → ℕ → ℕ → ℤ → Machine → Effect
 branch op rs1 rs2 imm m =
     if is_taken op (register m rs1) (register m rs2)
     then jumps (displaced m.pc imm) m.registers m
     else goes_on (next_pc m) m.registers m.memory m
 
+-- loads: a number of memory at an address relative to rs1 goes into rd
 abbrev pub load : LoadOp → ℕ → ℕ → ℤ → Machine → Effect
 load op rd rs1 imm m =
     let at = displaced (register m rs1) imm in
@@ -49,6 +49,7 @@ load op rd rs1 imm m =
     then writes rd (loaded op (little_number (bytes_at read m.memory at (load_size op)))) m
     else Fails BadAccess
 
+-- stores: the lowest bytes of rs2 go into memory at an address relative to rs1
 abbrev pub store : StoreOp → ℕ → ℕ → ℤ → Machine → Effect
 store op rs1 rs2 imm m =
     let at = displaced (register m rs1) imm in
@@ -56,9 +57,11 @@ store op rs1 rs2 imm m =
     then goes_on (next_pc m) m.registers (put_bytes m.memory at (little_bytes (store_size op) (register m rs2))) m
     else Fails BadAccess
 
+-- Integer Register-Immediate Instructions: rs1 and an immediate give rd
 abbrev pub op_imm : ImmOp → ℕ → ℕ → ℤ → Machine → Effect
 op_imm op rd rs1 imm m = writes rd (imm_value_of op (register m rs1) imm) m
 
+-- Integer Register-Register Operations: rs1 and rs2 give rd
 abbrev pub op : RegOp → ℕ → ℕ → ℕ → Machine → Effect
 op operation rd rs1 rs2 m = writes rd (value_of operation (register m rs1) (register m rs2)) m
 

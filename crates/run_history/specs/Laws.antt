@@ -1,9 +1,6 @@
 -- What holds of every run.
-use Rattle.std.specs.Prelude.{◌≡◌, ℕ, ◌+◌, List, [], ◌++◌, Some}
-use Rattle.rx_io.specs.declared.bytes.Item.{Item}
-use Rattle.rx_io.specs.Prefix.{Prefix}
-use Rattle.block_book.specs.declared.choice.Choice.{Choice}
-use Rattle.elf_image.specs.declared.image.Image.{Image}
+use Rattle.std.specs.Prelude.{◌≡◌, ℕ, ◌+◌, List, ◌++◌, Some}
+use Rattle.run_history.specs.Terms.{Item, Prefix, Choice, Image}
 use Rattle.run_history.specs.Machine.{State}
 use Rattle.run_history.specs.Run.{Run, run, output}
 use Rattle.run_history.specs.Served.{Limits, Override, Path, origin, serve}

@@ -1,3 +1,4 @@
+pub mod Terms
 pub mod Machine
 pub mod Instruction
 pub mod Call

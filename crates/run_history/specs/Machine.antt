@@ -1,10 +1,6 @@
 -- The machine's state.
 use Rattle.std.specs.Prelude.{ℕ, ◌+◌, ◌%◌, ◌^◌, Bool, false, List, [], Option, None, replicate, slice_index, slice_set, if◌then◌else◌, ◌==◌}
-use Rattle.run_history.specs.declared.answer.Cause.{Cause}
-use Rattle.elf_image.specs.declared.image.Image.{Image}
-use Rattle.rx_io.specs.Sends.{Send}
-use Rattle.elf_image.specs.Memory.{Area}
-use Rattle.elf_image.specs.Image.{memory_of, heap_start, heap_end, stack_top}
+use Rattle.run_history.specs.Terms.{Send, Image, heap_end, heap_start, memory_of, stack_top, Area, Cause}
 
 -- what an instruction reads and changes
 pub record Machine : Type 0 where
@@ -39,9 +35,11 @@ register m n = if n == 0 then 0 else slice_index m.registers n
 abbrev pub with_register : ℕ → ℕ → List ℕ → List ℕ
 with_register n value registers = if n == 0 then registers else slice_set registers n value
 
+-- the address of the instruction that follows this one
 abbrev pub next_pc : Machine → ℕ
 next_pc m = (m.pc + 4) % 2 ^ 32
 
+-- no connection is open
 unfoldable pub no_connections : List Bool
 no_connections = replicate 4096 false
 
@@ -60,6 +58,7 @@ start_machine image = record {
   since = 0;
 }
 
+-- a program before its first instruction
 unfoldable pub start : Image → State
 start image = record { machine = start_machine image; sends = []; ended = None }
 

@@ -1,16 +1,7 @@
 -- Whole runs: the iteration of one instruction. Items and answers of malloc are taken by their number, so a longer list
 -- of them keeps every run that there is.
-use Rattle.std.specs.Prelude.{◌≡◌, ℕ, List, [], ◌∷◌, ◌++◌, length, Option, Some, None, is_some, slice_get, if◌then◌else◌, ◌==◌}
-use Rattle.rx_io.specs.declared.bytes.Item.{Item}
-use Rattle.rv_isa.specs.declared.instr.Instr.{Instr}
-use Rattle.rv_isa.specs.declared.instr.Instr.TheVariants.{Lui, Auipc, Jal, Jalr, Branch, Load, Store, OpImm, Op, Fence, Ecall, Ebreak}
-use Rattle.rv_isa.specs.Table.{row}
-use Rattle.rv_isa.specs.Words.{little_number}
-use Rattle.block_book.specs.declared.choice.Choice.{Choice}
-use Rattle.run_history.specs.declared.answer.Cause.TheVariants.{BadAccess, BadInstruction}
-use Rattle.rx_io.specs.Sends.{Send, sent_to}
-use Rattle.elf_image.specs.declared.image.Image.{Image}
-use Rattle.elf_image.specs.Memory.{execute, permitted, bytes_at}
+use Rattle.std.specs.Prelude.{◌≡◌, ℕ, List, [], ◌∷◌, ◌++◌, length, Option, Some, None, is_some, slice_get, if◌then◌else◌}
+use Rattle.run_history.specs.Terms.{Item, sent_to, Choice, Instr, Auipc, Branch, Ebreak, Ecall, Fence, Jal, Jalr, Load, Lui, Op, OpImm, Store, row, little_number, Image, bytes_at, execute, permitted, BadAccess, BadInstruction}
 use Rattle.run_history.specs.Machine.{Machine, State, register, start, Effect, Goes, Emits, Ends, Wants, Chooses, Fails}
 use Rattle.run_history.specs.Instruction.{lui, auipc, jal, jalr, branch, load, store, op_imm, op, fence, ebreak}
 use Rattle.run_history.specs.Call.{call}

@@ -1,21 +1,9 @@
 -- A served run: malloc and free are answered by the environment in force, an access rule is asked for each byte that is
 -- touched, and a budget bounds the instructions between two items.
-use Rattle.std.specs.Prelude.{◌≡◌, ℕ, ◌+◌, ◌≤◌, ◌<◌, Bool, true, false, not, List, [], ◌∷◌, ◌++◌, length, Option, Some, None, is_some, option_map, unwrap_or, slice_get, nat_le, nat_lt, if◌then◌else◌, ◌==◌}
-use Rattle.rx_io.specs.declared.bytes.Item.{Item}
-use Rattle.rv_isa.specs.declared.instr.Instr.{Instr}
-use Rattle.rv_isa.specs.declared.instr.Instr.TheVariants.{Ecall}
-use Rattle.block_book.specs.declared.choice.Choice.{Choice}
-use Rattle.block_book.specs.Answer.{live_blocks}
-use Rattle.block_book.specs.Heap.{Heap, IsHeap, empty_heap}
-use Rattle.alloc_env.specs.declared.env.Env.{Env}
-use Rattle.alloc_env.specs.declared.env.Env.TheVariants.{Plain}
-use Rattle.alloc_env.specs.Serving.{served_malloc, served_free}
-use Rattle.elf_image.specs.declared.image.Image.{Image}
-use Rattle.elf_image.specs.Image.{heap_start, heap_end}
-use Rattle.run_history.specs.declared.answer.Cause.{Cause}
-use Rattle.run_history.specs.declared.answer.Cause.TheVariants.{BadAccess, BadFree, Hang}
+use Rattle.std.specs.Prelude.{◌≡◌, ℕ, ◌+◌, Bool, false, not, List, [], ◌∷◌, ◌++◌, Option, Some, None, is_some, option_map, slice_get, nat_le, nat_lt, if◌then◌else◌, ◌==◌}
+use Rattle.run_history.specs.Terms.{Item, Choice, live_blocks, Heap, IsHeap, empty_heap, Env, Plain, served_free, served_malloc, Instr, Ecall, Image, heap_end, heap_start, Cause, BadAccess, BadFree, Hang}
 use Rattle.run_history.specs.Machine.{Machine, State, register, start, Effect, Wants, Fails}
-use Rattle.run_history.specs.Run.{does, after, run}
+use Rattle.run_history.specs.Run.{does, after}
 use Rattle.run_history.specs.Repeating.{repeated}
 use Rattle.run_history.specs.Touching.{Range, instruction_at, touched}
 
@@ -43,6 +31,7 @@ pub data Request : Type 0 where
   Free : ℕ → Request
   Nothing : Request
 
+-- calls 3 and 4 are those that ask of the allocator
 abbrev pub request_of : Option Instr → Machine → Request
 request_of (Some Ecall) m = if register m 17 == 3 then Malloc (register m 10) else if register m 17 == 4 then Free (register m 10) else Nothing
 request_of _ m = Nothing
@@ -58,6 +47,7 @@ granted env heap (Malloc size) = let served = served_malloc env heap size in Som
 granted env heap (Free at) = option_map (λ after. record { chosen = None; heap = after }) (served_free env heap at)
 granted env heap Nothing = Some (record { chosen = None; heap = heap })
 
+-- what an environment answers to the instruction at which a guest stands
 unfoldable pub grant : Env → Guest → Option Grant
 grant env guest = granted env guest.heap (request_of (instruction_at guest.machine) guest.machine)
 
@@ -90,9 +80,11 @@ pub record Path : Type 0 where
 abbrev pub origin : Image → Path
 origin image = record { state = start image; heap = empty_heap (heap_start image) (heap_end image); choices = []; steps = 0 }
 
+-- the machine and its heap where a run has come to
 abbrev pub guest_of : Path → Guest
 guest_of path = record { machine = path.state.machine; heap = path.heap }
 
+-- the answers of malloc that an instruction had: one or none
 abbrev pub listed : Option Choice → List Choice
 listed None = []
 listed (Some choice) = choice ∷ []
@@ -115,6 +107,7 @@ pub record Override : Type 0 where
   pub until : ℕ
   pub env : Env
 
+-- the environment that is in force at a count of items taken
 abbrev pub env_at : List Override → ℕ → Env
 env_at [] count = Plain
 env_at (override ∷ plan) count =

@@ -1,10 +1,6 @@
 -- Which bytes an instruction touches beside its own word: a load's, a store's, or a call's buffer.
-use Rattle.std.specs.Prelude.{ℕ, Bool, not, ◌||◌, Option, Some, None, option_and_then, nat_lt, if◌then◌else◌, ◌==◌}
-use Rattle.rv_isa.specs.declared.instr.Instr.{Instr}
-use Rattle.rv_isa.specs.declared.instr.Instr.TheVariants.{Load, Store, Ecall}
-use Rattle.rv_isa.specs.Table.{row}
-use Rattle.rv_isa.specs.Meaning.{displaced, load_size, store_size}
-use Rattle.elf_image.specs.Memory.{execute, permitted}
+use Rattle.std.specs.Prelude.{ℕ, not, ◌||◌, Option, Some, None, option_and_then, nat_lt, if◌then◌else◌, ◌==◌}
+use Rattle.run_history.specs.Terms.{Instr, Ecall, Load, Store, displaced, load_size, store_size, row, execute, permitted}
 use Rattle.run_history.specs.Machine.{Machine, register}
 use Rattle.run_history.specs.Call.{may_send}
 use Rattle.run_history.specs.Run.{word_at}
@@ -25,6 +21,7 @@ call_buffer number m =
     if number == 2 then (if nat_lt 65535 (register m 12) || not (may_send m (register m 10)) then None else buffer (register m 11) (register m 12)) else
     None
 
+-- the bytes of memory that an instruction reads or writes, unless there are none
 abbrev pub touched_by : Instr → Machine → Option Range
 touched_by (Load op rd rs1 imm) m = Some (record { at = displaced (register m rs1) imm; count = load_size op })
 touched_by (Store op rs1 rs2 imm) m = Some (record { at = displaced (register m rs1) imm; count = store_size op })

@@ -1,15 +1,10 @@
 -- The definitions at values that were written by hand from the report's format.
 use Rattle.std.proofs.Common.{◌≡◌, [], ◌∷◌, ◌++◌, codes, refl}
-use Rattle.std.specs.Fmt.{digits}
 use Rattle.alloc_env.specs.declared.env.Env.TheVariants.{Pad, Zero, All}
 use Rattle.run_history.specs.declared.answer.Cause.TheVariants.{BadAccess, AssertFailed, BadFree}
 use Rattle.session_notes.specs.declared.episode.Tried.TheVariants.{Asks, Failed, Contradicts}
-use Rattle.session_notes.specs.declared.episode.Try.{Try}
-use Rattle.session_notes.specs.declared.episode.Episode.{Episode}
-use Rattle.session_notes.specs.Words.{eight_digits}
-use Rattle.session_notes.specs.Lines.{failure_text, try_text}
 use Rattle.serde_json.proofs.OnLiterals.{serde_json_on_literals}
-use Rattle.run_report.specs.declared.form.Form.TheVariants.{Text, Json}
+use Rattle.run_report.specs.Terms.{digits, Episode, Try, failure_text, try_text, eight_digits, Json, Text}
 use Rattle.run_report.specs.TextLines.{episode_lines, end_line}
 use Rattle.run_report.specs.JsonLines.{json_line}
 use Rattle.run_report.specs.Report.{head_text, episode_text, end_text}

@@ -1,8 +1,6 @@
 -- No number of a report is a float.
 use Rattle.std.proofs.Common.{◌≡◌, ℕ, false, List, [], ◌∷◌, refl}
-use Rattle.serde_json.specs.Written.{has_float, items_have_float}
-use Rattle.session_notes.specs.declared.episode.Try.{Try}
-use Rattle.session_notes.specs.declared.episode.Episode.{Episode}
+use Rattle.run_report.specs.Terms.{has_float, items_have_float, Episode, Try}
 use Rattle.run_report.specs.JsonLines.{tries_data, episode_data}
 
 no_float_tried : (tries : List Try) → items_have_float (tries_data tries) ≡ false

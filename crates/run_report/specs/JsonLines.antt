@@ -1,11 +1,7 @@
 -- A report's lines as JSON: a compact object and a line feed. The keys are in the order of their bytes.
 use Rattle.std.specs.Prelude.{ℕ, List, [], ◌∷◌, ◌++◌, map, codes}
 use Rattle.serde_json.specs.Data.{Data, number, unsigned, string, array, object, Items, Members, member, no_members}
-use Rattle.serde_json.specs.View.{items_of}
-use Rattle.serde_json.specs.Written.{compact_text}
-use Rattle.session_notes.specs.declared.episode.Try.{Try}
-use Rattle.session_notes.specs.declared.episode.Episode.{Episode}
-use Rattle.session_notes.specs.Words.{cause_text, env_word, tried_text, eight_digits}
+use Rattle.run_report.specs.Terms.{items_of, compact_text, Episode, Try, cause_text, eight_digits, env_word, tried_text}
 
 unfoldable pub json_line : Data → List ℕ
 json_line value = compact_text value ++ 10 ∷ []

@@ -1,3 +1,4 @@
+pub mod Terms
 pub mod TextLines
 pub mod JsonLines
 pub mod Report

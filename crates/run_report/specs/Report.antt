@@ -1,8 +1,7 @@
 -- A report: its first line, what it says of each episode in their order, and its last line.
 use Rattle.std.specs.Prelude.{ℕ, List}
-use Rattle.session_notes.specs.declared.episode.Episode.{Episode}
+use Rattle.run_report.specs.Terms.{Episode, Json, Text}
 use Rattle.run_report.specs.declared.form.Form.{Form}
-use Rattle.run_report.specs.declared.form.Form.TheVariants.{Text, Json}
 use Rattle.run_report.specs.TextLines.{head_line, episode_lines, end_line}
 use Rattle.run_report.specs.JsonLines.{json_line, head_data, episode_data, end_data}
 

@@ -1,9 +1,6 @@
 -- A report's lines as text. Each ends with a line feed.
 use Rattle.std.specs.Prelude.{ℕ, suc, List, [], ◌∷◌, ◌++◌, codes}
-use Rattle.std.specs.Fmt.{decimal}
-use Rattle.session_notes.specs.declared.episode.Try.{Try}
-use Rattle.session_notes.specs.declared.episode.Episode.{Episode}
-use Rattle.session_notes.specs.Lines.{failure_text, try_text}
+use Rattle.run_report.specs.Terms.{decimal, Episode, Try, failure_text, try_text}
 
 abbrev pub head_line : List ℕ
 head_line = codes "rx report 1\n"

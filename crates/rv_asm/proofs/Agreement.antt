@@ -1,26 +1,8 @@
 -- The two passes of the code come to what the definitions say: the same refusal, the same addresses, the same bytes.
-use Rattle.std.proofs.Common.{◌≡◌, ℕ, ◌+◌, Bool, true, false, cond, ◌||◌, List, [], ◌∷◌, ◌++◌, Option, Some, None, length, map, option_map, ◌==◌, refl, ap, ap₂, sym, ◌∙◌, arith, length-append}
-use Rattle.std.specs.Prelude.{flat_map, is_some, unwrap_or, bytes_eq}
-use Rattle.std.specs.List.{find, filter, filter_map, cons_option, list_any}
-use Rattle.std.specs.Option.{option_or}
-use Rattle.std.proofs.lemmas.Bool.{eq-eqb, ne_eqb}
-use Rattle.std.proofs.lemmas.List.{length-map}
 use Rattle.rv_isa.specs.declared.instr.Instr.TheVariants as instr
-use Rattle.rv_isa.specs.Words.{little_bytes}
-use Rattle.asm_lines.specs.declared.flaw.Flaw.{Flaw}
-use Rattle.asm_lines.specs.declared.form.Section.{Section}
 use Rattle.asm_lines.specs.declared.form.Section.TheVariants as section
-use Rattle.asm_lines.specs.declared.line.Line.{Line}
-use Rattle.rv_asm.specs.declared.placed.Spot.{Spot}
-use Rattle.rv_asm.specs.declared.layout.Layout.{Layout}
-use Rattle.asm_lines.specs.declared.statement.Statement.{Statement}
 use Rattle.asm_lines.specs.declared.statement.Statement.TheVariants as statement
-use Rattle.rv_asm.specs.Places.{Definition, spot_of}
-use Rattle.asm_lines.specs.Lines.{lines_of, line_of}
-use Rattle.rv_asm.specs.Layout.{Place, place, places, places_behind, line_number, label_on, is_name_of, has_label, statement_on, section_at, stands_at, bytes_in, address_in, address_at, address_of, read_lines, last_named}
-use Rattle.rv_asm.specs.Refusals.{fault, first_fault, parts_flaw, is_defined_on, size_behind, line_flaw, target_flaw, address_flaw, label_flaw, link_flaw, place_flaw, lines_refusal, refusal_of, distance}
-use Rattle.rv_asm.specs.Assembling.{Cell, Coded, Raw, loading, cells_at, cells_of, cells_on, cells_in}
-use Rattle.rv_asm.specs.Passes.{no_lines, after_line, layout_of, spot_address, label_address, is_repeated, size_of_both, found_flaw, added_flaw, is_end, lines_fault, labels_fault, placed_cells, is_placed_in, section_cells}
+use Rattle.rv_asm.proofs.Terms.{Bool, List, None, Option, Some, [], ap, ap₂, arith, cond, false, length, length-append, map, option_map, refl, sym, true, ℕ, ◌++◌, ◌+◌, ◌==◌, ◌||◌, ◌∙◌, ◌∷◌, ◌≡◌, eq-eqb, ne_eqb, length-map, cons_option, filter, filter_map, find, list_any, option_or, bytes_eq, flat_map, is_some, unwrap_or, little_bytes, Flaw, Section, Line, Statement, line_of, lines_of, Layout, Spot, Definition, spot_of, Place, address_at, address_in, address_of, bytes_in, has_label, is_name_of, label_on, last_named, line_number, place, places, places_behind, read_lines, section_at, stands_at, statement_on, address_flaw, distance, fault, first_fault, is_defined_on, label_flaw, line_flaw, lines_refusal, link_flaw, parts_flaw, place_flaw, refusal_of, size_behind, target_flaw, Cell, Coded, Raw, cells_at, cells_in, cells_of, cells_on, loading, added_flaw, after_line, found_flaw, is_end, is_placed_in, is_repeated, label_address, labels_fault, layout_of, lines_fault, no_lines, placed_cells, section_cells, size_of_both, spot_address}
 use Rattle.rv_asm.proofs.Standing.{spot_at, definition_by, definition_at, placed_as, placed_by, placed_on, Holds, holds_none, holds_line, holds_text}
 
 -- ---- a line, whatever the labels' places are

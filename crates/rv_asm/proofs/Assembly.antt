@@ -1,23 +1,7 @@
 -- What is answered for a text.
-use Rattle.std.proofs.Common.{◌≡◌, ℕ, ◌-◌, ◌^◌, min, List, ◌∷◌, Option, Some, None, Err, refl, ap, subst, sym, ◌∙◌, arith}
-use Rattle.std.specs.Option.{option_or}
-use Rattle.elf_image.specs.declared.image.Image.{Image}
-use Rattle.rv_asm.specs.declared.asm_refusal.AsmRefusal.{AsmRefusal}
-use Rattle.rv_asm.specs.declared.asm_refusal.Fault.{Fault}
-use Rattle.rv_asm.specs.declared.asm_refusal.Stop.{Stop}
+use Rattle.rv_asm.proofs.Terms.{Err, List, None, Option, Some, ap, arith, min, refl, subst, sym, ℕ, ◌-◌, ◌^◌, ◌∙◌, ◌∷◌, ◌≡◌, option_or, Image, kind_of, lines_of, AsmRefusal, Fault, Stop, Layout, Sections, data_start, text_start, refusal_of, AnswersFault, AreBytes, IsAssembled, IsReason, data_segments, segment, labels_fault, layout_of, lines_fault, no_lines, IsSound, Answers, AreSections, AreSmall, IsImageOf, Surveys, WritesSections}
 use Rattle.rv_asm.specs.declared.asm_refusal.Stop.TheVariants as stop
 use Rattle.asm_lines.specs.declared.form.Section.TheVariants as section
-use Rattle.rv_asm.specs.declared.layout.Layout.{Layout}
-use Rattle.rv_asm.specs.declared.sections.Sections.{Sections}
-use Rattle.asm_lines.specs.Lines.{lines_of}
-use Rattle.rv_asm.specs.Layout.{text_start, data_start}
-use Rattle.asm_lines.specs.Flaws.{kind_of}
-use Rattle.rv_asm.specs.Refusals.{refusal_of}
-use Rattle.rv_asm.specs.Sound.{IsSound}
-use Rattle.rv_asm.specs.Assembling.{AreBytes, segment, data_segments, AnswersFault, IsAssembled, IsReason}
-use Rattle.rv_asm.specs.Steps.{Surveys, AreSections, WritesSections, AreSmall, IsImageOf}
-use Rattle.rv_asm.specs.Troubles.{Answers}
-use Rattle.rv_asm.specs.Passes.{no_lines, layout_of, lines_fault, labels_fault}
 use Rattle.rv_asm.proofs.Agreement.{refusal_is, cells_are, size_is}
 use Rattle.rv_asm.proofs.Good.{good_sound}
 use Rattle.rv_asm.proofs.Texts.{good_text, some_text, section_length}

@@ -1,10 +1,5 @@
 -- What each form gives: a statement whose operands its words can hold.
-use Rattle.std.proofs.Common.{◌≡◌, ℕ, ◌*◌, ◌^◌, ◌%◌, ◌<◌, ◌≤◌, Bool, true, false, ◌||◌, cond, List, [], ◌∷◌, Option, Some, None, Result, Ok, Err, refl, sym, ◌∙◌, ap, subst, arith, ℤ, pos, negsuc, ◌-ℤ◌, ◌≤ℤ◌, nat_lt, lit<}
-use Rattle.std.specs.Prelude.{bytes_eq, int_lt}
-use Rattle.std.specs.List.{list_all}
-use Rattle.std.proofs.lemmas.Bool.{false≢true, and_parts, or_parts, ltb-true, ltb-false}
-use Rattle.std.proofs.lemmas.Option.{none-some}
-use Rattle.std.proofs.lemmas.Bool.Decides.{nat_tests}
+use Rattle.std.proofs.Common.{pos}
 use Rattle.std.proofs.lemmas.Int.{ints}
 use Rattle.rv_isa.specs.declared.instr.BranchOp.{BranchOp}
 use Rattle.rv_isa.specs.declared.instr.LoadOp.{LoadOp}
@@ -12,24 +7,12 @@ use Rattle.rv_isa.specs.declared.instr.StoreOp.{StoreOp}
 use Rattle.rv_isa.specs.declared.instr.ImmOp.{ImmOp}
 use Rattle.rv_isa.specs.declared.instr.ImmOp.TheVariants as imm
 use Rattle.rv_isa.specs.declared.instr.RegOp.{RegOp}
-use Rattle.rv_isa.specs.declared.instr.Instr.{Instr}
 use Rattle.rv_isa.specs.declared.instr.Instr.TheVariants as instr
-use Rattle.rv_isa.specs.Ranges.{IsRegister, IsImmediate, IsShift, IsOperand, IsInRange}
-use Rattle.rv_isa.specs.Words.{signed, opcode, funct3}
-use Rattle.rv_isa.specs.Meaning.{to_word}
-use Rattle.asm_lines.specs.declared.flaw.Flaw.{Flaw}
 use Rattle.asm_lines.specs.declared.flaw.Flaw.TheVariants.{Range}
-use Rattle.asm_lines.specs.declared.form.Form.{Form}
 use Rattle.asm_lines.specs.declared.form.Form.TheVariants as form
 use Rattle.asm_lines.specs.declared.form.Section.TheVariants as section
-use Rattle.asm_lines.specs.declared.statement.Statement.{Statement}
 use Rattle.asm_lines.specs.declared.statement.Statement.TheVariants as statement
-use Rattle.asm_lines.specs.Bytes.{look_up, cut, ended}
-use Rattle.asm_lines.specs.Numbers.{number_of}
-use Rattle.asm_lines.specs.Registers.{register_table, register_of}
-use Rattle.asm_lines.specs.Mnemonics.{mnemonic_table, form_of, stands_in, gives_bytes}
-use Rattle.asm_lines.specs.Statements.{◌>>=◌, operand, operands_of, one, two, three, register, label, ranged, number, address, quoted, immediate, offset, any_word, any_byte, upper, op_statement, op_imm_statement, load_statement, jalr_statement, store_statement, branch_statement, branch_zero_statement, jal_statement, la_statement, jump_statement, lui_statement, auipc_statement, li_statement, mv_statement, lone_statement, word_or_address, word_statement, byte_statement, space_statement, ascii_statement, nop, ret, full_fence, statement_of, size_of}
-use Rattle.rv_asm.specs.Sound.{IsEncodable}
+use Rattle.rv_asm.proofs.Terms.{Bool, Err, List, None, Ok, Option, Result, Some, [], ap, arith, cond, false, lit<, nat_lt, negsuc, refl, subst, sym, true, ℕ, ℤ, ◌%◌, ◌*◌, ◌-ℤ◌, ◌<◌, ◌^◌, ◌||◌, ◌∙◌, ◌∷◌, ◌≡◌, ◌≤ℤ◌, ◌≤◌, and_parts, false≢true, ltb-false, ltb-true, or_parts, nat_tests, none-some, list_all, bytes_eq, int_lt, Instr, to_word, IsImmediate, IsInRange, IsOperand, IsRegister, IsShift, funct3, opcode, signed, Flaw, Form, Statement, cut, ended, look_up, form_of, gives_bytes, mnemonic_table, stands_in, number_of, register_of, register_table, address, any_byte, any_word, ascii_statement, auipc_statement, branch_statement, branch_zero_statement, byte_statement, full_fence, immediate, jal_statement, jalr_statement, jump_statement, la_statement, label, li_statement, load_statement, lone_statement, lui_statement, mv_statement, nop, number, offset, one, op_imm_statement, op_statement, operand, operands_of, quoted, ranged, register, ret, size_of, space_statement, statement_of, store_statement, three, two, upper, word_or_address, word_statement, ◌>>=◌, IsEncodable}
 
 -- what holds of a value, if there is one
 abbrev pub AllOk : {A : Type 0} → (A → Type 0) → Result A Flaw → Type 0

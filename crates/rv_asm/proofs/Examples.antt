@@ -1,22 +1,12 @@
 -- The definitions at values that were worked out by hand from the assembler's rules and the RISC-V manual's formats.
-use Rattle.std.proofs.Common.{◌≡◌, ℕ, List, [], ◌∷◌, ◌++◌, Some, None, refl}
-use Rattle.std.specs.Prelude.{pos, negsuc, codes, codes}
+use Rattle.std.specs.Prelude.{negsuc}
 use Rattle.rv_isa.specs.declared.instr.Instr.TheVariants as instr
 use Rattle.rv_isa.specs.declared.instr.ImmOp.TheVariants as imm
 use Rattle.rv_isa.specs.declared.instr.BranchOp.TheVariants as branch
 use Rattle.rv_isa.specs.declared.instr.LoadOp.TheVariants as load
-use Rattle.rv_isa.specs.Words.{opcode, rd, funct3, rs1, imm_i, imm_u}
-use Rattle.rv_isa.specs.Table.{row, imm_row, imm_op, system_row}
 use Rattle.asm_lines.specs.declared.flaw.Flaw.TheVariants as flaw
 use Rattle.asm_lines.specs.declared.form.Section.TheVariants as section
-use Rattle.asm_lines.specs.Lines.{code_of, words_of, line_of_code, line_of}
-use Rattle.asm_lines.specs.Numbers.{decimal, hexadecimal, signed_decimal, number_of}
-use Rattle.asm_lines.specs.Registers.{register_table, register_of}
-use Rattle.asm_lines.specs.Mnemonics.{mnemonic_table, form_of}
-use Rattle.asm_lines.specs.Statements.{one, two, three, immediate, offset, any_word, any_byte, upper, operands_of, register, label, number, address, quoted, op_statement, op_imm_statement, load_statement, jalr_statement, store_statement, branch_statement, branch_zero_statement, jal_statement, la_statement, jump_statement, lui_statement, auipc_statement, li_statement, mv_statement, lone_statement, word_statement, byte_statement, space_statement, ascii_statement}
-use Rattle.rv_asm.specs.Layout.{read_lines}
-use Rattle.rv_asm.specs.Refusals.{fault, refusal_of}
-use Rattle.rv_asm.specs.Assembling.{Cell, Coded, Raw, cells_in}
+use Rattle.rv_asm.proofs.Terms.{List, None, Some, [], refl, ℕ, ◌++◌, ◌∷◌, ◌≡◌, codes, pos, imm_op, imm_row, row, system_row, funct3, imm_i, imm_u, opcode, rd, rs1, code_of, line_of, line_of_code, words_of, form_of, mnemonic_table, decimal, hexadecimal, number_of, signed_decimal, register_of, register_table, address, any_byte, any_word, ascii_statement, auipc_statement, branch_statement, branch_zero_statement, byte_statement, immediate, jal_statement, jalr_statement, jump_statement, la_statement, label, li_statement, load_statement, lone_statement, lui_statement, mv_statement, number, offset, one, op_imm_statement, op_statement, operands_of, quoted, register, space_statement, store_statement, three, two, upper, word_statement, read_lines, fault, refusal_of, Cell, Coded, Raw, cells_in}
 
 -- ---- what some texts put into their sections
 

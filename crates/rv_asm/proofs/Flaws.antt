@@ -1,15 +1,6 @@
 -- What is wrong with a line, and what a line comes to, by its parts.
-use Rattle.std.proofs.Common.{◌≡◌, ℕ, Bool, true, false, ◌&&◌, ◌||◌, List, Option, Some, None, Result, Ok, Err, refl, ap, ◌∙◌}
-use Rattle.asm_lines.specs.declared.flaw.Flaw.{Flaw}
 use Rattle.asm_lines.specs.declared.flaw.Flaw.TheVariants as flaw
-use Rattle.asm_lines.specs.declared.line.Line.{Line}
-use Rattle.asm_lines.specs.declared.line.Words.{Words}
-use Rattle.rv_asm.specs.declared.layout.Layout.{Layout}
-use Rattle.asm_lines.specs.declared.statement.Statement.{Statement}
-use Rattle.asm_lines.specs.Lines.{line_of}
-use Rattle.asm_lines.specs.Statements.{statement_of}
-use Rattle.rv_asm.specs.Refusals.{is_misplaced, has_no_text, is_too_large, read_flaw, words_flaw}
-use Rattle.rv_asm.specs.Passes.{with_words, after_line, is_repeated, size_of_both, with_line, with_read, counted, with_label, with_statement, found_flaw, added_flaw}
+use Rattle.rv_asm.proofs.Terms.{Bool, Err, List, None, Ok, Option, Result, Some, ap, false, refl, true, ℕ, ◌&&◌, ◌||◌, ◌∙◌, ◌≡◌, Flaw, Line, Words, Statement, line_of, statement_of, Layout, has_no_text, is_misplaced, is_too_large, read_flaw, words_flaw, added_flaw, after_line, counted, found_flaw, is_repeated, size_of_both, with_label, with_line, with_read, with_statement, with_words}
 
 abbrev pub is_out_of_place : Layout → Bool → Option Words → Bool
 is_out_of_place layout last words = is_misplaced layout.section words || last && has_no_text layout.section layout.text_size words

@@ -1,12 +1,5 @@
 -- The form of a line's statement is in the table.
-use Rattle.std.proofs.Common.{◌≡◌, ℕ, Bool, true, false, cond, List, [], ◌∷◌, Option, Some, None, option_map, refl, subst}
-use Rattle.std.specs.List.{list_all}
-use Rattle.asm_lines.specs.declared.form.Form.{Form}
-use Rattle.asm_lines.specs.declared.line.Line.{Line}
-use Rattle.asm_lines.specs.declared.line.Words.{Words}
-use Rattle.asm_lines.specs.Bytes.{is_allowed, is_name, skip_blanks, first_word, behind_word, cut}
-use Rattle.asm_lines.specs.Mnemonics.{form_of}
-use Rattle.asm_lines.specs.Lines.{code_of, words_of_form, words_of, line_from, line_cut, line_of_code, line_of}
+use Rattle.rv_asm.proofs.Terms.{Bool, List, None, Option, Some, [], cond, false, option_map, refl, subst, true, ℕ, ◌∷◌, ◌≡◌, list_all, Form, Line, Words, behind_word, cut, first_word, is_allowed, is_name, skip_blanks, code_of, line_cut, line_from, line_of, line_of_code, words_of, words_of_form, form_of}
 use Rattle.rv_asm.proofs.Encodable.{IsForm, form_is}
 
 -- the statement of a line, if there are both, has a known form

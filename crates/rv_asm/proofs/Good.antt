@@ -1,32 +1,11 @@
 -- What holds behind lines that aren't wrong.
-use Rattle.std.proofs.Common.{◌≡◌, ◌≢◌, ℕ, ◌+◌, ◌%◌, ◌≤◌, Bool, true, false, ◌&&◌, not, cond, List, [], ◌∷◌, ◌++◌, Option, Some, None, Result, Ok, Err, refl, ap, subst, sym, ◌∙◌, arith, lit≤, ◌==◌, ◌⊎◌, inl, inr}
-use Rattle.std.specs.Prelude.{if◌then◌else◌}
-use Rattle.std.specs.List.{All}
-use Rattle.std.proofs.lemmas.Option.{none-some}
-use Rattle.std.proofs.lemmas.Bool.{false≢true, or_parts, and_parts, ltb-false, eqb-false}
-use Rattle.std.proofs.lemmas.List.Elements.{All-nil, All-push}
-use Rattle.asm_lines.specs.declared.flaw.Flaw.{Flaw}
 use Rattle.asm_lines.specs.declared.flaw.Flaw.TheVariants as flaw
-use Rattle.asm_lines.specs.declared.form.Form.{Form}
-use Rattle.asm_lines.specs.declared.form.Section.{Section}
 use Rattle.asm_lines.specs.declared.form.Section.TheVariants as section
-use Rattle.asm_lines.specs.declared.line.Line.{Line}
-use Rattle.asm_lines.specs.declared.line.Words.{Words}
-use Rattle.rv_asm.specs.declared.placed.Placed.{Placed}
-use Rattle.rv_asm.specs.declared.layout.Layout.{Layout}
-use Rattle.asm_lines.specs.declared.statement.Statement.{Statement}
 use Rattle.asm_lines.specs.declared.statement.Statement.TheVariants as statement
-use Rattle.rv_asm.specs.Places.{definition_of}
-use Rattle.asm_lines.specs.Lines.{line_of}
-use Rattle.asm_lines.specs.Mnemonics.{is_text, is_data, stands_in, gives_bytes}
-use Rattle.asm_lines.specs.Statements.{statement_of, size_of}
-use Rattle.rv_asm.specs.Refusals.{is_misplaced, gives_text, has_no_text, is_too_large, size_flaw, read_flaw, words_flaw}
-use Rattle.rv_asm.specs.Sound.{IsEncodable, IsSmall, IsDefined, IsReady, IsSound}
-use Rattle.rv_asm.specs.Passes.{placed_at, counted, with_label, next_spot, with_bytes, is_repeated, is_placed_in, with_statement, size_of_both, with_placed, found_flaw, added_flaw, size_of_section, after_line, no_lines}
+use Rattle.rv_asm.proofs.Terms.{Bool, Err, List, None, Ok, Option, Result, Some, [], ap, arith, cond, false, inl, inr, lit≤, refl, subst, sym, true, ℕ, ◌%◌, ◌&&◌, ◌++◌, ◌+◌, ◌==◌, ◌∙◌, ◌∷◌, ◌≡◌, ◌≢◌, ◌≤◌, ◌⊎◌, and_parts, eqb-false, false≢true, ltb-false, not-false, or_parts, All-nil, All-push, none-some, All, if◌then◌else◌, Flaw, Form, Section, Line, Words, Statement, line_of, gives_bytes, is_data, is_text, stands_in, size_of, statement_of, Layout, MOST_BYTES, Placed, definition_of, gives_text, has_no_text, is_misplaced, is_too_large, read_flaw, size_flaw, words_flaw, added_flaw, after_line, counted, found_flaw, is_placed_in, is_repeated, next_spot, no_lines, placed_at, size_of_both, size_of_section, with_bytes, with_label, with_placed, with_statement, IsDefined, IsEncodable, IsReady, IsSmall, IsSound}
 use Rattle.rv_asm.proofs.Encodable.{AllOk, IsForm, Means, means}
 use Rattle.rv_asm.proofs.Forms.{line_form}
 use Rattle.rv_asm.proofs.Flaws.{is_out_of_place, after_label, after_words}
-use Rattle.rv_asm.specs.declared.layout.TheConstants.{MOST_BYTES}
 
 -- how many bytes some statements give a section
 abbrev pub size_in : Section → Placed → ℕ
@@ -153,10 +132,6 @@ in_text : (in_force : Section) (found : Form) → stands_in in_force found ≡ t
 in_text section.Text found stands text = stands
 in_text section.Data found stands text = absurd (false≢true text)
 
-not_true : (b : Bool) → not b ≡ false → b ≡ true
-not_true true h = refl
-not_true false h = absurd (false≢true (sym h))
-
 none_if : (b : Bool) (flaw : Flaw) (rest : Option Flaw) → cond b (Some flaw) rest ≡ None → (b ≡ false) × (rest ≡ None)
 none_if true flaw rest h = absurd (none-some flaw (sym h))
 none_if false flaw rest h = (refl, h)
@@ -202,7 +177,7 @@ pub record HasStatement (layout : Layout) (bytes : List ℕ) (line : Line) : Typ
 has_words : (layout : Layout) (last : Bool) (bytes : List ℕ) (line : Line) (words : Words) → IsRight layout last bytes line → line.words ≡ Some words → HasStatement layout bytes line
 has_words layout last bytes line words right worded =
     let form : IsForm words.form = line_form bytes line words right.read worded in
-    let stands : stands_in layout.section words.form ≡ true = not_true _ (sym (ap (is_misplaced layout.section) worded) ∙ right.placed) in
+    let stands : stands_in layout.section words.form ≡ true = not-false _ (sym (ap (is_misplaced layout.section) worded) ∙ right.placed) in
     let found = reads layout words.form (statement_of words.form words.operands) (means words.form words.operands form) stands (sym (ap (words_flaw (size_of_both layout)) worded) ∙ right.worded) in
     record { words = words; worded = worded; statement = found.0; read = found.1; means = found.2; stands = stands; comes = found.3 }
 
@@ -284,7 +259,7 @@ texts layout words h = by (layout.text_size == 0) refl
   where
     by : (b : Bool) → (layout.text_size == 0) ≡ b → ((layout.text_size == 0) ≡ false) ⊎ (gives_text layout.section words ≡ true)
     by false e = inl e
-    by true e = inr (not_true _ (rw e at h))
+    by true e = inr (not-false _ (rw e at h))
 
 gives_parts : (layout : Layout) (words : Words) → gives_text layout.section (Some words) ≡ true → (is_text layout.section ≡ true) × (gives_bytes words.form ≡ true)
 gives_parts layout words h = and_parts (is_text layout.section) (gives_bytes words.form) h

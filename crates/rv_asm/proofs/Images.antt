@@ -1,16 +1,5 @@
 -- The image of two sections is valid.
-use Rattle.std.proofs.Common.{◌≡◌, ℕ, ◌+◌, ◌-◌, ◌*◌, ◌^◌, ◌<◌, ◌≤◌, true, false, ◌&&◌, List, [], ◌∷◌, None, length, nat_lt, nat_le, refl, arith, lit<, lit≤}
-use Rattle.std.specs.List.{All}
-use Rattle.std.proofs.lemmas.Bool.{le-leb, lt-leb, le-ltb, lt-ltb, or_from, and_from}
-use Rattle.std.proofs.lemmas.Bool.Decides.{nat_tests}
-use Rattle.std.proofs.lemmas.List.Elements.{All-nil, All-cons}
-use Rattle.elf_image.specs.declared.segment.Segment.{Segment}
-use Rattle.elf_image.specs.Layout.{window_start, heap_floor, IsWindow, IsPlaced, overlap, no_load, executable, bad_entry, too_large, layout_refusal}
-use Rattle.rv_asm.specs.Layout.{text_start, data_start}
-use Rattle.rv_asm.specs.Assembling.{segment, data_segments}
-use Rattle.rv_asm.specs.Steps.{AreSmall}
-use Rattle.elf_image.specs.declared.layout.TheConstants.{PAGE, STACK_AND_GUARD}
-use Rattle.rv_asm.specs.declared.layout.TheConstants.{MOST_BYTES}
+use Rattle.rv_asm.proofs.Terms.{List, None, [], arith, false, length, lit<, lit≤, nat_le, nat_lt, refl, true, ℕ, ◌&&◌, ◌*◌, ◌+◌, ◌-◌, ◌<◌, ◌^◌, ◌∷◌, ◌≡◌, ◌≤◌, and_from, le-leb, le-ltb, lt-leb, lt-ltb, or_from, nat_tests, All-cons, All-nil, All, PAGE, STACK_AND_GUARD, Segment, IsPlaced, IsWindow, bad_entry, executable, heap_floor, layout_refusal, no_load, overlap, too_large, window_start, MOST_BYTES, data_start, text_start, data_segments, segment, AreSmall}
 
 -- the segments of two sections, of which text has so many bytes
 abbrev pub segments_of : ℕ → List ℕ → List ℕ → List Segment

@@ -1,13 +1,6 @@
 -- Look-ups of labels.
-use Rattle.std.proofs.Common.{◌≡◌, ℕ, ◌++◌, Bool, true, false, cond, List, [], ◌∷◌, Option, Some, map, refl, ap, subst, Bor}
-use Rattle.std.specs.Prelude.{bytes_eq}
-use Rattle.std.specs.List.{All}
-use Rattle.std.proofs.lemmas.Option.{none-some}
-use Rattle.std.proofs.lemmas.List.Elements.{All-head, All-tail}
-use Rattle.rv_asm.specs.Sound.{IsSmall, IsDefined}
 use Rattle.std.specs.Map.{lookup}
-use Rattle.rv_asm.specs.declared.placed.Spot.{Spot}
-use Rattle.rv_asm.specs.Places.{Definition, definition_of, spot_of}
+use Rattle.rv_asm.proofs.Terms.{Bool, Bor, List, Option, Some, [], ap, cond, false, map, refl, subst, true, ℕ, ◌++◌, ◌∷◌, ◌≡◌, All-head, All-tail, none-some, All, bytes_eq, Spot, Definition, definition_of, spot_of, IsDefined, IsSmall}
 
 -- the labels of a map's entries
 abbrev pub labels_in : List (Bor (List ℕ) × Spot) → List Definition

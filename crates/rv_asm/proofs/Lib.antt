@@ -1,3 +1,4 @@
+pub mod Terms
 mod Examples
 pub mod Labelling
 pub mod Flaws

@@ -1,14 +1,9 @@
 -- A text has one image at most: a word is that of one instruction, and an image is what it says.
-use Rattle.std.proofs.Common.{◌≡◌, ℕ, List, [], ◌∷◌, ◌++◌, ap, ap₂, sym, ◌∙◌}
-use Rattle.rv_isa.specs.declared.instr.Instr.{Instr}
-use Rattle.rv_isa.specs.Words.{little_bytes}
 use Rattle.rv_isa.proofs.OneWord.{one_word}
 use Rattle.rv_isa.proofs.Rows.{row_to}
-use Rattle.elf_image.specs.declared.image.Image.{Image}
 use Rattle.elf_image.proofs.Same.{same_image}
 use Rattle.asm_lines.specs.declared.form.Section.TheVariants as section
-use Rattle.rv_asm.specs.Layout.{read_lines, bytes_in, text_start, data_start}
-use Rattle.rv_asm.specs.Assembling.{Cell, Coded, Raw, IsWord, AreBytes, cells_in, segment, data_segments, IsAssembled}
+use Rattle.rv_asm.proofs.Terms.{List, [], ap, ap₂, sym, ℕ, ◌++◌, ◌∙◌, ◌∷◌, ◌≡◌, Instr, little_bytes, Image, bytes_in, data_start, read_lines, text_start, AreBytes, Cell, Coded, IsAssembled, IsWord, Raw, cells_in, data_segments, segment}
 
 same_word : (instr : Instr) (word other : ℕ) → IsWord instr word → IsWord instr other → word ≡ other
 same_word instr word other is also = one_word word other instr is.below also.below (row_to word instr is.row_is) (row_to other instr also.row_is)

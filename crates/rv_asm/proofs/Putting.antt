@@ -1,25 +1,7 @@
 -- Bytes put behind others.
-use Rattle.std.proofs.Common.{◌≡◌, ℕ, ◌+◌, ◌<◌, Bool, true, false, cond, List, [], ◌∷◌, ◌++◌, None, Result, Ok, Err, length, take, drop, get_or, option_map, refl, ap, subst, sym, ◌∙◌, append_assoc}
-use Rattle.std.specs.Prelude.{flat_map, if◌then◌else◌}
-use Rattle.std.specs.List.{filter}
-use Rattle.std.specs.Option.{option_or}
-use Rattle.std.proofs.lemmas.List.{append-nil, take_more, at_drop_more}
-use Rattle.rv_isa.specs.Words.{little_bytes}
-use Rattle.rv_asm.specs.declared.asm_refusal.Trouble.{Trouble}
+use Rattle.rv_asm.proofs.Terms.{Bool, Err, List, None, Ok, Result, [], ap, append_assoc, cond, drop, false, get_or, length, option_map, refl, subst, sym, take, true, ℕ, ◌++◌, ◌+◌, ◌<◌, ◌∙◌, ◌∷◌, ◌≡◌, append-nil, at_drop_more, take_more, filter, option_or, flat_map, if◌then◌else◌, little_bytes, Section, is_data, is_text, Trouble, Layout, Placed, fault, label_flaw, AreBytes, Cell, Coded, Raw, is_placed_in, label_address, labels_fault, placed_cells, section_cells, spot_address, Puts, WritesPlaced, WritesStatement, cells_for}
 use Rattle.rv_asm.specs.declared.asm_refusal.Trouble.TheVariants as trouble
-use Rattle.asm_lines.specs.declared.form.Section.{Section}
 use Rattle.asm_lines.specs.declared.form.Section.TheVariants as section
-use Rattle.rv_asm.specs.declared.placed.Placed.{Placed}
-use Rattle.rv_asm.specs.declared.layout.Layout.{Layout}
-use Rattle.asm_lines.specs.Mnemonics.{is_text, is_data}
-use Rattle.rv_asm.specs.Refusals.{fault, label_flaw}
-use Rattle.rv_asm.specs.Troubles.{stopped}
-use Rattle.rv_asm.specs.Assembling.{Cell, Coded, Raw, AreBytes}
-use Rattle.rv_asm.specs.Steps.{Puts, cells_for, WritesStatement, WritesPlaced, WritesSections}
-use Rattle.rv_asm.specs.Passes.{spot_address, is_placed_in, placed_cells, section_cells, label_address, labels_fault}
-
-pub puts_raw : (old new bytes : List ℕ) → new ≡ old ++ bytes → Puts old new (Raw bytes ∷ [])
-puts_raw old new bytes h = record { bytes = bytes; new_is = h; are = ([], sym (append-nil bytes), refl) }
 
 -- cells behind cells
 pub are_more : (cells others : List Cell) (xs ys : List ℕ) → AreBytes cells xs → AreBytes others ys → AreBytes (cells ++ others) (xs ++ ys)
@@ -87,10 +69,3 @@ pub linked_fault : (layout : Layout) (statements : List Placed) (i : ℕ) (place
 linked_fault layout statements i placed below is linked =
     next_fault layout statements i placed below is
     ∙ ap (λ answer. option_or (option_map (fault placed.line) answer) (labels_fault layout (drop (i + 1) statements))) linked
-
-pub writing_stops : (layout : Layout) (i : ℕ) (placed : Placed) (code new_code variables new_variables : List ℕ) (trouble : Trouble) → labels_fault layout (drop i layout.statements) ≡ labels_fault layout layout.statements → i < length layout.statements → placed ≡ get_or layout.statements i placed → WritesPlaced layout placed code new_code variables new_variables (Err trouble) → WritesSections layout (Err (stopped placed.line trouble))
-writing_stops layout i placed code new_code variables new_variables (trouble.Flawed flaw) first below is writes =
-    sym first
-    ∙ next_fault layout layout.statements i placed below is
-    ∙ ap (λ answer. option_or (option_map (fault placed.line) answer) (labels_fault layout (drop (i + 1) layout.statements))) writes
-writing_stops layout i placed code new_code variables new_variables trouble.Memory first below is writes = tt

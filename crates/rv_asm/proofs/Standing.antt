@@ -1,26 +1,8 @@
 -- What the passes of the code hold behind some lines is what the definitions say of those lines.
-use Rattle.std.proofs.Common.{◌≡◌, ℕ, ◌+◌, Bool, true, false, List, [], ◌∷◌, ◌++◌, Option, Some, None, Result, Ok, Err, length, map, option_map, refl, ap, ap₂, subst, sym, ◌∙◌, arith, append_assoc, length-append}
-use Rattle.std.specs.Prelude.{if◌then◌else◌}
-use Rattle.std.specs.List.{sum_by, filter_map, cons_option}
-use Rattle.std.specs.Result.{result_ok}
-use Rattle.std.proofs.lemmas.List.{append-nil}
 use Rattle.std.proofs.lemmas.List.Sums.{sum_by-append}
-use Rattle.std.proofs.lemmas.List.Elements.{filter_map-append}
-use Rattle.asm_lines.specs.declared.flaw.Flaw.{Flaw}
-use Rattle.asm_lines.specs.declared.form.Section.{Section}
 use Rattle.asm_lines.specs.declared.form.Section.TheVariants as section
-use Rattle.asm_lines.specs.declared.line.Line.{Line}
-use Rattle.asm_lines.specs.declared.line.Words.{Words}
-use Rattle.rv_asm.specs.declared.placed.Spot.{Spot}
-use Rattle.rv_asm.specs.declared.placed.Placed.{Placed}
-use Rattle.rv_asm.specs.declared.layout.Layout.{Layout}
-use Rattle.asm_lines.specs.declared.statement.Statement.{Statement}
 use Rattle.asm_lines.specs.declared.statement.Statement.TheVariants as statement
-use Rattle.rv_asm.specs.Places.{Definition, definition_of}
-use Rattle.asm_lines.specs.Lines.{lines_of, line_of}
-use Rattle.asm_lines.specs.Statements.{size_of, statement_of}
-use Rattle.rv_asm.specs.Layout.{Place, place, places, places_behind, line_number, label_on, statement_in, statement_on, named_by, in_force_behind, last_named, section_at, is_in, size_on, size_at, bytes_in, read_lines}
-use Rattle.rv_asm.specs.Passes.{no_lines, size_of_section, next_spot, with_label, with_bytes, placed_at, with_placed, with_statement, with_read, with_words, with_line, counted, after_line, after_lines, layout_of}
+use Rattle.rv_asm.proofs.Terms.{Bool, Err, List, None, Ok, Option, Result, Some, [], ap, append_assoc, ap₂, arith, false, length, length-append, map, option_map, refl, subst, sym, true, ℕ, ◌++◌, ◌+◌, ◌∙◌, ◌∷◌, ◌≡◌, append-nil, filter_map-append, cons_option, filter_map, sum_by, if◌then◌else◌, result_ok, Flaw, Section, Line, Words, Statement, line_of, lines_of, size_of, statement_of, Layout, Placed, Spot, Definition, definition_of, Place, bytes_in, in_force_behind, is_in, label_on, last_named, line_number, named_by, place, places, places_behind, read_lines, section_at, size_at, size_on, statement_in, statement_on, after_line, after_lines, counted, layout_of, next_spot, no_lines, placed_at, size_of_section, with_bytes, with_label, with_line, with_placed, with_read, with_statement, with_words}
 
 -- ---- one line more
 

@@ -1,26 +1,9 @@
 -- A pass over the lines of a text.
-use Rattle.std.proofs.Common.{◌≡◌, ℕ, ◌+◌, Bool, true, false, List, [], ◌∷◌, ◌++◌, Option, Some, None, Result, Ok, Err, length, option_map, ◌==◌, refl, ap, ap₂, sym, ◌∙◌}
 use Rattle.std.proofs.Math.Dec.{eqb-suc-zero}
-use Rattle.std.proofs.lemmas.Bool.{false≢true}
-use Rattle.std.specs.Option.{option_or}
-use Rattle.asm_lines.specs.declared.flaw.Flaw.{Flaw}
-use Rattle.rv_asm.specs.declared.asm_refusal.Trouble.{Trouble}
+use Rattle.rv_asm.proofs.Terms.{Bool, Err, List, None, Ok, Option, Result, Some, [], ap, ap₂, false, length, option_map, refl, sym, true, ℕ, ◌++◌, ◌+◌, ◌==◌, ◌∙◌, ◌∷◌, ◌≡◌, false≢true, option_or, Flaw, Section, Line, Words, Statement, lines_by, lines_from-cut, cut, line_of, lines_from, lines_of, size_of, statement_of, Trouble, Layout, fault, added_flaw, after_line, after_lines, counted, is_end, layout_of, lines_fault, no_lines, placed_at, with_bytes, with_label, with_line, with_placed, with_read, with_statement, with_words, stopped, AddsLine, Surveys}
 use Rattle.rv_asm.specs.declared.asm_refusal.Trouble.TheVariants as trouble
-use Rattle.asm_lines.specs.declared.form.Section.{Section}
 use Rattle.asm_lines.specs.declared.form.Section.TheVariants as section
-use Rattle.rv_asm.specs.declared.layout.Layout.{Layout}
-use Rattle.asm_lines.specs.declared.line.Line.{Line}
-use Rattle.asm_lines.specs.declared.line.Words.{Words}
-use Rattle.asm_lines.specs.declared.statement.Statement.{Statement}
 use Rattle.asm_lines.specs.declared.statement.Statement.TheVariants as statement
-use Rattle.asm_lines.specs.Bytes.{cut}
-use Rattle.asm_lines.specs.Lines.{lines_from, lines_of, line_of}
-use Rattle.asm_lines.specs.Statements.{statement_of, size_of}
-use Rattle.rv_asm.specs.Refusals.{fault}
-use Rattle.rv_asm.specs.Troubles.{stopped}
-use Rattle.rv_asm.specs.Steps.{AddsLine, Surveys}
-use Rattle.rv_asm.specs.Passes.{is_end, placed_at, with_read, counted, with_label, with_bytes, layout_of, with_statement, with_words, with_placed, after_lines, lines_fault, added_flaw, after_line, no_lines, with_line}
-use Rattle.asm_lines.proofs.Cutting.{lines_by, lines_from-cut}
 
 more_lines : (byte : ℕ) (bytes : List ℕ) (parts : Option (List ℕ × List ℕ)) → is_end (lines_by (byte ∷ bytes) parts) ≡ false
 more_lines byte bytes None = refl

@@ -1,25 +1,6 @@
 -- A text whose lines aren't wrong: its layout is sound, and its sections have the bytes that were counted.
-use Rattle.std.proofs.Common.{◌≡◌, ℕ, ◌+◌, ◌≤◌, Bool, true, false, cond, List, [], ◌∷◌, ◌++◌, Option, Some, None, length, option_map, refl, ap, sym, ◌∙◌, arith, length-append}
-use Rattle.std.specs.Prelude.{flat_map, replicate}
-use Rattle.std.specs.List.{filter}
-use Rattle.std.specs.Option.{option_or}
-use Rattle.std.proofs.lemmas.Option.{none-some}
-use Rattle.std.proofs.lemmas.List.{length-replicate}
-use Rattle.rv_isa.specs.Words.{little_bytes}
-use Rattle.asm_lines.specs.declared.flaw.Flaw.{Flaw}
-use Rattle.rv_asm.specs.declared.asm_refusal.Fault.{Fault}
-use Rattle.asm_lines.specs.declared.form.Section.{Section}
-use Rattle.rv_asm.specs.declared.placed.Placed.{Placed}
-use Rattle.rv_asm.specs.declared.layout.Layout.{Layout}
-use Rattle.asm_lines.specs.declared.statement.Statement.{Statement}
 use Rattle.asm_lines.specs.declared.statement.Statement.TheVariants as statement
-use Rattle.asm_lines.specs.Bytes.{cut}
-use Rattle.asm_lines.specs.Lines.{lines_from, lines_of}
-use Rattle.asm_lines.specs.Statements.{size_of}
-use Rattle.rv_asm.specs.Refusals.{fault}
-use Rattle.rv_asm.specs.Assembling.{Cell, Coded, Raw, AreBytes, cells_at}
-use Rattle.rv_asm.specs.Passes.{is_end, spot_address, is_placed_in, layout_of, placed_cells, section_cells, after_lines, label_address, lines_fault, added_flaw, after_line, no_lines}
-use Rattle.asm_lines.proofs.Cutting.{lines_by, lines_from-cut}
+use Rattle.rv_asm.proofs.Terms.{Bool, List, None, Option, Some, [], ap, arith, cond, false, length, length-append, option_map, refl, sym, true, ℕ, ◌++◌, ◌+◌, ◌∙◌, ◌∷◌, ◌≡◌, ◌≤◌, length-replicate, none-some, filter, option_or, flat_map, replicate, little_bytes, Flaw, Section, Statement, lines_by, lines_from-cut, cut, lines_from, lines_of, size_of, Fault, Layout, Placed, fault, AreBytes, Cell, Coded, Raw, cells_at, added_flaw, after_line, after_lines, is_end, is_placed_in, label_address, layout_of, lines_fault, no_lines, placed_cells, section_cells, spot_address}
 use Rattle.rv_asm.proofs.Good.{sizes, IsGood, good_start, good_after, text_at_end}
 
 no_flaw : (line : ℕ) (found : Option Flaw) (rest : Option Fault) → option_or (option_map (fault line) found) rest ≡ None → (found ≡ None) × (rest ≡ None)

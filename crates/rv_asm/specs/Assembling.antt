@@ -1,25 +1,14 @@
 -- The image of a text: the bytes of its sections at their addresses.
 use Rattle.std.specs.Prelude.{◌≡◌, ℕ, ◌-◌, ◌%◌, ◌^◌, ◌<◌, min, List, [], ◌∷◌, ◌++◌, length, replicate, flat_map, Option, Some, None, unwrap_or, ℤ, pos, ◌-ℤ◌}
-use Rattle.std.specs.List.{filter}
 use Rattle.rv_isa.specs.declared.instr.ImmOp.TheVariants as imm
-use Rattle.rv_isa.specs.declared.instr.Instr.{Instr}
 use Rattle.rv_isa.specs.declared.instr.Instr.TheVariants as instr
-use Rattle.rv_isa.specs.Words.{little_bytes, signed}
-use Rattle.rv_isa.specs.Meaning.{to_word}
-use Rattle.rv_isa.specs.Table.{row}
-use Rattle.elf_image.specs.declared.segment.Segment.{Segment}
-use Rattle.elf_image.specs.declared.image.Image.{Image}
+use Rattle.rv_asm.specs.Terms.{filter, Instr, to_word, row, little_bytes, signed, Image, Segment, Section, Line, Statement, kind_of, characters}
 use Rattle.rv_asm.specs.declared.asm_refusal.AsmRefusal.{AsmRefusal}
 use Rattle.rv_asm.specs.declared.asm_refusal.AsmRefusal.TheVariants.{Refused, Memory}
 use Rattle.rv_asm.specs.declared.asm_refusal.Fault.{Fault}
-use Rattle.asm_lines.specs.declared.form.Section.{Section}
 use Rattle.asm_lines.specs.declared.form.Section.TheVariants as section
-use Rattle.asm_lines.specs.declared.line.Line.{Line}
-use Rattle.asm_lines.specs.declared.statement.Statement.{Statement}
 use Rattle.asm_lines.specs.declared.statement.Statement.TheVariants as statement
-use Rattle.asm_lines.specs.Statements.{characters}
 use Rattle.rv_asm.specs.Layout.{Place, places, read_lines, statement_on, stands_at, bytes_in, text_start, data_start, address_at, address_of}
-use Rattle.asm_lines.specs.Flaws.{kind_of}
 use Rattle.rv_asm.specs.Refusals.{distance, refusal_of}
 
 -- what a statement puts into its section: an instruction, or bytes as they are

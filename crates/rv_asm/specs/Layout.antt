@@ -1,18 +1,9 @@
 -- Where the lines of a text stand, and the addresses of its labels. Text begins at TEXT_START, and data at the first page at
 -- or above the end of text.
 use Rattle.std.specs.Prelude.{ℕ, ◌+◌, ◌-◌, ◌*◌, ◌/◌, Bool, false, List, [], ◌∷◌, ◌++◌, length, map, Option, Some, None, option_map, bytes_eq, if◌then◌else◌}
-use Rattle.std.specs.List.{find, sum_by}
-use Rattle.std.specs.Result.{result_ok}
-use Rattle.asm_lines.specs.declared.form.Section.{Section}
 use Rattle.asm_lines.specs.declared.form.Section.TheVariants as section
-use Rattle.asm_lines.specs.declared.line.Line.{Line}
-use Rattle.asm_lines.specs.declared.line.Words.{Words}
-use Rattle.asm_lines.specs.declared.statement.Statement.{Statement}
 use Rattle.asm_lines.specs.declared.statement.Statement.TheVariants as statement
-use Rattle.asm_lines.specs.Lines.{lines_of, line_of}
-use Rattle.asm_lines.specs.Mnemonics.{is_text, is_data}
-use Rattle.asm_lines.specs.Statements.{statement_of, size_of}
-use Rattle.elf_image.specs.declared.layout.TheConstants.{PAGE}
+use Rattle.rv_asm.specs.Terms.{find, sum_by, result_ok, PAGE, Section, Line, Words, Statement, line_of, lines_of, is_data, is_text, size_of, statement_of}
 use Rattle.rv_asm.specs.declared.layout.TheConstants.{TEXT_START}
 
 -- what stands on each line of a text; none where a line isn't of the form of a line

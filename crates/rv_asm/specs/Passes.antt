@@ -1,22 +1,12 @@
 -- What the passes of the code hold: behind some lines, the section in force, how many bytes each section has, and the
 -- labels and statements at their places. Nothing here is promised to callers of the crate.
 use Rattle.std.specs.Prelude.{ℕ, ◌+◌, Bool, true, false, List, [], ◌∷◌, ◌++◌, flat_map, Option, Some, None, option_map, is_some, Result, Ok, Err}
-use Rattle.std.specs.List.{filter}
-use Rattle.std.specs.Option.{option_or}
-use Rattle.asm_lines.specs.declared.flaw.Flaw.{Flaw}
+use Rattle.rv_asm.specs.Terms.{filter, option_or, Flaw, Section, Line, Words, Statement, line_of, lines_of, size_of, statement_of, Placed, Spot}
 use Rattle.rv_asm.specs.declared.asm_refusal.Fault.{Fault}
-use Rattle.asm_lines.specs.declared.form.Section.{Section}
 use Rattle.asm_lines.specs.declared.form.Section.TheVariants as section
-use Rattle.asm_lines.specs.declared.line.Line.{Line}
-use Rattle.asm_lines.specs.declared.line.Words.{Words}
-use Rattle.rv_asm.specs.declared.placed.Spot.{Spot}
-use Rattle.rv_asm.specs.declared.placed.Placed.{Placed}
 use Rattle.rv_asm.specs.declared.layout.Layout.{Layout}
-use Rattle.asm_lines.specs.declared.statement.Statement.{Statement}
 use Rattle.asm_lines.specs.declared.statement.Statement.TheVariants as statement
 use Rattle.rv_asm.specs.Places.{definition_of, spot_of}
-use Rattle.asm_lines.specs.Lines.{lines_of, line_of}
-use Rattle.asm_lines.specs.Statements.{statement_of, size_of}
 use Rattle.rv_asm.specs.Layout.{label_on, is_in, address_in}
 use Rattle.rv_asm.specs.Refusals.{fault, parts_flaw, label_flaw}
 use Rattle.rv_asm.specs.Assembling.{Cell, cells_at}

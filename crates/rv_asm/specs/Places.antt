@@ -1,6 +1,6 @@
 -- The labels that the passes of the code hold. Nothing here is promised to callers of the crate.
 use Rattle.std.specs.Prelude.{ℕ, List, [], ◌∷◌, Option, Some, None, bytes_eq, if◌then◌else◌}
-use Rattle.rv_asm.specs.declared.placed.Spot.{Spot}
+use Rattle.rv_asm.specs.Terms.{Spot}
 
 -- a label and its place
 pub record Definition : Type 0 where

@@ -2,19 +2,11 @@
 -- answered, with the first of the kinds 1, 5, 2 and 3 that holds there. Where there is none, it is the first line that
 -- uses a label which isn't defined (4) or can't be reached (3).
 use Rattle.std.specs.Prelude.{ℕ, ◌+◌, ◌%◌, Bool, false, not, ◌&&◌, ◌||◌, List, [], ◌∷◌, length, Option, Some, None, option_map, Result, Ok, Err, ℤ, pos, neg_ℤ, ◌-ℤ◌, unsigned_abs, int_lt, nat_lt, if◌then◌else◌, ◌==◌}
-use Rattle.std.specs.List.{list_any}
-use Rattle.std.specs.Option.{option_or}
-use Rattle.asm_lines.specs.declared.flaw.Flaw.{Flaw}
+use Rattle.rv_asm.specs.Terms.{list_any, option_or, Flaw, Section, Line, Words, Statement, gives_bytes, is_text, stands_in, size_of, statement_of}
 use Rattle.rv_asm.specs.declared.asm_refusal.Fault.{Fault}
 use Rattle.asm_lines.specs.declared.flaw.Flaw.TheVariants as flaw
-use Rattle.asm_lines.specs.declared.form.Section.{Section}
 use Rattle.asm_lines.specs.declared.form.Section.TheVariants as section
-use Rattle.asm_lines.specs.declared.line.Line.{Line}
-use Rattle.asm_lines.specs.declared.line.Words.{Words}
-use Rattle.asm_lines.specs.declared.statement.Statement.{Statement}
 use Rattle.asm_lines.specs.declared.statement.Statement.TheVariants as statement
-use Rattle.asm_lines.specs.Mnemonics.{is_text, stands_in, gives_bytes}
-use Rattle.asm_lines.specs.Statements.{statement_of, size_of}
 use Rattle.rv_asm.specs.Layout.{Place, places, read_lines, line_number, label_on, has_label, statement_on, section_at, bytes_in, address_at, address_of}
 use Rattle.rv_asm.specs.declared.layout.TheConstants.{MOST_BYTES}
 

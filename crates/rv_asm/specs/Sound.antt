@@ -1,11 +1,7 @@
 -- What holds behind lines that aren't wrong: the sections are small, and each statement can be written.
 use Rattle.std.specs.Prelude.{◌+◌, ◌^◌, ◌<◌, ◌≤◌}
-use Rattle.std.specs.List.{All}
-use Rattle.rv_isa.specs.Ranges.{IsInRange, IsRegister}
+use Rattle.rv_asm.specs.Terms.{All, IsInRange, IsRegister, Statement, Placed, Spot}
 use Rattle.rv_asm.specs.declared.layout.Layout.{Layout}
-use Rattle.rv_asm.specs.declared.placed.Spot.{Spot}
-use Rattle.rv_asm.specs.declared.placed.Placed.{Placed}
-use Rattle.asm_lines.specs.declared.statement.Statement.{Statement}
 use Rattle.asm_lines.specs.declared.statement.Statement.TheVariants as statement
 use Rattle.rv_asm.specs.Places.{Definition}
 use Rattle.rv_asm.specs.declared.layout.TheConstants.{MOST_BYTES}

@@ -1,18 +1,12 @@
 -- What the parts of the code answer, case by case. Nothing here is promised to callers of the crate.
 use Rattle.std.specs.Prelude.{◌≡◌, ℕ, ◌+◌, ◌≤◌, Bool, List, [], ◌∷◌, ◌++◌, length, Some, None, Result, Ok, Err, ℤ, if◌then◌else◌}
-use Rattle.elf_image.specs.declared.image.Image.{Image}
-use Rattle.asm_lines.specs.declared.flaw.Flaw.{Flaw}
+use Rattle.rv_asm.specs.Terms.{Image, Flaw, Section, Statement, lines_of, Placed, Sections}
 use Rattle.rv_asm.specs.declared.asm_refusal.Trouble.{Trouble}
 use Rattle.rv_asm.specs.declared.asm_refusal.Trouble.TheVariants as trouble
 use Rattle.rv_asm.specs.declared.asm_refusal.Stop.{Stop}
 use Rattle.rv_asm.specs.declared.asm_refusal.Stop.TheVariants as stop
 use Rattle.rv_asm.specs.declared.layout.Layout.{Layout}
-use Rattle.asm_lines.specs.declared.statement.Statement.{Statement}
-use Rattle.rv_asm.specs.declared.sections.Sections.{Sections}
-use Rattle.asm_lines.specs.declared.form.Section.{Section}
 use Rattle.asm_lines.specs.declared.form.Section.TheVariants as section
-use Rattle.rv_asm.specs.declared.placed.Placed.{Placed}
-use Rattle.asm_lines.specs.Lines.{lines_of}
 use Rattle.rv_asm.specs.Layout.{text_start, data_start}
 use Rattle.rv_asm.specs.Refusals.{distance, target_flaw, label_flaw}
 use Rattle.rv_asm.specs.Assembling.{Cell, AreBytes, known_address, cells_at, segment, data_segments}

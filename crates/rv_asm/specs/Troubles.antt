@@ -1,12 +1,12 @@
 -- What stops the parts of the code, on which line, and how it is answered.
 use Rattle.std.specs.Prelude.{◌≡◌, ℕ, min, ◌-◌, ◌^◌}
+use Rattle.rv_asm.specs.Terms.{kind_of}
 use Rattle.rv_asm.specs.declared.asm_refusal.AsmRefusal.{AsmRefusal}
 use Rattle.rv_asm.specs.declared.asm_refusal.AsmRefusal.TheVariants.{Refused, Memory}
 use Rattle.rv_asm.specs.declared.asm_refusal.Trouble.{Trouble}
 use Rattle.rv_asm.specs.declared.asm_refusal.Trouble.TheVariants as trouble
 use Rattle.rv_asm.specs.declared.asm_refusal.Stop.{Stop}
 use Rattle.rv_asm.specs.declared.asm_refusal.Stop.TheVariants as stop
-use Rattle.asm_lines.specs.Flaws.{kind_of}
 use Rattle.rv_asm.specs.Refusals.{fault}
 
 -- a flaw is that of its line

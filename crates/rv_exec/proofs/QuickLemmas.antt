@@ -1,25 +1,9 @@
 -- Instructions that are decoded and done at once.
-use Rattle.std.proofs.Common.{◌≡◌, ℕ, ◌+◌, ◌%◌, ◌^◌, Bool, true, false, eqb, inl, inr, List, Option, Some, None, Ok, refl, sym, ap, subst, ◌∙◌, add-one, arith}
-use Rattle.std.specs.Prelude.{option_map, pos, ◌==◌, ◌||◌, ℤ, MatchBool, IfSome}
 use Rattle.std.proofs.lemmas.Bool.{cases_Bool}
-use Rattle.block_book.specs.Heap.{Heap}
-use Rattle.rv_isa.specs.declared.instr.Instr.TheVariants.{Lui, Auipc, Jal, Jalr, Branch, Load, Store, OpImm, Op}
 use Rattle.rv_isa.specs.declared.instr.BranchOp.{BranchOp}
-use Rattle.rv_isa.specs.declared.instr.LoadOp.{LoadOp}
-use Rattle.rv_isa.specs.declared.instr.StoreOp.{StoreOp}
 use Rattle.rv_isa.specs.declared.instr.ImmOp.{ImmOp}
 use Rattle.rv_isa.specs.declared.instr.RegOp.{RegOp}
-use Rattle.rv_isa.specs.Words.{opcode, rd, rs1, rs2, funct3, funct7, imm_i, imm_s, imm_b, imm_u, imm_j, little_number, little_bytes}
-use Rattle.rv_isa.specs.Table.{row, jalr_row, branch_op, branch_row, load_op, load_row, store_op, store_row, imm_op, shift_op, shift_row, imm_row, reg_op, op_row}
-use Rattle.rv_isa.specs.Meaning.{value_of, imm_value_of, is_taken, displaced, indirect_target, to_word, load_size, loaded, store_size}
-use Rattle.rv_isa.specs.AtOnce.{op_result, imm_result, branch_result}
-use Rattle.elf_image.specs.Memory.{Area, permitted, bytes_at}
-use Rattle.run_history.specs.declared.regs.Regs.{Regs}
-use Rattle.run_history.specs.Machine.{with_register}
-use Rattle.run_history.specs.Run.{instruction}
-use Rattle.guest_space.specs.Space.{GuestPages, flat}
-use Rattle.guest_space.specs.Access.{Reads, Puts}
-use Rattle.rv_exec.specs.Quick.{register_in, regs_of, IsDone, IsStep, Ran}
+use Rattle.rv_exec.proofs.Terms.{Bool, List, None, Ok, Option, Some, add-one, ap, arith, eqb, false, inl, inr, refl, subst, sym, true, ℕ, ◌%◌, ◌+◌, ◌^◌, ◌∙◌, ◌≡◌, IfSome, MatchBool, option_map, pos, ℤ, ◌==◌, ◌||◌, Heap, Auipc, Branch, Jal, Jalr, Load, Lui, Op, OpImm, Store, LoadOp, StoreOp, branch_result, imm_result, op_result, displaced, imm_value_of, indirect_target, is_taken, load_size, loaded, store_size, to_word, value_of, branch_op, branch_row, imm_op, imm_row, jalr_row, load_op, load_row, op_row, reg_op, row, shift_op, shift_row, store_op, store_row, funct3, funct7, imm_b, imm_i, imm_j, imm_s, imm_u, little_bytes, little_number, opcode, rd, rs1, rs2, Area, bytes_at, permitted, Regs, with_register, instruction, Puts, Reads, GuestPages, flat, IsDone, IsStep, Ran, register_in, regs_of}
 
 -- the program counter behind an instruction
 abbrev behind : ℕ → ℕ

@@ -1,3 +1,4 @@
+pub mod Terms
 pub mod Execution
 pub mod Stepping
 pub mod Quick

@@ -1,12 +1,6 @@
 -- Instructions that are no calls, done one after another.
 use Rattle.std.specs.Prelude.{◌≡◌, ◌≢◌, ℕ, zero, suc, Bool, List, Option, Some, None, Ok, slice_index, if◌then◌else◌, ◌==◌}
-use Rattle.block_book.specs.Heap.{Heap}
-use Rattle.rv_isa.specs.declared.instr.Instr.{Instr}
-use Rattle.rv_isa.specs.declared.instr.Instr.TheVariants.{Ecall}
-use Rattle.rv_isa.specs.Table.{row}
-use Rattle.run_history.specs.declared.regs.Regs.{Regs}
-use Rattle.run_history.specs.Machine.{Machine}
-use Rattle.guest_space.specs.Space.{GuestPages, flat}
+use Rattle.rv_exec.specs.Terms.{Heap, Instr, Ecall, LoadOp, StoreOp, load_op, row, store_op, funct3, opcode, Regs, Machine, GuestPages, flat}
 use Rattle.rv_exec.specs.Stepping.{limits_of, StepsTo, Leaves}
 use Rattle.rv_exec.specs.Execution.{fetched}
 
@@ -14,8 +8,24 @@ use Rattle.rv_exec.specs.Execution.{fetched}
 abbrev pub register_in : List ℕ → ℕ → ℕ
 register_in x n = if n == 0 then 0 else slice_index x n
 
+-- these registers with this program counter
 abbrev pub regs_of : ℕ → List ℕ → Regs
 regs_of pc x = record { pc = pc; x = x }
+
+-- a word is a load of one kind
+pub record IsLoadWord (op : LoadOp) (word : ℕ) : Type 0 where
+  pub kind : opcode word ≡ 0b0000011
+  pub op_is : load_op (funct3 word) ≡ Some op
+
+-- a word is a store of one kind
+pub record IsStoreWord (op : StoreOp) (word : ℕ) : Type 0 where
+  pub kind : opcode word ≡ 0b0100011
+  pub op_is : store_op (funct3 word) ≡ Some op
+
+-- a memory begins where it began, and has the areas that it had
+pub record KeepsAreas (old new : GuestPages) : Type 0 where
+  pub base : new.base ≡ old.base
+  pub spans : new.spans ≡ old.spans
 
 -- the instruction of a word, which is no call, was done under a rule
 pub record IsDone (rule : Heap → ℕ → ℕ → Bool) (heap : Heap) (word : ℕ) (regs : Regs) (space : GuestPages) (new_regs : Regs) (new_space : GuestPages) : Type 0 where

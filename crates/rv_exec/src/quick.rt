@@ -4,10 +4,10 @@ ghost use Rattle.block_book.specs.Heap.{Heap};
 ghost use Rattle.guest_space.specs.Space.{GuestPages};
 ghost use Rattle.guest_space.specs.Stretches.{IsOpen, AreOpen};
 ghost use Rattle.rv_isa.specs.Ranges.{IsRegister};
-ghost use Rattle.rv_isa.specs.Words.{opcode, funct3};
+ghost use Rattle.rv_isa.specs.Words.{opcode};
 ghost use Rattle.rv_isa.specs.Table.{load_op, store_op};
 ghost use Rattle.run_history.specs.Machine.{with_register};
-ghost use Rattle.rv_exec.specs.Quick.{register_in, IsDoneOrStays, Ran};
+ghost use Rattle.rv_exec.specs.Quick.{register_in, IsLoadWord, IsStoreWord, KeepsAreas, IsDoneOrStays, Ran};
 
 use block_book::Book;
 use guest_space::{AccessRule, GuestSpace, Stretch, Stretches};
@@ -171,9 +171,8 @@ fn quick_load_of<R: AccessRule>(
     op: LoadOp,
     word: u32,
 ) -> Option<u32>
-    requires kind { opcode word ≡ 0b0000011 }
     requires whole { pc % 4 ≡ 0 }
-    requires op { load_op (funct3 word) ≡ Some op }
+    requires op { IsLoadWord op word }
     requires zero { slice_index x.old 0 ≡ 0 }
     requires holds { IsOpen 4 space.now.spans stretch.old }
     ensures zero { slice_index x.new 0 ≡ 0 }
@@ -234,14 +233,12 @@ fn quick_store_of<R: AccessRule>(
     op: StoreOp,
     word: u32,
 ) -> Option<u32>
-    requires kind { opcode word ≡ 0b0100011 }
     requires whole { pc % 4 ≡ 0 }
-    requires op { store_op (funct3 word) ≡ Some op }
+    requires op { IsStoreWord op word }
     requires zero { slice_index x.now 0 ≡ 0 }
     requires holds { IsOpen 2 space.old.spans stretch.old }
     ensures holds { IsOpen 2 space.old.spans stretch.new }
-    ensures base { space.new.base ≡ space.old.base }
-    ensures stays { space.new.spans ≡ space.old.spans }
+    ensures stays { KeepsAreas space.old space.new }
     ensures whole { IfSome result (λ next. next % 4 ≡ 0) }
     ensures done { IsDoneOrStays (R.rule rule.now) book.now word pc x.now space.old result x.now space.new }
 {
@@ -273,8 +270,7 @@ fn quick_store<R: AccessRule>(
     requires zero { slice_index x.now 0 ≡ 0 }
     requires holds { IsOpen 2 space.old.spans stretch.old }
     ensures holds { IsOpen 2 space.old.spans stretch.new }
-    ensures base { space.new.base ≡ space.old.base }
-    ensures stays { space.new.spans ≡ space.old.spans }
+    ensures stays { KeepsAreas space.old space.new }
     ensures whole { IfSome result (λ next. next % 4 ≡ 0) }
     ensures done { IsDoneOrStays (R.rule rule.now) book.now word pc x.now space.old result x.now space.new }
 {

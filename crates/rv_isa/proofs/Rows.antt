@@ -4,18 +4,7 @@ use Rattle.std.specs.Prelude.{option_map, ◌==◌, if◌then◌else◌}
 use Rattle.std.proofs.lemmas.Bool.{eqb-true, cases_Bool}
 use Rattle.std.proofs.lemmas.Bool.Decides.{nat_tests}
 use Rattle.std.proofs.lemmas.Option.{same_Some, none-some}
-use Rattle.rv_isa.specs.declared.instr.Instr.{Instr}
-use Rattle.rv_isa.specs.declared.instr.Instr.TheVariants.{Lui, Auipc, Jal, Jalr, Branch, Load, Store, OpImm, Op, Fence, Ecall, Ebreak}
-use Rattle.rv_isa.specs.declared.instr.BranchOp.{BranchOp}
-use Rattle.rv_isa.specs.declared.instr.BranchOp.TheVariants.{Beq, Bne, Blt, Bge, Bltu, Bgeu}
-use Rattle.rv_isa.specs.declared.instr.LoadOp.{LoadOp}
-use Rattle.rv_isa.specs.declared.instr.LoadOp.TheVariants.{Lb, Lh, Lw, Lbu, Lhu}
-use Rattle.rv_isa.specs.declared.instr.StoreOp.{StoreOp}
-use Rattle.rv_isa.specs.declared.instr.StoreOp.TheVariants.{Sb, Sh, Sw}
-use Rattle.rv_isa.specs.declared.instr.ImmOp.{ImmOp}
-use Rattle.rv_isa.specs.declared.instr.ImmOp.TheVariants.{Addi, Slti, Sltiu, Xori, Ori, Andi, Slli, Srli, Srai}
-use Rattle.rv_isa.specs.declared.instr.RegOp.{RegOp}
-use Rattle.rv_isa.specs.declared.instr.RegOp.TheVariants.{Add, Sub, Sll, Slt, Sltu, Xor, Srl, Sra, Or, And, Mul, Mulh, Mulhsu, Mulhu, Div, Divu, Rem, Remu}
+use Rattle.rv_isa.specs.Terms.{BranchOp, Beq, Bge, Bgeu, Blt, Bltu, Bne, ImmOp, Addi, Andi, Ori, Slli, Slti, Sltiu, Srai, Srli, Xori, Instr, Auipc, Branch, Ebreak, Ecall, Fence, Jal, Jalr, Load, Lui, Op, OpImm, Store, LoadOp, Lb, Lbu, Lh, Lhu, Lw, RegOp, Add, And, Div, Divu, Mul, Mulh, Mulhsu, Mulhu, Or, Rem, Remu, Sll, Slt, Sltu, Sra, Srl, Sub, Xor, StoreOp, Sb, Sh, Sw}
 use Rattle.rv_isa.specs.Words.{opcode, rd, funct3, rs1, rs2, funct7, imm_i}
 use Rattle.rv_isa.specs.Table.{row, jalr_row, branch_op, branch_row, load_op, load_row, store_op, store_row, imm_op, shift_op, shift_row, imm_row, base_op, second_op, multiply_op, reg_op, op_row, fence_row, system_row}
 use Rattle.rv_isa.specs.Listing.{IsFormatR, IsFormatI, IsFormatShift, branch_code, load_code, store_code, IsImmRow, IsRegRow, IsRow}

@@ -1,18 +1,7 @@
 -- The listing of the instructions, to be laid beside the manual's: RISC-V unprivileged manual, "RV32/64G Instruction
 -- Set Listings", tables RV32I and RV32M. A line says which words are that instruction with those operands.
 use Rattle.std.specs.Prelude.{ℕ, ℤ, pos, ◌≡◌}
-use Rattle.rv_isa.specs.declared.instr.Instr.{Instr}
-use Rattle.rv_isa.specs.declared.instr.Instr.TheVariants.{Lui, Auipc, Jal, Jalr, Branch, Load, Store, OpImm, Op, Fence, Ecall, Ebreak}
-use Rattle.rv_isa.specs.declared.instr.BranchOp.{BranchOp}
-use Rattle.rv_isa.specs.declared.instr.BranchOp.TheVariants.{Beq, Bne, Blt, Bge, Bltu, Bgeu}
-use Rattle.rv_isa.specs.declared.instr.LoadOp.{LoadOp}
-use Rattle.rv_isa.specs.declared.instr.LoadOp.TheVariants.{Lb, Lh, Lw, Lbu, Lhu}
-use Rattle.rv_isa.specs.declared.instr.StoreOp.{StoreOp}
-use Rattle.rv_isa.specs.declared.instr.StoreOp.TheVariants.{Sb, Sh, Sw}
-use Rattle.rv_isa.specs.declared.instr.ImmOp.{ImmOp}
-use Rattle.rv_isa.specs.declared.instr.ImmOp.TheVariants.{Addi, Slti, Sltiu, Xori, Ori, Andi, Slli, Srli, Srai}
-use Rattle.rv_isa.specs.declared.instr.RegOp.{RegOp}
-use Rattle.rv_isa.specs.declared.instr.RegOp.TheVariants.{Add, Sub, Sll, Slt, Sltu, Xor, Srl, Sra, Or, And, Mul, Mulh, Mulhsu, Mulhu, Div, Divu, Rem, Remu}
+use Rattle.rv_isa.specs.Terms.{BranchOp, Beq, Bge, Bgeu, Blt, Bltu, Bne, ImmOp, Addi, Andi, Ori, Slli, Slti, Sltiu, Srai, Srli, Xori, Instr, Auipc, Branch, Ebreak, Ecall, Fence, Jal, Jalr, Load, Lui, Op, OpImm, Store, LoadOp, Lb, Lbu, Lh, Lhu, Lw, RegOp, Add, And, Div, Divu, Mul, Mulh, Mulhsu, Mulhu, Or, Rem, Remu, Sll, Slt, Sltu, Sra, Srl, Sub, Xor, StoreOp, Sb, Sh, Sw}
 use Rattle.rv_isa.specs.Words.{opcode, rd, funct3, rs1, rs2, funct7, imm_i, imm_s, imm_b, imm_u, imm_j}
 
 -- The formats: the fixed fields of a word (its opcode, funct3 and funct7) and then its operands. RV32I, "Base
@@ -82,6 +71,7 @@ load_code Lw = 0b010
 load_code Lbu = 0b100
 load_code Lhu = 0b101
 
+-- RV32I, "Load and Store Instructions": funct3 of a store
 abbrev pub store_code : StoreOp → ℕ
 store_code Sb = 0b000
 store_code Sh = 0b001

@@ -1,16 +1,7 @@
 -- What each operation gives, on words as numbers below 2 ^ 32. RISC-V unprivileged manual, RV32I and the "M" standard
 -- extension; at each definition the section that it states.
 use Rattle.std.specs.Prelude.{ℕ, ◌+◌, ◌-◌, ◌*◌, ◌/◌, ◌%◌, ◌^◌, ◌==◌, nat_lt, Bool, not, if◌then◌else◌, ℤ, pos, negsuc, ◌-ℤ◌, ◌*ℤ◌, ◌+ℤ◌, int_lt, int_div, int_rem, bit_and, bit_or, bit_xor}
-use Rattle.rv_isa.specs.declared.instr.BranchOp.{BranchOp}
-use Rattle.rv_isa.specs.declared.instr.BranchOp.TheVariants.{Beq, Bne, Blt, Bge, Bltu, Bgeu}
-use Rattle.rv_isa.specs.declared.instr.LoadOp.{LoadOp}
-use Rattle.rv_isa.specs.declared.instr.LoadOp.TheVariants.{Lb, Lh, Lw, Lbu, Lhu}
-use Rattle.rv_isa.specs.declared.instr.StoreOp.{StoreOp}
-use Rattle.rv_isa.specs.declared.instr.StoreOp.TheVariants.{Sb, Sh, Sw}
-use Rattle.rv_isa.specs.declared.instr.ImmOp.{ImmOp}
-use Rattle.rv_isa.specs.declared.instr.ImmOp.TheVariants.{Addi, Slti, Sltiu, Xori, Ori, Andi, Slli, Srli, Srai}
-use Rattle.rv_isa.specs.declared.instr.RegOp.{RegOp}
-use Rattle.rv_isa.specs.declared.instr.RegOp.TheVariants.{Add, Sub, Sll, Slt, Sltu, Xor, Srl, Sra, Or, And, Mul, Mulh, Mulhsu, Mulhu, Div, Divu, Rem, Remu}
+use Rattle.rv_isa.specs.Terms.{BranchOp, Beq, Bge, Bgeu, Blt, Bltu, Bne, ImmOp, Addi, Andi, Ori, Slli, Slti, Sltiu, Srai, Srli, Xori, LoadOp, Lb, Lbu, Lh, Lhu, Lw, RegOp, Add, And, Div, Divu, Mul, Mulh, Mulhsu, Mulhu, Or, Rem, Remu, Sll, Slt, Sltu, Sra, Srl, Sub, Xor, StoreOp, Sb, Sh, Sw}
 use Rattle.rv_isa.specs.Words.{signed}
 
 -- the word of a number, which is what is left of it modulo 2 ^ 32
@@ -44,6 +35,7 @@ shifted_right a b = a / 2 ^ (b % 32)
 unfoldable pub shifted_right_signed : ℕ → ℕ → ℕ
 shifted_right_signed a b = to_word (floor_div (signed 32 a) (2 ^ (b % 32)))
 
+-- RV32I, SLT and SLTI: both words are compared as signed numbers
 unfoldable pub is_less_signed : ℕ → ℕ → Bool
 is_less_signed a b = int_lt (signed 32 a) (signed 32 b)
 
@@ -138,9 +130,11 @@ load_size Lw = 4
 load_size Lbu = 1
 load_size Lhu = 2
 
+-- a number of so many bits, sign-extended to a word
 unfoldable pub extended : ℕ → ℕ → ℕ
 extended bits n = to_word (signed bits n)
 
+-- what a load puts into rd, of the number that it has read
 abbrev pub loaded : LoadOp → ℕ → ℕ
 loaded Lb n = extended 8 n
 loaded Lh n = extended 16 n

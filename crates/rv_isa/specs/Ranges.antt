@@ -1,10 +1,7 @@
 -- The operands that an instruction word can hold, by its format. RISC-V unprivileged manual, RV32I, "Base
 -- Instruction Formats" and "Immediate Encoding Variants".
 use Rattle.std.specs.Prelude.{ℕ, ◌<◌, ◌≡◌, ◌-◌, ◌^◌, ◌%◌, ℤ, pos, neg_ℤ, unsigned_abs, ◌≤ℤ◌, ◌<ℤ◌}
-use Rattle.rv_isa.specs.declared.instr.Instr.{Instr}
-use Rattle.rv_isa.specs.declared.instr.Instr.TheVariants.{Lui, Auipc, Jal, Jalr, Branch, Load, Store, OpImm, Op, Fence, Ecall, Ebreak}
-use Rattle.rv_isa.specs.declared.instr.ImmOp.{ImmOp}
-use Rattle.rv_isa.specs.declared.instr.ImmOp.TheVariants.{Addi, Slti, Sltiu, Xori, Ori, Andi, Slli, Srli, Srai}
+use Rattle.rv_isa.specs.Terms.{ImmOp, Addi, Andi, Ori, Slli, Slti, Sltiu, Srai, Srli, Xori, Instr, Auipc, Branch, Ebreak, Ecall, Fence, Jal, Jalr, Load, Lui, Op, OpImm, Store}
 use Rattle.rv_isa.specs.Words.{opcode, funct3}
 
 -- the number of one of the registers x0 to x31

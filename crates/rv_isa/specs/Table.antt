@@ -1,18 +1,7 @@
 -- The instruction table: the row of a word is the one whose fixed fields are the word's. RISC-V unprivileged
 -- manual, "RV32/64G Instruction Set Listings"; beside each row the chapter that gives its meaning.
 use Rattle.std.specs.Prelude.{ℕ, Option, Some, None, option_map, pos, if◌then◌else◌, ◌==◌, ◌||◌}
-use Rattle.rv_isa.specs.declared.instr.Instr.{Instr}
-use Rattle.rv_isa.specs.declared.instr.Instr.TheVariants.{Lui, Auipc, Jal, Jalr, Branch, Load, Store, OpImm, Op, Fence, Ecall, Ebreak}
-use Rattle.rv_isa.specs.declared.instr.BranchOp.{BranchOp}
-use Rattle.rv_isa.specs.declared.instr.BranchOp.TheVariants.{Beq, Bne, Blt, Bge, Bltu, Bgeu}
-use Rattle.rv_isa.specs.declared.instr.LoadOp.{LoadOp}
-use Rattle.rv_isa.specs.declared.instr.LoadOp.TheVariants.{Lb, Lh, Lw, Lbu, Lhu}
-use Rattle.rv_isa.specs.declared.instr.StoreOp.{StoreOp}
-use Rattle.rv_isa.specs.declared.instr.StoreOp.TheVariants.{Sb, Sh, Sw}
-use Rattle.rv_isa.specs.declared.instr.ImmOp.{ImmOp}
-use Rattle.rv_isa.specs.declared.instr.ImmOp.TheVariants.{Addi, Slti, Sltiu, Xori, Ori, Andi, Slli, Srli, Srai}
-use Rattle.rv_isa.specs.declared.instr.RegOp.{RegOp}
-use Rattle.rv_isa.specs.declared.instr.RegOp.TheVariants.{Add, Sub, Sll, Slt, Sltu, Xor, Srl, Sra, Or, And, Mul, Mulh, Mulhsu, Mulhu, Div, Divu, Rem, Remu}
+use Rattle.rv_isa.specs.Terms.{BranchOp, Beq, Bge, Bgeu, Blt, Bltu, Bne, ImmOp, Addi, Andi, Ori, Slli, Slti, Sltiu, Srai, Srli, Xori, Instr, Auipc, Branch, Ebreak, Ecall, Fence, Jal, Jalr, Load, Lui, Op, OpImm, Store, LoadOp, Lb, Lbu, Lh, Lhu, Lw, RegOp, Add, And, Div, Divu, Mul, Mulh, Mulhsu, Mulhu, Or, Rem, Remu, Sll, Slt, Sltu, Sra, Srl, Sub, Xor, StoreOp, Sb, Sh, Sw}
 use Rattle.rv_isa.specs.Words.{opcode, rd, funct3, rs1, rs2, funct7, imm_i, imm_s, imm_b, imm_u, imm_j}
 
 -- the indirect jump (opcode 1100111): RV32I, "Unconditional Jumps"
@@ -30,6 +19,7 @@ branch_op three =
     if three == 0b111 then Some Bgeu else
     None
 
+-- a word with the opcode of conditional branches
 unfoldable pub branch_row : ℕ → Option Instr
 branch_row word = option_map (λ op. Branch op (rs1 word) (rs2 word) (imm_b word)) (branch_op (funct3 word))
 
@@ -43,6 +33,7 @@ load_op three =
     if three == 0b101 then Some Lhu else
     None
 
+-- a word with the opcode of loads
 unfoldable pub load_row : ℕ → Option Instr
 load_row word = option_map (λ op. Load op (rd word) (rs1 word) (imm_i word)) (load_op (funct3 word))
 
@@ -54,6 +45,7 @@ store_op three =
     if three == 0b010 then Some Sw else
     None
 
+-- a word with the opcode of stores
 unfoldable pub store_row : ℕ → Option Instr
 store_row word = option_map (λ op. Store op (rs1 word) (rs2 word) (imm_s word)) (store_op (funct3 word))
 
@@ -77,9 +69,11 @@ shift_op seven three =
     then (if three == 0b101 then Some Srai else None)
     else None
 
+-- a word with the opcode of operations on an immediate that is a shift
 unfoldable pub shift_row : ℕ → Option Instr
 shift_row word = option_map (λ op. OpImm op (rd word) (rs1 word) (pos (rs2 word))) (shift_op (funct7 word) (funct3 word))
 
+-- a word with the opcode of operations on a register and an immediate
 unfoldable pub imm_row : ℕ → Option Instr
 imm_row word =
     if funct3 word == 0b001 || funct3 word == 0b101
@@ -100,6 +94,7 @@ base_op three =
     if three == 0b111 then Some And else
     None
 
+-- with funct7 0100000: subtraction, and the right shift that keeps the sign
 unfoldable pub second_op : ℕ → Option RegOp
 second_op three = if three == 0b000 then Some Sub else if three == 0b101 then Some Sra else None
 
@@ -116,6 +111,7 @@ multiply_op three =
     if three == 0b111 then Some Remu else
     None
 
+-- the operation on two registers that funct7 and funct3 tell
 unfoldable pub reg_op : ℕ → ℕ → Option RegOp
 reg_op seven three =
     if seven == 0b0000000 then base_op three else
@@ -123,6 +119,7 @@ reg_op seven three =
     if seven == 0b0000001 then multiply_op three else
     None
 
+-- a word with the opcode of operations on two registers
 unfoldable pub op_row : ℕ → Option Instr
 op_row word = option_map (λ op. Op op (rd word) (rs1 word) (rs2 word)) (reg_op (funct7 word) (funct3 word))
 

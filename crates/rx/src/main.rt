@@ -3,6 +3,7 @@
 #![tactic(auto)]
 
 ghost use Rattle.std.specs.Prelude.{◌≡◌, ◌<◌};
+ghost use Rattle.rx_serve.specs.Status.{status_of};
 
 mod message;
 mod telling;
@@ -25,6 +26,7 @@ fn run<L: Ledger>(rt: &HostRuntime, words: &[String], blank: Blank) -> End
     requires name { blank.name ≡ L.name }
     requires parts { blank.parts ≡ L.parts }
     requires some { 0 < blank.parts }
+    ensures { result.status ≡ status_of result.answer }
 {
     let alloc = rt.alloc();
     let mut files = StdFiles::make(rt, alloc);

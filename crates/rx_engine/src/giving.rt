@@ -13,16 +13,6 @@ use links::Link;
 use run_history::Answer;
 use session_state::Stop;
 
-/// A fault of passing, as a session's answer.
-pub fn answer_to(fault: PassFault) -> Answer
-    ensures { IsAnswerTo fault result }
-{
-    match fault {
-        PassFault::WriteFault => Answer::WriteFault,
-        PassFault::Memory => Answer::Memory,
-    }
-}
-
 impl<R: AccessRule> Session<R> {
     /// Passes what was sent to open connections with so many items taken, or fewer.
     pub(crate) fn pass<K: Link>(&mut self, link: &mut K, until: u64) -> Result<(), Stop>
@@ -70,5 +60,15 @@ impl<R: AccessRule> Session<R> {
         }
         self.replies.closes(conn);
         self.pass_due(link)
+    }
+}
+
+/// A fault of passing, as a session's answer.
+pub fn answer_to(fault: PassFault) -> Answer
+    ensures { IsAnswerTo fault result }
+{
+    match fault {
+        PassFault::WriteFault => Answer::WriteFault,
+        PassFault::Memory => Answer::Memory,
     }
 }

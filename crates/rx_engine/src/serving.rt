@@ -1,5 +1,5 @@
 // A session from its begin to its end.
-ghost use Rattle.std.specs.Prelude.{◌≡◌, ℕ, ◌+◌, ◌<◌, ◌≤◌, true, false};
+ghost use Rattle.std.specs.Prelude.{◌≡◌, ℕ, ◌+◌, ◌-◌, ◌<◌, ◌≤◌, true};
 ghost use Rattle.links.specs.Seen.{Seen};
 ghost use Rattle.elf_image.specs.declared.image.Image.{Image};
 ghost use Rattle.item_log.specs.Log.{received};
@@ -7,10 +7,10 @@ ghost use Rattle.guest_cpu.specs.declared.event.Event.TheVariants as event;
 ghost use Rattle.session_state.specs.Options.{keeping_for};
 ghost use Rattle.session_history.specs.Answering.{MayBegin};
 ghost use Rattle.session_state.specs.Sessions.{IsBegun};
-ghost use Rattle.session_state.specs.Standing.{Since, IsGoing, IsBetween, IsAsking, IsWaitingFor, IsEnding};
+ghost use Rattle.session_state.specs.Standing.{Since, IsGoing, IsBetween, IsWaitingFor, IsEnding};
 ghost use Rattle.session_state.specs.Recovered.{HasRecovered, HasWatched};
 ghost use Rattle.session_state.specs.Leaving.{IsHandled, keeping_of, IsTrimmed, HasLeft};
-ghost use Rattle.session_state.specs.Serving.{LinkAnswers, LinkFinishes, LinkPasses, NotesAnswer, UnlessMemory, UnlessNoteFault, IsCounted, HasRun, StandsBetween, StandsAsking, StandsHearing, StandsSomewhere, StandsEmitting, StandsEnding, ComesBetween, IsReadyToServe, KeepsTurning, KeepsAsking, KeepsReceiving, KeepsItem, KeepsSending, KeepsChoosing, rules_by};
+ghost use Rattle.session_state.specs.Serving.{LinkAnswers, LinkFinishes, LinkPasses, NotesAnswer, UnlessMemory, UnlessNoteFault, IsCounted, HasRun, StandsBetween, StandsAsking, StandsHearing, StandsSomewhere, StandsEmitting, StandsEnding, IsFinishing, ComesBetween, IsReadyToServe, outcome_of, KeepsTurning, KeepsAsking, KeepsReceiving, KeepsItem, KeepsSending, KeepsChoosing, rules_by};
 
 use crate::Session;
 use crate::giving::answer_to;
@@ -40,8 +40,8 @@ impl<R: AccessRule> Session<R> {
         requires begun { IsReadyToServe self.old }
         requires may { MayBegin (K.seen link.old) }
         ensures served { (image : Image) → IsBegun image self.old.options self.old.cpu.rule self.old
-            → (recovered : HasRecovered (rules_by R.rule self.old) image (keeping_for self.old.options) (K.seen link.old).told (K.seen link.new) result (N.shown notes.old).told (N.shown notes.new).told self.new.recorded self.new.choices self.new.taken self.new.steps steps.old steps.new)
-            × UnlessNoteFault result (HasLeft (rules_by R.rule self.old) image recovered.recoveries recovered.served.session self.new result) }
+            → (recovered : HasRecovered (rules_by R.rule self.old) image (keeping_for self.old.options) (K.seen link.old) (K.seen link.new) (outcome_of result self.new) (N.shown notes.old).told (N.shown notes.new).told (steps.new - steps.old))
+            × UnlessNoteFault result (HasLeft (rules_by R.rule self.old) image recovered.telling self.new result) }
         ensures keeping { (image : Image) → IsBegun image self.old.options self.old.cpu.rule self.old → keeping_of self.new ≡ keeping_for self.old.options }
         ensures shows { LinkAnswers (K.seen link.old) (K.seen link.new) result }
         ensures notes { NotesAnswer (N.shown notes.old) (N.shown notes.new) result }
@@ -67,8 +67,8 @@ impl<R: AccessRule> Session<R> {
         requires begun { IsReadyToServe self.old }
         requires may { MayBegin (K.seen link.old) }
         ensures served { (image : Image) → IsBegun image self.old.options self.old.cpu.rule self.old
-            → (watched : HasWatched (rules_by R.rule self.old) image (keeping_for self.old.options) (K.seen link.old).told (K.seen link.new) result (N.shown notes.old).told (N.shown notes.new).told self.new.recorded self.new.choices self.new.taken self.new.steps (W.ran watch.new + steps.old) (W.ran watch.old + steps.new) (W.tables watch.old) (W.tables watch.new))
-            × UnlessNoteFault result (HasLeft (rules_by R.rule self.old) image watched.recovered.recoveries watched.recovered.served.session self.new result) }
+            → (watched : HasWatched (rules_by R.rule self.old) image (keeping_for self.old.options) (K.seen link.old) (K.seen link.new) (outcome_of result self.new) (N.shown notes.old).told (N.shown notes.new).told ((W.ran watch.old + steps.new) - (W.ran watch.new + steps.old)) (W.tables watch.old) (W.tables watch.new))
+            × UnlessNoteFault result (HasLeft (rules_by R.rule self.old) image watched.recovered.telling self.new result) }
         ensures keeping { (image : Image) → IsBegun image self.old.options self.old.cpu.rule self.old → keeping_of self.new ≡ keeping_for self.old.options }
         ensures shows { LinkAnswers (K.seen link.old) (K.seen link.new) result }
         ensures notes { NotesAnswer (N.shown notes.old) (N.shown notes.new) result }
@@ -88,10 +88,10 @@ impl<R: AccessRule> Session<R> {
     // At an end: passes what is held back, notes the rest of the answers of malloc, and gives up the sends that no trial needs.
     fn finish<K: Link, N: Notes>(&mut self, link: &mut K, notes: &mut N, answer: Answer) -> Answer
         requires { StandsEnding (rules_by R.rule self.old) (K.seen link.old) answer self.old }
-        ensures served { (image : Image) (began : Since) (ending : IsEnding (rules_by R.rule self.old) image (record began { noted = (N.shown notes.old).told }) (K.seen link.old) self.old answer)
-            → ((K.seen link.old).takes ≡ false → IsAsking (rules_by R.rule self.old) ending.story) → (before after : ℕ) → after ≡ before + (began.lost + self.old.steps) → IsTrimmed self.old
-            → (watched : HasWatched (rules_by R.rule self.old) image (keeping_of self.new) began.told (K.seen link.new) result began.noted_before (N.shown notes.new).told self.new.recorded self.new.choices self.new.taken self.new.steps before after began.tables_before began.tables)
-            × UnlessNoteFault result (HasLeft (rules_by R.rule self.old) image watched.recovered.recoveries watched.recovered.served.session self.new result) }
+        ensures served { (image : Image) (began : Since) (first : Seen) (ending : IsEnding (rules_by R.rule self.old) image (record began { told = first.told; noted = (N.shown notes.old).told }) (K.seen link.old) self.old answer)
+            → IsFinishing (rules_by R.rule self.old) first (K.seen link.old) ending.story answer → IsTrimmed self.old
+            → (watched : HasWatched (rules_by R.rule self.old) image (keeping_of self.new) first (K.seen link.new) (outcome_of result self.new) began.noted_before (N.shown notes.new).told (began.lost + self.old.steps) began.tables_before began.tables)
+            × UnlessNoteFault result (HasLeft (rules_by R.rule self.old) image watched.recovered.telling self.new result) }
         ensures same { self.new ≡ record self.old { replies = self.new.replies; recorded = self.new.recorded; choices = self.new.choices } }
         ensures shows { LinkFinishes (K.seen link.old) (K.seen link.new) answer result }
         ensures notes { NotesAnswer (N.shown notes.old) (N.shown notes.new) result }

@@ -1,11 +1,6 @@
 -- What several calls on the outside do, one after another.
-use Rattle.std.proofs.Common.{ℕ, ◌≤◌, List, [], ◌++◌, Option, None, Some, arith, sym, ap, ◌∙◌, append_assoc, append-nil, refl, inl, inr}
-use Rattle.std.specs.Io.KnownBytes.{Appends, Keeps}
-use Rattle.std.proofs.KnownBytes.{Appends-trans, Appends-nil, Appends-kept}
-use Rattle.rx_io.specs.Outside.{Stream, Took}
+use Rattle.rx_io.proofs.Terms.{List, None, Option, Some, [], ap, append-nil, append_assoc, arith, inl, inr, refl, sym, ℕ, ◌++◌, ◌∙◌, ◌≤◌, Appends-kept, Appends-nil, Appends-trans, Appends, Keeps, Stream, Took}
 use Rattle.rx_io.specs.Faults.{Rose}
-use Rattle.rx_io.specs.Listening.{Logs}
-use Rattle.rx_io.specs.declared.listener_calls.ListenEntry.{ListenEntry}
 
 -- no byte was taken
 pub took_nothing : (source : Option Stream) → Took source source []
@@ -46,21 +41,3 @@ gave_same old mid new bytes first second = Appends-kept old mid new bytes first 
 pub rose_later : (before mid now : ℕ) → before ≤ mid → Rose mid now → Rose before now
 rose_later before mid now no_fall (inl less) = inl (omega arith)
 rose_later before mid now no_fall (inr last) = inr last
-
--- a count that rose in an earlier part has risen in the whole
-pub rose_earlier : (before mid now : ℕ) → Rose before mid → mid ≤ now → Rose before now
-rose_earlier before mid now (inl less) no_fall = inl (omega arith)
-rose_earlier before mid now (inr last) no_fall = inr (omega arith)
-
--- a listener was not called
-pub logs_nothing : (listener : Option (List ListenEntry)) → Logs listener listener []
-logs_nothing None = tt
-logs_nothing (Some entries) = sym (append-nil entries)
-
--- calls were made, and then more
-pub logs_more : (old mid new : Option (List ListenEntry)) (entries more : List ListenEntry) → Logs old mid entries → Logs mid new more → Logs old new (entries ++ more)
-logs_more None mid new entries more first second = tt
-logs_more (Some old) None new entries more first second = absurd first
-logs_more (Some old) (Some mid) None entries more first second = absurd second
-logs_more (Some old) (Some mid) (Some new) entries more first second =
-    second ∙ ap (λ l. l ++ more) first ∙ append_assoc old entries more

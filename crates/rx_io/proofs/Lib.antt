@@ -1,3 +1,3 @@
+pub mod Terms
 pub mod Composing
-mod Plans
 mod Places

@@ -1,21 +1,14 @@
 -- Files in a list of names and bytes.
-use Rattle.std.proofs.Common.{◌≡◌, ◌≢◌, ℕ, zero, suc, ◌+◌, ◌<◌, List, [], ◌∷◌, ◌++◌, length, take, get_or, Some, None, true, false, if◌then◌else◌, string_bytes, unwrap_or, Vec, Result, Ok, Err, OnOk, OnErr, is_ok, refl, sym, ap, ◌∙◌, arith, add-one}
 use Rattle.std.proofs.Math.ListN.{set}
-use Rattle.std.specs.declared.alloc.Global.{Global}
-use Rattle.std.specs.Str.{bytes_eq}
 use Rattle.std.proofs.lemmas.Slice.Eq.{bytes_eq-Decides}
-use Rattle.rx_io.specs.Named.{Contents, Holds}
-use Rattle.rx_io.specs.Shelves.{File, found, IsPlace}
+use Rattle.std.proofs.lemmas.Bool.{false_from_ne_true}
+use Rattle.rx_io.proofs.Terms.{Global, Err, List, None, Ok, OnErr, OnOk, Result, Some, Vec, [], add-one, ap, arith, false, get_or, if◌then◌else◌, is_ok, length, refl, string_bytes, suc, sym, take, true, unwrap_or, zero, ℕ, ◌++◌, ◌+◌, ◌<◌, ◌∙◌, ◌∷◌, ◌≡◌, ◌≢◌, bytes_eq, Contents, Holds, File, IsPlace, found}
 
 same : (xs ys : List ℕ) → xs ≡ ys → bytes_eq xs ys ≡ true
 same xs ys e = (bytes_eq-Decides xs ys).1 e
 
 different : (xs ys : List ℕ) → xs ≢ ys → bytes_eq xs ys ≡ false
-different xs ys differs =
-    elim (bytes_eq xs ys) as (λ b. bytes_eq xs ys ≡ b → b ≡ false) [
-      | true ↦ λ e. absurd (differs ((bytes_eq-Decides xs ys).0 e))
-      | false ↦ λ _. refl
-    ] refl
+different xs ys differs = false_from_ne_true (bytes_eq xs ys) (λ equal. differs ((bytes_eq-Decides xs ys).0 equal))
 
 -- a file of that name comes first, or another one
 found_here : (file : File) (files : List File) (name : List ℕ) → string_bytes file.0 ≡ name → found (file ∷ files) name ≡ Some file.1.items
@@ -23,11 +16,6 @@ found_here file files name e = rw (same _ _ e) refl
 
 found_later : (file : File) (files : List File) (name : List ℕ) → string_bytes file.0 ≢ name → found (file ∷ files) name ≡ found files name
 found_later file files name differs = rw (different _ _ differs) refl
-
-pub place_within : (files : List File) (name : List ℕ) (i : ℕ) → IsPlace files name i → i < length files
-place_within [] name i p = absurd p
-place_within (file ∷ files) name zero p = omega arith
-place_within (file ∷ files) name (suc i) p = omega (arith, place_within files name i p.1)
 
 pub place_found : (files : List File) (name : List ℕ) (i : ℕ) (d : File) → IsPlace files name i → found files name ≡ Some (get_or files i d).1.items
 place_found [] name i d p = absurd p

@@ -1,8 +1,6 @@
 -- Faults of the outside are answered only where the object's own count of them rose.
 use Rattle.std.specs.Prelude.{◌⊎◌, ℕ, ◌-◌, ◌^◌, ◌<◌, ◌≤◌, Result, IsErrOf}
-use Rattle.rx_io.specs.declared.fault.IoFault.{IoFault}
-use Rattle.rx_io.specs.declared.fault.IoFault.TheVariants.{Failed}
-use Rattle.rx_io.specs.declared.fault.LoadFault.{LoadFault}
+use Rattle.rx_io.specs.Terms.{IoFault, Failed, LoadFault}
 use Rattle.rx_io.specs.declared.fault.LoadFault.TheVariants as load
 
 -- A count has risen in a call. One that stands at the last value of its type counts as risen.

@@ -6,9 +6,11 @@ use Rattle.rx_io.specs.Shelves.{found}
 use Rattle.rx_io.specs.declared.memory_files.MemoryFiles.{MemoryFiles}
 use Rattle.rx_io.specs.declared.tame_files.TameFiles.{TameFiles}
 
+-- the files that are kept, by their names
 abbrev pub memory_contents : MemoryFiles → Contents
 memory_contents s = found s.files.files.items
 
+-- which calls are to fail
 abbrev pub memory_files_plan : MemoryFiles → Plan
 memory_files_plan s = s.fails
 
@@ -20,5 +22,6 @@ tame_found s = found s.files.files.items
 abbrev pub or_empty : Contents → Contents
 or_empty files name = Some (unwrap_or (files name) [])
 
+-- what is told of the files: a name that is missing has no byte
 abbrev pub tame_contents : TameFiles → Contents
 tame_contents s = or_empty (tame_found s)

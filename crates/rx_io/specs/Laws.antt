@@ -8,6 +8,7 @@ use Rattle.rx_io.specs.declared.memory_source.MemorySource.{MemorySource}
 use Rattle.rx_io.specs.declared.tame_sink.TameSink.{TameSink}
 use Rattle.rx_io.specs.declared.memory_sink.MemorySink.{MemorySink}
 
+-- the bytes of each source, taken and left, and of each sink are fewer than 2 ^ 64 - 1
 pub tame_countable : (s : TameSource) → length (tame_stream s).taken + length (tame_stream s).left < 2 ^ 64 - 1
 tame_countable s = omega (arith, s.countable, s.inside, length-take s.at s.bytes.items, length-drop s.at s.bytes.items)
 

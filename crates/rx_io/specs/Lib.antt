@@ -1,3 +1,4 @@
+pub mod Terms
 pub mod Outside
 pub mod Faults
 pub mod Taking

@@ -1,10 +1,8 @@
 -- What the calls on a listener add to the list of calls that it tells.
-use Rattle.std.specs.Prelude.{◌≡◌, ℕ, Bool, true, List, [], ◌∷◌, ◌++◌, length, take, Option, Some, None, Result, Ok, Err}
-use Rattle.rx_io.specs.declared.fault.IoFault.{IoFault}
-use Rattle.rx_io.specs.declared.fault.IoFault.TheVariants.{Failed, Memory}
+use Rattle.std.specs.Prelude.{◌≡◌, ◌<◌, ◌≤◌, ℕ, Bool, true, List, [], ◌∷◌, ◌++◌, length, take, Option, Some, None, Result, Ok, Err}
+use Rattle.rx_io.specs.Terms.{IoFault, Failed, Memory, ListenEntry}
 use Rattle.rx_io.specs.declared.listener_calls.ListenCall.{ListenCall}
 use Rattle.rx_io.specs.declared.listener_calls.ListenCall.TheVariants as call
-use Rattle.rx_io.specs.declared.listener_calls.ListenEntry.{ListenEntry}
 use Rattle.rx_io.specs.declared.listener_calls.ListenEntry.TheVariants as entry
 
 -- these entries stand behind those that were told
@@ -19,9 +17,11 @@ entry_of done asked (Ok answer) = done answer ∷ []
 entry_of done asked (Err Failed) = entry.Failed asked ∷ []
 entry_of done asked (Err Memory) = []
 
+-- a bind at this port and its answer were told
 abbrev pub Binds : Option (List ListenEntry) → Option (List ListenEntry) → ℕ → Result (Unit {0}) IoFault → Type 0
 Binds old new port result = Logs old new (entry_of (λ _. entry.Bound port) call.Bind result)
 
+-- an accept and its answer were told
 abbrev pub Accepts : Option (List ListenEntry) → Option (List ListenEntry) → Result (Unit {0}) IoFault → Type 0
 Accepts old new result = Logs old new (entry_of (λ _. entry.Accepted) call.Accept result)
 
@@ -33,6 +33,7 @@ ListenTakes old new result buffer = Logs old new (entry_of (λ n. entry.Took (ta
 abbrev pub ListenGives : Option (List ListenEntry) → Option (List ListenEntry) → Result ℕ IoFault → List ℕ → Type 0
 ListenGives old new result bytes = Logs old new (entry_of (λ n. entry.Gave (take n bytes) (length bytes)) call.Give result)
 
+-- the entry of a close, which can't fail
 abbrev pub closed : List ListenEntry
 closed = entry.Closed ∷ []
 
@@ -40,3 +41,8 @@ closed = entry.Closed ∷ []
 abbrev pub IsPresentAfter : Bool → Bool → Result (Unit {0}) IoFault → Type 0
 IsPresentAfter old new (Ok done) = new ≡ true
 IsPresentAfter old new (Err fault) = new ≡ old
+
+-- so many bytes of a piece, at least one
+pub record IsPart (count whole : ℕ) : Type 0 where
+  pub some : 0 < count
+  pub within : count ≤ whole

@@ -1,9 +1,7 @@
 -- What the calls on named files do to what the files tell.
 use Rattle.std.specs.Prelude.{◌≡◌, ◌≢◌, ◌⊎◌, ℕ, ◌<◌, ◌≤◌, List, [], ◌++◌, length, Option, Some, None, Result, Ok, Err, IsSomeAnd, unwrap_or, Vec}
-use Rattle.std.specs.declared.alloc.Global.{Global}
-use Rattle.rx_io.specs.declared.fault.IoFault.{IoFault}
-use Rattle.rx_io.specs.declared.fault.LoadFault.{LoadFault}
-use Rattle.rx_io.specs.declared.fault.LoadFault.TheVariants.{TooLarge, Failed, Memory}
+use Rattle.rx_io.specs.Terms.{Global, IoFault, LoadFault, TooLarge}
+use Rattle.rx_io.specs.declared.fault.LoadFault.TheVariants.{Failed, Memory}
 
 -- the bytes of each name that is there
 abbrev pub Contents : Type 0

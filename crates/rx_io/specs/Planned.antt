@@ -2,12 +2,8 @@
 use Rattle.std.specs.Prelude.{◌≡◌, ◌⊎◌, Option, None, Some, Vec, ℕ, ◌+◌, ◌-◌, ◌^◌, min, max, Bool, true, false, List, if◌then◌else◌, Result, Ok, Err}
 use Rattle.std.specs.List.{list_any}
 use lib.Dec.{eqb}
-use Rattle.rx_io.specs.declared.fault.IoFault.{IoFault}
-use Rattle.rx_io.specs.declared.fault.IoFault.TheVariants.{Failed, Memory}
-use Rattle.rx_io.specs.declared.fault.LoadFault.{LoadFault}
-use Rattle.rx_io.specs.declared.fault.LoadFault.TheVariants.{TooLarge}
+use Rattle.rx_io.specs.Terms.{Global, IoFault, Failed, Memory, LoadFault, TooLarge}
 use Rattle.rx_io.specs.declared.fault.LoadFault.TheVariants as load
-use Rattle.std.specs.declared.alloc.Global.{Global}
 
 -- the numbers of the calls that are to fail, counted from 1, how many calls were made, and how many failed
 pub record Plan : Type 0 where
@@ -19,6 +15,7 @@ pub record Plan : Type 0 where
 abbrev pub one_more : ℕ → ℕ
 one_more n = max n (min (n + 1) (2 ^ 64 - 1))
 
+-- a plan of which no call was made yet
 abbrev pub first_plan : List ℕ → Plan
 first_plan numbers = record { numbers = numbers; calls = 0; faults = 0 }
 

@@ -1,8 +1,7 @@
 -- What is read of a reader whose bytes are known.
 use Rattle.std.specs.Prelude.{◌≡◌, ℕ, ◌<◌, List, length, Option, IfSome, Result, Ok, Err, Vec}
-use Rattle.std.specs.declared.alloc.Global.{Global}
-use Rattle.rx_io.specs.declared.fault.LoadFault.{LoadFault}
-use Rattle.rx_io.specs.declared.fault.LoadFault.TheVariants.{Failed, TooLarge, Memory}
+use Rattle.rx_io.specs.Terms.{Global, LoadFault, TooLarge}
+use Rattle.rx_io.specs.declared.fault.LoadFault.TheVariants.{Failed, Memory}
 
 -- all bytes, or there are more than the limit
 abbrev pub ReadsWhole : Option (List ℕ) → ℕ → Result (Vec ℕ Global) LoadFault → Type 0

@@ -1,9 +1,7 @@
 -- Files that are kept as a list of names and bytes.
 use Rattle.std.specs.Prelude.{◌≡◌, ◌≢◌, ℕ, zero, suc, List, [], ◌∷◌, Some, None, if◌then◌else◌, Result, OnErr, Vec, String, string_bytes}
-use Rattle.std.specs.Str.{bytes_eq}
-use Rattle.std.specs.declared.alloc.Global.{Global}
+use Rattle.rx_io.specs.Terms.{Global, bytes_eq, IoFault}
 use Rattle.rx_io.specs.Named.{Contents}
-use Rattle.rx_io.specs.declared.fault.IoFault.{IoFault}
 
 -- a name and its bytes
 abbrev pub File : Type 0

@@ -2,7 +2,7 @@
 ghost use Rattle.std.specs.Prelude.{◌≡◌, ◌<◌, ◌≤◌, ℕ, Bool, true, false, List, length, Option, IfOk};
 ghost use Rattle.rx_io.specs.declared.listener_calls.ListenEntry.{ListenEntry};
 ghost use Rattle.rx_io.specs.Faults.{HasCause};
-ghost use Rattle.rx_io.specs.Listening.{Binds, Accepts, ListenTakes, ListenGives, Logs, closed, IsPresentAfter};
+ghost use Rattle.rx_io.specs.Listening.{Binds, Accepts, ListenTakes, ListenGives, Logs, closed, IsPresentAfter, IsPart};
 
 use crate::{IoFault, ListenEntry};
 
@@ -59,8 +59,7 @@ pub trait Listener {
     fn give(&mut self, bytes: &[u8]) -> Result<usize, IoFault>
         requires connected { present self.old ≡ true }
         requires offered { 0 < length bytes.now }
-        ensures some { IfOk result (λ n. 0 < n) }
-        ensures count { IfOk result (λ n. n ≤ length bytes.now) }
+        ensures count { IfOk result (λ n. IsPart n (length bytes.now)) }
         ensures call { ListenGives (told self.old) (told self.new) result bytes.now }
         ensures present { present self.new ≡ true }
         ensures fixed { fixed self.new ≡ fixed self.old }

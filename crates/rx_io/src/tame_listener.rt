@@ -1,10 +1,9 @@
 // A listener in memory that never fails.
 ghost use Rattle.std.specs.Prelude.{◌≡◌, ◌<◌, ◌≤◌, ℕ, Bool, true, false, [], length, min, Option, Some, IfOk, OnOk, vec_len, vec_capacity, is_some};
 ghost use Rattle.rx_io.specs.Faults.{HasCause};
-ghost use Rattle.rx_io.specs.Listening.{Binds, Accepts, ListenTakes, ListenGives, Logs, closed, IsPresentAfter};
+ghost use Rattle.rx_io.specs.Listening.{Binds, Accepts, ListenTakes, ListenGives, Logs, closed, IsPresentAfter, IsPart};
 ghost use Rattle.rx_io.specs.Planned.{GivesBy};
 ghost use Rattle.rx_io.specs.Sources.{most_or};
-ghost use Rattle.rx_io.specs.Taking.{Takes};
 
 use crate::{Bytes, IoFault, ListenEntry, Listener, Source, TameSource};
 use std::alloc::Global;
@@ -53,8 +52,7 @@ impl TameListener {
 }
 
 impl Listener for TameListener {
-    ghost use Rattle.rx_io.specs.Connections.{tame_calls, tame_present, tame_inputs, tame_open, listener_most, AcceptsNext, IsSameConnection, HasSameInputs};
-    ghost use Rattle.rx_io.specs.Sources.{piece_len};
+    ghost use Rattle.rx_io.specs.Connections.{tame_calls, tame_present, tame_inputs, listener_most, AcceptsNext, TakesNext, KeepsInputs, HasSameInputs};
 
     ghost told = { λ s. Some (tame_calls s) };
 
@@ -72,8 +70,7 @@ impl Listener for TameListener {
         ensures call { Binds (Some (tame_calls self.old)) (Some (tame_calls self.new)) port result }
         ensures present { tame_present self.new ≡ tame_present self.old }
         ensures cause { HasCause 0 0 result }
-        ensures same { IsSameConnection self.old self.new }
-        ensures inputs { HasSameInputs self.old self.new }
+        ensures inputs { KeepsInputs self.old self.new }
     {
         match self.calls.reserve(2) {
             Ok(()) => {}
@@ -109,8 +106,7 @@ impl Listener for TameListener {
         ensures call { ListenTakes (Some (tame_calls self.old)) (Some (tame_calls self.new)) result buf.new }
         ensures present { tame_present self.new ≡ true }
         ensures cause { HasCause 0 0 result }
-        ensures bytes { Takes (Some (tame_open self.old)) (Some (tame_open self.new)) result buf.new }
-        ensures answer { GivesBy false (piece_len (listener_most self.old) (length buf.old) (tame_open self.old)) result }
+        ensures next { TakesNext self.old self.new (length buf.old) buf.new result }
         ensures inputs { HasSameInputs self.old self.new }
     {
         let room = buf.len();
@@ -133,14 +129,12 @@ impl Listener for TameListener {
     fn give(&mut self, bytes: &[u8]) -> Result<usize, IoFault>
         requires connected { tame_present self.old ≡ true }
         requires offered { 0 < length bytes.now }
-        ensures some { IfOk result (λ n. 0 < n) }
-        ensures count { IfOk result (λ n. n ≤ length bytes.now) }
+        ensures count { IfOk result (λ n. IsPart n (length bytes.now)) }
         ensures call { ListenGives (Some (tame_calls self.old)) (Some (tame_calls self.new)) result bytes.now }
         ensures present { tame_present self.new ≡ true }
         ensures cause { HasCause 0 0 result }
         ensures answer { GivesBy false (min (listener_most self.old) (length bytes.now)) result }
-        ensures same { IsSameConnection self.old self.new }
-        ensures inputs { HasSameInputs self.old self.new }
+        ensures inputs { KeepsInputs self.old self.new }
     {
         match self.calls.reserve(2) {
             Ok(()) => {}

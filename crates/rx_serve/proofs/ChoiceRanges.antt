@@ -1,26 +1,11 @@
 -- The answers of malloc that a run used are those that a record may have.
-use Rattle.std.proofs.Common.{◌≡◌, inl, inr, ℕ, ◌+◌, ◌%◌, ◌^◌, ◌<◌, ◌≤◌, ◌&&◌, Bool, true, false, cond, eqb, leb, List, get_or, Option, Some, None, refl, sym, ap, subst, ◌∙◌, arith}
-use Rattle.std.specs.Prelude.{All, slice_get}
-use Rattle.std.proofs.lemmas.Bool.{cases_Bool, cases_eq, cases_lt, and_parts, leb-true}
 use Rattle.std.proofs.lemmas.List.Elements.{All-from_get_or}
-use Rattle.std.proofs.lemmas.Option.{none-some, same_Some, slice_get-get_or}
-use Rattle.rx_io.specs.declared.bytes.Item.{Item}
-use Rattle.block_book.specs.declared.choice.Choice.{Choice}
-use Rattle.block_book.specs.Answer.{is_allowed, is_clear}
 use Rattle.block_book.specs.Block.{touched, lies_in}
-use Rattle.elf_image.specs.declared.image.Image.{Image}
-use Rattle.elf_image.specs.Image.{heap_start, heap_end}
 use Rattle.elf_image.proofs.Valid.{stack_top_below}
 use Rattle.guest_cpu.proofs.ChoiceLemmas.{allowed_clear}
 use Rattle.guest_cpu.proofs.HeapLemmas.{zeroed_within}
 use Rattle.guest_cpu.proofs.StartLemmas.{heap_above_null}
-use Rattle.run_history.specs.Machine.{Machine, State, Effect, Goes, Emits, Ends, Wants, Chooses, Fails, register, start, start_machine}
-use Rattle.run_history.specs.Call.{takes, received, chooses, allocated}
-use Rattle.run_history.specs.Run.{Run, next, after, effect, does}
-use Rattle.run_history.proofs.Repeats.{repeated_keeps}
-use Rattle.run_history.proofs.Runs.{next_parts, received_keeps, allocated_keeps}
-use Rattle.run_history.proofs.Shapes.{Shape, Same, Takes, Picks, Alone, does_shape}
-use Rattle.schedule_file.specs.Records.{IsChoice}
+use Rattle.rx_serve.proofs.Terms.{Bool, List, None, Option, Some, ap, arith, cond, eqb, false, get_or, inl, inr, leb, refl, subst, sym, true, ℕ, ◌%◌, ◌&&◌, ◌+◌, ◌<◌, ◌^◌, ◌∙◌, ◌≡◌, ◌≤◌, and_parts, cases_Bool, cases_eq, cases_lt, leb-true, none-some, same_Some, slice_get-get_or, All, slice_get, Item, Choice, is_allowed, is_clear, Image, heap_end, heap_start, repeated_keeps, allocated_keeps, next_parts, received_keeps, Alone, Picks, Same, Shape, Takes, does_shape, allocated, chooses, received, takes, Chooses, Effect, Emits, Ends, Fails, Goes, Machine, State, Wants, register, start, start_machine, Run, after, does, effect, next, IsChoice}
 
 -- a block that C allows ends below the end of the heap
 clear_below : (start end : ℕ) (live : List (ℕ × ℕ)) (at size : ℕ) → is_clear start end live at size ≡ true → at < end

@@ -1,36 +1,11 @@
 -- The record that a `run` left is replayed by a `replay` over the same input.
-use Rattle.std.proofs.Common.{◌≡◌, inl, inr, ℕ, ◌≤◌, ◌<◌, true, List, [], ◌++◌, length, take, drop, Option, Some, None, refl, sym, ap, subst, ◌∙◌, arith, append-nil}
-use Rattle.std.specs.Prelude.{All, IsSomeAnd}
-use Rattle.std.proofs.lemmas.List.{take-append-drop}
-use Rattle.std.proofs.lemmas.Option.{none-some, same_Some}
-use Rattle.command_line.specs.Commands.{RunValue, ReplayValue}
 use Rattle.command_line.specs.Ranges.{AreInRange}
-use Rattle.rx_io.specs.Named.{Contents}
-use Rattle.rx_io.specs.Outside.{Stream}
-use Rattle.elf_image.specs.declared.image.Image.{Image}
-use Rattle.elf_image.specs.Refusals.{refusal, IsImage}
 use Rattle.elf_image.proofs.Same.{same_image}
-use Rattle.run_history.specs.declared.answer.Answer.{Answer}
 use Rattle.run_history.specs.declared.answer.Answer.TheVariants as answer
-use Rattle.session_history.specs.Account.{journal_of}
-use Rattle.session_history.specs.Ends.{IsEnd}
-use Rattle.session_history.specs.Heeding.{items_in}
-use Rattle.session_state.specs.Options.{keeping_for}
 use Rattle.schedule_file.specs.Laws.{OneReading}
-use Rattle.schedule_file.specs.Records.{IsChoice, IsRecord, text_of}
-use Rattle.schedule_file.specs.declared.recorded.Recorded.{Recorded}
-use Rattle.session_notes.specs.Noting.{noted}
 use Rattle.replay.specs.Laws.{HasSession}
-use Rattle.replay.specs.Replaying.{bounds_of}
 use Rattle.over_trunk.specs.Laws.{IsWithin, IsAsRecorded, SameBytesAreReplayed}
-use Rattle.over_trunk.specs.Replaying.{ReplaysTrunk, WritesSends}
-use Rattle.rx_serve.specs.declared.ending.End.{End}
-use Rattle.rx_serve.specs.Commands.{HasServed}
-use Rattle.rx_serve.specs.Laws.{HasSameOutside, IsReplayedBy, RecordsAreReplayed}
-use Rattle.rx_serve.specs.Limits.{program_limit}
-use Rattle.rx_serve.specs.Outside.{Outside}
-use Rattle.rx_serve.specs.Replaying.{HasRecord, HasReplayCause, HasBeenReplayed, window_in}
-use Rattle.rx_serve.specs.Settings.{options_of, rules_of_run, window_of}
+use Rattle.rx_serve.proofs.Terms.{List, None, Option, Some, [], ap, append-nil, arith, drop, inl, inr, length, refl, subst, sym, take, true, ℕ, ◌++◌, ◌<◌, ◌∙◌, ◌≡◌, ◌≤◌, take-append-drop, none-some, same_Some, All, IsSomeAnd, Contents, Stream, Image, IsImage, refusal, Answer, journal_of, IsEnd, items_in, noted, Recorded, IsChoice, IsRecord, text_of, keeping_for, bounds_of, ReplaysTrunk, WritesSends, ReplayValue, RunValue, End, program_limit, Outside, options_of, rules_of_run, window_of, HasBeenReplayed, HasRecord, HasReplayCause, window_in, HasServed, HasSameOutside, IsReplayedBy, RecordsAreReplayed}
 use Rattle.rx_serve.proofs.ChoiceRanges.{choices_fine}
 use Rattle.rx_serve.proofs.NotingLemmas.{few_counts}
 use Rattle.rx_serve.proofs.SettingsLemmas.{window_few, options_in_range}
@@ -57,10 +32,10 @@ module _ (value : RunValue) (replaying : ReplayValue) (files files_later again :
   abbrev left : Recorded
   left = record { window = value.window; frame = value.frame; choices = served.noted.choices; steps = end.steps; taken = end.taken }
 
-  all_choices : served.noted.choices ≡ served.noted.serves.session.survivor.now.choices
+  all_choices : served.noted.choices ≡ served.noted.serves.telling.account.survivor.now.choices
   all_choices =
-      let notes = served.noted.serves.notes in
-      let now = served.noted.serves.session.survivor.now.choices in
+      let notes = served.noted.serves.is.notes in
+      let now = served.noted.serves.telling.account.survivor.now.choices in
       let first : served.noted.choices ≡ take end.recorded now = notes.choices_noted in
       let rest : drop end.recorded now ≡ [] = sym notes.tail_is ∙ served.headline.all_recorded ends in
       first ∙ sym (append-nil (take end.recorded now)) ∙ ap (λ l. take end.recorded now ++ l) (sym rest) ∙ take-append-drop end.recorded now
@@ -72,13 +47,13 @@ module _ (value : RunValue) (replaying : ReplayValue) (files files_later again :
       record {
         some_window = window_some value ranges;
         window = window_few value ranges;
-        choices = subst (All IsChoice) (sym all_choices) (choices_fine served.image (items_in (rules_of_run value).bounds (journal_of serves.session)) serves.session.survivor.now.choices serves.session.survivor.now.steps serves.session.survivor.now.state serves.account.ran);
+        choices = subst (All IsChoice) (sym all_choices) (choices_fine served.image (items_in (rules_of_run value).bounds (journal_of serves.telling.account)) serves.telling.account.survivor.now.choices serves.telling.account.survivor.now.steps serves.telling.account.survivor.now.state serves.is.is.ended.account.ran);
         steps = few.1;
         taken = few.0;
       }
 
-  has_session : HasSession (rules_of_run value) served.noted.serves.session left
-  has_session = record { frame = refl; choices = all_choices; steps = sym served.noted.serves.steps_are; taken = sym served.noted.serves.taken_is }
+  has_session : HasSession (rules_of_run value) served.noted.serves.telling.account left
+  has_session = record { frame = refl; choices = all_choices; steps = sym served.noted.serves.is.steps_are; taken = sym served.noted.serves.is.taken_is }
 
   text_there : again replaying.recording ≡ Some (text_of left)
   text_there = outside.recording ∙ (served.texts ends).record_has
@@ -114,7 +89,7 @@ module _ (value : RunValue) (replaying : ReplayValue) (files files_later again :
 
   -- and is that of the session
   pub replays_so : OneReading → SameBytesAreReplayed → (old_again new_again : Outside) (answered : Answer) → HasBeenReplayed replaying (record old_again { files = Some again; input = Some input_again }) new_again answered
-      → IsReplayedBy again replaying answered × (answered ≡ answer.Finished → WritesSends old_again.output new_again.output served.noted.serves.session.survivor.now.state.sends)
+      → IsReplayedBy again replaying answered × (answered ≡ answer.Finished → WritesSends old_again.output new_again.output served.noted.serves.telling.account.survivor.now.state.sends)
   replays_so one law old_again new_again answered has =
       let recorded_is = same_record one has.recorded has.recording in
       let program_is = same_program has.program has.file.has in
@@ -127,8 +102,8 @@ module _ (value : RunValue) (replaying : ReplayValue) (files files_later again :
       (subst (λ (i : Image). ReplaysTrunk i has.recorded (Some input_again) new_again.input old_again.output new_again.output answered has.counted) image_is has.replays) in
       let within : IsWithin (rules_of_run value).bounds (bounds_of left) = record { items = omega arith; events = omega arith } in
       let both =
-      law (rules_of_run value) (keeping_for (options_of value)) served.image input input_again new.input new_again.input old.output new.output old_again.output new_again.output served.ended answered
-      (noted (Some []) (Some [])) (noted (Some served.noted.choices) (Some served.noted.episodes)) end.recorded end.tail end.taken end.steps served.noted.counted has.counted left served.noted.serves replays has_session within outside.bytes in
+      law (rules_of_run value) (keeping_for (options_of value)) served.image input input_again new.input new_again.input old.output new.output old_again.output new_again.output (record { end = served.ended; recorded = end.recorded; tail = end.tail; taken = end.taken; steps = end.steps }) answered
+      (noted (Some []) (Some [])) (noted (Some served.noted.choices) (Some served.noted.episodes)) served.noted.counted has.counted left served.noted.serves replays has_session within outside.bytes in
       (as_replayed again replaying answered both.0, both.1)
 
 pub records_are_replayed : OneReading → SameBytesAreReplayed → RecordsAreReplayed

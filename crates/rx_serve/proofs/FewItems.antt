@@ -1,11 +1,8 @@
 -- A session receives no more items than its bounds allow.
-use Rattle.std.proofs.Common.{◌≡◌, ◌≤◌, List, [], ◌∷◌, ◌++◌, length, Bool, true, false, cond, leb, ltb, Some, None, is_none, refl, sym, subst, append_assoc, append-nil, arith}
-use Rattle.std.proofs.lemmas.Bool.{ltb-false}
-use Rattle.links.specs.declared.journal.Entry.{Entry}
 use Rattle.links.specs.declared.journal.LinkEvent.{LinkEvent}
-use Rattle.links.specs.Links.{events_in}
 use Rattle.item_log.specs.Heard.{heard, heard_from, items_from, items_of}
-use Rattle.session_history.specs.Heeding.{Bounds, LimitEvents, TooLong, LimitItems, refusal, heeded_behind, received}
+use Rattle.session_history.specs.Heeding.{refusal, received}
+use Rattle.rx_serve.proofs.Terms.{Bool, List, None, Some, [], append-nil, append_assoc, arith, cond, false, is_none, leb, length, ltb, refl, subst, sym, true, ◌++◌, ◌∷◌, ◌≡◌, ◌≤◌, ltb-false, Entry, events_in, Bounds, LimitEvents, LimitItems, TooLong, heeded_behind}
 
 not_full : (many long full : Bool) → is_none (cond many (Some LimitEvents) (cond long (Some TooLong) (cond full (Some LimitItems) None))) ≡ true → full ≡ false
 not_full true long full h = cc

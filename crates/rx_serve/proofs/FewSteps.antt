@@ -1,19 +1,8 @@
 -- A served run has few instructions: at most the budget and one for each item that it took, and as many for the wait for
 -- the next one.
-use Rattle.std.proofs.Common.{◌≡◌, ℕ, ◌+◌, ◌*◌, ◌<◌, ◌≤◌, Bool, true, false, cond, List, Option, Some, None, sym, ◌∙◌, ap, arith}
-use Rattle.std.proofs.lemmas.Option.{none-some, same_Some}
-use Rattle.rx_io.specs.declared.bytes.Item.{Item}
-use Rattle.block_book.specs.declared.choice.Choice.{Choice}
-use Rattle.block_book.specs.Answer.{is_allowed}
-use Rattle.elf_image.specs.declared.image.Image.{Image}
-use Rattle.run_history.specs.Machine.{Machine, State, register, start, start_machine, Effect, Goes, Emits, Ends, Wants, Chooses, Fails}
-use Rattle.run_history.specs.Call.{takes, received, malloc, allocated}
-use Rattle.run_history.specs.Run.{does, after}
 use Rattle.run_history.specs.Served.{Limits, Override, env_at, Path, origin, planned_next, Served}
-use Rattle.run_history.proofs.Repeats.{repeated_keeps}
-use Rattle.run_history.proofs.Shapes.{Alone, Shape, Same, Takes, Picks, does_shape}
-use Rattle.run_history.proofs.Runs.{received_keeps, allocated_keeps}
 use Rattle.run_history.proofs.Serves.{serves_to}
+use Rattle.rx_serve.proofs.Terms.{Bool, List, None, Option, Some, ap, arith, cond, false, sym, true, ℕ, ◌*◌, ◌+◌, ◌<◌, ◌∙◌, ◌≡◌, ◌≤◌, none-some, same_Some, Item, Choice, is_allowed, Image, repeated_keeps, allocated_keeps, received_keeps, Alone, Picks, Same, Shape, Takes, does_shape, allocated, malloc, received, takes, Chooses, Effect, Emits, Ends, Fails, Goes, Machine, State, Wants, register, start, start_machine, after, does}
 
 -- what one instruction does to the counts: it is one more since the last item, or took an item, or ended the program
 data Counts (s t : State) : Type 0 where

@@ -1,34 +1,11 @@
 -- The headline, from what a session over a trunk leaves.
-use Rattle.std.proofs.Common.{◌≡◌, ◌≤◌, ℕ, zero, suc, List, [], ◌++◌, length, drop, Bool, true, Option, None, Some, IfSome, refl, sym, ◌∙◌, ap, subst, arith, append-nil}
-use Rattle.std.proofs.lemmas.List.{length-take-le, take-append-drop}
-use Rattle.std.proofs.lemmas.Option.{option_and_then_some}
-use Rattle.session_notes.specs.declared.episode.Episode.{Episode}
-use Rattle.session_notes.specs.Noting.{noted}
-use Rattle.session_state.specs.Recovered.{HasNoted}
-use Rattle.block_book.specs.declared.choice.Choice.{Choice}
-use Rattle.rx_io.specs.declared.bytes.Item.{Item}
-use Rattle.rx_io.specs.Outside.{Stream, IsDrained}
-use Rattle.rx_io.specs.Prefix.{Prefix}
-use Rattle.elf_image.specs.declared.image.Image.{Image}
-use Rattle.run_history.specs.declared.answer.Answer.{Answer}
 use Rattle.run_history.specs.declared.answer.Answer.TheVariants as answer
-use Rattle.run_history.specs.Machine.{State, start, Effect, Goes, Emits, Ends, Wants, Chooses, Fails}
-use Rattle.run_history.specs.Run.{Run, run, next, after, effect, output}
-use Rattle.run_history.proofs.Runs.{next_parts}
+use Rattle.run_history.specs.Run.{run}
 use Rattle.session_history.specs.Owing.{OwesNothing}
-use Rattle.recovery.specs.Handling.{Keeping}
-use Rattle.session_history.specs.Lawful.{Rules, entries_of}
-use Rattle.links.specs.declared.journal.Entry.{Entry}
-use Rattle.session_history.specs.Heeding.{received}
-use Rattle.session_history.specs.Account.{Session, journal_of, IsAccount, HasPassedAll}
-use Rattle.session_history.specs.Ends.{IsEnd, before_end, OwesNothingAtEnd, EndsBy}
 use Rattle.session_history.specs.Giving.{AreGiven}
 use Rattle.session_history.proofs.Endings.{passed_all, received_at_end}
 use Rattle.over_trunk.specs.Trunk.{StopsTrunk, Carries}
-use Rattle.over_trunk.specs.Serving.{ServesTrunk}
-use Rattle.rx_serve.specs.declared.ending.End.{End}
-use Rattle.rx_serve.specs.Outside.{Outside}
-use Rattle.rx_serve.specs.Headline.{received_items, Passed, LastExits, Headline}
+use Rattle.rx_serve.proofs.Terms.{IfSome, List, None, Option, Some, [], ap, append-nil, arith, drop, length, refl, subst, suc, sym, true, zero, ℕ, ◌++◌, ◌∙◌, ◌≡◌, ◌≤◌, length-take-le, take-append-drop, option_and_then_some, Item, IsDrained, Stream, Prefix, Entry, events_in, Choice, Image, Answer, next_parts, Chooses, Effect, Emits, Ends, Fails, Goes, State, Wants, start, Run, after, effect, next, output, at_its_end, came_to, HasPassedAll, IsAccount, Session, journal_of, EndsAt, HasComeTo, IsEnd, Rules, entries_of, Episode, noted, Keeping, HasNoted, ServesTrunk, End, Outside, Headline, LastExits, Passed, received_items}
 
 ended_of : Option State → Option ℕ
 ended_of None = None
@@ -65,29 +42,18 @@ last_exits image items choices (suc n) state code ran ended =
     let parts = next_parts items choices before state last in
     last_after image items choices n before state code earlier parts.0 (effect items choices before.machine) refl parts.1 ended)
 
--- at an end nothing is owed, and no piece broke off
-ends_whole : (rules : Rules) (coming : Option _) (session : Session) (end : Answer) → IsEnd end → EndsBy rules coming session end → OwesNothingAtEnd rules session × (session.broken ≡ [])
-ends_whole rules coming session answer.Finished is (stands, owes, whole) = (owes, whole)
-ends_whole rules coming session (answer.Exited code) is (stands, owes, whole) = (owes, whole)
-ends_whole rules coming session (answer.GaveUp point cause) is (stands, owes, whole, before) = (owes, whole)
-ends_whole rules coming session (answer.InputRefused kind offset) is (stands, owes, whole) = (owes, whole)
-ends_whole rules coming session (answer.MessageTooLong conn) is (stands, owes, whole) = (owes, whole)
-ends_whole rules coming session answer.LimitItems is (stands, owes, whole) = (owes, whole)
-ends_whole rules coming session answer.LimitEvents is (stands, owes, whole) = (owes, whole)
-ends_whole rules coming session _ is ends = absurd is
-
 -- at an end each connection still open was passed all that the run emits on it
-all_at_end : (rules : Rules) (image : Image) (session : Session) (at_end : Bool) → IsAccount rules image session at_end → OwesNothingAtEnd rules session → session.broken ≡ [] → HasPassedAll rules session
-all_at_end rules image session at_end account owes whole =
+all_at_end : {rules : Rules} {image : Image} {session : Session} {end : Answer} → IsAccount rules image session → EndsAt rules session end → HasPassedAll rules session
+all_at_end {rules = rules} {image = image} {session = session} account ends =
     passed_all rules image session account.passed
     (subst (λ (entries : List Entry). OwesNothing rules.bounds rules.hold (record { start = entries_of session.earlier; since = session.since ++ entries; at_end = true; taken = session.survivor.now.state.machine.taken }) session.survivor.now.state.sends)
-    (sym (append-nil session.ending) ∙ ap (λ broken. session.ending ++ broken) (sym whole)) owes)
+    (sym (append-nil session.ending) ∙ ap (λ broken. session.ending ++ broken) (sym ends.unbroken)) ends.owes_nothing)
 
 -- what was written, by what was passed
-passed_bytes : (rules : Rules) (image : Image) (sink sink_later : Option (List ℕ)) (session : Session) (at_end : Bool) (end : Answer) → IsAccount rules image session at_end → (IsEnd end → HasPassedAll rules session)
+passed_bytes : (rules : Rules) (image : Image) (sink sink_later : Option (List ℕ)) (session : Session) (end : Answer) → IsAccount rules image session → (IsEnd end → HasPassedAll rules session)
     → Carries rules.bounds sink sink_later (journal_of session) → IfSome sink (λ before. Passed rules session end before sink_later)
-passed_bytes rules image None later session at_end end account all carries = tt
-passed_bytes rules image (Some before) later session at_end end account all carries = record {
+passed_bytes rules image None later session end account all carries = tt
+passed_bytes rules image (Some before) later session end account all carries = record {
   written = carries.written;
   wrote = carries.wrote;
   fronts = λ conn. subst (λ bytes. Prefix bytes (output session.survivor.now.state conn)) (sym (carries.payload_is conn)) (account.passed conn);
@@ -116,31 +82,33 @@ recorded_in session end ended recording told episodes has = record {
 
 pub headline : (rules : Rules) (keeping : Keeping) (image : Image) (old new : Outside) (ended : Answer) (end : End) (recording : List Choice) (told : List Episode)
     → (IsEnd end.answer → end.answer ≡ ended) → (counted : ℕ)
-    (s : ServesTrunk rules keeping image old.input new.input old.output new.output ended (noted (Some []) (Some [])) (noted (Some recording) (Some told)) end.recorded end.tail end.taken end.steps counted)
-    → Headline rules image s.session recording old new end
+    (s : ServesTrunk rules keeping image old.input new.input old.output new.output (record { end = ended; recorded = end.recorded; tail = end.tail; taken = end.taken; steps = end.steps }) (noted (Some []) (Some [])) (noted (Some recording) (Some told)) counted)
+    → Headline rules image s.telling.account recording old new end
 headline rules keeping image old new ended end recording told same counted s =
-    let session : Session = s.session in
+    let session : Session = s.telling.account in
     let items : List Item = received_items rules session in
     let state : State = session.survivor.now.state in
-    let recorded : Recorded session end recording = recorded_in session end ended recording told _ s.notes in
+    let is = s.is.is.ended in
+    let recorded : Recorded session end recording = recorded_in session end ended recording told _ s.is.notes in
     let ran : Run image items (recording ++ end.tail) end.steps state =
-    subst (λ n. Run image items (recording ++ end.tail) n state) s.steps_are (subst (λ list. Run image items list session.survivor.now.steps state) recorded.all s.account.ran) in
-    let ends_at : (a : Answer) → IsEnd a → end.answer ≡ a → ended ≡ a = λ a is e. sym (same (subst IsEnd (sym e) is)) ∙ e in
+    subst (λ n. Run image items (recording ++ end.tail) n state) s.is.steps_are (subst (λ list. Run image items list session.survivor.now.steps state) recorded.all is.account.ran) in
+    let ends_at : (a : Answer) → IsEnd a → end.answer ≡ a → EndsAt rules session a =
+    λ a is_end e. subst (EndsAt rules session) (sym (same (subst IsEnd (sym e) is_end)) ∙ e) (at_its_end rules session ended (subst IsEnd (sym e ∙ same (subst IsEnd (sym e) is_end)) is_end) is.ends) in
     record {
       recorded = recorded.count;
       ran = ran;
-      all_recorded = λ is. s.notes.all_recorded (subst IsEnd (same is) is);
-      taken = s.taken_is;
-      received = subst (λ n. n ≤ length items) s.taken_is s.account.taken;
-      passed = passed_bytes rules image old.output new.output session s.at_end end.answer s.account
-          (λ is. let owes = ends_whole rules s.coming session ended (subst IsEnd (same is) is) s.ends in all_at_end rules image session s.at_end s.account owes.0 owes.1) s.carried;
+      all_recorded = λ is_end. s.is.notes.all_recorded (subst IsEnd (same is_end) is_end);
+      taken = s.is.taken_is;
+      received = subst (λ n. n ≤ length items) s.is.taken_is is.account.taken;
+      passed = passed_bytes rules image old.output new.output session end.answer is.account (λ is_end. all_at_end is.account (ends_at end.answer is_end refl)) s.bytes.carried;
       finished = λ e.
-          let is : ended ≡ answer.Finished = ends_at answer.Finished tt e in
-          let ends : EndsBy rules s.coming session answer.Finished = subst (EndsBy rules s.coming session) is s.ends in
-          let asks : state.machine.taken ≡ received rules.bounds (before_end session) = ends.0.0.taken in
-          (sym s.taken_is ∙ asks ∙ sym (ap (λ (list : List Item). length list) (received_at_end rules.bounds session s.pieces (subst AreGiven (sym (ends_whole rules s.coming session ended (subst IsEnd (sym is) tt) s.ends).1) tt))), drained old.input new.input _ (subst (StopsTrunk old.input new.input _) is s.stops));
+          let ends : EndsAt rules session answer.Finished = ends_at answer.Finished tt e in
+          let to : HasComeTo rules s.coming session answer.Finished = came_to is.comes ends.came in (
+            sym s.is.taken_is ∙ to.stands.0.taken ∙ sym (ap (λ (list : List Item). length list) (received_at_end rules.bounds session is.pieces (subst AreGiven (sym ends.unbroken) tt))),
+            drained old.input new.input _ (subst (λ (came : Option Answer). IfSome came (StopsTrunk old.input new.input (events_in (journal_of session)))) ends.came s.bytes.stops),
+          );
       exited = λ code e.
-          let is : ended ≡ answer.Exited code = ends_at (answer.Exited code) tt e in
-          let ends : EndsBy rules s.coming session (answer.Exited code) = subst (EndsBy rules s.coming session) is s.ends in
-          last_exits image items (recording ++ end.tail) end.steps state code ran.ran ends.0;
+          let ends : EndsAt rules session (answer.Exited code) = ends_at (answer.Exited code) tt e in
+          let to : HasComeTo rules s.coming session (answer.Exited code) = came_to is.comes ends.came in
+          last_exits image items (recording ++ end.tail) end.steps state code ran.ran to.stands;
     }

@@ -1,3 +1,4 @@
+pub mod Terms
 pub mod AssemblyLemmas
 pub mod SettingsLemmas
 pub mod FewItems
@@ -11,3 +12,4 @@ mod ReplayLemmas
 mod ChoiceRanges
 mod CommandLemmas
 mod EndsLemmas
+pub mod SessionLaws

@@ -1,16 +1,11 @@
 -- The record and the report of words that are taken have different names.
-use Rattle.std.proofs.Common.{◌≡◌, ◌≢◌, ◌&&◌, true, false, true≢false, not, refl, sym, ◌∙◌, subst, List, Some}
-use Rattle.std.proofs.lemmas.Bool.{and_parts}
 use Rattle.std.proofs.lemmas.Slice.Eq.{bytes_eq-Decides}
 use Rattle.std.specs.Str.{bytes_eq}
 use Rattle.command_line.specs.Texts.{Text}
 use Rattle.command_line.specs.Table.{record_row, report_row}
 use Rattle.command_line.specs.Options.{value_of}
-use Rattle.command_line.specs.Parts.{Parts}
-use Rattle.command_line.specs.Commands.{RunValue, command_of, differ, fits, is_run, positional, run, run_value, run_form}
-use Rattle.file_notes.specs.Names.{AreTwo}
 use Rattle.command_line.proofs.Asking.{asked_run}
-use Rattle.rx_serve.specs.Noting.{names_of}
+use Rattle.rx_serve.proofs.Terms.{List, Some, false, not, refl, subst, sym, true, true≢false, ◌&&◌, ◌∙◌, ◌≡◌, ◌≢◌, and_parts, AreTwo, RunValue, command_of, differ, fits, is_run, positional, run, run_form, run_value, Parts, names_of}
 
 not_alike : (a b : Text) → not (bytes_eq a b) ≡ true → a ≢ b
 not_alike a b differs same = elim (bytes_eq a b) as (λ t. bytes_eq a b ≡ t → not t ≡ true → ⊥) [

@@ -1,34 +1,9 @@
 -- What stands in a session's files at its end, and that the counts of it fit into a record.
-use Rattle.std.proofs.Common.{◌≡◌, ℕ, ◌+◌, ◌*◌, ◌^◌, ◌<◌, ◌≤◌, List, [], Bool, true, true≢false, refl, Option, None, Some, Ok, inl, inr, sym, subst, arith}
 use Rattle.std.proofs.lemmas.Nat.{mul-le}
-use Rattle.block_book.specs.Heap.{Heap}
-use Rattle.block_book.specs.declared.choice.Choice.{Choice}
-use Rattle.command_line.specs.Commands.{RunValue}
-use Rattle.elf_image.specs.declared.image.Image.{Image}
-use Rattle.session_notes.specs.declared.episode.Episode.{Episode}
-use Rattle.file_notes.specs.Left.{Left, Nothing, InRecord, InReport, is_whole}
-use Rattle.file_notes.specs.Names.{Names}
-use Rattle.file_notes.specs.Standing.{Stands}
 use Rattle.file_notes.proofs.LawLemmas.{whole_texts}
-use Rattle.session_notes.specs.Noting.{noted}
-use Rattle.run_report.specs.declared.form.Form.{Form}
-use Rattle.recovery.specs.Handling.{Keeping}
-use Rattle.session_history.specs.Lawful.{Rules}
-use Rattle.over_trunk.specs.Serving.{ServesTrunk}
-use Rattle.session_state.specs.Options.{AreInRange, rules_of, keeping_for}
-use Rattle.session_state.specs.Serving.{IsNoteAnswer, UnlessNoteFault}
-use Rattle.session_state.specs.declared.options.Options.{Options}
-use Rattle.rx_io.specs.Named.{Contents}
-use Rattle.rx_io.specs.declared.fault.IoFault.{IoFault}
 use Rattle.rx_io.specs.declared.fault.IoFault.TheVariants as fault
-use Rattle.run_history.specs.declared.answer.Answer.{Answer}
 use Rattle.run_history.specs.declared.answer.Answer.TheVariants as answer
-use Rattle.schedule_file.specs.declared.recorded.TheConstants.{MAX_TAKEN}
-use Rattle.session_history.specs.Account.{journal_of}
-use Rattle.session_history.specs.Ends.{IsEnd}
-use Rattle.rx_serve.specs.Noting.{StartsFiles, EndsFiles, HaveTexts, ServesNoted, ClosesFiles, names_of, report_form}
-use Rattle.rx_serve.specs.Outside.{Outside}
-use Rattle.rx_serve.specs.Status.{status_of}
+use Rattle.rx_serve.proofs.Terms.{Bool, List, None, Ok, Option, Some, [], arith, inl, inr, refl, subst, sym, true, true≢false, ℕ, ◌*◌, ◌+◌, ◌<◌, ◌^◌, ◌≡◌, ◌≤◌, IoFault, Contents, Choice, Heap, Image, Answer, Session, journal_of, IsEnd, Rules, Episode, noted, Keeping, Form, MAX_TAKEN, InRecord, InReport, Left, Nothing, is_whole, Names, Stands, Options, AreInRange, keeping_for, rules_of, Outcome, IsNoteAnswer, UnlessNoteFault, ServesTrunk, RunValue, Outside, status_of, ClosesFiles, EndsFiles, HaveTexts, ServesNoted, StartsFiles, names_of, report_form}
 use Rattle.rx_serve.proofs.FewItems.{few_items}
 use Rattle.rx_serve.proofs.FewSteps.{few_steps}
 
@@ -106,40 +81,42 @@ unless_whole answer.ReadFault left is = nothing_left left is
 unless_whole answer.WriteFault left is = nothing_left left is
 
 -- a session served with notes that were new, and that stand in its files
-pub serves_noted : {rules : Rules} {keeping : Keeping} {image : Image} (value : RunValue) (old new : Outside) {ended : Answer} {recorded : ℕ} {tail : List Choice} {taken steps counted : ℕ}
+pub serves_noted : {rules : Rules} {keeping : Keeping} {image : Image} (value : RunValue) (old new : Outside) {outcome : Outcome} {counted : ℕ}
     → (names : Names) (wanted : Form) (told : Option Contents) (choices_before choices : List Choice) (episodes_before episodes : List Episode) (left_before left : Left)
     → choices_before ≡ [] → episodes_before ≡ [] → left_before ≡ Nothing → new.counter ≡ old.counter + counted
-    → ServesTrunk rules keeping image old.input new.input old.output new.output ended (noted (Some choices_before) (Some episodes_before)) (noted (Some choices) (Some episodes)) recorded tail taken steps counted
-    → names ≡ names_of value → wanted ≡ report_form value.form → told ≡ old.files → Stands names wanted told new.files choices episodes left → UnlessNoteFault ended (is_whole left ≡ is_whole left_before)
-    → ServesNoted rules keeping image value old new ended recorded tail taken steps
-serves_noted {rules = rules} {keeping = keeping} {image = image} value old new {ended = ended} {recorded = recorded} {tail = tail} {taken = taken} {steps = steps} {counted = counted} names wanted told choices_before choices episodes_before episodes left_before left none none_told none_left count serves names_are form_is told_is stands works = record {
+    → ServesTrunk rules keeping image old.input new.input old.output new.output outcome (noted (Some choices_before) (Some episodes_before)) (noted (Some choices) (Some episodes)) counted
+    → names ≡ names_of value → wanted ≡ report_form value.form → told ≡ old.files → Stands names wanted told new.files choices episodes left → UnlessNoteFault outcome.end (is_whole left ≡ is_whole left_before)
+    → ServesNoted rules keeping image value old new outcome
+serves_noted {rules = rules} {keeping = keeping} {image = image} value old new {outcome = outcome} {counted = counted} names wanted told choices_before choices episodes_before episodes left_before left none none_told none_left count serves names_are form_is told_is stands works = record {
   choices = choices;
   episodes = episodes;
   left = left;
   counted = counted;
   counts = count;
   serves =
-      subst (λ list. ServesTrunk rules keeping image old.input new.input old.output new.output ended (noted (Some []) (Some list)) (noted (Some choices) (Some episodes)) recorded tail taken steps counted) none_told
-      (subst (λ list. ServesTrunk rules keeping image old.input new.input old.output new.output ended (noted (Some list) (Some episodes_before)) (noted (Some choices) (Some episodes)) recorded tail taken steps counted) none serves);
+      subst (λ list. ServesTrunk rules keeping image old.input new.input old.output new.output outcome (noted (Some []) (Some list)) (noted (Some choices) (Some episodes)) counted) none_told
+      (subst (λ list. ServesTrunk rules keeping image old.input new.input old.output new.output outcome (noted (Some list) (Some episodes_before)) (noted (Some choices) (Some episodes)) counted) none serves);
   stands =
       subst (λ before. Stands (names_of value) (report_form value.form) before new.files choices episodes left) told_is
       (subst (λ f. Stands (names_of value) f told new.files choices episodes left) form_is (subst (λ n. Stands n wanted told new.files choices episodes left) names_are stands));
-  whole = unless_whole ended left (subst (λ before. UnlessNoteFault ended (is_whole left ≡ is_whole before)) none_left works);
+  whole = unless_whole outcome.end left (subst (λ before. UnlessNoteFault outcome.end (is_whole left ≡ is_whole before)) none_left works);
 }
 
 -- ---- the counts
 
 -- an account of a session within its bounds: few items were taken, and few instructions done
-pub few_counts : (options : Options) → AreInRange options → (permits : Heap → ℕ → ℕ → Bool) {image : Image} {value : RunValue} {old new : Outside} {ended : Answer} {recorded : ℕ} {tail : List Choice} {taken steps : ℕ}
-    → ServesNoted (rules_of options permits) (keeping_for options) image value old new ended recorded tail taken steps → (taken ≤ MAX_TAKEN) × (steps < 2 ^ 63)
+pub few_counts : (options : Options) → AreInRange options → (permits : Heap → ℕ → ℕ → Bool) {image : Image} {value : RunValue} {old new : Outside} {outcome : Outcome}
+    → ServesNoted (rules_of options permits) (keeping_for options) image value old new outcome → (outcome.taken ≤ MAX_TAKEN) × (outcome.steps < 2 ^ 63)
 few_counts options ranges permits {image = image} noted =
     let s = noted.serves in
-    let few : s.session.survivor.now.state.machine.taken ≤ 2 ^ 20 =
-    let account = s.account.taken in
-    let items = few_items (rules_of options permits).bounds (journal_of s.session) in
+    let session : Session = s.telling.account in
+    let account = s.is.is.ended.account in
+    let few : session.survivor.now.state.machine.taken ≤ 2 ^ 20 =
+    let taken = account.taken in
+    let items = few_items (rules_of options permits).bounds (journal_of session) in
     let most = ranges.few_items in
-    omega (arith, account, items, most) in
+    omega (arith, taken, items, most) in
     let budget = ranges.few_budget in
-    let product : s.session.survivor.now.state.machine.taken * (options.budget + 1) ≤ 2 ^ 20 * (2 ^ 24 + 1) = mul-le s.session.survivor.now.state.machine.taken (options.budget + 1) (2 ^ 20) (2 ^ 24 + 1) few (omega (arith, budget)) in
-    let done = few_steps (rules_of options permits).limits _ s.session.survivor.plan image s.session.survivor.now s.account.served in
-    (subst (λ n. n ≤ MAX_TAKEN) s.taken_is few, subst (λ n. n < 2 ^ 63) s.steps_are (omega (arith, product, done, budget)))
+    let product : session.survivor.now.state.machine.taken * (options.budget + 1) ≤ 2 ^ 20 * (2 ^ 24 + 1) = mul-le session.survivor.now.state.machine.taken (options.budget + 1) (2 ^ 20) (2 ^ 24 + 1) few (omega (arith, budget)) in
+    let done = few_steps (rules_of options permits).limits _ session.survivor.plan image session.survivor.now account.served in
+    (subst (λ n. n ≤ MAX_TAKEN) s.is.taken_is few, subst (λ n. n < 2 ^ 63) s.is.steps_are (omega (arith, product, done, budget)))

@@ -1,8 +1,6 @@
 -- A line at which a record is refused is one of its lines, or the one behind them.
-use Rattle.std.proofs.Common.{◌≡◌, ◌≤◌, ◌+◌, ℕ, Bool, true, false, List, [], ◌∷◌, length, Some, None, arith}
-use Rattle.std.specs.Prelude.{is_some, if◌then◌else◌, ◌==◌}
 use Rattle.schedule_file.specs.Telling.{head_of, choice_of, end_of}
-use Rattle.schedule_file.specs.Refusals.{onto, lines_of, refused_behind, refused_from, refused_lines, refused_line}
+use Rattle.rx_serve.proofs.Terms.{Bool, List, None, Some, [], arith, false, length, true, ℕ, ◌+◌, ◌∷◌, ◌≡◌, ◌≤◌, if◌then◌else◌, is_some, ◌==◌, lines_of, onto, refused_behind, refused_from, refused_line, refused_lines}
 
 behind_few : (number line : ℕ) (lines : List (List ℕ)) → refused_behind number lines ≡ Some line → line ≤ number
 behind_few number line [] is = let none : None ≡ Some line = is in absurd (cc)

@@ -1,19 +1,6 @@
 -- The command `replay`: what it leaves, from the calls that make it.
-use Rattle.std.proofs.Common.{◌≡◌, ℕ, ◌+◌, List, Option, subst, inl, inr}
-use Rattle.command_line.specs.Commands.{ReplayValue}
-use Rattle.rx_io.specs.Named.{Contents}
-use Rattle.rx_io.specs.Outside.{Stream}
-use Rattle.elf_image.specs.declared.image.Image.{Image}
-use Rattle.elf_image.specs.Refusals.{IsImage}
-use Rattle.run_history.specs.declared.answer.Answer.{Answer}
 use Rattle.run_history.specs.declared.answer.Answer.TheVariants as answer
-use Rattle.schedule_file.specs.declared.recorded.Recorded.{Recorded}
-use Rattle.replay.specs.Replaying.{EndsBy}
-use Rattle.over_trunk.specs.Replaying.{ReplaysTrunk}
-use Rattle.rx_serve.specs.Limits.{program_limit}
-use Rattle.rx_serve.specs.Loading.{HasFile}
-use Rattle.rx_serve.specs.Outside.{Outside}
-use Rattle.rx_serve.specs.Replaying.{HasRecord, HasReplayCause, ReplaysFile, window_in}
+use Rattle.rx_serve.proofs.Terms.{List, Option, inl, inr, subst, ℕ, ◌+◌, ◌≡◌, Contents, Stream, Image, IsImage, Answer, Recorded, EndsBy, ReplaysTrunk, ReplayValue, program_limit, Outside, HasFile, HasRecord, HasReplayCause, ReplaysFile, window_in}
 
 -- a record was replayed
 pub has_replayed : (value : ReplayValue) (old new : Outside) {mid : Option Contents} {program slice : List ℕ} {recording : Recorded} {image : Image} {window : ℕ} (end : Answer) {counted : ℕ}

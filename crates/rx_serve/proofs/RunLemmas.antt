@@ -1,26 +1,9 @@
 -- What `run` leaves, from what its parts leave.
-use Rattle.std.proofs.Common.{◌≡◌, ℕ, ◌≤◌, ◌<◌, ◌^◌, List, Bool, true, Option, Ok, Err, inl, inr, sym, ◌∙◌, subst}
-use Rattle.block_book.specs.Heap.{Heap}
-use Rattle.block_book.specs.declared.choice.Choice.{Choice}
-use Rattle.command_line.specs.Commands.{RunValue}
-use Rattle.rx_io.specs.Named.{Contents}
-use Rattle.elf_image.specs.declared.image.Image.{Image}
-use Rattle.run_history.specs.declared.answer.Answer.{Answer}
+use Rattle.std.proofs.Common.{Err}
 use Rattle.run_history.specs.declared.answer.Answer.TheVariants as answer
-use Rattle.session_state.specs.Options.{AreInRange, rules_of, keeping_for}
-use Rattle.session_state.specs.Sessions.{SessionState, IsBegun}
-use Rattle.session_state.specs.Serving.{IsReadyToServe, IsNoteAnswer}
-use Rattle.session_state.specs.declared.options.Options.{Options}
-use Rattle.schedule_file.specs.declared.recorded.TheConstants.{MAX_TAKEN}
-use Rattle.rx_serve.specs.declared.ending.End.{End}
-use Rattle.rx_serve.specs.Commands.{RunEnds}
-use Rattle.rx_io.specs.declared.fault.IoFault.{IoFault}
 use Rattle.rx_io.specs.declared.fault.IoFault.TheVariants as fault
-use Rattle.rx_serve.specs.Ended.{HasNoSession}
-use Rattle.rx_serve.specs.Loading.{HasImage, HasLoadCause}
-use Rattle.rx_serve.specs.Settings.{options_of, rules_of_run, window_of}
-use Rattle.rx_serve.specs.Noting.{StartsFiles, ServesNoted, ClosesFiles}
-use Rattle.rx_serve.specs.Outside.{Outside, IsUntouched}
+use Rattle.session_state.specs.Sessions.{IsBegun, SessionState}
+use Rattle.rx_serve.proofs.Terms.{Bool, List, Ok, Option, inl, inr, subst, sym, true, ℕ, ◌<◌, ◌^◌, ◌∙◌, ◌≡◌, ◌≤◌, IoFault, Contents, Choice, Heap, Image, Answer, MAX_TAKEN, Options, AreInRange, keeping_for, rules_of, Outcome, IsNoteAnswer, IsReadyToServe, RunValue, End, IsUntouched, Outside, HasImage, HasLoadCause, options_of, rules_of_run, window_of, HasNoSession, ClosesFiles, ServesNoted, StartsFiles, RunEnds}
 use Rattle.rx_serve.proofs.HeadlineLemmas.{headline}
 use Rattle.rx_serve.proofs.NotingLemmas.{closes_same, closes_whole, few_counts}
 
@@ -83,17 +66,16 @@ module _ {R : Type 0} where
   pub run_ends : (value : RunValue) (old new : Outside) (started served : Option Contents) {image : Image} (options : Options) {rule : R} {session : SessionState R}
       (end : End) (ended : Answer) {answer : Answer} {recorded : ℕ} {tail : List Choice} {taken steps taken_told steps_told : ℕ} → options ≡ options_of value → HasImage old.files value.program options.window image → IsBegun image options rule session
       → StartsFiles value old.files started (Ok tt)
-      → ServesNoted (rules_of session.options all_permitted) (keeping_for session.options) image value (record old { files = started }) (record new { files = served }) ended recorded tail taken steps
+      → ServesNoted (rules_of session.options all_permitted) (keeping_for session.options) image value (record old { files = started }) (record new { files = served }) (record { end = ended; recorded = recorded; tail = tail; taken = taken; steps = steps })
       → taken_told ≡ taken → steps_told ≡ steps → ClosesFiles value taken_told steps_told served new.files ended answer
       → end.answer ≡ answer → end.recorded ≡ recorded → end.tail ≡ tail → end.taken ≡ taken → end.steps ≡ steps → RunEnds value old new end
   run_ends value old new started served {image = image} options {rule = rule} {session = session} end ended {answer = answer} {recorded = recorded} {tail = tail} {taken = taken} {steps = steps} {taken_told = taken_told} {steps_told = steps_told} is program begun starts serves same_taken same_steps closes answered recorded_is tail_is taken_is steps_is =
       let settings : session.options ≡ options_of value = begun.options_are ∙ is in
-      let Noted : Options → ℕ → List Choice → ℕ → ℕ → Type 0 = λ o r l t n. ServesNoted (rules_of o all_permitted) (keeping_for o) image value (record old { files = started }) (record new { files = served }) ended r l t n in
-      let by_value : Noted (options_of value) recorded tail taken steps = subst (λ o. Noted o recorded tail taken steps) settings serves in
-      let by_recorded : Noted (options_of value) end.recorded tail taken steps = subst (λ r. Noted (options_of value) r tail taken steps) (sym recorded_is) by_value in
-      let by_tail : Noted (options_of value) end.recorded end.tail taken steps = subst (λ l. Noted (options_of value) end.recorded l taken steps) (sym tail_is) by_recorded in
-      let by_taken : Noted (options_of value) end.recorded end.tail end.taken steps = subst (λ t. Noted (options_of value) end.recorded end.tail t steps) (sym taken_is) by_tail in
-      let noted : ServesNoted (rules_of_run value) (keeping_for (options_of value)) image value (record old { files = started }) (record new { files = served }) ended end.recorded end.tail end.taken end.steps = subst (λ n. Noted (options_of value) end.recorded end.tail end.taken n) (sym steps_is) by_taken in
+      let Noted : Options → Outcome → Type 0 = λ o outcome. ServesNoted (rules_of o all_permitted) (keeping_for o) image value (record old { files = started }) (record new { files = served }) outcome in
+      let outcome : Outcome = record { end = ended; recorded = recorded; tail = tail; taken = taken; steps = steps } in
+      let same : outcome ≡ record { end = ended; recorded = end.recorded; tail = end.tail; taken = end.taken; steps = end.steps } =
+      λ i. record { end = ended; recorded = (sym recorded_is) i; tail = (sym tail_is) i; taken = (sym taken_is) i; steps = (sym steps_is) i } in
+      let noted = subst (Noted (options_of value)) same (subst (λ o. Noted o outcome) settings serves) in
       let closed : ClosesFiles value end.taken end.steps served new.files ended end.answer =
       subst (λ a. ClosesFiles value end.taken end.steps served new.files ended a) (sym answered)
       (subst (λ t. ClosesFiles value t end.steps served new.files ended answer) (same_taken ∙ sym taken_is) (subst (λ n. ClosesFiles value taken_told n served new.files ended answer) (same_steps ∙ sym steps_is) closes)) in
@@ -111,8 +93,8 @@ module _ {R : Type 0} where
       })
 
   -- how many items were taken, and how many instructions done, fit into a record
-  pub counts_fit : {value : RunValue} {old new : Outside} {image : Image} (options : Options) {rule : R} {session : SessionState R} {ended : Answer} {recorded : ℕ} {tail : List Choice} {taken steps : ℕ}
+  pub counts_fit : {value : RunValue} {old new : Outside} {image : Image} (options : Options) {rule : R} {session : SessionState R} {outcome : Outcome}
       → AreInRange options → IsBegun image options rule session
-      → ServesNoted (rules_of session.options all_permitted) (keeping_for session.options) image value old new ended recorded tail taken steps
-      → (taken ≤ MAX_TAKEN) × (steps < 2 ^ 63)
+      → ServesNoted (rules_of session.options all_permitted) (keeping_for session.options) image value old new outcome
+      → (outcome.taken ≤ MAX_TAKEN) × (outcome.steps < 2 ^ 63)
   counts_fit options {session = session} ranges begun serves = few_counts session.options (subst AreInRange (sym begun.options_are) ranges) all_permitted serves

@@ -1,11 +1,7 @@
 -- The settings of a session, by the ranges of its command's numbers.
-use Rattle.std.proofs.Common.{◌≡◌, ◌≤◌, arith, sym, subst}
-use Rattle.command_line.specs.Commands.{RunValue}
 use Rattle.command_line.specs.Ranges.{AreInRange as RangesHold}
 use Rattle.elf_image.specs.Layout.{IsWindow}
-use Rattle.session_state.specs.Options.{AreInRange}
-use Rattle.session_state.specs.declared.options.Options.{Options}
-use Rattle.rx_serve.specs.Settings.{options_of}
+use Rattle.rx_serve.proofs.Terms.{arith, subst, sym, ◌≡◌, ◌≤◌, Options, AreInRange, RunValue, options_of}
 
 pub window_few : (value : RunValue) → RangesHold value → value.window ≤ 64
 window_few value (window, others) = window.1

@@ -1,14 +1,9 @@
 -- The command `asm`: a text is loaded, assembled, and written as an executable.
 use Rattle.std.specs.Prelude.{◌≡◌, ◌⊎◌, ℕ, ◌<◌, ◌≤◌, List, length, Option, Some, None, IfSome, IsSomeAnd, Result, Ok, Err}
-use Rattle.rx_io.specs.Faults.{Rose}
-use Rattle.rx_io.specs.Named.{Contents, Holds}
-use Rattle.rx_io.specs.Prefix.{Prefix}
-use Rattle.elf_image.specs.declared.image.Image.{Image}
-use Rattle.elf_image.specs.Image.{written}
 use Rattle.rv_asm.specs.Assembling.{IsAssembled, AnswersFault}
 use Rattle.rv_asm.specs.Refusals.{refusal_of}
-use Rattle.run_history.specs.declared.answer.Answer.{Answer}
 use Rattle.run_history.specs.declared.answer.Answer.TheVariants as answer
+use Rattle.rx_serve.specs.Terms.{Rose, Contents, Holds, Prefix, Image, written, Answer}
 use Rattle.rx_serve.specs.Limits.{assembly_window, source_limit}
 use Rattle.rx_serve.specs.Loading.{Has}
 

@@ -1,13 +1,7 @@
 -- What each command leaves.
 use Rattle.std.specs.Prelude.{◌≡◌, ◌⊎◌, Option, Some, None, Ok, Err}
-use Rattle.command_line.specs.Commands.{CommandValue, RunValue, AsmValue, ReplayValue, run, asm, replay}
-use Rattle.rx_io.specs.Named.{Contents}
-use Rattle.elf_image.specs.declared.image.Image.{Image}
-use Rattle.rx_io.specs.declared.fault.IoFault.{IoFault}
-use Rattle.run_history.specs.declared.answer.Answer.{Answer}
 use Rattle.run_history.specs.declared.answer.Answer.TheVariants as answer
-use Rattle.session_state.specs.Serving.{IsNoteAnswer}
-use Rattle.session_history.specs.Ends.{IsEnd}
+use Rattle.rx_serve.specs.Terms.{IoFault, Contents, Image, Answer, IsEnd, keeping_for, IsNoteAnswer, AsmValue, CommandValue, ReplayValue, RunValue, asm, replay, run}
 use Rattle.rx_serve.specs.declared.ending.End.{End}
 use Rattle.rx_serve.specs.Assembly.{Assembles, HasAsmCause}
 use Rattle.rx_serve.specs.Ended.{HasNoSession}
@@ -15,7 +9,6 @@ use Rattle.rx_serve.specs.Headline.{Headline}
 use Rattle.rx_serve.specs.Loading.{HasImage, HasLoadCause}
 use Rattle.rx_serve.specs.Noting.{StartsFiles, ServesNoted, ClosesFiles, HaveTexts}
 use Rattle.rx_serve.specs.Outside.{Outside, IsUntouched}
-use Rattle.session_state.specs.Options.{keeping_for}
 use Rattle.rx_serve.specs.Replaying.{ReplaysFile}
 use Rattle.rx_serve.specs.Settings.{window_of, options_of, rules_of_run}
 
@@ -47,10 +40,10 @@ pub record HasServed (value : RunValue) (old new : Outside) (end : End) : Type 0
   pub files_served : Option Contents
   pub ended : Answer
   pub starts : StartsFiles value old.files files_started (Ok tt)
-  pub noted : ServesNoted (rules_of_run value) (keeping_for (options_of value)) image value (record old { files = files_started }) (record new { files = files_served }) ended end.recorded end.tail end.taken end.steps
+  pub noted : ServesNoted (rules_of_run value) (keeping_for (options_of value)) image value (record old { files = files_started }) (record new { files = files_served }) (record { end = ended; recorded = end.recorded; tail = end.tail; taken = end.taken; steps = end.steps })
   pub closes : ClosesFiles value end.taken end.steps files_served new.files ended end.answer
   pub texts : IsEnd end.answer → HaveTexts value noted.choices noted.episodes end.answer end.taken end.steps old.files new.files
-  pub headline : Headline (rules_of_run value) image noted.serves.session noted.choices old new end
+  pub headline : Headline (rules_of_run value) image noted.serves.telling.account noted.choices old new end
 
 -- what `run` leaves
 abbrev pub RunEnds : RunValue → Outside → Outside → End → Type 0

@@ -1,21 +1,11 @@
 -- The headline: the bytes passed to each connection are a prefix of those that the recorded run emits on it.
 use Rattle.std.specs.Prelude.{◌≡◌, ℕ, ◌+◌, ◌≤◌, List, [], ◌++◌, length, true, Option, Some, IfSome}
 use Rattle.std.specs.Io.KnownBytes.{Appends}
-use Rattle.block_book.specs.declared.choice.Choice.{Choice}
-use Rattle.rx_io.specs.declared.bytes.Item.{Item}
-use Rattle.rx_io.specs.Outside.{IsDrained}
-use Rattle.rx_io.specs.Prefix.{Prefix}
-use Rattle.elf_image.specs.declared.image.Image.{Image}
-use Rattle.run_history.specs.declared.answer.Answer.{Answer}
 use Rattle.run_history.specs.declared.answer.Answer.TheVariants as answer
-use Rattle.run_history.specs.Machine.{State, start, Ends}
-use Rattle.run_history.specs.Run.{Run, run, effect, output}
-use Rattle.session_history.specs.Heeding.{items_in}
+use Rattle.run_history.specs.Run.{run}
 use Rattle.session_history.specs.Opened.{is_open}
-use Rattle.session_history.specs.Lawful.{Rules}
-use Rattle.session_history.specs.Account.{Session, journal_of}
-use Rattle.session_history.specs.Ends.{IsEnd}
 use Rattle.trunk_wire.specs.Pieces.{payload}
+use Rattle.rx_serve.specs.Terms.{Item, IsDrained, Prefix, Choice, Image, Answer, Ends, State, start, Run, effect, output, Session, journal_of, IsEnd, items_in, Rules}
 use Rattle.rx_serve.specs.declared.ending.End.{End}
 use Rattle.rx_serve.specs.Outside.{Outside}
 

@@ -1,13 +1,9 @@
 -- What holds of a `run`, and of a `replay` of the record that it left.
-use Rattle.std.specs.Prelude.{◌≡◌, Option, Some, None}
-use Rattle.command_line.specs.Commands.{CommandValue, RunValue, ReplayValue}
+use Rattle.std.specs.Prelude.{[], ◌≡◌, Option, Some, None}
+use Rattle.rx_serve.specs.Terms.{Contents, Stream, Answer, IsComplete, IsEnd, AreAllHeeded, WritesSends, CommandValue, ReplayValue, RunValue}
+use Rattle.rx_serve.specs.Settings.{rules_of_run}
 use Rattle.command_line.specs.Ranges.{AreInRange}
-use Rattle.rx_io.specs.Named.{Contents}
-use Rattle.rx_io.specs.Outside.{Stream}
-use Rattle.run_history.specs.declared.answer.Answer.{Answer}
 use Rattle.run_history.specs.declared.answer.Answer.TheVariants as answer
-use Rattle.session_history.specs.Ends.{IsEnd}
-use Rattle.over_trunk.specs.Replaying.{WritesSends}
 use Rattle.rx_serve.specs.declared.ending.End.{End}
 use Rattle.rx_serve.specs.Commands.{HasServed, ReplayEnds, Ends}
 use Rattle.rx_serve.specs.Limits.{record_limit}
@@ -38,8 +34,22 @@ RecordsAreReplayed =
     (served : HasServed value (record old { files = Some files; input = Some input }) (record new { files = Some files_later }) end) →
     ReplayEnds replaying (record again { files = Some files_again; input = Some input_again }) again_later end_again →
     AreInRange value → IsEnd end.answer → HasSameOutside value replaying files files_later files_again input input_again →
-    IsReplayedBy files_again replaying end_again.answer × (end_again.answer ≡ answer.Finished → WritesSends again.output again_later.output served.noted.serves.session.survivor.now.state.sends)
+    IsReplayedBy files_again replaying end_again.answer × (end_again.answer ≡ answer.Finished → WritesSends again.output again_later.output served.noted.serves.telling.account.survivor.now.state.sends)
 
 -- BadWords is answered to words of no command alone.
 abbrev pub OnlyBadWordsAreRefused : Type 0
 OnlyBadWordsAreRefused = (asked : Option CommandValue) (old new : Outside) (end : End) → Ends asked old new end → end.answer ≡ answer.BadWords → asked ≡ None
+
+-- Where the input of a `run` has the frames of events that the session heeds, each of them, no answer says that the input is refused: at Finished
+-- every item was taken; else the program ended itself or failed, or there was a fault or want of memory.
+abbrev pub GoodInputIsTaken : Type 0
+GoodInputIsTaken =
+    (value : RunValue) (input : Stream) (old new : Outside) (end : End) (served : HasServed value (record old { input = Some input }) new end) →
+    AreAllHeeded (rules_of_run value).bounds input.left → IsComplete (rules_of_run value) served.noted.serves.telling.account end.answer
+
+-- At an end of a `run` that holds nothing back, and that needed no recovery, the frames of its run's sends were written, in order, each whole, and no
+-- byte more.
+abbrev pub AllSendsAreWritten : Type 0
+AllSendsAreWritten =
+    (value : RunValue) (input : Stream) (old new : Outside) (end : End) (served : HasServed value (record old { input = Some input }) new end) →
+    IsEnd end.answer → value.hold ≡ 0 → served.noted.serves.telling.account.earlier ≡ [] → WritesSends old.output new.output served.noted.serves.telling.account.survivor.now.state.sends

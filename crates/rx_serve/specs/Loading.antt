@@ -1,11 +1,7 @@
 -- The program file, by its name.
 use Rattle.std.specs.Prelude.{◌≡◌, ℕ, ◌<◌, ◌≤◌, List, length, Option, Some, IfSome, IsSomeAnd, Result, Ok, Err, Vec}
 use Rattle.std.specs.declared.alloc.Global.{Global}
-use Rattle.rx_io.specs.Named.{Contents}
-use Rattle.elf_image.specs.declared.image.Image.{Image}
-use Rattle.elf_image.specs.Refusals.{refusal, IsImage}
-use Rattle.run_history.specs.declared.answer.Answer.{Answer}
-use Rattle.run_history.specs.declared.answer.Answer.TheVariants.{ElfRefused, TooLarge, FileFault, Memory}
+use Rattle.rx_serve.specs.Terms.{Contents, Image, IsImage, refusal, Answer, ElfRefused, FileFault, Memory, TooLarge}
 use Rattle.rx_serve.specs.Limits.{program_limit}
 
 -- the files say that a name has these bytes, if they tell

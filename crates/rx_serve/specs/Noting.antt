@@ -1,29 +1,13 @@
 -- The two files of a session: its record and its report.
 use Rattle.std.specs.Prelude.{◌≡◌, ◌⊎◌, ℕ, ◌+◌, List, [], Option, Some, Result, Ok, Err}
-use Rattle.block_book.specs.declared.choice.Choice.{Choice}
-use Rattle.command_line.specs.Commands.{RunValue}
 use Rattle.command_line.specs.declared.run_words.Form.{Form as Wanted}
 use Rattle.command_line.specs.declared.run_words.Form.TheVariants as wanted
-use Rattle.session_notes.specs.declared.episode.Episode.{Episode}
-use Rattle.elf_image.specs.declared.image.Image.{Image}
-use Rattle.file_notes.specs.Names.{Names}
-use Rattle.file_notes.specs.Left.{Left, Nothing}
-use Rattle.file_notes.specs.Standing.{Stands}
 use Rattle.file_notes.specs.Texts.{report_text}
 use Rattle.file_notes.specs.Writing.{StartsBoth, AddsBoth}
-use Rattle.session_notes.specs.Noting.{noted}
-use Rattle.run_history.specs.declared.answer.Answer.{Answer}
-use Rattle.run_report.specs.declared.form.Form.{Form}
 use Rattle.run_report.specs.declared.form.Form.TheVariants as form
 use Rattle.run_report.specs.Report as report
-use Rattle.session_state.specs.Serving.{IsNoteAnswer, UnlessNoteFault}
-use Rattle.rx_io.specs.Named.{Contents}
-use Rattle.rx_io.specs.declared.fault.IoFault.{IoFault}
 use Rattle.schedule_file.specs.Lines as recording
-use Rattle.session_history.specs.Ends.{IsEnd}
-use Rattle.recovery.specs.Handling.{Keeping}
-use Rattle.session_history.specs.Lawful.{Rules}
-use Rattle.over_trunk.specs.Serving.{ServesTrunk}
+use Rattle.rx_serve.specs.Terms.{IoFault, Contents, Choice, Image, Answer, IsEnd, Rules, Episode, noted, Keeping, Form, Left, Nothing, Names, Stands, Outcome, IsNoteAnswer, UnlessNoteFault, ServesTrunk, RunValue}
 use Rattle.rx_serve.specs.Outside.{Outside}
 use Rattle.rx_serve.specs.Status.{status_of}
 
@@ -50,15 +34,15 @@ HaveTexts value choices episodes ended taken steps files files_later =
 
 -- A session served a trunk, and what it noted stands in its two files behind their first lines: a line of each answer of malloc that can't be rolled
 -- back, and the text of each episode. Where it wasn't broken off by its notes, no part of a text stands there. So many instructions were counted.
-pub record ServesNoted (rules : Rules) (keeping : Keeping) (image : Image) (value : RunValue) (old new : Outside) (ended : Answer) (recorded : ℕ) (tail : List Choice) (taken steps : ℕ) : Type 0 where
+pub record ServesNoted (rules : Rules) (keeping : Keeping) (image : Image) (value : RunValue) (old new : Outside) (outcome : Outcome) : Type 0 where
   pub choices : List Choice
   pub episodes : List Episode
   pub left : Left
   pub counted : ℕ
   pub counts : new.counter ≡ old.counter + counted
-  pub serves : ServesTrunk rules keeping image old.input new.input old.output new.output ended (noted (Some []) (Some [])) (noted (Some choices) (Some episodes)) recorded tail taken steps counted
+  pub serves : ServesTrunk rules keeping image old.input new.input old.output new.output outcome (noted (Some []) (Some [])) (noted (Some choices) (Some episodes)) counted
   pub stands : Stands (names_of value) (report_form value.form) old.files new.files choices episodes left
-  pub whole : UnlessNoteFault ended (left ≡ Nothing)
+  pub whole : UnlessNoteFault outcome.end (left ≡ Nothing)
 
 -- What a session that came to this end leaves behind its notes. At an end of its own the last lines were written; where that failed, the answer
 -- says it in place of the end. Where it was broken off, its files are left as they are.

@@ -1,10 +1,7 @@
 -- What stands outside of a command at a moment, as far as it tells, and the faults that it has counted.
 use Rattle.std.specs.Prelude.{◌≡◌, ℕ, List, Option}
-use Rattle.rx_io.specs.Faults.{Rose}
-use Rattle.rx_io.specs.Named.{Contents}
-use Rattle.rx_io.specs.Outside.{Stream}
-use Rattle.run_history.specs.declared.answer.Answer.{Answer}
 use Rattle.run_history.specs.declared.answer.Answer.TheVariants as answer
+use Rattle.rx_serve.specs.Terms.{Rose, Contents, Stream, Answer}
 
 -- what the files, the input and the output tell at a moment, and how many instructions were counted
 pub record Outside : Type 0 where

@@ -1,15 +1,6 @@
 -- The command `replay`: a program and a record of it are loaded, and the recorded run is done again.
 use Rattle.std.specs.Prelude.{◌≡◌, ◌⊎◌, ℕ, ◌+◌, ◌*◌, ◌^◌, List, Option, Some, Result, Ok, Err}
-use Rattle.command_line.specs.Commands.{ReplayValue}
-use Rattle.rx_io.specs.Named.{Contents}
-use Rattle.elf_image.specs.declared.image.Image.{Image}
-use Rattle.elf_image.specs.Refusals.{refusal, IsImage}
-use Rattle.run_history.specs.declared.answer.Answer.{Answer}
-use Rattle.run_history.specs.declared.answer.Answer.TheVariants.{RecordRefused, ElfRefused, TooLarge, FileFault, Memory}
-use Rattle.schedule_file.specs.Records.{IsReading}
-use Rattle.schedule_file.specs.Refusals.{refused_line}
-use Rattle.schedule_file.specs.declared.recorded.Recorded.{Recorded}
-use Rattle.over_trunk.specs.Replaying.{ReplaysTrunk}
+use Rattle.rx_serve.specs.Terms.{Contents, Image, IsImage, refusal, Answer, ElfRefused, FileFault, Memory, RecordRefused, TooLarge, Recorded, IsReading, refused_line, ReplaysTrunk, ReplayValue}
 use Rattle.rx_serve.specs.Limits.{program_limit, record_limit}
 use Rattle.rx_serve.specs.Loading.{HasFile, IsTooLarge}
 use Rattle.rx_serve.specs.Outside.{Outside, IsUntouched}

@@ -1,9 +1,6 @@
 -- What a session is held to, by the command that asks for it.
 use Rattle.std.specs.Prelude.{ℕ, ◌*◌, ◌^◌, true}
-use Rattle.command_line.specs.Commands.{RunValue}
-use Rattle.session_history.specs.Lawful.{Rules}
-use Rattle.session_state.specs.declared.options.Options.{Options}
-use Rattle.session_state.specs.Options.{rules_of}
+use Rattle.rx_serve.specs.Terms.{Rules, Options, rules_of, RunValue}
 use Rattle.rx_serve.specs.declared.settings.TheConstants.{MAX_ITEMS, MAX_EVENTS}
 
 -- the bytes of the program's window

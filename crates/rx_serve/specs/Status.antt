@@ -1,7 +1,6 @@
 -- The status with which the program ends.
 use Rattle.std.specs.Prelude.{ℕ, if◌then◌else◌, ◌==◌}
-use Rattle.run_history.specs.declared.answer.Answer.{Answer}
-use Rattle.run_history.specs.declared.answer.Answer.TheVariants.{Finished, Exited, BadWords, ElfRefused, AsmRefused, RecordRefused, CountsRefused, Short, Mismatch, TooLarge, InputRefused, MessageTooLong, GaveUp, LimitItems, LimitEvents, ReadFault, WriteFault, FileFault, Memory}
+use Rattle.rx_serve.specs.Terms.{Answer, AsmRefused, BadWords, CountsRefused, ElfRefused, Exited, FileFault, Finished, GaveUp, InputRefused, LimitEvents, LimitItems, Memory, MessageTooLong, Mismatch, ReadFault, RecordRefused, Short, TooLarge, WriteFault}
 
 abbrev pub status_of : Answer → ℕ
 status_of Finished = 0

@@ -1,7 +1,7 @@
 //! Laws of the commands.
-ghost use Rattle.rx_serve.specs.Laws.{RecordsAreReplayed, OnlyBadWordsAreRefused};
+ghost use Rattle.rx_serve.specs.Laws.{RecordsAreReplayed, GoodInputIsTaken, AllSendsAreWritten, OnlyBadWordsAreRefused};
 
-use over_trunk::laws::same_bytes_are_replayed;
+use over_trunk::laws::{no_other_end, same_bytes_are_replayed, sends_are_written};
 use schedule_file::laws::one_reading;
 
 /// The record that `run` left at an end is replayed by `replay` over the same program and the same input, to the frames of the sends of its run.
@@ -16,3 +16,17 @@ pub fn records_are_replayed()
 pub fn only_bad_words_are_refused()
     ensures { OnlyBadWordsAreRefused }
 {}
+
+/// Where the input of a `run` is well-formed and within its limits, no answer says that it is refused.
+pub fn good_input_is_taken()
+    ensures { GoodInputIsTaken }
+{
+    no_other_end();
+}
+
+/// At an end of a `run` without `--hold` and without a recovery, all that its run sent was written, a frame a send.
+pub fn all_sends_are_written()
+    ensures { AllSendsAreWritten }
+{
+    sends_are_written();
+}

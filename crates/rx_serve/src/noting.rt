@@ -6,7 +6,7 @@ ghost use Rattle.command_line.specs.Ranges.{AreInRange};
 ghost use Rattle.elf_image.specs.declared.image.Image.{Image};
 ghost use Rattle.file_notes.specs.Names.{AreTwo};
 ghost use Rattle.session_state.specs.Options.{rules_of, keeping_for};
-ghost use Rattle.session_state.specs.Serving.{IsReadyToServe, IsNoteAnswer};
+ghost use Rattle.session_state.specs.Serving.{IsReadyToServe, IsNoteAnswer, outcome_of};
 ghost use Rattle.session_state.specs.Sessions.{IsBegun};
 ghost use Rattle.rx_io.specs.Faults.{Rose, HasCause};
 ghost use Rattle.run_history.specs.declared.answer.Answer.TheVariants as answer;
@@ -99,7 +99,7 @@ pub(crate) fn serve_noted<R: AccessRule, F: Files, S: Source, K: Sink, L: Ledger
     requires two { AreTwo (names_of (run_shown run.now)) }
     requires begun { IsReadyToServe session.old }
     ensures serves { (image : Image) → IsBegun image session.old.options session.old.cpu.rule session.old
-        → ServesNoted (rules_of session.old.options (R.rule session.old.cpu.rule)) (keeping_for session.old.options) image (run_shown run.now) (outside (F.told files.old) (S.told input.old) (K.told output.old) steps.old) (outside (F.told files.new) (S.told input.new) (K.told output.new) steps.new) result session.new.recorded session.new.choices session.new.taken session.new.steps }
+        → ServesNoted (rules_of session.old.options (R.rule session.old.cpu.rule)) (keeping_for session.old.options) image (run_shown run.now) (outside (F.told files.old) (S.told input.old) (K.told output.old) steps.old) (outside (F.told files.new) (S.told input.new) (K.told output.new) steps.new) (outcome_of result session.new) }
     ensures later { F.faults files.old ≤ F.faults files.new }
     ensures faults { HasFaults (faults (F.faults files.old) (S.faults input.old) (K.faults output.old)) (faults (F.faults files.new) (S.faults input.new) (K.faults output.new)) result }
     ensures counted_at_least { steps.old + session.new.steps ≤ steps.new }

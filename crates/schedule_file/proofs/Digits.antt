@@ -1,13 +1,7 @@
 -- Digits that are written are read as the number that they were written of.
-use Rattle.std.proofs.Common.{◌≡◌, ℕ, suc, ◌+◌, ◌-◌, ◌*◌, ◌^◌, ◌/◌, ◌%◌, ◌<◌, Bool, true, false, ◌&&◌, List, [], ◌∷◌, ◌++◌, refl, ap, ◌∙◌, arith}
-use Rattle.std.specs.Char.{is_ascii_digit}
-use Rattle.std.specs.Str.{all_ascii_digits}
-use Rattle.std.specs.Fmt.{decimal}
 use Rattle.std.proofs.lemmas.Str.Parse.{IsNumeralModel, FoldsDigits, numerals_by_fold, tells_all_ascii_digits}
 use Rattle.std.proofs.lemmas.Fmt.{digits_decimal, digits_value-decimal}
-use Rattle.std.proofs.lemmas.Bool.Decides.{nat_tests}
-use Rattle.schedule_file.specs.Lines.{hex_digit, hex_digits, eight_digits}
-use Rattle.schedule_file.specs.Telling.{number_from, behind_digits, hex_value, hex_from, clipped}
+use Rattle.schedule_file.proofs.Terms.{List, [], ap, arith, false, refl, suc, true, ℕ, ◌%◌, ◌*◌, ◌++◌, ◌+◌, ◌-◌, ◌/◌, ◌<◌, ◌^◌, ◌∙◌, ◌∷◌, ◌≡◌, and_parts, nat_tests, is_ascii_digit, decimal, all_ascii_digits, eight_digits, hex_digit, hex_digits, behind_digits, clipped, hex_from, hex_value, number_from}
 
 -- what a loop over digits has found: a number, which it tells as far as that goes
 pub record IsNumberSoFar (bytes rest : List ℕ) (told : ℕ) : Type 0 where
@@ -31,18 +25,14 @@ folds = record {
 own : IsNumeralModel (λ ds. all_ascii_digits ds ≡ true) (read_on 0)
 own = numerals_by_fold (λ ds. all_ascii_digits ds ≡ true) tells_all_ascii_digits read_on folds
 
-pub both : (a b : Bool) → (a && b) ≡ true → (a ≡ true) × (b ≡ true)
-both true b h = (refl, h)
-both false b h = absurd (cc)
-
 -- behind digits stands a byte that is none
 number_front : (n : ℕ) (digits : List ℕ) (mark : ℕ) (rest : List ℕ) → all_ascii_digits digits ≡ true → is_ascii_digit mark ≡ false → number_from n (digits ++ mark ∷ rest) ≡ read_on n digits
 number_front n [] mark rest are other = rw other refl
-number_front n (c ∷ cs) mark rest are other = let h = both (is_ascii_digit c) (all_ascii_digits cs) are in rw h.0 (number_front (10 * n + (c - 48)) cs mark rest h.1 other)
+number_front n (c ∷ cs) mark rest are other = let h = and_parts (is_ascii_digit c) (all_ascii_digits cs) are in rw h.0 (number_front (10 * n + (c - 48)) cs mark rest h.1 other)
 
 behind_front : (digits : List ℕ) (mark : ℕ) (rest : List ℕ) → all_ascii_digits digits ≡ true → is_ascii_digit mark ≡ false → behind_digits (digits ++ mark ∷ rest) ≡ mark ∷ rest
 behind_front [] mark rest are other = rw other refl
-behind_front (c ∷ cs) mark rest are other = let h = both (is_ascii_digit c) (all_ascii_digits cs) are in rw h.0 (behind_front cs mark rest h.1 other)
+behind_front (c ∷ cs) mark rest are other = let h = and_parts (is_ascii_digit c) (all_ascii_digits cs) are in rw h.0 (behind_front cs mark rest h.1 other)
 
 pub decimal_digits : (n : ℕ) → n < 2 ^ 64 → all_ascii_digits (decimal n) ≡ true
 decimal_digits n h = digits_decimal own n h

@@ -1,3 +1,4 @@
+pub mod Terms
 pub mod Digits
 pub mod Written
 pub mod Lines

@@ -1,17 +1,6 @@
 -- The lines of a text, by where they are cut, and that each written line is one.
-use Rattle.std.proofs.Common.{◌≡◌, ℕ, suc, zero, ◌/◌, ◌%◌, ◌^◌, ◌<◌, Bool, true, false, cond, List, [], ◌∷◌, ◌++◌, refl, ap, arith, append_assoc}
-use Rattle.std.specs.Prelude.{◌==◌}
-use Rattle.std.specs.Char.{is_ascii_digit}
-use Rattle.std.specs.Str.{all_ascii_digits}
-use Rattle.std.specs.Fmt.{decimal}
-use Rattle.std.proofs.lemmas.Bool.Decides.{nat_tests}
-use Rattle.block_book.specs.declared.choice.Choice.{Choice}
-use Rattle.msg_frame.specs.declared.framing.Framing.{Framing}
-use Rattle.msg_frame.specs.declared.framing.Framing.TheVariants.{Line, Length, Whole}
-use Rattle.schedule_file.specs.Lines.{hex_digit, hex_digits, frame_name, head_line, choice_line, end_line}
-use Rattle.schedule_file.specs.Refusals.{onto, lines_of, is_empty, is_line}
-use Rattle.schedule_file.specs.Steps.{first_line, behind_line}
-use Rattle.schedule_file.proofs.Digits.{decimal_digits, both}
+use Rattle.schedule_file.proofs.Terms.{Bool, List, [], ap, append_assoc, arith, cond, false, refl, suc, true, zero, ℕ, ◌%◌, ◌++◌, ◌/◌, ◌<◌, ◌^◌, ◌∷◌, ◌≡◌, and_parts, nat_tests, is_ascii_digit, decimal, ◌==◌, all_ascii_digits, Choice, Framing, Length, Line, Whole, choice_line, end_line, frame_name, head_line, hex_digit, hex_digits, is_empty, is_line, lines_of, onto, behind_line, first_line}
+use Rattle.schedule_file.proofs.Digits.{decimal_digits}
 
 -- ---- cut
 
@@ -53,7 +42,7 @@ digit_other byte h = grind (arith, nat_tests)
 
 is_line-digits : (digits rest : List ℕ) → all_ascii_digits digits ≡ true → is_line rest ≡ true → is_line (digits ++ rest) ≡ true
 is_line-digits [] rest are h = h
-is_line-digits (byte ∷ bytes) rest are h = let parts = both (is_ascii_digit byte) (all_ascii_digits bytes) are in rw (digit_other byte parts.0) (is_line-digits bytes rest parts.1 h)
+is_line-digits (byte ∷ bytes) rest are h = let parts = and_parts (is_ascii_digit byte) (all_ascii_digits bytes) are in rw (digit_other byte parts.0) (is_line-digits bytes rest parts.1 h)
 
 pub is_line-decimal : (n : ℕ) (rest : List ℕ) → n < 2 ^ 64 → is_line rest ≡ true → is_line (decimal n ++ rest) ≡ true
 is_line-decimal n rest small h = is_line-digits (decimal n) rest (decimal_digits n small) h

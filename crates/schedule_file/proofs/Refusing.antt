@@ -1,21 +1,7 @@
 -- At which line a text is refused, part by part of the text.
-use Rattle.std.proofs.Common.{◌≡◌, ℕ, ◌+◌, ◌^◌, ◌<◌, ◌≤◌, true, false, Some, None, List, [], ◌∷◌, ◌++◌, length, refl, ap, sym, ◌∙◌, arith, append_assoc}
-use Rattle.std.specs.Prelude.{All, ◌==◌}
-use Rattle.std.proofs.lemmas.List.{append-nil}
-use Rattle.std.proofs.lemmas.List.Elements.{All-head, All-tail}
-use Rattle.block_book.specs.declared.choice.Choice.{Choice}
-use Rattle.msg_frame.specs.declared.framing.Framing.{Framing}
-use Rattle.schedule_file.specs.declared.recorded.Head.{Head}
-use Rattle.schedule_file.specs.declared.recorded.End.{End}
-use Rattle.schedule_file.specs.declared.recorded.Recorded.{Recorded}
-use Rattle.schedule_file.specs.Lines.{head_line, choice_line, end_line, choice_lines}
-use Rattle.schedule_file.specs.Records.{IsChoice, IsRecord, IsReading, text_of}
-use Rattle.schedule_file.specs.Telling.{head_of, choice_of, is_end, end_of}
-use Rattle.schedule_file.specs.Refusals.{lines_of, refused_behind, refused_from, refused_lines, refused_line}
-use Rattle.schedule_file.specs.Steps.{first_line, behind_line}
+use Rattle.schedule_file.proofs.Terms.{List, None, Some, [], ap, append_assoc, arith, false, length, refl, sym, true, ℕ, ◌++◌, ◌+◌, ◌<◌, ◌^◌, ◌∙◌, ◌∷◌, ◌≡◌, ◌≤◌, append-nil, All-head, All-tail, All, ◌==◌, Choice, Framing, End, Head, Recorded, MAX_TAKEN, MAX_WINDOW, choice_line, choice_lines, end_line, head_line, IsChoice, IsReading, IsRecord, text_of, lines_of, refused_behind, refused_from, refused_line, refused_lines, behind_line, first_line, choice_of, end_of, head_of, is_end}
 use Rattle.schedule_file.proofs.Lines.{lines_of-line, lines_is, is_line-head, is_line-choice, is_line-end}
 use Rattle.schedule_file.proofs.Written.{head_of-line, head_of-sound, is_head-from, choice_of-line, is_end-from, end_of-line, end_of-sound, choice_of-end}
-use Rattle.schedule_file.specs.declared.recorded.TheConstants.{MAX_WINDOW, MAX_TAKEN}
 
 empty_head : (window : ℕ) (frame : Framing) → head_line window frame ≡ [] → ⊥
 unfolding head_line

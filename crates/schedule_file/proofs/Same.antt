@@ -1,22 +1,9 @@
 -- A text has one reading at most, and one where no line is refused.
-use Rattle.std.proofs.Common.{◌≡◌, ℕ, ◌+◌, ◌^◌, ◌<◌, ◌≤◌, Bool, true, false, cond, Option, Some, None, option_map, List, [], ◌∷◌, ◌++◌, ◌==◌, refl, ap, sym, ◌∙◌, arith, append_assoc}
-use Rattle.std.specs.Prelude.{All, is_some}
+use Rattle.std.proofs.Common.{◌==◌}
 use Rattle.std.specs.List.{concat}
-use Rattle.std.proofs.lemmas.List.{append-nil}
-use Rattle.std.proofs.lemmas.List.Concat.{flat_map-append}
-use Rattle.std.proofs.lemmas.List.Elements.{All-head, All-tail, All-nil, All-cons}
-use Rattle.block_book.specs.declared.choice.Choice.{Choice}
-use Rattle.msg_frame.specs.declared.framing.Framing.{Framing}
-use Rattle.schedule_file.specs.declared.recorded.Head.{Head}
-use Rattle.schedule_file.specs.declared.recorded.End.{End}
-use Rattle.schedule_file.specs.declared.recorded.Recorded.{Recorded}
-use Rattle.schedule_file.specs.Lines.{head_line, choice_line, end_line, choice_lines, record_text}
-use Rattle.schedule_file.specs.Records.{IsChoice, IsRecord, IsReading, text_of}
-use Rattle.schedule_file.specs.Telling.{head_of, choice_of, is_end, end_of}
-use Rattle.schedule_file.specs.Refusals.{onto, lines_of, refused_behind, refused_from, refused_lines, refused_line}
+use Rattle.schedule_file.proofs.Terms.{Bool, List, None, Option, Some, [], ap, append_assoc, arith, cond, false, option_map, refl, sym, true, ℕ, ◌++◌, ◌+◌, ◌<◌, ◌^◌, ◌∙◌, ◌∷◌, ◌≡◌, ◌≤◌, append-nil, flat_map-append, All-cons, All-head, All-nil, All-tail, same_Some, All, is_some, Choice, Framing, End, Head, Recorded, MAX_TAKEN, MAX_WINDOW, choice_line, choice_lines, end_line, head_line, record_text, IsChoice, IsReading, IsRecord, text_of, lines_of, onto, refused_behind, refused_from, refused_line, refused_lines, choice_of, end_of, head_of, is_end}
 use Rattle.schedule_file.proofs.Lines.{lines_of-line, is_line-head, is_line-choice, is_line-end}
-use Rattle.schedule_file.proofs.Written.{some_same, head_of-line, head_of-sound, is_head-from, is_head-facts, choice_of-line, choice_of-sound, is_end-from, is_end-facts, end_of-line, end_of-sound, choice_of-end}
-use Rattle.schedule_file.specs.declared.recorded.TheConstants.{MAX_WINDOW, MAX_TAKEN}
+use Rattle.schedule_file.proofs.Written.{head_of-line, head_of-sound, is_head-from, is_head-facts, choice_of-line, choice_of-sound, is_end-from, is_end-facts, end_of-line, end_of-sound, choice_of-end}
 
 -- ---- a reader of lines
 
@@ -64,7 +51,7 @@ whole_of-text value is =
     ap whole_of cut ∙ rw (first, more) refl
 
 pub one_reading : (a b : Recorded) → IsRecord a → IsRecord b → text_of a ≡ text_of b → a ≡ b
-one_reading a b is_a is_b same = some_same (sym (whole_of-text a is_a) ∙ ap (λ text. whole_of (lines_of text)) same ∙ whole_of-text b is_b)
+one_reading a b is_a is_b same = same_Some _ _ (sym (whole_of-text a is_a) ∙ ap (λ text. whole_of (lines_of text)) same ∙ whole_of-text b is_b)
 
 -- ---- a text none of whose lines is refused
 

@@ -1,13 +1,6 @@
 -- What the code tells of a first line and of a last line.
-use Rattle.std.proofs.Common.{◌≡◌, ℕ, ◌^◌, ◌<◌, ◌≤◌, Bool, true, false, ◌&&◌, cond, Some, None, List, drop, refl, ap, sym, ◌∙◌, arith}
-use Rattle.std.specs.Prelude.{bytes_eq, nat_le, nat_lt}
-use Rattle.std.proofs.lemmas.Bool.Decides.{nat_tests}
-use Rattle.block_book.specs.declared.choice.Choice.{Choice}
-use Rattle.msg_frame.specs.declared.framing.Framing.{Framing}
-use Rattle.schedule_file.specs.Lines.{head_line, choice_line, end_line}
-use Rattle.schedule_file.specs.Telling.{if_written, number_from, behind_digits, clipped, frame_told, head_told, is_head, written_head, head_of, choice_told, is_choice, choice_of, end_told, is_end, written_end, end_of}
+use Rattle.schedule_file.proofs.Terms.{Bool, List, None, Some, ap, arith, cond, drop, false, refl, sym, true, ℕ, ◌&&◌, ◌<◌, ◌^◌, ◌∙◌, ◌≡◌, ◌≤◌, nat_tests, bytes_eq, nat_le, nat_lt, Choice, Framing, MAX_TAKEN, MAX_WINDOW, choice_line, end_line, head_line, behind_digits, choice_of, choice_told, clipped, end_of, end_told, frame_told, head_of, head_told, if_written, is_choice, is_end, is_head, number_from, written_end, written_head}
 use Rattle.schedule_file.proofs.Written.{head_with, head_same, end_with, end_same}
-use Rattle.schedule_file.specs.declared.recorded.TheConstants.{MAX_WINDOW, MAX_TAKEN}
 
 -- ---- any form
 

@@ -1,22 +1,6 @@
 -- What the parts of a text say of the whole.
-use Rattle.std.proofs.Common.{◌≡◌, ℕ, ◌+◌, ◌<◌, true, false, Some, None, Ok, Err, List, [], ◌∷◌, ◌++◌, length, refl, ap, sym, ◌∙◌, arith, append_assoc, length-append}
-use Rattle.std.specs.Prelude.{◌==◌}
 use Rattle.std.proofs.Math.Dec.{eqb-suc-zero}
-use Rattle.std.proofs.lemmas.Bool.{false≢true}
-use Rattle.std.proofs.lemmas.List.{append-nil}
-use Rattle.std.proofs.lemmas.List.Concat.{flat_map-append}
-use Rattle.std.proofs.lemmas.List.Elements.{All-push}
-use Rattle.block_book.specs.declared.choice.Choice.{Choice}
-use Rattle.schedule_file.specs.declared.recorded.Head.{Head}
-use Rattle.schedule_file.specs.declared.recorded.End.{End}
-use Rattle.schedule_file.specs.declared.recorded.Recorded.{Recorded}
-use Rattle.schedule_file.specs.declared.recorded.RecordRefusal.TheVariants.{Refused}
-use Rattle.schedule_file.specs.Answers.{ReadsRecord}
-use Rattle.schedule_file.specs.Lines.{head_line, choice_line, choice_lines, end_line}
-use Rattle.schedule_file.specs.Records.{IsRecord, IsChoice}
-use Rattle.schedule_file.specs.Telling.{head_of, choice_of, end_of}
-use Rattle.schedule_file.specs.Refusals.{lines_of, refused_behind, refused_from, refused_line}
-use Rattle.schedule_file.specs.Steps.{first_line, behind_line, IsBehind, AreAllChoices}
+use Rattle.schedule_file.proofs.Terms.{Err, List, None, Ok, Some, [], ap, append_assoc, arith, false, length, length-append, refl, sym, true, ℕ, ◌++◌, ◌+◌, ◌<◌, ◌∙◌, ◌∷◌, ◌≡◌, false≢true, append-nil, flat_map-append, All-push, ◌==◌, Choice, End, Head, Refused, Recorded, ReadsRecord, choice_line, choice_lines, end_line, head_line, IsChoice, IsRecord, lines_of, refused_behind, refused_from, refused_line, AreAllChoices, IsBehind, behind_line, first_line, choice_of, end_of, head_of}
 use Rattle.schedule_file.proofs.Lines.{first-behind}
 use Rattle.schedule_file.proofs.Written.{head_of-sound, is_head-facts, choice_of-sound, end_of-sound, is_end-facts}
 use Rattle.schedule_file.proofs.Refusing.{refused-no_head, refused-head, refused-choices, refused-no_end, refused-end, refused_behind-some, no_reading}

@@ -1,28 +1,12 @@
 -- A line is read as the value that it was written of, and as no other.
-use Rattle.std.proofs.Common.{◌≡◌, ◌≢◌, ℕ, ◌^◌, ◌<◌, ◌≤◌, Bool, true, false, not, ◌&&◌, cond, Option, Some, None, List, [], ◌∷◌, ◌++◌, length, drop, get_or, refl, ap, sym, ◌∙◌, arith}
-use Rattle.std.specs.Prelude.{bytes_eq, nat_le, nat_lt, ◌==◌, slice_index}
-use Rattle.std.specs.Fmt.{decimal}
 use Rattle.std.proofs.lemmas.Slice.Eq.{bytes_eq-Decides}
-use Rattle.std.proofs.lemmas.Bool.Decides.{nat_tests}
-use Rattle.block_book.specs.declared.choice.Choice.{Choice}
-use Rattle.msg_frame.specs.declared.framing.Framing.{Framing}
-use Rattle.msg_frame.specs.declared.framing.Framing.TheVariants.{Line, Length, Whole}
-use Rattle.schedule_file.specs.declared.recorded.Head.{Head}
-use Rattle.schedule_file.specs.declared.recorded.End.{End}
-use Rattle.schedule_file.specs.Lines.{eight_digits, frame_name, head_line, choice_line, end_line}
-use Rattle.schedule_file.specs.Records.{IsChoice}
-use Rattle.schedule_file.specs.Telling.{if_written, number_from, behind_digits, hex_from, frame_told, head_told, is_head, written_head, head_of, choice_told, is_choice, choice_of, end_told, is_end, written_end, end_of}
+use Rattle.schedule_file.proofs.Terms.{Bool, List, None, Option, Some, [], ap, arith, cond, drop, false, length, not, refl, sym, true, ℕ, ◌&&◌, ◌++◌, ◌<◌, ◌^◌, ◌∙◌, ◌∷◌, ◌≡◌, ◌≢◌, ◌≤◌, nat_tests, same_Some, decimal, bytes_eq, nat_le, nat_lt, slice_index, ◌==◌, Choice, Framing, Length, Line, Whole, End, Head, MAX_TAKEN, MAX_WINDOW, choice_line, eight_digits, end_line, frame_name, head_line, IsChoice, behind_digits, choice_of, choice_told, end_of, end_told, frame_told, head_of, head_told, hex_from, if_written, is_choice, is_end, is_head, number_from, written_end, written_head}
 use Rattle.schedule_file.proofs.Digits.{number-decimal, behind-decimal, hex-eight_digits}
-use Rattle.schedule_file.specs.declared.recorded.TheConstants.{MAX_WINDOW, MAX_TAKEN}
 
 -- ---- any form
 
--- a line is of its form: the value is in range, and the line is what is written of it
-pub some_same : {Value : Type 0} {a b : Value} → Some a ≡ Some b → a ≡ b
-some_same h = cc
-
 by_test : {Value : Type 0} (test same : Bool) (told value : Value) → cond (test && same) (Some told) None ≡ Some value → (test ≡ true) × (same ≡ true) × (told ≡ value)
-by_test true true told value h = (refl, refl, some_same h)
+by_test true true told value h = (refl, refl, same_Some _ _ h)
 by_test true false told value h = absurd (cc)
 by_test false same told value h = absurd (cc)
 
@@ -120,11 +104,6 @@ mark_length false = refl
 choice_length : (choice : Choice) → length (choice_line choice) ≡ 13
 unfolding choice_line
 choice_length choice = omega (arith, mark_length choice.zeroed)
-
--- what a line of 13 bytes tells, byte by byte
-pub choice_told-bytes : (line : List ℕ) → length line ≡ 13 → choice_told line ≡ choice_with (hex_from 0 (get_or line 2 0 ∷ get_or line 3 0 ∷ get_or line 4 0 ∷ get_or line 5 0 ∷ get_or line 6 0 ∷ get_or line 7 0 ∷ get_or line 8 0 ∷ get_or line 9 0 ∷ [])) (get_or line 11 0 == 122)
-choice_told-bytes (a ∷ b ∷ c ∷ d ∷ e ∷ f ∷ g ∷ h ∷ i ∷ j ∷ k ∷ l ∷ m ∷ []) is = refl
-choice_told-bytes _ is = absurd (omega arith)
 
 by_option : {Value : Type 0} (o : Option Value) → ((value : Value) → o ≡ Some value → ⊥) → o ≡ None
 by_option None h = refl

@@ -1,9 +1,7 @@
 -- What the calls answer.
 use Rattle.std.specs.Prelude.{◌≡◌, ℕ, List, Some, Result, Ok, Err}
-use Rattle.std.specs.declared.alloc.AllocError.{AllocError}
-use Rattle.schedule_file.specs.declared.recorded.Recorded.{Recorded}
+use Rattle.schedule_file.specs.Terms.{AllocError, Memory, Refused, Recorded}
 use Rattle.schedule_file.specs.declared.recorded.RecordRefusal.{RecordRefusal}
-use Rattle.schedule_file.specs.declared.recorded.RecordRefusal.TheVariants.{Refused, Memory}
 use Rattle.schedule_file.specs.Records.{IsReading}
 use Rattle.schedule_file.specs.Refusals.{refused_line}
 

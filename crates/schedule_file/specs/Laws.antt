@@ -1,10 +1,6 @@
 -- What holds of every record and its text.
 use Rattle.std.specs.Prelude.{◌≡◌, ℕ, ◌^◌, ◌<◌, true, None, Some, List, ◌++◌}
-use Rattle.block_book.specs.declared.choice.Choice.{Choice}
-use Rattle.msg_frame.specs.declared.framing.Framing.{Framing}
-use Rattle.schedule_file.specs.declared.recorded.Head.{Head}
-use Rattle.schedule_file.specs.declared.recorded.End.{End}
-use Rattle.schedule_file.specs.declared.recorded.Recorded.{Recorded}
+use Rattle.schedule_file.specs.Terms.{Choice, Framing, End, Head, Recorded}
 use Rattle.schedule_file.specs.Lines.{head_line, choice_line, end_line, choice_lines, record_text}
 use Rattle.schedule_file.specs.Records.{IsChoice, IsRecord, IsReading, text_of}
 use Rattle.schedule_file.specs.Telling.{is_head, head_of, choice_of, is_end, end_of}

@@ -1,8 +1,6 @@
 -- Which values a record may have, and what a reading of a text is.
 use Rattle.std.specs.Prelude.{◌≡◌, ℕ, ◌^◌, ◌<◌, ◌≤◌, false, List, All}
-use Rattle.block_book.specs.declared.choice.Choice.{Choice}
-use Rattle.schedule_file.specs.declared.recorded.Recorded.{Recorded}
-use Rattle.schedule_file.specs.declared.recorded.TheConstants.{MAX_WINDOW, MAX_TAKEN}
+use Rattle.schedule_file.specs.Terms.{Choice, Recorded, MAX_TAKEN, MAX_WINDOW}
 use Rattle.schedule_file.specs.Lines.{record_text}
 
 -- an answer of malloc: an address, and a null pointer isn't zeroed

@@ -1,7 +1,6 @@
 -- What the parts of the code answer. Nothing here is promised to callers of the crate.
 use Rattle.std.specs.Prelude.{◌≡◌, ℕ, List, [], ◌∷◌, ◌++◌, All, Option, None, Result, Ok, Err, if◌then◌else◌, ◌==◌}
-use Rattle.std.specs.declared.alloc.AllocError.{AllocError}
-use Rattle.block_book.specs.declared.choice.Choice.{Choice}
+use Rattle.schedule_file.specs.Terms.{AllocError, Choice}
 use Rattle.schedule_file.specs.Lines.{choice_lines}
 use Rattle.schedule_file.specs.Records.{IsChoice}
 use Rattle.schedule_file.specs.Telling.{choice_of}

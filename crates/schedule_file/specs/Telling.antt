@@ -1,13 +1,7 @@
 -- What a line is read as. A line tells some values by its places, whatever stands there; it is of its form exactly where they are
 -- in their ranges and it is what is written of them.
 use Rattle.std.specs.Prelude.{ℕ, ◌+◌, ◌-◌, ◌*◌, ◌^◌, min, Bool, not, ◌&&◌, List, [], ◌∷◌, take, drop, Option, Some, None, bytes_eq, slice_index, nat_le, nat_lt, if◌then◌else◌, ◌==◌}
-use Rattle.std.specs.Char.{is_ascii_digit}
-use Rattle.block_book.specs.declared.choice.Choice.{Choice}
-use Rattle.msg_frame.specs.declared.framing.Framing.{Framing}
-use Rattle.msg_frame.specs.declared.framing.Framing.TheVariants.{Line, Length, Whole}
-use Rattle.schedule_file.specs.declared.recorded.Head.{Head}
-use Rattle.schedule_file.specs.declared.recorded.End.{End}
-use Rattle.schedule_file.specs.declared.recorded.TheConstants.{MAX_WINDOW, MAX_TAKEN}
+use Rattle.schedule_file.specs.Terms.{is_ascii_digit, Choice, Framing, Length, Line, Whole, End, Head, MAX_TAKEN, MAX_WINDOW}
 use Rattle.schedule_file.specs.Lines.{head_line, choice_line, end_line}
 
 -- the number of the decimal digits in front of some bytes, which stand behind others of this number

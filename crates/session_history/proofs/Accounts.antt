@@ -1,27 +1,10 @@
 -- What each event of a session makes of its account.
-use Rattle.std.proofs.Common.{◌≡◌, ℕ, ◌+◌, ◌≤◌, Bool, List, [], ◌∷◌, ◌++◌, length, refl, sym, ◌∙◌, ap, subst, arith, append_assoc, length-append}
-use Rattle.rx_io.specs.declared.bytes.Item.{Item}
-use Rattle.links.specs.declared.journal.Entry.{Entry}
 use Rattle.links.specs.declared.journal.Entry.TheVariants as entry
-use Rattle.links.specs.declared.journal.LinkEvent.{LinkEvent}
-use Rattle.rx_io.specs.Prefix.{Prefix}
-use Rattle.rx_io.specs.Sends.{Send}
-use Rattle.elf_image.specs.declared.image.Image.{Image}
-use Rattle.run_history.specs.Machine.{start, start_machine}
-use Rattle.run_history.specs.Run.{Run}
-use Rattle.run_history.specs.Served.{Limits, Override, Path, Served, origin}
-use Rattle.run_history.proofs.Serves.{IsUsed, Follows, served_follows, served_is_run}
-use Rattle.item_log.specs.Heard.{items_from}
-use Rattle.session_history.specs.Heeding.{items_in, received, heeded_behind}
-use Rattle.session_history.specs.Passing.{passed_in, Covers, IsFeasible, AreInOrder}
-use Rattle.session_history.specs.Owing.{Moment, journal}
-use Rattle.session_history.specs.Lawful.{Rules, IsDuePiece}
-use Rattle.session_history.specs.Serving.{Carries}
+use Rattle.session_history.proofs.Terms.{Bool, List, [], ap, append_assoc, arith, length, length-append, refl, subst, sym, ℕ, ◌++◌, ◌+◌, ◌∙◌, ◌∷◌, ◌≡◌, ◌≤◌, Item, Prefix, Send, Entry, LinkEvent, items_from, Image, prefix_trans, Follows, IsUsed, served_follows, served_is_run, start, start_machine, Run, Limits, Override, Path, Served, origin, heeded_behind, items_in, received, AreInOrder, Covers, IsFeasible, passed_in, Moment, journal, IsDuePiece, Rules, Carries}
 use Rattle.session_history.proofs.Paths.{served_same, served_on, served_with}
 use Rattle.session_history.proofs.Growing.{Grows, run_grows}
 use Rattle.session_history.proofs.Passing.{in_order_wider, in_order_then, covers_on, covers_pass, feasible_on, feasible_pass, timed_on}
 use Rattle.session_history.proofs.Heeding.{passed_in-gave, passed_in-took, items_in-gave}
-use Rattle.run_history.proofs.Outputs.{prefix_trans}
 
 -- a run under a plan, from where all of its answers of malloc were used, and what it adds
 pub record Went (items : List Item) (first second : Path) : Type 0 where

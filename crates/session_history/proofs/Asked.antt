@@ -1,24 +1,8 @@
 -- A run that stands at its request for an item sends nothing more before it took that item.
-use Rattle.std.proofs.Common.{◌≡◌, ◌⊎◌, inl, inr, ℕ, zero, suc, ◌+◌, Bool, true, false, cond, leb, replicate, List, [], ◌∷◌, ◌++◌, Option, Some, None, refl, sym, ◌∙◌, ap, subst, arith, append-nil}
-use Rattle.std.specs.Prelude.{slice_get, option_and_then}
-use Rattle.std.proofs.lemmas.List.{length-replicate}
-use Rattle.std.proofs.lemmas.Option.{none-some, same_Some}
-use Rattle.rx_io.specs.declared.bytes.Item.{Item}
-use Rattle.rx_io.specs.Sends.{Send}
-use Rattle.block_book.specs.declared.choice.Choice.{Choice}
-use Rattle.block_book.specs.Answer.{is_allowed}
 use Rattle.alloc_env.specs.declared.env.Env.{Env}
 use Rattle.run_history.specs.declared.answer.Cause.TheVariants.{BadAccess, Hang}
-use Rattle.run_history.specs.Machine.{Machine, State, register, Goes, Wants, Chooses, Fails}
-use Rattle.run_history.specs.Call.{takes, chooses, allocated}
-use Rattle.run_history.specs.Run.{does, after, next}
 use Rattle.run_history.specs.Touching.{touched}
-use Rattle.run_history.specs.Served.{Limits, Guest, Grant, grant, is_refused, does_with, serves, Override, env_at, Path, Served, guest_of, served_next, planned_next, serve, AsksFor}
-use Rattle.run_history.proofs.Repeats.{repeated_keeps, repeated_add, repeated_from}
-use Rattle.run_history.proofs.Shapes.{Alone, Shape, Same, Takes, Picks, does_shape}
-use Rattle.run_history.proofs.Runs.{next_after, element_behind, received_keeps}
-use Rattle.run_history.proofs.Serves.{serves_to}
-use Rattle.session_history.specs.Passing.{AreBetween}
+use Rattle.session_history.proofs.Terms.{Bool, List, None, Option, Some, [], ap, append-nil, arith, cond, false, inl, inr, leb, refl, replicate, subst, suc, sym, true, zero, ℕ, ◌++◌, ◌+◌, ◌∙◌, ◌∷◌, ◌≡◌, ◌⊎◌, length-replicate, none-some, same_Some, option_and_then, slice_get, Item, Send, Choice, is_allowed, repeated_add, repeated_from, repeated_keeps, element_behind, next_after, received_keeps, serves_to, Alone, Picks, Same, Shape, Takes, does_shape, allocated, chooses, takes, Chooses, Fails, Goes, Machine, State, Wants, register, after, does, next, AsksFor, Grant, Guest, Limits, Override, Path, Served, does_with, env_at, grant, guest_of, is_refused, planned_next, serve, served_next, serves, AreBetween}
 use Rattle.session_history.proofs.Growing.{Grows, grows_same, grows_on, run_grows}
 
 -- answers of malloc, of which this one has this number

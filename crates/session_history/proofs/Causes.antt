@@ -1,24 +1,10 @@
 -- Each end has a cause of its own.
-use Rattle.std.proofs.Common.{◌≡◌, Option, ℕ, ◌∷◌, ◌++◌, [], List, length, Some, refl, sym, ◌∙◌, ap, subst}
-use Rattle.std.specs.Prelude.{slice_get, unwrap_or}
-use Rattle.std.proofs.lemmas.Option.{none-some, same_Some}
-use Rattle.links.specs.declared.journal.Entry.{Entry}
 use Rattle.links.specs.declared.journal.Entry.TheVariants as entry
-use Rattle.links.specs.declared.journal.LinkEvent.{LinkEvent}
 use Rattle.links.specs.declared.journal.LinkEvent.TheVariants as event
-use Rattle.links.specs.Links.{events_in, last_taken, HasEnded, Coming, Comes, Refuses}
-use Rattle.item_log.specs.Log.{IsPieceOf}
-use Rattle.run_history.specs.declared.answer.Answer.{Answer}
 use Rattle.run_history.specs.declared.answer.Answer.TheVariants as answer
 use Rattle.run_history.specs.declared.answer.Cause.{Cause}
-use Rattle.run_history.specs.Machine.{Wants, Fails}
-use Rattle.run_history.specs.Served.{FailsBy}
-use Rattle.run_history.proofs.Runs.{element_behind}
-use Rattle.session_history.specs.Heeding.{Bounds, Unheeded, refusal}
+use Rattle.session_history.proofs.Terms.{List, Option, Some, [], ap, length, refl, subst, sym, ℕ, ◌++◌, ◌∙◌, ◌∷◌, ◌≡◌, none-some, same_Some, slice_get, unwrap_or, Entry, LinkEvent, Comes, Coming, HasEnded, Refuses, events_in, last_taken, IsPieceOf, Answer, element_behind, Fails, Wants, FailsBy, Bounds, Unheeded, refusal, Rules, Survivor, IsLastRefused, IsLastTooLong, IsWaiting, StandsAt, OneEnd}
 use Rattle.session_history.specs.Heeding as unheeded
-use Rattle.session_history.specs.Lawful.{Rules, Survivor}
-use Rattle.session_history.specs.Ends.{IsWaiting, IsLastRefused, IsLastTooLong, StandsAt}
-use Rattle.session_history.specs.AccountLaws.{OneEnd}
 use Rattle.session_history.proofs.Refused.{same_before, none_refused}
 
 same_last : {X : Type 0} (xs ys : List X) (x y : X) → xs ++ x ∷ [] ≡ ys ++ y ∷ [] → x ≡ y

@@ -1,26 +1,8 @@
 -- The items of a journal's front, and what a close in it makes of what comes behind.
-use Rattle.std.proofs.Common.{◌≡◌, ◌≢◌, inl, inr, ℕ, ◌+◌, ◌≤◌, Bool, true, false, eqb, List, [], ◌∷◌, ◌++◌, length, take, refl, sym, ◌∙◌, ap, subst, arith, append_assoc, append-nil, length-append}
-use Rattle.std.specs.Prelude.{is_none, ◌||◌}
-use Rattle.std.proofs.lemmas.List.{take-append-le}
-use Rattle.std.proofs.lemmas.Bool.{or_left, or_right, or_from, eq-eqb, eqb-true, cases_Bool}
-use Rattle.rx_io.specs.declared.bytes.Item.{Item}
-use Rattle.links.specs.declared.journal.Entry.{Entry}
 use Rattle.links.specs.declared.journal.Entry.TheVariants as entry
-use Rattle.links.specs.declared.journal.LinkEvent.{LinkEvent}
 use Rattle.links.specs.declared.journal.LinkEvent.TheVariants as event
-use Rattle.links.specs.Links.{events_in}
-use Rattle.rx_io.specs.Prefix.{Prefix}
-use Rattle.rx_io.specs.Sends.{Send}
-use Rattle.item_log.specs.declared.kinds.TheConstants.{CLOSED}
-use Rattle.item_log.specs.Connections.{none_open}
-use Rattle.item_log.specs.Heard.{bare_item, heard, items_of}
-use Rattle.run_history.specs.Machine.{no_connections}
-use Rattle.run_history.proofs.Connections.{may}
-use Rattle.session_history.specs.Heeding.{Bounds, heeded, items_in, received}
-use Rattle.session_history.specs.Opened.{opens, closes}
-use Rattle.session_history.specs.Passing.{AreBetween}
+use Rattle.session_history.proofs.Terms.{Bool, List, [], ap, append-nil, append_assoc, arith, eqb, false, inl, inr, length, length-append, refl, subst, sym, take, true, ℕ, ◌++◌, ◌+◌, ◌∙◌, ◌∷◌, ◌≡◌, ◌≢◌, ◌≤◌, cases_Bool, eq-eqb, eqb-true, or_from, or_left, or_right, take-append-le, is_none, ◌||◌, Item, Prefix, Send, Entry, LinkEvent, events_in, CLOSED, none_open, bare_item, heard, items_of, may, no_connections, Bounds, heeded, items_in, received, closes, opens, AreBetween, OpensOnce}
 use Rattle.session_history.proofs.Heeding.{events_in-append}
-use Rattle.session_history.specs.AccountLaws.{OpensOnce}
 use Rattle.session_history.proofs.Connected.{after_items, IsSent, AreSent}
 use Rattle.session_history.proofs.Heeded.{heeded_front, heeded_grows, heeded_then, heeded_heard}
 use Rattle.session_history.proofs.Opening.{all_open_any, none_open_again, items_behind, close_item, closed_behind, opened_before}

@@ -1,20 +1,7 @@
 -- The sends of a run: in the order of the items taken, each with some bytes, to a connection that the items taken before it leave open.
-use Rattle.std.proofs.Common.{◌≡◌, ℕ, zero, suc, ◌+◌, ◌<◌, Bool, true, false, cond, List, [], ◌∷◌, ◌++◌, length, take, Option, Some, None, refl, sym, ◌∙◌, ap, subst, arith}
-use Rattle.std.specs.Prelude.{slice_get}
-use Rattle.std.proofs.lemmas.Option.{none-some, same_Some}
-use Rattle.rx_io.specs.declared.bytes.Item.{Item}
-use Rattle.rx_io.specs.Sends.{Send}
-use Rattle.block_book.specs.declared.choice.Choice.{Choice}
-use Rattle.block_book.specs.Answer.{is_allowed}
-use Rattle.elf_image.specs.declared.image.Image.{Image}
-use Rattle.run_history.specs.Machine.{Machine, State, register, no_connections, start, start_machine, Effect, Goes, Emits, Ends, Wants, Chooses, Fails}
-use Rattle.run_history.specs.Call.{takes, malloc, allocated, received, connections_after}
-use Rattle.run_history.specs.Run.{Run, does, after, next}
-use Rattle.run_history.proofs.Connections.{may}
-use Rattle.run_history.proofs.Repeats.{repeated_keeps}
-use Rattle.run_history.proofs.Shapes.{Shape, Same, Takes, Picks, Alone, does_shape}
-use Rattle.run_history.proofs.Runs.{next_parts, received_keeps, allocated_keeps}
-use Rattle.session_history.specs.Passing.{AreInOrder}
+use Rattle.run_history.specs.Machine.{Ends}
+use Rattle.run_history.specs.Call.{received}
+use Rattle.session_history.proofs.Terms.{Bool, List, None, Option, Some, [], ap, arith, cond, false, length, refl, subst, suc, sym, take, true, zero, ℕ, ◌++◌, ◌+◌, ◌<◌, ◌∙◌, ◌∷◌, ◌≡◌, none-some, same_Some, slice_get, Item, Send, Choice, is_allowed, Image, may, repeated_keeps, allocated_keeps, next_parts, received_keeps, Alone, Picks, Same, Shape, Takes, does_shape, allocated, connections_after, malloc, takes, Chooses, Effect, Emits, Fails, Goes, Machine, State, Wants, no_connections, register, start, start_machine, Run, after, does, next, AreInOrder}
 use Rattle.session_history.proofs.Passing.{in_order_wider, in_order_then}
 
 -- the connections that may be sent to once these items were taken

@@ -1,11 +1,5 @@
 -- Entries that were due stay so while the survivor goes on and more items come, and one more entry comes behind them.
-use Rattle.std.proofs.Common.{List, [], ◌∷◌, ◌++◌, false, sym, subst, append-nil, append_assoc}
-use Rattle.rx_io.specs.declared.bytes.Item.{Item}
-use Rattle.links.specs.declared.journal.Entry.{Entry}
-use Rattle.run_history.specs.Served.{Path, Served}
-use Rattle.session_history.specs.Owing.{Place}
-use Rattle.session_history.specs.Lawful.{Rules, Survivor, IsDue, AreDue, AreLawful, Chapter, then_place}
-use Rattle.session_history.specs.Serving.{gone_on}
+use Rattle.session_history.proofs.Terms.{List, [], append-nil, append_assoc, false, subst, sym, ◌++◌, ◌∷◌, Item, Entry, Path, Served, Place, AreDue, AreLawful, Chapter, IsDue, Rules, Survivor, then_place, gone_on}
 use Rattle.session_history.proofs.Paths.{served_on, served_with}
 
 -- an entry that was due stays so while the survivor goes on

@@ -1,26 +1,6 @@
 -- The end of a session: the pieces that it passes there, the one that a fault breaks off, and what was passed in all.
-use Rattle.std.proofs.Common.{◌≡◌, ℕ, Bool, true, false, cond, eqb, List, [], ◌∷◌, ◌++◌, length, refl, sym, ◌∙◌, ap, subst, inl, inr, arith, append-nil, append_assoc, length-append}
-use Rattle.std.proofs.lemmas.Bool.{eqb-true}
-use Rattle.rx_io.specs.declared.bytes.Item.{Item}
-use Rattle.links.specs.declared.journal.Entry.{Entry}
 use Rattle.links.specs.declared.journal.Entry.TheVariants as entry
-use Rattle.links.specs.Links.{events_in}
-use Rattle.rx_io.specs.Prefix.{Prefix}
-use Rattle.rx_io.specs.Sends.{Send, sent_to}
-use Rattle.elf_image.specs.declared.image.Image.{Image}
-use Rattle.item_log.specs.Heard.{items_of}
-use Rattle.run_history.specs.Run.{output}
-use Rattle.run_history.specs.Served.{Served, origin}
-use Rattle.run_history.proofs.Outputs.{sent_to-more}
-use Rattle.session_history.specs.Heeding.{Bounds, heeded, items_in}
-use Rattle.session_history.specs.Owing.{Moment, Stands, OwesNothing}
-use Rattle.session_history.specs.Passing.{passed_in}
-use Rattle.session_history.specs.Opened.{is_open}
-use Rattle.session_history.specs.Lawful.{Rules, Survivor, IsDue, AreDue, AreLawful, Chapter, entries_of, place_of, IsDuePiece}
-use Rattle.session_history.specs.Account.{Session, journal_of, IsBroken, IsAccount, HasPassedAll}
-use Rattle.session_history.specs.Giving.{AreGiven}
-use Rattle.session_history.specs.Ends.{before_end}
-use Rattle.session_history.specs.Serving.{Carries, Serving, ending_at, Ending}
+use Rattle.session_history.proofs.Terms.{Bool, List, Option, [], ap, append-nil, append_assoc, arith, cond, eqb, false, inl, inr, length, length-append, refl, subst, sym, true, ℕ, ◌++◌, ◌∙◌, ◌∷◌, ◌≡◌, eqb-true, is_some, Item, Prefix, Send, sent_to, Entry, events_in, items_of, Image, Answer, sent_to-more, output, Served, origin, Bounds, heeded, items_in, is_open, passed_in, Moment, OwesNothing, Stands, AreDue, AreLawful, Chapter, IsDue, IsDuePiece, Rules, Survivor, entries_of, place_of, HasPassedAll, IsAccount, IsBroken, Session, journal_of, Carries, Ending, Serving, ending_at, AreGiven, before_end}
 use Rattle.session_history.proofs.Paths.{served_same, served_on}
 use Rattle.session_history.proofs.Heeding.{events_in-gave, items_in-gave}
 use Rattle.session_history.proofs.Accounts.{carries_piece, carries_run}
@@ -62,9 +42,9 @@ ending_piece rules image earlier survivor since ending at_end conn bytes gone wa
     }
 
 -- the account of a session at its end
-pub ending_account : (rules : Rules) (image : Image) (earlier : List Chapter) (survivor : Survivor) (since ending : List Entry) (at_end : Bool) → Ending rules image earlier survivor since ending at_end
-    → IsAccount rules image (record { earlier = earlier; survivor = survivor; since = since; ending = ending; broken = [] }) at_end
-ending_account rules image earlier survivor since ending at_end was =
+pub ending_account : (rules : Rules) (image : Image) (earlier : List Chapter) (survivor : Survivor) (since ending : List Entry) (came : Option Answer) → Ending rules image earlier survivor since ending (is_some came)
+    → IsAccount rules image (record { earlier = earlier; survivor = survivor; since = since; came = came; ending = ending; broken = [] })
+ending_account rules image earlier survivor since ending came was =
     let none : entries_of earlier ++ (since ++ ending) ≡ entries_of earlier ++ (since ++ (ending ++ [])) = ap (λ es. entries_of earlier ++ (since ++ es)) (sym (append-nil ending)) in
     let items = ap (items_in rules.bounds) none in
     let carries : Carries rules image (entries_of earlier ++ (since ++ (ending ++ []))) survivor.plan survivor.now = subst (λ es. Carries rules image es survivor.plan survivor.now) none was.carries in
@@ -77,16 +57,16 @@ ending_account rules image earlier survivor since ending at_end was =
       feasible = carries.feasible;
       earlier = subst (λ its. AreLawful rules its [] earlier) items was.before;
       since = subst (λ its. AreDue rules its survivor (place_of earlier [] false) since) items was.due;
-      ending = subst (λ its. AreDue rules its survivor (place_of earlier since at_end) ending) items was.last;
+      ending = subst (λ its. AreDue rules its survivor (place_of earlier since (is_some came)) ending) items was.last;
       broken = tt;
     }
 
 -- and of one whose last piece was broken off
-pub broken_account : (rules : Rules) (image : Image) (earlier : List Chapter) (survivor : Survivor) (since ending : List Entry) (at_end : Bool) (conn : ℕ) (bytes : List ℕ) → Ending rules image earlier survivor since ending at_end
-    → IsDuePiece rules survivor.now.state.sends (ending_at earlier (since ++ ending) at_end survivor.now.state.machine.taken) conn bytes
+pub broken_account : (rules : Rules) (image : Image) (earlier : List Chapter) (survivor : Survivor) (since ending : List Entry) (came : Option Answer) (conn : ℕ) (bytes : List ℕ) → Ending rules image earlier survivor since ending (is_some came)
+    → IsDuePiece rules survivor.now.state.sends (ending_at earlier (since ++ ending) (is_some came) survivor.now.state.machine.taken) conn bytes
     → Served rules.limits (items_in rules.bounds (entries_of earlier ++ (since ++ ending))) survivor.plan survivor.begun survivor.now
-    → IsAccount rules image (record { earlier = earlier; survivor = survivor; since = since; ending = ending; broken = entry.Gave conn bytes false ∷ [] }) at_end
-broken_account rules image earlier survivor since ending at_end conn bytes was due from =
+    → IsAccount rules image (record { earlier = earlier; survivor = survivor; since = since; came = came; ending = ending; broken = entry.Gave conn bytes false ∷ [] })
+broken_account rules image earlier survivor since ending came conn bytes was due from =
     let entries : List Entry = entries_of earlier ++ (since ++ ending) in
     let items : List Item = items_in rules.bounds entries in
     let more : List Entry = entry.Gave conn bytes false ∷ [] in
@@ -95,7 +75,7 @@ broken_account rules image earlier survivor since ending at_end conn bytes was d
     let kept : items ≡ items_in rules.bounds (entries_of earlier ++ (since ++ (ending ++ more))) = sym (items_in-gave rules.bounds entries conn bytes false) ∙ ap (items_in rules.bounds) same in
     let carries : Carries rules image (entries_of earlier ++ (since ++ (ending ++ more))) survivor.plan survivor.now =
     subst (λ es. Carries rules image es survivor.plan survivor.now) same
-    (carries_piece rules image (ending_at earlier (since ++ ending) at_end survivor.now.state.machine.taken) conn bytes false survivor.plan survivor.now survivor.now was.carries
+    (carries_piece rules image (ending_at earlier (since ++ ending) (is_some came) survivor.now.state.machine.taken) conn bytes false survivor.plan survivor.now survivor.now was.carries
     (served_on rules.limits items survivor.plan (origin image) survivor.begun survivor.now was.begins from) (served_same rules.limits items survivor.plan survivor.now) due) in
     record {
       ran = carries_run rules image (entries_of earlier ++ (since ++ (ending ++ more))) survivor.plan survivor.now carries;
@@ -106,7 +86,7 @@ broken_account rules image earlier survivor since ending at_end conn bytes was d
       feasible = carries.feasible;
       earlier = subst (λ its. AreLawful rules its [] earlier) kept was.before;
       since = subst (λ its. AreDue rules its survivor (place_of earlier [] false) since) kept was.due;
-      ending = subst (λ its. AreDue rules its survivor (place_of earlier since at_end) ending) kept was.last;
+      ending = subst (λ its. AreDue rules its survivor (place_of earlier since (is_some came)) ending) kept was.last;
       broken = due;
     }
 

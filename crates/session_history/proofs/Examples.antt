@@ -1,18 +1,9 @@
 -- What the definitions compute at values: a link that opens connection 0, sends two messages and closes it; the session passes
 -- a reply behind the first of them.
-use Rattle.std.proofs.Common.{◌≡◌, true, false, List, [], ◌∷◌, Some, refl}
-use Rattle.links.specs.declared.journal.Entry.{Entry}
 use Rattle.links.specs.declared.journal.Entry.TheVariants as entry
-use Rattle.links.specs.declared.journal.LinkEvent.{LinkEvent}
 use Rattle.links.specs.declared.journal.LinkEvent.TheVariants as event
 use Rattle.msg_frame.specs.declared.framing.Framing.TheVariants.{Whole}
-use Rattle.msg_frame.specs.Messages.{cut, cut_whole}
-use Rattle.item_log.specs.Connections.{none_open}
-use Rattle.item_log.specs.Heard.{heard_from, items_from}
-use Rattle.session_history.specs.Heeding.{Bounds, LimitEvents, LimitItems, refusal, heeded, heeded_behind}
-use Rattle.session_history.specs.Opened.{is_open}
-use Rattle.session_history.specs.Passing.{passed_in}
-use Rattle.session_history.specs.Owing.{latest}
+use Rattle.session_history.proofs.Terms.{List, Some, [], false, refl, true, ◌∷◌, ◌≡◌, Entry, LinkEvent, cut, cut_whole, none_open, heard_from, items_from, Bounds, LimitEvents, LimitItems, heeded, heeded_behind, refusal, is_open, passed_in, latest}
 
 abbrev few : Bounds
 few = record { framing = Whole; max_items = 2; max_events = 3 }

@@ -1,17 +1,6 @@
 -- Parts of lists of sends and of journals.
-use Rattle.std.proofs.Common.{◌≡◌, ◌⊎◌, inl, inr, ℕ, ◌<◌, ◌≤◌, Bool, true, false, cond, eqb, List, [], ◌∷◌, ◌++◌, length, drop, map, refl, sym, ◌∙◌, ap, arith, length-append}
-use Rattle.std.specs.Prelude.{not, ◌&&◌}
-use Rattle.std.proofs.lemmas.Bool.{eq-eqb, or_parts, or_from, or_left, or_right}
-use Rattle.links.specs.declared.journal.Entry.{Entry}
 use Rattle.links.specs.declared.journal.Entry.TheVariants as entry
-use Rattle.rx_io.specs.Prefix.{Prefix}
-use Rattle.links.specs.Links.{Piece, pieces_in}
-use Rattle.rx_io.specs.Sends.{Send, sent_to}
-use Rattle.run_history.proofs.Outputs.{sent_to-more}
-use Rattle.session_history.specs.Heeding.{Bounds}
-use Rattle.session_history.specs.Opened.{is_gone}
-use Rattle.session_history.specs.Passing.{passed_behind, passed_in, AreBetween, AreInOrder}
-use Rattle.session_history.specs.AccountLaws.{piece_of}
+use Rattle.session_history.proofs.Terms.{Bool, List, [], ap, arith, cond, drop, eqb, false, inl, inr, length, length-append, map, refl, sym, true, ℕ, ◌++◌, ◌<◌, ◌∙◌, ◌∷◌, ◌≡◌, ◌≤◌, ◌⊎◌, eq-eqb, or_from, or_left, or_parts, or_right, not, ◌&&◌, Prefix, Send, sent_to, Entry, Piece, pieces_in, sent_to-more, Bounds, is_gone, AreBetween, AreInOrder, passed_behind, passed_in, piece_of}
 
 -- one list in two parts, in two ways: one first part has the other, or an element less
 pub two_splits : {X : Type 0} (xs ys front back : List X) → xs ++ ys ≡ front ++ back

@@ -1,18 +1,7 @@
 -- What a run adds: sends, each with a number of items taken between those of its ends.
-use Rattle.std.proofs.Common.{◌≡◌, ℕ, ◌≤◌, Bool, true, false, cond, List, [], ◌∷◌, ◌++◌, Option, Some, None, refl, sym, ◌∙◌, ap, subst, arith, append-nil, append_assoc}
-use Rattle.std.specs.Prelude.{slice_get}
-use Rattle.std.proofs.lemmas.Option.{none-some, same_Some}
-use Rattle.rx_io.specs.declared.bytes.Item.{Item}
-use Rattle.rx_io.specs.Sends.{Send}
-use Rattle.block_book.specs.declared.choice.Choice.{Choice}
-use Rattle.block_book.specs.Answer.{is_allowed}
-use Rattle.session_history.specs.Passing.{AreBetween}
-use Rattle.run_history.specs.Machine.{Machine, State, register, Effect, Goes, Emits, Ends, Wants, Chooses, Fails}
-use Rattle.run_history.specs.Call.{takes, malloc, allocated, received}
-use Rattle.run_history.specs.Run.{does, after, next, run}
-use Rattle.run_history.proofs.Repeats.{repeated_keeps}
-use Rattle.run_history.proofs.Shapes.{Shape, Same, Takes, Picks, Alone, does_shape}
-use Rattle.run_history.proofs.Runs.{next_parts, received_keeps, allocated_keeps}
+use Rattle.run_history.specs.Machine.{Ends}
+use Rattle.run_history.specs.Call.{received}
+use Rattle.session_history.proofs.Terms.{Bool, List, None, Option, Some, [], ap, append-nil, append_assoc, arith, cond, false, refl, subst, sym, true, ℕ, ◌++◌, ◌∙◌, ◌∷◌, ◌≡◌, ◌≤◌, none-some, same_Some, slice_get, Item, Send, Choice, is_allowed, repeated_keeps, allocated_keeps, next_parts, received_keeps, Alone, Picks, Same, Shape, Takes, does_shape, allocated, malloc, takes, Chooses, Effect, Emits, Fails, Goes, Machine, State, Wants, register, after, does, next, run, AreBetween}
 
 -- the second state is the first with more sends
 pub record Grows (first second : State) : Type 0 where

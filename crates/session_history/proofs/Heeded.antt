@@ -1,10 +1,5 @@
 -- The events that are heeded grow with the journal, and each of them was heard.
-use Rattle.std.proofs.Common.{◌≡◌, ◌⊎◌, inl, inr, Bool, true, false, cond, leb, ltb, List, [], ◌∷◌, ◌++◌, length, Some, None, refl, sym, ◌∙◌, ap, append-nil, append_assoc}
-use Rattle.std.specs.Prelude.{is_none}
-use Rattle.links.specs.declared.journal.LinkEvent.{LinkEvent}
-use Rattle.rx_io.specs.Prefix.{Prefix}
-use Rattle.item_log.specs.Heard.{heard, heard_from, items_of}
-use Rattle.session_history.specs.Heeding.{Bounds, LimitEvents, TooLong, LimitItems, refusal, heeded, heeded_behind}
+use Rattle.session_history.proofs.Terms.{Bool, List, None, Some, [], ap, append-nil, append_assoc, cond, false, inl, inr, leb, length, ltb, refl, sym, true, ◌++◌, ◌∙◌, ◌∷◌, ◌≡◌, ◌⊎◌, is_none, Prefix, LinkEvent, heard, heard_from, items_of, Bounds, LimitEvents, LimitItems, TooLong, heeded, heeded_behind, refusal}
 
 -- the events that are heeded are the first ones
 pub heeded_front : (bounds : Bounds) (before events : List LinkEvent) → Prefix (heeded_behind bounds before events) events

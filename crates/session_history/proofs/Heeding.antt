@@ -1,14 +1,7 @@
 -- What one more entry makes of the events that are heeded, of the items received and of what was passed.
-use Rattle.std.proofs.Common.{◌≡◌, ℕ, Bool, true, false, List, [], ◌∷◌, ◌++◌, length, None, refl, sym, ◌∙◌, ap, arith, cond, drop, append-nil, append_assoc}
-use Rattle.std.specs.Prelude.{is_none}
-use Rattle.links.specs.declared.journal.Entry.{Entry}
 use Rattle.links.specs.declared.journal.Entry.TheVariants as entry
-use Rattle.links.specs.declared.journal.LinkEvent.{LinkEvent}
 use Rattle.links.specs.declared.journal.LinkEvent.TheVariants as event
-use Rattle.links.specs.Links.{events_in}
-use Rattle.item_log.specs.Heard.{items_of}
-use Rattle.session_history.specs.Heeding.{Bounds, refusal, heeded, heeded_behind, items_in, received}
-use Rattle.session_history.specs.Passing.{passed_in, passed_behind}
+use Rattle.session_history.proofs.Terms.{Bool, List, None, [], ap, append-nil, append_assoc, arith, cond, drop, false, length, refl, sym, true, ℕ, ◌++◌, ◌∙◌, ◌∷◌, ◌≡◌, is_none, Entry, LinkEvent, events_in, items_of, Bounds, heeded, heeded_behind, items_in, received, refusal, passed_behind, passed_in}
 
 -- the events of two journals
 pub events_in-append : (entries more : List Entry) → events_in (entries ++ more) ≡ events_in entries ++ events_in more

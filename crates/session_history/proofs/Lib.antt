@@ -1,3 +1,4 @@
+pub mod Terms
 pub mod Paths
 pub mod Due
 pub mod Owing
@@ -7,6 +8,7 @@ pub mod Growing
 pub mod Passing
 pub mod Accounts
 pub mod Sessions
+pub mod Ended
 pub mod Endings
 pub mod Refused
 pub mod Causes

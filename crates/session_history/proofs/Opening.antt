@@ -1,22 +1,7 @@
 -- What events open and close, and what their items do.
-use Rattle.std.proofs.Common.{◌≡◌, ◌≢◌, inl, inr, ℕ, ◌+◌, ◌-◌, ◌≤◌, Bool, true, false, eqb, List, [], ◌∷◌, ◌++◌, length, take, map, zero, suc, Option, Some, None, refl, sym, ◌∙◌, ap, subst, arith, append_assoc, length-append}
-use Rattle.std.specs.Prelude.{is_none, unwrap_or, ◌||◌}
-use Rattle.std.proofs.Math.Seq.{take-append-add}
-use Rattle.std.proofs.lemmas.Bool.{cond_both, both_ways, or_left, or_right, or_cases, eq-eqb}
-use Rattle.rx_io.specs.declared.bytes.Item.{Item}
-use Rattle.links.specs.declared.journal.LinkEvent.{LinkEvent}
 use Rattle.links.specs.declared.journal.LinkEvent.TheVariants as event
-use Rattle.msg_frame.specs.declared.framing.Framing.{Framing}
-use Rattle.msg_frame.specs.Messages.{Parts, cut}
-use Rattle.item_log.specs.declared.kinds.TheConstants.{CLOSED}
-use Rattle.item_log.specs.Connections.{none_open, rest_of, in_order}
-use Rattle.item_log.specs.Heard.{Heard, bare_item, message_item, hear_parts, brought, hear, behind_items, heard, items_by, first_items, items_from, items_of}
 use Rattle.item_log.proofs.Hearing.{one_more_event}
-use Rattle.run_history.specs.Machine.{no_connections}
-use Rattle.run_history.specs.Call.{connections_after}
-use Rattle.run_history.proofs.Connections.{may, OpenWithin, within_start, within_after, closed_may}
-use Rattle.session_history.specs.Opened.{opens, closes}
-use Rattle.session_history.specs.AccountLaws.{OpensOnce}
+use Rattle.session_history.proofs.Terms.{Bool, List, None, Option, Some, [], ap, append_assoc, arith, eqb, false, inl, inr, length, length-append, map, refl, subst, suc, sym, take, true, zero, ℕ, ◌++◌, ◌+◌, ◌-◌, ◌∙◌, ◌∷◌, ◌≡◌, ◌≢◌, ◌≤◌, take-append-add, both_ways, cond_both, eq-eqb, or_cases, or_left, or_right, is_none, unwrap_or, ◌||◌, Item, LinkEvent, Framing, Parts, cut, CLOSED, in_order, none_open, rest_of, Heard, bare_item, behind_items, brought, first_items, hear, hear_parts, heard, items_by, items_from, items_of, message_item, OpenWithin, closed_may, may, within_after, within_start, connections_after, no_connections, closes, opens, OpensOnce}
 use Rattle.session_history.proofs.Connected.{after_items, after_items-append}
 
 -- each connection that some events open has this property, and each that some items open

@@ -1,16 +1,7 @@
 -- What is owed, seen by a survivor that has taken more items; and where the latest event stands.
-use Rattle.std.proofs.Common.{◌≡◌, ℕ, ◌≤◌, List, [], ◌∷◌, ◌++◌, Option, None, Some, refl, ap, subst, sym, inl, inr, arith, append-nil, append_assoc}
-use Rattle.std.specs.Prelude.{option_map, unwrap_or}
-use Rattle.std.proofs.lemmas.Option.{none-some, same_Some}
-use Rattle.rx_io.specs.declared.bytes.Item.{Item}
-use Rattle.links.specs.declared.journal.Entry.{Entry}
 use Rattle.links.specs.declared.journal.Entry.TheVariants as entry
-use Rattle.links.specs.declared.journal.LinkEvent.{LinkEvent}
 use Rattle.links.specs.declared.journal.LinkEvent.TheVariants as event
-use Rattle.rx_io.specs.Sends.{Send}
-use Rattle.session_history.specs.Heeding.{Bounds}
-use Rattle.session_history.specs.Owing.{Place, moment_at, Latest, behind, latest, IsOwed}
-use Rattle.session_history.specs.Lawful.{Rules, Survivor, IsDue, AreDue, then_place}
+use Rattle.session_history.proofs.Terms.{List, None, Option, Some, [], ap, append-nil, append_assoc, arith, inl, inr, refl, subst, sym, ℕ, ◌++◌, ◌∷◌, ◌≡◌, ◌≤◌, none-some, same_Some, option_map, unwrap_or, Item, Send, Entry, LinkEvent, Bounds, IsOwed, Latest, Place, behind, latest, moment_at, AreDue, IsDue, Rules, Survivor, then_place}
 use Rattle.session_history.proofs.Due.{behind_all}
 
 -- what is owed stays owed where more items were taken

@@ -1,14 +1,7 @@
 -- What was passed stays a front of what a run emits, and feasible, while the run goes on and while pieces that are due are
 -- passed.
-use Rattle.std.proofs.Common.{◌≡◌, ℕ, ◌<◌, ◌≤◌, Bool, true, false, cond, eqb, leb, List, [], ◌∷◌, ◌++◌, refl, sym, ◌∙◌, ap, subst, inl, inr, arith, append-nil}
-use Rattle.std.proofs.lemmas.Bool.{cases_lt, leb-false, lt-leb, le-leb, eqb-true}
 use Rattle.std.proofs.lemmas.List.Elements.{filter-append}
-use Rattle.rx_io.specs.Sends.{Send, sent_to}
-use Rattle.rx_io.specs.Prefix.{Prefix}
-use Rattle.run_history.specs.Machine.{State}
-use Rattle.run_history.specs.Run.{output}
-use Rattle.run_history.proofs.Outputs.{prefix_trans, prefix_sent, sent_to-more}
-use Rattle.session_history.specs.Passing.{until, Covers, IsFeasible, AreBetween, AreInOrder}
+use Rattle.session_history.proofs.Terms.{Bool, List, [], ap, append-nil, arith, cond, eqb, false, inl, inr, leb, refl, subst, sym, true, ℕ, ◌++◌, ◌<◌, ◌∙◌, ◌∷◌, ◌≡◌, ◌≤◌, cases_lt, eqb-true, le-leb, leb-false, lt-leb, Prefix, Send, sent_to, prefix_sent, prefix_trans, sent_to-more, State, output, AreBetween, AreInOrder, Covers, IsFeasible, until}
 use Rattle.session_history.proofs.Growing.{between_wider, between_append, Grows}
 
 pub in_order_wider : (high higher : ℕ) (pieces : List Send) → high ≤ higher → AreInOrder high pieces → AreInOrder higher pieces

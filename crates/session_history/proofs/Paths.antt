@@ -1,9 +1,5 @@
 -- How runs of survivors are joined, and go on.
-use Rattle.std.proofs.Common.{◌+◌, List, ◌++◌, refl}
-use Rattle.rx_io.specs.declared.bytes.Item.{Item}
-use Rattle.run_history.specs.Served.{Limits, Override, Path, Served, planned_next}
-use Rattle.run_history.proofs.Repeats.{repeated_join}
-use Rattle.run_history.proofs.Serves.{served_more}
+use Rattle.session_history.proofs.Terms.{List, refl, ◌++◌, ◌+◌, Item, repeated_join, served_more, Limits, Override, Path, Served, planned_next}
 
 -- a run goes on as itself
 pub served_same : (limits : Limits) (items : List Item) (plan : List Override) (path : Path) → Served limits items plan path path

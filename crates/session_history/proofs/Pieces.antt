@@ -1,30 +1,10 @@
 -- The pieces of a session that holds nothing back are the sends of its run.
-use Rattle.std.proofs.Common.{◌≡◌, inl, inr, ℕ, ◌+◌, ◌≤◌, Bool, true, false, List, [], ◌∷◌, ◌++◌, length, map, Option, Some, None, refl, sym, ◌∙◌, ap, subst, arith, append-nil, append_assoc, length-append}
-use Rattle.std.specs.Prelude.{option_map, unwrap_or}
-use Rattle.std.proofs.lemmas.List.{append_cancel_left, map-append}
-use Rattle.std.proofs.lemmas.Bool.{both_ways}
-use Rattle.std.proofs.lemmas.Option.{none-some, same_Some}
-use Rattle.rx_io.specs.declared.bytes.Item.{Item}
-use Rattle.links.specs.declared.journal.Entry.{Entry}
 use Rattle.links.specs.declared.journal.Entry.TheVariants as entry
-use Rattle.links.specs.declared.journal.LinkEvent.{LinkEvent}
 use Rattle.links.specs.declared.journal.LinkEvent.TheVariants as event
-use Rattle.links.specs.Links.{events_in, pieces_in}
-use Rattle.rx_io.specs.Prefix.{Prefix}
-use Rattle.rx_io.specs.Sends.{Send, sent_to}
-use Rattle.elf_image.specs.declared.image.Image.{Image}
-use Rattle.run_history.specs.Machine.{start, start_machine}
-use Rattle.run_history.specs.Served.{Path, Served, origin}
-use Rattle.run_history.proofs.Outputs.{prefix_sent}
-use Rattle.session_history.specs.Heeding.{Bounds, heeded, items_in, received}
-use Rattle.session_history.specs.Opened.{closes, is_gone, is_open}
-use Rattle.session_history.specs.Passing.{passed_in, AreBetween, AreInOrder}
-use Rattle.session_history.specs.Owing.{Place, Moment, moment_at, Latest, behind, latest, IsDueBy, IsMadeDue, IsOwed, Stands, IsPassed}
-use Rattle.session_history.specs.Lawful.{Rules, Survivor, IsDueEvent, is_closed_by, is_closing, IsDuePiece, IsWholePiece, IsDue}
+use Rattle.session_history.proofs.Terms.{Bool, List, None, Option, Some, [], ap, append-nil, append_assoc, arith, false, inl, inr, length, length-append, map, refl, subst, sym, true, ℕ, ◌++◌, ◌+◌, ◌∙◌, ◌∷◌, ◌≡◌, ◌≤◌, both_ways, append_cancel_left, map-append, none-some, same_Some, option_map, unwrap_or, Item, Prefix, Send, sent_to, Entry, LinkEvent, events_in, pieces_in, Image, prefix_sent, start, start_machine, Path, Served, origin, Bounds, heeded, items_in, received, closes, is_gone, is_open, AreBetween, AreInOrder, passed_in, IsDueBy, IsMadeDue, IsOwed, IsPassed, Latest, Moment, Place, Stands, behind, latest, moment_at, IsDue, IsDueEvent, IsDuePiece, IsWholePiece, Rules, Survivor, is_closed_by, is_closing, OpensOnce, piece_of}
 use Rattle.session_history.proofs.Heeding.{events_in-gave}
 use Rattle.session_history.proofs.Passing.{timed_on}
 use Rattle.session_history.proofs.Paths.{served_on}
-use Rattle.session_history.specs.AccountLaws.{piece_of, OpensOnce}
 use Rattle.session_history.proofs.Connected.{IsSent, AreSent, are_sent-behind}
 use Rattle.session_history.proofs.Asked.{served_grows, sends_later}
 use Rattle.session_history.proofs.Fronts.{two_splits, between_behind, between_here, later_taken, pieces_in-append, front_bytes, sent_to-own, never_passed, gone_front, and_three, and_nothing}

@@ -1,15 +1,7 @@
 -- An event that is heeded isn't refused.
-use Rattle.std.proofs.Common.{◌≡◌, inl, inr, List, [], ◌∷◌, ◌++◌, length, take, Option, Some, refl, sym, ◌∙◌, ap, subst, arith, length-append}
-use Rattle.std.specs.Prelude.{is_none}
-use Rattle.std.proofs.Math.Seq.{take-append_seam}
-use Rattle.links.specs.declared.journal.Entry.{Entry}
 use Rattle.links.specs.declared.journal.Entry.TheVariants as entry
-use Rattle.links.specs.declared.journal.LinkEvent.{LinkEvent}
 use Rattle.links.specs.declared.journal.LinkEvent.TheVariants as event
-use Rattle.links.specs.declared.journal.LinkEvent.TheVariants.{Ends}
-use Rattle.links.specs.Links.{events_in}
-use Rattle.session_history.specs.Heeding.{Bounds, Unheeded, refusal, heeded, AreHeeded}
-use Rattle.session_history.specs.Ends.{IsLastRefused}
+use Rattle.session_history.proofs.Terms.{List, Option, Some, [], ap, arith, inl, inr, length, length-append, refl, subst, sym, take, ◌++◌, ◌∙◌, ◌∷◌, ◌≡◌, take-append_seam, is_none, Entry, LinkEvent, Ends, events_in, AreHeeded, Bounds, Unheeded, heeded, refusal, IsLastRefused}
 use Rattle.session_history.proofs.Heeding.{events_in-append, refused_unheeded}
 use Rattle.session_history.proofs.Heeded.{heeded_front, heeded_then}
 

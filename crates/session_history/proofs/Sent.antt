@@ -1,26 +1,9 @@
 -- The walk over a session's entries, up to its end: what is sent is passed.
-use Rattle.std.proofs.Common.{◌≡◌, ◌≤◌, Bool, true, false, List, [], ◌∷◌, ◌++◌, length, map, Option, refl, sym, ◌∙◌, ap, subst, inl, inr, arith, append-nil, append_assoc}
-use Rattle.std.proofs.lemmas.Bool.{both_ways}
-use Rattle.rx_io.specs.declared.bytes.Item.{Item}
-use Rattle.links.specs.declared.journal.Entry.{Entry}
 use Rattle.links.specs.declared.journal.Entry.TheVariants as entry
-use Rattle.links.specs.Links.{Coming, Grew, events_in, pieces_in}
-use Rattle.run_history.specs.declared.answer.Answer.{Answer}
-use Rattle.run_history.specs.declared.answer.Answer.TheVariants as answer
-use Rattle.rx_io.specs.Sends.{Send}
-use Rattle.elf_image.specs.declared.image.Image.{Image}
-use Rattle.run_history.specs.Machine.{start, start_machine}
-use Rattle.run_history.specs.Served.{origin}
-use Rattle.item_log.specs.Heard.{items_of}
-use Rattle.session_history.specs.Heeding.{heeded, heeded_behind, items_in, received}
-use Rattle.session_history.specs.Owing.{OwesNothing}
-use Rattle.session_history.specs.Passing.{AreBetween}
-use Rattle.session_history.specs.Lawful.{Rules, Survivor, IsWholePiece, IsDue, AreDue}
-use Rattle.session_history.specs.Account.{Session, journal_of}
-use Rattle.session_history.specs.Ends.{IsEnd, EndsBy, OwesNothingAtEnd}
+use Rattle.session_history.proofs.Terms.{Bool, List, Option, [], ap, append-nil, append_assoc, arith, false, inl, inr, length, map, refl, subst, sym, true, ◌++◌, ◌∙◌, ◌∷◌, ◌≡◌, ◌≤◌, both_ways, is_some, Item, Send, Entry, Grew, events_in, pieces_in, items_of, Image, Answer, start, start_machine, origin, heeded, heeded_behind, items_in, received, AreBetween, OwesNothing, AreDue, IsDue, IsWholePiece, Rules, Survivor, Session, journal_of, PassesAtOnce, SentIsPassed, ServedIsPassed, piece_of}
+use Rattle.session_history.proofs.Ended.{at_its_end}
 use Rattle.session_history.proofs.Endings.{events_in-given}
 use Rattle.session_history.proofs.Passing.{timed_on}
-use Rattle.session_history.specs.AccountLaws.{piece_of, PassesAtOnce, SentIsPassed, ServedIsPassed}
 use Rattle.session_history.proofs.Asked.{served_grows}
 use Rattle.session_history.proofs.Connected.{run_connected}
 use Rattle.session_history.proofs.Fronts.{between_here, gone_here}
@@ -88,10 +71,10 @@ none_left rules image survivor entries knows walked owes (other ∷ rest) is =
     (λ stands at_front owed. owes other stands owed))
 
 -- a session of one survivor, of which no piece was broken off
-alone_passed : (rules : Rules) (image : Image) (survivor : Survivor) (since ending : List Entry) → PassesAtOnce rules image (record { earlier = []; survivor = survivor; since = since; ending = ending; broken = [] })
+alone_passed : (rules : Rules) (image : Image) (survivor : Survivor) (since : List Entry) (came : Option Answer) (ending : List Entry) → PassesAtOnce rules image (record { earlier = []; survivor = survivor; since = since; came = came; ending = ending; broken = [] })
     → pieces_in (since ++ (ending ++ [])) ≡ map piece_of survivor.now.state.sends
-alone_passed rules image survivor since ending has =
-    let session : Session = record { earlier = []; survivor = survivor; since = since; ending = ending; broken = [] } in
+alone_passed rules image survivor since came ending has =
+    let session : Session = record { earlier = []; survivor = survivor; since = since; came = came; ending = ending; broken = [] } in
     let whole : List Entry = since ++ (ending ++ []) in
     let knows : Knows rules image survivor whole = knows_all rules image session has in
     let first : Walked rules.bounds since survivor.now.state.sends =
@@ -99,41 +82,29 @@ alone_passed rules image survivor since ending has =
     let same : events_in whole ≡ events_in since = ap (λ es. events_in (since ++ es)) (append-nil ending) ∙ events_in-given since ending has.given in
     let count : received rules.bounds whole ≡ received rules.bounds since = ap (λ es. length (items_of rules.bounds.framing (heeded rules.bounds es))) same in
     let walked : Walked rules.bounds (since ++ ending) survivor.now.state.sends =
-    walk rules image survivor whole since ending [] has.at_end knows refl (λ ended. omega (arith, count)) has.account.ending first in
+    walk rules image survivor whole since ending [] (is_some came) knows refl (λ ended. omega (arith, count)) has.account.ending first in
     let none : survivor.now.state.sends ≡ walked.front =
     none_left rules image survivor (since ++ ending) (subst (Knows rules image survivor) (sym (append_assoc since ending [])) knows) walked has.owes_nothing walked.rest refl in
     ap (λ es. pieces_in (since ++ es)) (append-nil ending) ∙ walked.pieces ∙ ap (map piece_of) (sym none)
 
 pub sent_is_passed : SentIsPassed
 sent_is_passed rules image session has =
-    let plain : Session = record { earlier = []; survivor = session.survivor; since = session.since; ending = session.ending; broken = [] } in
+    let plain : Session = record { earlier = []; survivor = session.survivor; since = session.since; came = session.came; ending = session.ending; broken = [] } in
     let same : session ≡ plain = ap (λ earlier. record session { earlier = earlier }) has.first ∙ ap (λ broken. record session { earlier = []; broken = broken }) has.unbroken in
     ap (λ (s : Session). pieces_in (journal_of s)) same
-    ∙ alone_passed rules image session.survivor session.since session.ending (subst (PassesAtOnce rules image) same has)
-
--- at an end all that is owed was passed, and no piece was broken off
-end_owes : (rules : Rules) (coming : Option Coming) (session : Session) (end : Answer) → IsEnd end → EndsBy rules coming session end → OwesNothingAtEnd rules session × (session.broken ≡ [])
-end_owes rules coming session answer.Finished is ends = (ends.1, ends.2)
-end_owes rules coming session (answer.Exited code) is ends = (ends.1, ends.2)
-end_owes rules coming session (answer.GaveUp point cause) is ends = (ends.1, ends.2)
-end_owes rules coming session (answer.InputRefused kind offset) is ends = (ends.1, ends.2)
-end_owes rules coming session (answer.MessageTooLong conn) is ends = (ends.1, ends.2)
-end_owes rules coming session answer.LimitItems is ends = (ends.1, ends.2)
-end_owes rules coming session answer.LimitEvents is ends = (ends.1, ends.2)
-end_owes rules coming session _ is ends = absurd is
+    ∙ alone_passed rules image session.survivor session.since session.came session.ending (subst (PassesAtOnce rules image) same has)
 
 pub served_is_passed : ServedIsPassed
-served_is_passed rules image began seen end choices taken steps served is first holds_nothing none_gone opens_once =
-    let owes = end_owes rules seen.coming served.session end is served.ends in
-    let passed = sent_is_passed rules image served.session (record {
-      at_end = served.at_end;
-      account = served.account;
+served_is_passed rules image began seen session end is shows at_end first holds_nothing none_gone opens_once =
+    let ends = at_its_end rules session end at_end is.ends in
+    let passed = sent_is_passed rules image session (record {
+      account = is.account;
       first = first;
-      given = served.pieces;
-      unbroken = owes.1;
-      owes_nothing = owes.0;
+      given = is.pieces;
+      unbroken = ends.unbroken;
+      owes_nothing = ends.owes_nothing;
       holds_nothing = holds_nothing;
       none_gone = none_gone;
       opens_once = opens_once;
     }) in
-    (passed, subst (Grew began.pieces seen.told.pieces) passed served.tells.pieces)
+    (passed, subst (Grew began.told.pieces seen.told.pieces) passed shows.tells.pieces)

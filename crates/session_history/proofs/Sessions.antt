@@ -1,24 +1,10 @@
 -- One lemma for each event of a session: what it makes of the account.
-use Rattle.std.proofs.Common.{◌≡◌, ℕ, ◌≤◌, Bool, true, false, List, [], ◌∷◌, ◌++◌, refl, sym, ◌∙◌, ap, subst, append-nil, append_assoc}
-use Rattle.rx_io.specs.declared.bytes.Item.{Item}
-use Rattle.links.specs.declared.journal.Entry.{Entry}
 use Rattle.links.specs.declared.journal.Entry.TheVariants as entry
-use Rattle.links.specs.declared.journal.LinkEvent.{LinkEvent}
-use Rattle.elf_image.specs.declared.image.Image.{Image}
-use Rattle.run_history.specs.Served.{Path, Served, origin}
-use Rattle.run_history.specs.Served.{Override}
-use Rattle.run_history.specs.Machine.{start, start_machine}
-use Rattle.session_history.specs.Heeding.{items_in, received}
-use Rattle.session_history.specs.Passing.{passed_in, Covers, IsFeasible}
+use Rattle.session_history.proofs.Terms.{Bool, List, Option, [], ap, append-nil, append_assoc, false, refl, subst, sym, true, ℕ, ◌++◌, ◌∙◌, ◌∷◌, ◌≡◌, ◌≤◌, Item, Entry, LinkEvent, Image, Answer, start, start_machine, Override, Path, Served, origin, items_in, received, Covers, IsFeasible, passed_in, Place, moment_at, AreDue, AreLawful, Chapter, IsDue, IsDuePiece, IsWholePiece, LeavesNothing, Rules, Survivor, entries_of, place_of, IsAccount, Carries, Serving, first_survivor, gone_on, moment_of}
 use Rattle.session_history.proofs.Passing.{timed_on}
-use Rattle.session_history.proofs.Accounts.{Went, went}
-use Rattle.session_history.specs.Owing.{Place, moment_at}
-use Rattle.session_history.specs.Lawful.{Rules, Survivor, IsDue, AreDue, AreLawful, LeavesNothing, Chapter, entries_of, place_of, IsDuePiece, IsWholePiece}
-use Rattle.session_history.specs.Account.{IsAccount}
-use Rattle.session_history.specs.Serving.{gone_on, Carries, moment_of, Serving, first_survivor}
+use Rattle.session_history.proofs.Accounts.{Went, went, carries_none, carries_on, carries_event, carries_piece, carries_run}
 use Rattle.session_history.proofs.Paths.{served_same, served_on, served_with}
 use Rattle.session_history.proofs.Heeding.{items_in-gave}
-use Rattle.session_history.proofs.Accounts.{carries_none, carries_on, carries_event, carries_piece, carries_run}
 use Rattle.session_history.proofs.Due.{due_with, are_due_on, are_due_with, are_due_then, are_lawful_with}
 
 pub serving_first : (rules : Rules) (image : Image) → Serving rules image [] (first_survivor image) []
@@ -83,9 +69,9 @@ serving_piece rules image earlier survivor since conn bytes gone serving due =
     }
 
 -- a session that serves has an account
-pub serving_account : (rules : Rules) (image : Image) (earlier : List Chapter) (survivor : Survivor) (since : List Entry) (at_end : Bool) → Serving rules image earlier survivor since
-    → IsAccount rules image (record { earlier = earlier; survivor = survivor; since = since; ending = []; broken = [] }) at_end
-serving_account rules image earlier survivor since at_end serving =
+pub serving_account : (rules : Rules) (image : Image) (earlier : List Chapter) (survivor : Survivor) (since : List Entry) (came : Option Answer) → Serving rules image earlier survivor since
+    → IsAccount rules image (record { earlier = earlier; survivor = survivor; since = since; came = came; ending = []; broken = [] })
+serving_account rules image earlier survivor since came serving =
     let entries : List Entry = entries_of earlier ++ since in
     let none : entries ≡ entries_of earlier ++ (since ++ []) = ap (λ es. entries_of earlier ++ es) (sym (append-nil since)) in
     let items : items_in rules.bounds entries ≡ items_in rules.bounds (entries_of earlier ++ (since ++ [])) = ap (items_in rules.bounds) none in

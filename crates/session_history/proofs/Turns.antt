@@ -1,11 +1,6 @@
 -- A link whose events are in order opens no connection again.
-use Rattle.std.proofs.Common.{◌≡◌, ℕ, Bool, false, cond, eqb, List, [], ◌∷◌, ◌++◌, refl, sym, ◌∙◌, ap, subst, inl, inr}
-use Rattle.std.proofs.lemmas.Bool.{cases_Bool, eq-eqb, eqb-true, or_from}
-use Rattle.links.specs.declared.journal.LinkEvent.{LinkEvent}
 use Rattle.links.specs.declared.journal.LinkEvent.TheVariants as event
-use Rattle.links.specs.Links.{Phase, Unopened, Open, Closed, Phases, IsInOrder, phases_after}
-use Rattle.session_history.specs.Opened.{closes}
-use Rattle.session_history.specs.AccountLaws.{AreInTurn, LinksOpenOnce}
+use Rattle.session_history.proofs.Terms.{Bool, List, [], ap, cond, eqb, false, inl, inr, refl, subst, sym, ℕ, ◌++◌, ◌∙◌, ◌∷◌, ◌≡◌, cases_Bool, eq-eqb, eqb-true, or_from, LinkEvent, Closed, IsInOrder, Open, Phase, Phases, Unopened, phases_after, closes, AreInTurn, LinksOpenOnce}
 
 unopened_not : (phase : Phase) → phase ≡ Unopened → phase ≡ Closed → ⊥
 unopened_not phase one other = let h : Unopened ≡ Closed = sym one ∙ other in cc

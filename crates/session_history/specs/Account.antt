@@ -1,24 +1,20 @@
 -- One account of a session: what came and went, and the run that it is told by. Every promise of a session is a field of it.
-use Rattle.std.specs.Prelude.{◌≡◌, ℕ, ◌≤◌, List, [], ◌∷◌, ◌++◌, length, Bool, true, false}
-use Rattle.links.specs.declared.journal.Entry.{Entry}
+use Rattle.std.specs.Prelude.{◌≡◌, ℕ, ◌≤◌, List, [], ◌∷◌, ◌++◌, length, Bool, true, false, Option, is_some}
 use Rattle.links.specs.declared.journal.Entry.TheVariants as entry
-use Rattle.rx_io.specs.Prefix.{Prefix}
-use Rattle.rx_io.specs.Sends.{Send, sent_to}
-use Rattle.elf_image.specs.declared.image.Image.{Image}
-use Rattle.run_history.specs.Run.{Run, output}
-use Rattle.run_history.specs.Served.{Served, origin}
+use Rattle.session_history.specs.Terms.{Prefix, Send, sent_to, Entry, Image, Answer, Run, output, Served, origin}
 use Rattle.session_history.specs.Heeding.{items_in}
 use Rattle.session_history.specs.Opened.{is_open}
 use Rattle.session_history.specs.Passing.{passed_in, IsFeasible}
 use Rattle.session_history.specs.Owing.{Moment, moment_at}
 use Rattle.session_history.specs.Lawful.{Rules, Survivor, Chapter, entries_of, place_of, AreDue, AreLawful, IsDuePiece}
 
--- A session as data: the chapters of earlier survivors, oldest first; the survivor, with the entries since it was adopted; the
--- pieces that were passed when the session had come to its end; and the piece that a fault broke off, if one did.
+-- A session as data: the chapters of earlier survivors, oldest first; the survivor, with the entries since it was adopted; the end that
+-- it came to, if it came to one; the pieces that were passed there; and the piece that a fault broke off, if one did.
 pub record Session : Type 0 where
   pub earlier : List Chapter
   pub survivor : Survivor
   pub since : List Entry
+  pub came : Option Answer
   pub ending : List Entry
   pub broken : List Entry
 
@@ -41,7 +37,7 @@ after_ending session at_end = moment_at (place_of session.earlier (session.since
 
 -- The account of a session of an image: there is one run, on the items received, of which each answer of malloc is one that C
 -- allows; each connection was passed a prefix of what it sends there, and nothing that it sends later; and the journal is lawful.
-pub record IsAccount (rules : Rules) (image : Image) (session : Session) (at_end : Bool) : Type 0 where
+pub record IsAccount (rules : Rules) (image : Image) (session : Session) : Type 0 where
   pub ran : Run image (items_in rules.bounds (journal_of session)) session.survivor.now.choices session.survivor.now.steps session.survivor.now.state
   pub served : Served rules.limits (items_in rules.bounds (journal_of session)) session.survivor.plan (origin image) session.survivor.now
   pub begins : Served rules.limits (items_in rules.bounds (journal_of session)) session.survivor.plan (origin image) session.survivor.begun
@@ -50,8 +46,8 @@ pub record IsAccount (rules : Rules) (image : Image) (session : Session) (at_end
   pub feasible : IsFeasible (passed_in rules.bounds (journal_of session)) session.survivor.now.state
   pub earlier : AreLawful rules (items_in rules.bounds (journal_of session)) [] session.earlier
   pub since : AreDue rules (items_in rules.bounds (journal_of session)) session.survivor (place_of session.earlier [] false) session.since
-  pub ending : AreDue rules (items_in rules.bounds (journal_of session)) session.survivor (place_of session.earlier session.since at_end) session.ending
-  pub broken : IsBroken rules session.survivor.now.state.sends (after_ending session at_end) session.broken
+  pub ending : AreDue rules (items_in rules.bounds (journal_of session)) session.survivor (place_of session.earlier session.since (is_some session.came)) session.ending
+  pub broken : IsBroken rules session.survivor.now.state.sends (after_ending session (is_some session.came)) session.broken
 
 -- the session has passed all that its connections still open are owed
 abbrev pub HasPassedAll : Rules → Session → Type 0

@@ -1,21 +1,14 @@
 -- What follows from the account of a session, and from the causes of its ends.
-use Rattle.std.specs.Prelude.{◌≡◌, ◌≢◌, ℕ, Bool, List, [], ◌∷◌, ◌++◌, false, map, Some}
-use Rattle.links.specs.declared.journal.Entry.{Entry}
+use Rattle.std.specs.Prelude.{◌≡◌, ◌≢◌, ℕ, List, [], ◌∷◌, ◌++◌, false, map, Some}
 use Rattle.links.specs.declared.journal.LinkEvent.TheVariants as event
-use Rattle.links.specs.declared.journal.LinkEvent.{LinkEvent}
-use Rattle.links.specs.Seen.{Seen}
-use Rattle.links.specs.Links.{Phases, IsInOrder, phases_after, Told, Grew, Coming, Refuses, Piece, pieces_in, events_in}
-use Rattle.block_book.specs.declared.choice.Choice.{Choice}
-use Rattle.rx_io.specs.Sends.{Send}
-use Rattle.elf_image.specs.declared.image.Image.{Image}
-use Rattle.run_history.specs.declared.answer.Answer.{Answer}
 use Rattle.run_history.specs.declared.answer.Answer.TheVariants as answer
+use Rattle.session_history.specs.Terms.{Send, Entry, LinkEvent, Coming, Grew, IsInOrder, Phases, Piece, Refuses, events_in, phases_after, pieces_in, Seen, Image, Answer}
 use Rattle.session_history.specs.Heeding.{received, AreHeeded}
 use Rattle.session_history.specs.Opened.{closes, is_gone}
 use Rattle.session_history.specs.Lawful.{Rules, Survivor}
 use Rattle.session_history.specs.Account.{Session, journal_of, IsAccount}
 use Rattle.session_history.specs.Giving.{AreGiven}
-use Rattle.session_history.specs.Ends.{IsEnd, StandsAt, OwesNothingAtEnd, before_end, HasServed}
+use Rattle.session_history.specs.Ends.{IsEnd, StandsAt, OwesNothingAtEnd, before_end, IsEnded, ShowsSession}
 
 -- no two answers have their cause in one journal, with what its link has behind it
 abbrev pub OneEnd : Type 0
@@ -33,8 +26,7 @@ OpensOnce events = (before after : List LinkEvent) (conn : ℕ) → events ≡ b
 
 -- a session of one survivor came to its end with all passed that it owes; it held nothing back, and no connection was found gone
 pub record PassesAtOnce (rules : Rules) (image : Image) (session : Session) : Type 0 where
-  pub at_end : Bool
-  pub account : IsAccount rules image session at_end
+  pub account : IsAccount rules image session
   pub first : session.earlier ≡ []
   pub given : AreGiven session.ending
   pub unbroken : session.broken ≡ []
@@ -50,9 +42,9 @@ SentIsPassed = (rules : Rules) (image : Image) (session : Session) → PassesAtO
 -- So are they at each end of a session that served, and its link tells no other pieces.
 abbrev pub ServedIsPassed : Type 0
 ServedIsPassed =
-    (rules : Rules) (image : Image) (began : Told) (seen : Seen) (end : Answer) (choices : List Choice) (taken steps : ℕ) (served : HasServed rules image began seen end choices taken steps) →
-    IsEnd end → served.session.earlier ≡ [] → rules.hold ≡ 0 → ((conn : ℕ) → is_gone conn (journal_of served.session) ≡ false) → OpensOnce (events_in (journal_of served.session)) →
-    (pieces_in (journal_of served.session) ≡ map piece_of served.session.survivor.now.state.sends) × Grew began.pieces seen.told.pieces (map piece_of served.session.survivor.now.state.sends)
+    (rules : Rules) (image : Image) (began seen : Seen) (session : Session) (end : Answer) → IsEnded rules image seen.coming session end → ShowsSession rules began seen session →
+    IsEnd end → session.earlier ≡ [] → rules.hold ≡ 0 → ((conn : ℕ) → is_gone conn (journal_of session) ≡ false) → OpensOnce (events_in (journal_of session)) →
+    (pieces_in (journal_of session) ≡ map piece_of session.survivor.now.state.sends) × Grew began.told.pieces seen.told.pieces (map piece_of session.survivor.now.state.sends)
 
 -- events that a link gave, each in order for its connection
 abbrev pub AreInTurn : Phases → List LinkEvent → Type 0
@@ -77,6 +69,5 @@ IsComplete rules session _ = ⊥
 -- where every event is heeded and the link refuses nothing behind them, a session has no other answer
 abbrev pub NoOtherAnswer : Type 0
 NoOtherAnswer =
-    (rules : Rules) (image : Image) (began : Told) (seen : Seen) (next : Coming) (end : Answer) (choices : List Choice) (taken steps : ℕ) (served : HasServed rules image began seen end choices taken steps) →
-    seen.coming ≡ Some next →
-    AreHeeded rules.bounds (before_end served.session) → ((kind offset : ℕ) → next ≢ Refuses kind offset) → IsComplete rules served.session end
+    (rules : Rules) (image : Image) (next : Coming) (session : Session) (end : Answer) → IsEnded rules image (Some next) session end →
+    AreHeeded rules.bounds (before_end session) → ((kind offset : ℕ) → next ≢ Refuses kind offset) → IsComplete rules session end

@@ -1,10 +1,8 @@
 -- What a link shows before a session or a replay begins, and why one of them answers a fault of it.
 use Rattle.std.specs.Prelude.{◌≡◌, ◌≤◌, true}
-use Rattle.links.specs.Links.{IsFresh, Counts}
-use Rattle.links.specs.Seen.{Seen}
 use Rattle.rx_io.specs.Faults.{Rose}
-use Rattle.run_history.specs.declared.answer.Answer.{Answer}
 use Rattle.run_history.specs.declared.answer.Answer.TheVariants as answer
+use Rattle.session_history.specs.Terms.{Counts, IsFresh, Seen, Answer}
 
 -- no connection was opened yet, and no call has failed
 pub record MayBegin (seen : Seen) : Type 0 where

@@ -1,18 +1,9 @@
 -- How a session ends: each answer by its cause, over one account of what came and went.
-use Rattle.std.specs.Prelude.{◌≡◌, ◌≢◌, ℕ, List, [], ◌∷◌, ◌++◌, Bool, true, false, Option, Some, IfSome}
-use Rattle.block_book.specs.declared.choice.Choice.{Choice}
-use Rattle.links.specs.declared.journal.Entry.{Entry}
+use Rattle.std.specs.Prelude.{◌≡◌, ◌≢◌, ℕ, List, [], ◌∷◌, ◌++◌, Bool, true, false, Option, None, Some, IfSome, IsSome}
 use Rattle.links.specs.declared.journal.Entry.TheVariants as entry
-use Rattle.links.specs.declared.journal.LinkEvent.{LinkEvent}
 use Rattle.links.specs.declared.journal.LinkEvent.TheVariants as event
-use Rattle.links.specs.declared.journal.LinkEvent.TheVariants.{Ends}
-use Rattle.links.specs.Links.{Told, Tells, Coming, Comes, Refuses, events_in, HasEnded}
-use Rattle.links.specs.Seen.{Seen}
-use Rattle.elf_image.specs.declared.image.Image.{Image}
-use Rattle.item_log.specs.Log.{IsPieceOf}
-use Rattle.run_history.specs.declared.answer.Answer.{Answer}
 use Rattle.run_history.specs.declared.answer.Answer.TheVariants as answer
-use Rattle.run_history.specs.Served.{FailsBy, AsksFor}
+use Rattle.session_history.specs.Terms.{Entry, LinkEvent, Ends, Comes, Coming, HasEnded, Refuses, Tells, events_in, Seen, IsPieceOf, Image, Answer, AsksFor, FailsBy}
 use Rattle.session_history.specs.Heeding.{Bounds, Unheeded, refusal, received, AreHeeded}
 use Rattle.session_history.specs.Heeding as unheeded
 use Rattle.session_history.specs.Owing.{OwesNothing}
@@ -63,11 +54,14 @@ StandsAt rules entries coming survivor _ = ⊥
 abbrev pub before_end : Session → List Entry
 before_end session = entries_of session.earlier ++ session.since
 
--- a session came to one of its ends, by that end's cause
-pub record HasCome (rules : Rules) (coming : Option Coming) (session : Session) : Type 0 where
-  pub end : Answer
+-- a session came to this end, by that end's cause
+pub record HasComeTo (rules : Rules) (coming : Option Coming) (session : Session) (end : Answer) : Type 0 where
   pub is_end : IsEnd end
   pub stands : StandsAt rules (before_end session) coming session.survivor end
+
+-- if it came to one at all
+abbrev pub HasCome : Rules → Option Coming → Session → Type 0
+HasCome rules coming session = IfSome session.came (HasComeTo rules coming session)
 
 -- all that is owed was passed, before the end and at it
 abbrev pub OwesNothingBefore : Rules → Session → Type 0
@@ -81,32 +75,47 @@ OwesNothingAtEnd rules session = OwesNothing rules.bounds rules.hold (after_endi
 abbrev pub WasAsked : Rules → Session → Type 0
 WasAsked rules session = IsWaiting rules (before_end session) session.survivor × OwesNothingBefore rules session × AreHeeded rules.bounds (before_end session)
 
--- no piece is passed behind the journal, and none is broken off
+-- it came to no end: no piece is passed behind the journal, and none is broken off
 abbrev pub HasNoEnding : Session → Type 0
-HasNoEnding session = (session.ending ≡ []) × (session.broken ≡ [])
+HasNoEnding session = (session.came ≡ None) × (session.ending ≡ []) × (session.broken ≡ [])
 
--- What stands behind each answer of a session. At an end its cause holds, and all was passed; where the program failed, what was
--- owed then was passed before. At a fault of reading an event was asked for.
-abbrev pub EndsBy : Rules → Option Coming → Session → Answer → Type 0
-EndsBy rules coming session answer.ReadFault = WasAsked rules session × HasNoEnding session
-EndsBy rules coming session answer.WriteFault = Unit {0}
-EndsBy rules coming session answer.FileFault = Unit {0}
-EndsBy rules coming session answer.Memory = Unit {0}
-EndsBy rules coming session (answer.GaveUp point cause) =
-    StandsAt rules (before_end session) coming session.survivor (answer.GaveUp point cause) × OwesNothingAtEnd rules session × (session.broken ≡ []) × OwesNothingBefore rules session
-EndsBy rules coming session end = StandsAt rules (before_end session) coming session.survivor end × OwesNothingAtEnd rules session × (session.broken ≡ [])
+-- It came to this end, where it passed all that it owes, and no piece was broken off.
+pub record EndsAt (rules : Rules) (session : Session) (end : Answer) : Type 0 where
+  pub came : session.came ≡ Some end
+  pub owes_nothing : OwesNothingAtEnd rules session
+  pub unbroken : session.broken ≡ []
 
--- What a session leaves at each answer, by what its link told before and shows after, and by its counts: one account of it; where pieces were passed as at an end, the cause of that end; and what stands behind the answer. At an end
--- pieces alone are passed. And where no event may be taken any more, the take that failed was asked for.
-pub record HasServed (rules : Rules) (image : Image) (began : Told) (seen : Seen) (end : Answer) (choices : List Choice) (taken steps : ℕ) : Type 0 where
-  pub session : Session
-  pub at_end : Bool
-  pub tells : Tells began seen.told (journal_of session)
-  pub account : IsAccount rules image session at_end
-  pub comes : at_end ≡ true → HasCome rules seen.coming session
-  pub ends : EndsBy rules seen.coming session end
+-- What stands behind each answer of a session: an end that it came to; where the program failed, what was owed then was passed before. At a
+-- fault of reading an event was asked for.
+abbrev pub EndsBy : Rules → Session → Answer → Type 0
+EndsBy rules session answer.ReadFault = WasAsked rules session × HasNoEnding session
+EndsBy rules session answer.WriteFault = Unit {0}
+EndsBy rules session answer.FileFault = Unit {0}
+EndsBy rules session answer.Memory = Unit {0}
+EndsBy rules session (answer.GaveUp point cause) = EndsAt rules session (answer.GaveUp point cause) × OwesNothingBefore rules session
+EndsBy rules session end = EndsAt rules session end
+
+-- One account of a session at its answer. Where it came to an end, that end's whole cause stands, whatever the answer is, and pieces alone are
+-- passed behind it.
+pub record IsEnded (rules : Rules) (image : Image) (coming : Option Coming) (session : Session) (end : Answer) : Type 0 where
+  pub account : IsAccount rules image session
+  pub comes : HasCome rules coming session
   pub pieces : AreGiven session.ending
+  pub ends : EndsBy rules session end
+
+-- where it was told what a link's grammar has next, it is told still
+abbrev pub StaysKnown : Option Coming → Option Coming → Type 0
+StaysKnown None new = Unit {0}
+StaysKnown (Some old) new = IsSome new
+
+-- Whether events may be taken from a link at an end of a session: not behind a refusal, and else they may.
+abbrev pub TakesAtEnd : Bool → Answer → Type 0
+TakesAtEnd takes (answer.InputRefused kind offset) = takes ≡ false
+TakesAtEnd takes end = IsEnd end → takes ≡ true
+
+-- What a link shows behind a session, before which it showed this: all that came and went; where no event may be taken any more, one was asked
+-- for; and where the session came to an end, what may be taken is as that end leaves it, and what comes next is told still.
+pub record ShowsSession (rules : Rules) (began seen : Seen) (session : Session) : Type 0 where
+  pub tells : Tells began.told seen.told (journal_of session)
   pub asked : seen.takes ≡ false → WasAsked rules session
-  pub choices_are : session.survivor.now.choices ≡ choices
-  pub taken_is : session.survivor.now.state.machine.taken ≡ taken
-  pub steps_are : session.survivor.now.steps ≡ steps
+  pub at_end : IfSome session.came (λ end. TakesAtEnd seen.takes end × StaysKnown began.coming seen.coming)

@@ -1,13 +1,9 @@
 -- Pieces that a session gives one after another, each when it is due.
 use Rattle.std.specs.Prelude.{◌≡◌, ℕ, ◌≤◌, List, [], ◌∷◌, ◌++◌, true, false, None, Some, Result, Ok, Err}
-use Rattle.links.specs.declared.journal.Entry.{Entry}
 use Rattle.links.specs.declared.journal.Entry.TheVariants as entry
 use Rattle.links.specs.declared.journal.LinkEvent.TheVariants as event
-use Rattle.rx_io.specs.Prefix.{Prefix}
-use Rattle.rx_io.specs.Sends.{Send, sent_to}
-use Rattle.links.specs.Links.{Told, Tells, events_in}
-use Rattle.reply_ledger.specs.Ledger.{Ledger}
 use Rattle.reply_ledger.specs.Parts.{next_part, rest_part}
+use Rattle.session_history.specs.Terms.{Prefix, Send, sent_to, Entry, Tells, Told, events_in, Ledger}
 use Rattle.session_history.specs.Heeding.{heeded}
 use Rattle.session_history.specs.Opened.{closes, is_open, is_gone}
 use Rattle.session_history.specs.Passing.{passed_in}

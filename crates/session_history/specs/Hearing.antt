@@ -1,15 +1,8 @@
 -- What a session hears of its link's next event.
 use Rattle.std.specs.Prelude.{◌≡◌, ◌≢◌, ℕ, List, [], ◌∷◌, ◌++◌, Option, None, Some, false}
-use Rattle.rx_io.specs.declared.bytes.Item.{Item}
-use Rattle.links.specs.declared.journal.Entry.{Entry}
 use Rattle.links.specs.declared.journal.Entry.TheVariants as entry
-use Rattle.links.specs.declared.journal.LinkEvent.{LinkEvent}
 use Rattle.links.specs.declared.journal.LinkEvent.TheVariants as event
-use Rattle.links.specs.declared.journal.LinkEvent.TheVariants.{Ends}
-use Rattle.rx_io.specs.Sends.{Send}
-use Rattle.links.specs.Links.{events_in}
-use Rattle.item_log.specs.Log.{Log}
-use Rattle.reply_ledger.specs.Ledger.{Ledger}
+use Rattle.session_history.specs.Terms.{Item, Send, Entry, LinkEvent, Ends, events_in, Log, Ledger}
 use Rattle.session_history.specs.Heeding.{Bounds, Unheeded, refusal, heeded, items_in}
 use Rattle.session_history.specs.Opened.{closes}
 use Rattle.session_history.specs.Keeping.{KeepsReplies, KeepsItems}

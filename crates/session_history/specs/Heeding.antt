@@ -1,11 +1,6 @@
 -- The events of a link that a session heeds, and their items. A session ends at the first event that it refuses.
 use Rattle.std.specs.Prelude.{◌≡◌, ℕ, List, [], ◌∷◌, ◌++◌, length, Option, None, Some, is_none, nat_le, nat_lt, if◌then◌else◌}
-use Rattle.rx_io.specs.declared.bytes.Item.{Item}
-use Rattle.links.specs.declared.journal.Entry.{Entry}
-use Rattle.links.specs.declared.journal.LinkEvent.{LinkEvent}
-use Rattle.links.specs.Links.{events_in}
-use Rattle.msg_frame.specs.declared.framing.Framing.{Framing}
-use Rattle.item_log.specs.Heard.{heard, items_of}
+use Rattle.session_history.specs.Terms.{Item, Entry, LinkEvent, events_in, Framing, heard, items_of}
 
 -- what a session allows a link: how pieces are cut into messages, how many items it receives, and how many events
 pub record Bounds : Type 0 where

@@ -1,14 +1,9 @@
 -- What the parts of a session's code know of its journal: the ledger of its replies, the log of its items, and the phases of its link.
 use Rattle.std.specs.Prelude.{◌≡◌, ℕ, ◌<◌, ◌≤◌, List, [], ◌∷◌, length, take, Bool, true, not, ◌&&◌, ◌==◌, if◌then◌else◌, Option, None, Some, is_some}
-use Rattle.links.specs.declared.journal.Entry.{Entry}
-use Rattle.links.specs.declared.journal.LinkEvent.{LinkEvent}
-use Rattle.rx_io.specs.Sends.{Send, sent_to}
-use Rattle.links.specs.Links.{Phase, Unopened, Open, Closed, Phases, events_in}
-use Rattle.item_log.specs.Log.{Log}
 use Rattle.item_log.specs.Log as logs
-use Rattle.reply_ledger.specs.Ledger.{Ledger, connection_of}
 use Rattle.reply_ledger.specs.Ledger as ledgers
 use Rattle.reply_ledger.specs.Shows.{Shows}
+use Rattle.session_history.specs.Terms.{Send, sent_to, Entry, LinkEvent, Closed, Open, Phase, Phases, Unopened, events_in, Log, Ledger, connection_of}
 use Rattle.session_history.specs.Heeding.{Bounds, heeded}
 use Rattle.session_history.specs.Opened.{opens, closes, is_gone, is_open}
 use Rattle.session_history.specs.Passing.{passed_in}

@@ -1,15 +1,9 @@
 -- The journal of a session is lawful where each reply comes when it is owed, and no event comes before it is asked for. It is
 -- told in chapters, one for each survivor: a chapter has the entries of its survivor's time.
 use Rattle.std.specs.Prelude.{◌≡◌, ◌≢◌, ℕ, ◌<◌, ◌≤◌, List, [], ◌∷◌, ◌++◌, length, Bool, true, false, Option, None, Some, ◌⊎◌, ◌==◌, ◌&&◌}
-use Rattle.rx_io.specs.declared.bytes.Item.{Item}
-use Rattle.links.specs.declared.journal.Entry.{Entry}
 use Rattle.links.specs.declared.journal.Entry.TheVariants as entry
-use Rattle.links.specs.declared.journal.LinkEvent.{LinkEvent}
 use Rattle.links.specs.declared.journal.LinkEvent.TheVariants as event
-use Rattle.rx_io.specs.Prefix.{Prefix}
-use Rattle.rx_io.specs.Sends.{Send, sent_to}
-use Rattle.run_history.specs.Served.{Limits, Override, Path, Served, AsksFor}
-use Rattle.links.specs.Links.{events_in}
+use Rattle.session_history.specs.Terms.{Item, Prefix, Send, sent_to, Entry, LinkEvent, events_in, AsksFor, Limits, Override, Path, Served}
 use Rattle.session_history.specs.Heeding.{Bounds, heeded, received, AreHeeded}
 use Rattle.session_history.specs.Opened.{closes}
 use Rattle.session_history.specs.Passing.{passed_in}

@@ -1,11 +1,7 @@
 -- What each event of a session makes of its account.
-use Rattle.std.specs.Prelude.{◌≡◌, ℕ, ◌≤◌, List, [], ◌∷◌, ◌++◌, Bool, true, false, None, is_none}
-use Rattle.rx_io.specs.declared.bytes.Item.{Item}
-use Rattle.links.specs.declared.journal.Entry.{Entry}
+use Rattle.std.specs.Prelude.{◌≡◌, ℕ, ◌≤◌, List, [], ◌∷◌, ◌++◌, Bool, true, false, Option, None, is_none, is_some}
 use Rattle.links.specs.declared.journal.Entry.TheVariants as entry
-use Rattle.links.specs.declared.journal.LinkEvent.{LinkEvent}
-use Rattle.elf_image.specs.declared.image.Image.{Image}
-use Rattle.run_history.specs.Served.{Override, Path, Served, origin}
+use Rattle.session_history.specs.Terms.{Item, Entry, LinkEvent, Image, Answer, Override, Path, Served, origin}
 use Rattle.session_history.specs.Passing.{passed_in, Covers, IsFeasible}
 use Rattle.session_history.specs.Heeding.{Bounds, refusal, heeded, items_in, received}
 use Rattle.session_history.specs.Owing.{OwesNothing}
@@ -73,20 +69,20 @@ LastIsPassed =
 -- at any time there is an account
 abbrev pub EndHasAccount : Type 0
 EndHasAccount =
-    (rules : Rules) (image : Image) (earlier : List Chapter) (survivor : Survivor) (since ending : List Entry) (at_end : Bool) → Ending rules image earlier survivor since ending at_end →
-    IsAccount rules image (record { earlier = earlier; survivor = survivor; since = since; ending = ending; broken = [] }) at_end
+    (rules : Rules) (image : Image) (earlier : List Chapter) (survivor : Survivor) (since ending : List Entry) (came : Option Answer) → Ending rules image earlier survivor since ending (is_some came) →
+    IsAccount rules image (record { earlier = earlier; survivor = survivor; since = since; came = came; ending = ending; broken = [] })
 
 -- also where a piece that is due breaks off
 abbrev pub BreakHasAccount : Type 0
 BreakHasAccount =
-    (rules : Rules) (image : Image) (earlier : List Chapter) (survivor : Survivor) (since ending : List Entry) (at_end : Bool) (conn : ℕ) (bytes : List ℕ) → Ending rules image earlier survivor since ending at_end →
-    IsDuePiece rules survivor.now.state.sends (ending_at earlier (since ++ ending) at_end survivor.now.state.machine.taken) conn bytes →
+    (rules : Rules) (image : Image) (earlier : List Chapter) (survivor : Survivor) (since ending : List Entry) (came : Option Answer) (conn : ℕ) (bytes : List ℕ) → Ending rules image earlier survivor since ending (is_some came) →
+    IsDuePiece rules survivor.now.state.sends (ending_at earlier (since ++ ending) (is_some came) survivor.now.state.machine.taken) conn bytes →
     Served rules.limits (items_in rules.bounds (entries_of earlier ++ (since ++ ending))) survivor.plan survivor.begun survivor.now →
-    IsAccount rules image (record { earlier = earlier; survivor = survivor; since = since; ending = ending; broken = entry.Gave conn bytes false ∷ [] }) at_end
+    IsAccount rules image (record { earlier = earlier; survivor = survivor; since = since; came = came; ending = ending; broken = entry.Gave conn bytes false ∷ [] })
 
 -- at an end at which nothing is owed, each connection still open was passed all that the survivor sent to it
 abbrev pub EndPassedAll : Type 0
 EndPassedAll =
-    (rules : Rules) (image : Image) (session : Session) → IsAccount rules image session true →
+    (rules : Rules) (image : Image) (session : Session) → IsAccount rules image session →
     OwesNothing rules.bounds rules.hold (record { start = entries_of session.earlier; since = session.since ++ (session.ending ++ session.broken); at_end = true; taken = session.survivor.now.state.machine.taken }) session.survivor.now.state.sends →
     HasPassedAll rules session

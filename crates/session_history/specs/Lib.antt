@@ -1,3 +1,4 @@
+pub mod Terms
 pub mod Heeding
 pub mod Opened
 pub mod Passing

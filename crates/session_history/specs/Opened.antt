@@ -1,10 +1,8 @@
 -- Which connections a session may give to, by its journal.
 use Rattle.std.specs.Prelude.{ℕ, List, [], ◌∷◌, Bool, false, not, ◌&&◌, ◌||◌, ◌==◌}
-use Rattle.links.specs.declared.journal.Entry.{Entry}
 use Rattle.links.specs.declared.journal.Entry.TheVariants as entry
-use Rattle.links.specs.declared.journal.LinkEvent.{LinkEvent}
 use Rattle.links.specs.declared.journal.LinkEvent.TheVariants as event
-use Rattle.links.specs.Links.{events_in}
+use Rattle.session_history.specs.Terms.{Entry, LinkEvent, events_in}
 use Rattle.session_history.specs.Heeding.{Bounds, heeded}
 
 -- whether some events open a connection, and whether they close it

@@ -1,12 +1,8 @@
 -- When a session owes bytes that its survivor sent.
 use Rattle.std.specs.Prelude.{◌≡◌, ℕ, ◌+◌, ◌≤◌, List, [], ◌∷◌, ◌++◌, Bool, true, false, Option, None, Some, option_map, unwrap_or, ◌⊎◌}
-use Rattle.links.specs.declared.journal.Entry.{Entry}
 use Rattle.links.specs.declared.journal.Entry.TheVariants as entry
-use Rattle.links.specs.declared.journal.LinkEvent.{LinkEvent}
 use Rattle.links.specs.declared.journal.LinkEvent.TheVariants as event
-use Rattle.rx_io.specs.Prefix.{Prefix}
-use Rattle.rx_io.specs.Sends.{Send, sent_to}
-use Rattle.links.specs.Links.{events_in}
+use Rattle.session_history.specs.Terms.{Prefix, Send, sent_to, Entry, LinkEvent, events_in}
 use Rattle.session_history.specs.Heeding.{Bounds, heeded, received}
 use Rattle.session_history.specs.Opened.{closes, is_open, is_gone}
 use Rattle.session_history.specs.Passing.{passed_in}

@@ -1,12 +1,8 @@
 -- What was passed to connections, and whether a run emits it.
 use Rattle.std.specs.Prelude.{◌≡◌, ℕ, ◌<◌, ◌≤◌, List, [], ◌∷◌, ◌++◌, true, filter, nat_le}
-use Rattle.links.specs.declared.journal.Entry.{Entry}
 use Rattle.links.specs.declared.journal.Entry.TheVariants as entry
-use Rattle.rx_io.specs.Prefix.{Prefix}
-use Rattle.rx_io.specs.Sends.{Send, sent_to}
-use Rattle.run_history.specs.Machine.{State}
-use Rattle.run_history.specs.Run.{output}
 use Rattle.reply_ledger.specs.Trials.{agree}
+use Rattle.session_history.specs.Terms.{Prefix, Send, sent_to, Entry, State, output}
 use Rattle.session_history.specs.Heeding.{Bounds, received}
 
 -- the pieces of a journal's rest, each with its stamp: the number of items received before it

@@ -1,8 +1,6 @@
 -- What holds while a session serves, and at its end. Each event keeps it; it has the account.
 use Rattle.std.specs.Prelude.{ℕ, ◌≤◌, List, [], ◌++◌, Bool, false}
-use Rattle.links.specs.declared.journal.Entry.{Entry}
-use Rattle.elf_image.specs.declared.image.Image.{Image}
-use Rattle.run_history.specs.Served.{Override, Path, Served, origin}
+use Rattle.session_history.specs.Terms.{Entry, Image, Override, Path, Served, origin}
 use Rattle.session_history.specs.Heeding.{items_in, received}
 use Rattle.session_history.specs.Passing.{passed_in, Covers, IsFeasible, AreBetween, AreInOrder}
 use Rattle.session_history.specs.Owing.{Moment, moment_at}

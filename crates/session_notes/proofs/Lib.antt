@@ -1,3 +1,2 @@
 pub mod Digits
 mod Examples
-pub mod Growing

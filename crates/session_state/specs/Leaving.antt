@@ -1,20 +1,9 @@
 -- What a session leaves: the checkpoints of the run that it answers for, and what a trial from them would need.
 use Rattle.std.specs.Prelude.{◌≡◌, ◌⊎◌, false, [], ℕ, ◌+◌, ◌-◌, ◌<◌, ◌≤◌, List, length, None, Some, IfSome, option_map, slice_get}
-use Rattle.links.specs.declared.journal.Entry.{Entry}
-use Rattle.elf_image.specs.declared.image.Image.{Image}
-use Rattle.ckpt_ring.specs.Rings.{from_newest}
-use Rattle.run_history.specs.declared.answer.Answer.{Answer}
 use Rattle.run_history.specs.declared.answer.Answer.TheVariants as answer
-use Rattle.run_history.specs.Served.{Path, AsksFor}
-use Rattle.guest_cpu.specs.Serving.{standing_of}
-use Rattle.session_history.specs.Heeding.{items_in}
-use Rattle.session_history.specs.Lawful.{Rules, Survivor, Chapter}
-use Rattle.session_history.specs.Account.{Session}
-use Rattle.session_history.specs.Ends.{IsEnd, before_end}
-use Rattle.trials.specs.Chains.{AreCheckpoints, AreChained}
-use Rattle.trials.specs.Episodes.{Recovery}
-use Rattle.recovery.specs.Handling.{Keeping, Stand, is_far, HasHandled, stands_of, keeping_by}
+use Rattle.session_state.specs.Terms.{Entry, from_newest, Image, Answer, AsksFor, Path, standing_of, IsEnd, before_end, items_in, Chapter, Rules, Survivor, AreChained, AreCheckpoints, Recovery, HasHandled, Keeping, Stand, is_far, keeping_by, stands_of}
 use Rattle.session_state.specs.Sessions.{SessionState}
+use Rattle.session_state.specs.Recovered.{Telling}
 
 -- an end but that at which no trial survived
 abbrev pub UnlessGaveUp : Answer → Type 0 → Type 0
@@ -90,16 +79,16 @@ module _ {R : Type 0} where
     pub sends : new.replies.first ≡ old.replies.first
     pub keeping : keeping_of new ≡ keeping_of old
 
-  -- What a session leaves at an end or at a fault of its link, by its account: the checkpoints of the survivor's run. The items from before the
+  -- What a session leaves at an end or at a fault of its link, by its telling: the checkpoints of the survivor's run. The items from before the
   -- oldest one were given up, and no others. At an end so were the sends; and the guest stands where the survivor does, unless none survived.
   -- At a fault as many answers of malloc are recorded as the oldest one had used. Those checkpoints stand that the requests so far left.
-  pub record HasLeft (rules : Rules) (image : Image) (recoveries : List Recovery) (account : Session) (session : SessionState R) (end : Answer) : Type 0 where
-    pub holds : HoldsCheckpoints rules image account.earlier (before_end account) recoveries account.survivor session
+  pub record HasLeft (rules : Rules) (image : Image) (telling : Telling) (session : SessionState R) (end : Answer) : Type 0 where
+    pub holds : HoldsCheckpoints rules image telling.account.earlier (before_end telling.account) telling.recoveries telling.account.survivor session
     pub oldest : Path
     pub oldest_is : slice_get holds.paths (length holds.paths - 1) ≡ Some oldest
     pub items : session.log.first ≡ oldest.state.machine.taken
     pub sends : IsEnd end → session.replies.first ≡ length oldest.state.sends
-    pub stands : IsEnd end → UnlessGaveUp end (session.cpu.slots.live ≡ standing_of account.survivor.now)
+    pub stands : IsEnd end → UnlessGaveUp end (session.cpu.slots.live ≡ standing_of telling.account.survivor.now)
     pub recorded : (IsEnd end → ⊥) → session.recorded ≡ length oldest.choices
-    pub requests : HandledAt end (HasHandled rules image (keeping_of session) account.earlier (before_end account) recoveries account.survivor account.survivor.now.state.machine.taken (stands_of session.cpu.slots.saved))
-        (HasHandled rules image (keeping_of session) account.earlier (before_end account) recoveries account.survivor (account.survivor.now.state.machine.taken + 1) (stands_of session.cpu.slots.saved))
+    pub requests : HandledAt end (HasHandled rules image (keeping_of session) telling.account.earlier (before_end telling.account) telling.recoveries telling.account.survivor telling.account.survivor.now.state.machine.taken (stands_of session.cpu.slots.saved))
+        (HasHandled rules image (keeping_of session) telling.account.earlier (before_end telling.account) telling.recoveries telling.account.survivor (telling.account.survivor.now.state.machine.taken + 1) (stands_of session.cpu.slots.saved))

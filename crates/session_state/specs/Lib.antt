@@ -1,3 +1,4 @@
+pub mod Terms
 pub mod Options
 pub mod Sessions
 pub mod Recovered

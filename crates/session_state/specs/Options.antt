@@ -1,10 +1,6 @@
 -- What a session is asked for.
 use Rattle.std.specs.Prelude.{ℕ, ◌*◌, ◌/◌, ◌≤◌, ◌^◌, Bool}
-use Rattle.block_book.specs.Heap.{Heap}
-use Rattle.rv_exec.specs.Stepping.{limits_of}
-use Rattle.session_history.specs.Lawful.{Rules}
-use Rattle.recovery.specs.Handling.{Keeping}
-use Rattle.session_state.specs.declared.options.Options.{Options}
+use Rattle.session_state.specs.Terms.{Heap, limits_of, Rules, Keeping, Options}
 
 -- each number is in its range
 pub record AreInRange (options : Options) : Type 0 where

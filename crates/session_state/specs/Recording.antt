@@ -1,10 +1,6 @@
 -- What a session records of its run's answers of malloc.
 use Rattle.std.specs.Prelude.{◌≡◌, ℕ, ◌+◌, ◌-◌, List, take, drop, Result, Ok, Err, IfOk}
-use Rattle.block_book.specs.declared.choice.Choice.{Choice}
-use Rattle.links.specs.Links.{Grew}
-use Rattle.rx_io.specs.Faults.{HasCause}
-use Rattle.rx_io.specs.declared.fault.IoFault.{IoFault}
-use Rattle.session_notes.specs.Noting.{Shown}
+use Rattle.session_state.specs.Terms.{IoFault, HasCause, Grew, Choice, Shown}
 
 -- Of the answers behind the first recorded ones those up to the first safe ones were noted, and left the list. Where noting failed nothing changed.
 abbrev pub NotesUpTo : ℕ → ℕ → List Choice → Shown → Shown → ℕ → List Choice → Result (Unit {0}) IoFault → Type 0

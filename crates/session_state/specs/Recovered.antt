@@ -1,57 +1,85 @@
--- What a session leaves that recovered its program.
-use Rattle.std.specs.Prelude.{◌≡◌, ◌≢◌, ◌⊎◌, ℕ, ◌+◌, ◌-◌, ◌<◌, ◌≤◌, List, [], ◌∷◌, ◌++◌, length, map, sum, take, drop, Option, None}
-use Rattle.session_history.specs.Heeding.{items_in}
-use Rattle.session_history.specs.Passing.{passed_in}
-use Rattle.block_book.specs.declared.choice.Choice.{Choice}
-use Rattle.links.specs.Links.{Told, Grew}
-use Rattle.links.specs.Seen.{Seen}
-use Rattle.elf_image.specs.declared.image.Image.{Image}
-use Rattle.links.specs.declared.journal.Entry.{Entry}
-use Rattle.run_history.specs.declared.answer.Answer.{Answer}
+-- One telling of a session that recovered its program, as data, and what holds of it.
+use Rattle.std.specs.Prelude.{◌≡◌, ◌≢◌, ℕ, ◌+◌, ◌-◌, ◌<◌, ◌≤◌, List, [], ◌∷◌, ◌++◌, length, map, sum, take, drop, Option, None, Some, IfSome, option_map, MatchOption}
 use Rattle.run_history.specs.declared.answer.Answer.TheVariants as answer
-use Rattle.run_history.specs.declared.answer.Cause.{Cause}
-use Rattle.run_history.specs.Served.{Path}
-use Rattle.session_history.specs.Lawful.{Rules, Survivor, Chapter, entries_of, LeavesNothing}
-use Rattle.session_history.specs.Serving.{first_survivor}
-use Rattle.session_history.specs.Ends.{IsEnd, HasServed}
-use Rattle.trials.specs.Tables.{Trial, survivor_in}
-use Rattle.session_notes.specs.declared.episode.Episode.{Episode}
-use Rattle.session_notes.specs.declared.episode.Try.{Try}
-use Rattle.session_notes.specs.Noting.{Noted}
-use Rattle.trials.specs.Episodes.{Recovery, point_of, episode_of, IsRecovery, AreRecovered}
-use Rattle.recovery.specs.Trying.{steps_of}
-use Rattle.recovery.specs.Handling.{Keeping, Stand, HasRing, HaveRings, HasHandled}
-use Rattle.recovery.specs.Watching.{IsWholeTable, TellsMore}
+use Rattle.session_state.specs.Terms.{Entry, Coming, Grew, Seen, Choice, Image, Answer, Cause, Path, Session, HasNoEnding, IsEnd, IsEnded, ShowsSession, items_in, Chapter, LeavesNothing, Rules, Survivor, entries_of, passed_in, first_survivor, Episode, Try, Noted, AreRecovered, IsRecovery, Recovery, episode_of, point_of, Trial, survivor_in, HasHandled, HasRing, HaveRings, Keeping, Stand, steps_of, IsWholeTable, TellsMore}
+
+-- A session so far, as data: the chapters of earlier survivors, with the recovery behind each, the survivor, and the entries of its time.
+pub record Story : Type 0 where
+  pub earlier : List Chapter
+  pub recoveries : List Recovery
+  pub survivor : Survivor
+  pub since : List Entry
+
+abbrev pub entries : Story → List Entry
+entries story = entries_of story.earlier ++ story.since
+
+-- A walk behind the last survivor, of whose trials none survived: why the survivor failed, the checkpoints that stood then, and the trials.
+pub record Walk : Type 0 where
+  pub cause : Cause
+  pub ring : List Path
+  pub trials : List Trial
+
+-- One telling of a session: its account, the recovery behind each earlier survivor, and the walk behind the last one, if there was one.
+pub record Telling : Type 0 where
+  pub account : Session
+  pub recoveries : List Recovery
+  pub walk : Option Walk
+
+abbrev pub story_of : Telling → Story
+story_of telling = record { earlier = telling.account.earlier; recoveries = telling.recoveries; survivor = telling.account.survivor; since = telling.account.since }
+
+-- a walk behind a survivor, as a recovery is told
+abbrev pub walk_behind : Survivor → Walk → Recovery
+walk_behind survivor walk = record { survivor = survivor; cause = walk.cause; ring = walk.ring; trials = walk.trials }
+
+-- the trials behind the last survivor
+abbrev pub trials_of : Option Walk → List Trial
+trials_of None = []
+trials_of (Some walk) = walk.trials
+
+-- and the episode of them
+abbrev pub last_of : Survivor → Option Walk → List Episode
+last_of survivor None = []
+last_of survivor (Some walk) = episode_of (walk_behind survivor walk) ∷ []
+
+-- all episodes of a session
+abbrev pub episodes_of : Story → Option Walk → List Episode
+episodes_of story walk = map episode_of story.recoveries ++ last_of story.survivor walk
 
 -- How many instructions were done before a survivor began: those of each survivor before it, from where it began to where it failed, and
 -- those of all trials, each from its checkpoint.
 abbrev pub spent : List Recovery → ℕ
 spent recoveries = sum (map (λ (recovery : Recovery). (recovery.survivor.now.steps - recovery.survivor.begun.steps) + steps_of recovery.trials) recoveries)
 
--- the episode of trials behind a survivor that failed by a cause
-abbrev pub told_of : Survivor → Cause → List Trial → Episode
-told_of survivor cause trials = episode_of (record { survivor = survivor; cause = cause; ring = []; trials = trials })
+-- all instructions of a session: those of its survivors, and those of all trials
+abbrev pub all_steps : Story → Option Walk → ℕ
+all_steps story walk = spent story.recoveries + (story.survivor.now.steps - story.survivor.begun.steps) + steps_of (trials_of walk)
 
 -- The last survivor failed by this cause, behind some entries of its time and those before it, where it owed nothing; and none of these
 -- trials, a walk over all of its checkpoints, at least one, survived. Those are the checkpoints that its requests left, behind these recoveries.
-pub record HasGivenUp (rules : Rules) (image : Image) (keeping : Keeping) (earlier : List Chapter) (since : List Entry) (recoveries : List Recovery) (survivor : Survivor) (trials : List Trial) (cause : Cause) : Type 0 where
-  pub ring : List Path
-  pub some : 0 < length ring
+pub record HasGivenUp (rules : Rules) (image : Image) (keeping : Keeping) (story : Story) (walk : Walk) : Type 0 where
+  pub some : 0 < length walk.ring
   pub stands : List Stand
-  pub handled : HasHandled rules image keeping earlier (entries_of earlier ++ since) recoveries survivor survivor.now.state.machine.taken stands
-  pub ringed : HasRing stands ring
-  pub recovers : IsRecovery rules image (entries_of earlier ++ since) (record { survivor = survivor; cause = cause; ring = ring; trials = trials })
-  pub none : survivor_in trials ≡ None
-  pub owes_nothing : LeavesNothing rules (entries_of earlier) since survivor
+  pub handled : HasHandled rules image keeping story.earlier (entries story) story.recoveries story.survivor story.survivor.now.state.machine.taken stands
+  pub ringed : HasRing stands walk.ring
+  pub recovers : IsRecovery rules image (entries story) (walk_behind story.survivor walk)
+  pub none : survivor_in walk.trials ≡ None
+  pub owes_nothing : LeavesNothing rules (entries_of story.earlier) story.since story.survivor
 
-abbrev pub GivesUpBy : Rules → Image → Keeping → List Chapter → List Entry → List Recovery → Survivor → List Trial → Answer → Type 0
-GivesUpBy rules image keeping earlier since recoveries survivor trials (answer.GaveUp point cause) = HasGivenUp rules image keeping earlier since recoveries survivor trials cause
-GivesUpBy rules image keeping earlier since recoveries survivor trials _ = Unit {0}
+-- at GaveUp there was a walk, behind a failure by that cause
+abbrev pub GivesUpBy : Option Walk → Answer → Type 0
+GivesUpBy walk (answer.GaveUp point cause) = option_map (λ one. one.cause) walk ≡ Some cause
+GivesUpBy walk _ = Unit {0}
 
--- trials are made behind the last survivor only where it failed, and there is an episode of them
-abbrev pub AreLastTrials : Rules → Image → Keeping → List Chapter → List Entry → List Recovery → Survivor → List Trial → List Episode → Type 0
-AreLastTrials rules image keeping earlier since recoveries survivor trials last =
-    ((trials ≡ []) × (last ≡ [])) ⊎ ((cause : Cause) × HasGivenUp rules image keeping earlier since recoveries survivor trials cause × (last ≡ told_of survivor cause trials ∷ []))
+-- What holds of a telling at an answer: its account, whose first survivor stood at the start, and each later one is the trial that was adopted
+-- behind a failure, from the checkpoints that the requests before it had left; a walk behind the last one, where none survived; and it gives up
+-- only behind such a walk, whatever it answers then.
+pub record IsTelling (rules : Rules) (image : Image) (keeping : Keeping) (coming : Option Coming) (telling : Telling) (end : Answer) : Type 0 where
+  pub ended : IsEnded rules image coming telling.account end
+  pub recovered : AreRecovered rules image [] (first_survivor image) telling.account.earlier telling.recoveries telling.account.survivor
+  pub ringed : HaveRings rules image keeping telling.account.earlier telling.recoveries
+  pub walked : IfSome telling.walk (HasGivenUp rules image keeping (story_of telling))
+  pub gave_up : IfSome telling.account.came (GivesUpBy telling.walk)
 
 -- an answer behind which the notes of a session may lack its last episode
 abbrev pub IsNoteFault : Answer → Type 0
@@ -73,22 +101,34 @@ pub record HasNoted (before now : Noted) (end : Answer) (choices : List Choice) 
   pub none_missing : 0 < length missing → IsNoteFault end
   pub episodes_noted : Grew before.episodes now.episodes told
 
--- A session has served, and its account is told by survivors of which the first stood at the start and each later one is the trial that was
--- adopted behind a failure, whose ring was that of the checkpoints that the requests before it left. It gives up only where no trial from its
--- checkpoints survives. Each instruction was counted: those of the survivors, and those of all trials. Its notes tell of its answers of malloc
--- and of each recovery.
-pub record HasRecovered (rules : Rules) (image : Image) (keeping : Keeping) (began : Told) (seen : Seen) (end : Answer) (noted_before noted_now : Noted) (recorded : ℕ) (tail : List Choice) (taken steps before after : ℕ) : Type 0 where
-  pub choices : List Choice
-  pub served : HasServed rules image began seen end choices taken steps
-  pub recoveries : List Recovery
-  pub recovered : AreRecovered rules image [] (first_survivor image) served.session.earlier recoveries served.session.survivor
-  pub ringed : HaveRings rules image keeping served.session.earlier recoveries
-  pub trials : List Trial
-  pub last : List Episode
-  pub tried : AreLastTrials rules image keeping served.session.earlier served.session.since recoveries served.session.survivor trials last
-  pub gave_up : GivesUpBy rules image keeping served.session.earlier served.session.since recoveries served.session.survivor trials end
-  pub counted : end ≢ answer.Memory → after ≡ before + (spent recoveries + (served.session.survivor.now.steps - served.session.survivor.begun.steps) + steps_of trials)
-  pub notes : HasNoted noted_before noted_now end choices (map episode_of recoveries ++ last) recorded tail
+-- Nothing came or went behind the last episode of a session: it came to no end; and behind a last recovery, unless a walk follows it, no entry stands.
+abbrev pub HasNothingBehind : Telling → Type 0
+HasNothingBehind telling = HasNoEnding telling.account × MatchOption telling.walk (telling.account.since ≡ []) (λ walk. Unit {0})
+
+-- What a session leaves as numbers: its answer; of its run's answers of malloc how many are recorded, and the others; the items that the run took,
+-- and its instructions.
+pub record Outcome : Type 0 where
+  pub end : Answer
+  pub recorded : ℕ
+  pub tail : List Choice
+  pub taken : ℕ
+  pub steps : ℕ
+
+-- The outcome of a session, by one telling of it. Its notes tell of its answers of malloc and of each recovery; where they lack an episode, nothing
+-- came or went behind it. So many instructions were counted: those of the survivors, and those of all trials.
+pub record IsOutcome (rules : Rules) (image : Image) (keeping : Keeping) (coming : Option Coming) (telling : Telling) (outcome : Outcome) (noted_before noted_now : Noted) (counted : ℕ) : Type 0 where
+  pub is : IsTelling rules image keeping coming telling outcome.end
+  pub notes : HasNoted noted_before noted_now outcome.end telling.account.survivor.now.choices (episodes_of (story_of telling) telling.walk) outcome.recorded outcome.tail
+  pub unnoted : 0 < length notes.missing → HasNothingBehind telling
+  pub taken_is : telling.account.survivor.now.state.machine.taken ≡ outcome.taken
+  pub steps_are : telling.account.survivor.now.steps ≡ outcome.steps
+  pub all_counted : outcome.end ≢ answer.Memory → counted ≡ all_steps (story_of telling) telling.walk
+
+-- A session has served a link: one telling of it, which has its outcome, and which its link shows.
+pub record HasRecovered (rules : Rules) (image : Image) (keeping : Keeping) (began seen : Seen) (outcome : Outcome) (noted_before noted_now : Noted) (counted : ℕ) : Type 0 where
+  pub telling : Telling
+  pub is : IsOutcome rules image keeping seen.coming telling outcome noted_before noted_now counted
+  pub shows : ShowsSession rules began seen telling.account
 
 -- a whole table is that of a recovery, behind all entries that the journal had at the failure
 abbrev pub IsTable : Rules → List Entry → Recovery → List Try → Type 0
@@ -101,24 +141,20 @@ AreTables rules before [] [] [] = Unit {0}
 AreTables rules before (chapter ∷ chapters) (recovery ∷ recoveries) (tries ∷ tables) = IsTable rules (before ++ chapter.entries) recovery tries × AreTables rules (before ++ chapter.entries) chapters recoveries tables
 AreTables rules before _ _ _ = ⊥
 
--- Tables behind those. Where an episode tells of trials behind the last survivor, there is one, that of its checkpoints. Else there is none; but
--- where memory ran out one may stand there.
-abbrev pub AreLastTables : Rules → Image → Keeping → List Chapter → List Entry → List Recovery → Survivor → List Trial → List Episode → Answer → List (List Try) → Type 0
-AreLastTables rules image keeping earlier since recoveries survivor trials [] end tables = (length tables ≤ 1) × (end ≢ answer.Memory → tables ≡ [])
-AreLastTables rules image keeping earlier since recoveries survivor trials (episode ∷ more) end tables =
-    (cause : Cause) × (given_up : HasGivenUp rules image keeping earlier since recoveries survivor trials cause) × (tries : List Try) × (tables ≡ tries ∷ [])
-    × IsTable rules (entries_of earlier ++ since) (record { survivor = survivor; cause = cause; ring = given_up.ring; trials = trials }) tries
+-- Tables behind those. Behind a walk there is one, that of its checkpoints. Else there is none; but where memory ran out one may stand there.
+abbrev pub AreLastTables : Rules → Story → Option Walk → Answer → List (List Try) → Type 0
+AreLastTables rules story None end tables = (length tables ≤ 1) × (end ≢ answer.Memory → tables ≡ [])
+AreLastTables rules story (Some walk) end tables = (tries : List Try) × (tables ≡ tries ∷ []) × IsTable rules (entries story) (walk_behind story.survivor walk) tries
 
 -- All tables that a watch tells of a session: those of its recoveries, and those behind the last survivor.
-pub record AreAllTables (rules : Rules) (image : Image) (keeping : Keeping) (earlier : List Chapter) (since : List Entry) (survivor : Survivor) (recoveries : List Recovery) (trials : List Trial) (last : List Episode) (end : Answer) (tables : List (List Try)) : Type 0 where
+pub record AreAllTables (rules : Rules) (story : Story) (walk : Option Walk) (end : Answer) (tables : List (List Try)) : Type 0 where
   pub each : List (List Try)
   pub behind : List (List Try)
   pub all : tables ≡ each ++ behind
-  pub each_right : AreTables rules [] earlier recoveries each
-  pub behind_right : AreLastTables rules image keeping earlier since recoveries survivor trials last end behind
+  pub each_right : AreTables rules [] story.earlier story.recoveries each
+  pub behind_right : AreLastTables rules story walk end behind
 
--- A session that was watched has served and has recovered, and its watch, where it tells its tables, has told those of its recoveries more.
-pub record HasWatched (rules : Rules) (image : Image) (keeping : Keeping) (began : Told) (seen : Seen) (end : Answer) (noted_before noted_now : Noted) (recorded : ℕ) (tail : List Choice) (taken steps before after : ℕ) (tables_before tables : Option (List (List Try))) : Type 0 where
-  pub recovered : HasRecovered rules image keeping began seen end noted_before noted_now recorded tail taken steps before after
-  pub watched : TellsMore tables_before tables
-      (AreAllTables rules image keeping recovered.served.session.earlier recovered.served.session.since recovered.served.session.survivor recovered.recoveries recovered.trials recovered.last end)
+-- A session that was watched has served, and its watch, where it tells its tables, has told those of its recoveries more.
+pub record HasWatched (rules : Rules) (image : Image) (keeping : Keeping) (began seen : Seen) (outcome : Outcome) (noted_before noted_now : Noted) (counted : ℕ) (tables_before tables : Option (List (List Try))) : Type 0 where
+  pub recovered : HasRecovered rules image keeping began seen outcome noted_before noted_now counted
+  pub watched : TellsMore tables_before tables (AreAllTables rules (story_of recovered.telling) recovered.telling.walk outcome.end)

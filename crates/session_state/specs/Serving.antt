@@ -1,47 +1,19 @@
 -- What the parts of a session's code make of it.
-use Rattle.std.specs.declared.alloc.AllocError.{AllocError}
-use Rattle.std.specs.Prelude.{◌≡◌, ◌≢◌, ◌⊎◌, ℕ, ◌+◌, ◌<◌, ◌≤◌, List, length, Bool, true, false, Option, None, Some, IsSome, option_map, [], ◌∷◌, Result, Ok, Err, IfOk, IsErrOf}
-use Rattle.links.specs.declared.journal.Entry.{Entry}
-use Rattle.rx_io.specs.Faults.{Rose}
-use Rattle.rx_io.specs.declared.fault.IoFault.{IoFault}
+use Rattle.std.specs.Prelude.{◌≡◌, ◌≢◌, ◌⊎◌, ℕ, ◌+◌, ◌<◌, ◌≤◌, List, length, Bool, true, false, Option, None, Some, option_map, [], ◌∷◌, Result, Ok, Err, IfOk, IsErrOf}
 use Rattle.rx_io.specs.declared.fault.IoFault.TheVariants as note
-use Rattle.links.specs.Links.{Grew, Coming, Counts}
-use Rattle.links.specs.Seen.{Seen, but_given}
-use Rattle.link_gate.specs.Passing.{CanGive}
-use Rattle.rx_io.specs.Sends.{Send}
-use Rattle.elf_image.specs.declared.image.Image.{Image}
 use Rattle.item_log.specs.Log as logs
-use Rattle.reply_ledger.specs.Ledger.{Ledger, is_open, IsOpened}
-use Rattle.reply_ledger.specs.Parts.{next_part}
-use Rattle.run_history.specs.declared.answer.Answer.{Answer}
-use Rattle.run_history.specs.declared.answer.Cause.{Cause}
+use Rattle.reply_ledger.specs.Ledger.{is_open}
 use Rattle.run_history.specs.declared.answer.Answer.TheVariants as answer
-use Rattle.guest_cpu.specs.declared.event.Event.{Event}
 use Rattle.guest_cpu.specs.declared.event.Event.TheVariants as step
-use Rattle.guest_cpu.specs.Cpus.{live_of, with_live}
-use Rattle.guest_runs.specs.Writing.{RunsWriting}
-use Rattle.session_history.specs.Heeding.{Bounds, items_in, received}
-use Rattle.session_history.specs.Answering.{HasAnswerCause}
-use Rattle.session_history.specs.Passing.{passed_in, AreInOrder}
-use Rattle.session_history.specs.Lawful.{Rules}
-use Rattle.session_history.specs.Keeping.{KeepsReplies}
-use Rattle.session_history.specs.Ends.{IsEnd, WasAsked}
-use Rattle.session_history.specs.Giving.{AreGiven, IsClosing}
-use Rattle.link_gate.specs.declared.pass_fault.PassFault.{PassFault}
+pub use Rattle.session_history.specs.Ends.{TakesAtEnd, StaysKnown}
 use Rattle.link_gate.specs.declared.pass_fault.PassFault.TheVariants as fault
-use Rattle.link_gate.specs.declared.heard.HearFault.{HearFault}
 use Rattle.link_gate.specs.declared.heard.HearFault.TheVariants as hear
-use Rattle.recovery.specs.declared.walking.Adopted.{Adopted}
-use Rattle.recovery.specs.declared.recovering.Recovered.{Recovered}
-use Rattle.session_notes.specs.Noting.{Noted, Shown}
-use Rattle.session_notes.specs.declared.episode.Try.{Try}
-use Rattle.session_state.specs.declared.stop.Stop.{Stop}
+use Rattle.session_state.specs.Terms.{AllocError, IoFault, Rose, Send, Entry, Coming, Counts, Grew, Seen, but_given, Heap, IsOpened, Ledger, next_part, Image, Answer, Cause, Event, live_of, with_live, RunsWriting, HasAnswerCause, IsEnd, WasAsked, AreGiven, IsClosing, Bounds, items_in, received, KeepsReplies, Rules, AreInOrder, passed_in, HearFault, PassFault, CanGive, Try, Noted, Shown, Recovered, Adopted, Stop}
 use Rattle.session_state.specs.declared.stop.Stop.TheVariants as stop
 use Rattle.session_state.specs.Sessions.{SessionState, IsBegun}
-use Rattle.session_state.specs.Recovered.{IsNoteFault}
+use Rattle.session_state.specs.Recovered.{Outcome, IsNoteFault}
 use Rattle.session_state.specs.Leaving.{keeping_of, IsHandled, IsRecorded, IsTrimmed, KeepsOldest, HoldsCheckpoints}
 use Rattle.session_state.specs.Options.{rules_of}
-use Rattle.block_book.specs.Heap.{Heap}
 use Rattle.session_state.specs.Standing.{Since, Story, entries, moment, sends, then_story, IsTold, AnswersFor, HasPassed, HasPassedDue, IsGoing, IsBetween, IsAsking, IsWaitingFor, IsFailing, IsEnding, IsBrokenOff, HasNotedMore}
 
 -- a fault of passing is this answer
@@ -106,11 +78,6 @@ UnlessBroken (Err (stop.Breaks end)) P = Unit {0}
 abbrev pub UnlessMemory : {X : Type 0} → Result X Stop → Type 0 → Type 0
 UnlessMemory result P = result ≢ Err (stop.Breaks answer.Memory) → P
 
--- Whether events may be taken from a link at an end of a session: not behind a refusal, and else they may.
-abbrev pub TakesAtEnd : Bool → Answer → Type 0
-TakesAtEnd takes (answer.InputRefused kind offset) = takes ≡ false
-TakesAtEnd takes end = IsEnd end → takes ≡ true
-
 -- the same where it goes on; where it was broken off nothing is said
 abbrev pub TakesBy : {X : Type 0} → Bool → Result X Stop → Type 0
 TakesBy takes (Ok done) = takes ≡ true
@@ -149,11 +116,6 @@ UnlessNoteStop (Err (stop.Breaks end)) P = UnlessNoteFault end P
 abbrev pub IsUnnoted : Result (Unit {0}) Stop → Type 0
 IsUnnoted (Err (stop.Breaks answer.FileFault)) = ⊥
 IsUnnoted _ = Unit {0}
-
--- where it was told what a link's grammar has next, it is told still
-abbrev pub StaysKnown : Option Coming → Option Coming → Type 0
-StaysKnown None new = Unit {0}
-StaysKnown (Some old) new = IsSome new
 
 -- What is known of a link where a session was broken off: at a fault of writing what comes is told still, at a fault of reading the link
 -- gives still, at one of the notes both hold, and at want of memory one of both. So no call failed but one.
@@ -206,6 +168,13 @@ pub record LinkFinishes (old new : Seen) (end result : Answer) : Type 0 where
   pub once : BreaksAt old.coming new.coming new.gives result
   pub cause : HasAnswerCause old.counts new.counts result
 
+-- What is known of a link at this end of a session, before which it showed something: an event was asked for where no more may be taken; what may
+-- be taken is as the end leaves it; and what comes next is told still.
+pub record IsFinishing (rules : Rules) (began before : Seen) (story : Story) (end : Answer) : Type 0 where
+  pub asked : before.takes ≡ false → IsAsking rules story
+  pub takes : TakesAtEnd before.takes end
+  pub known : StaysKnown began.coming before.coming
+
 -- What notes show behind a part of serving: those that worked work still, unless noting failed; and FileFault has its cause.
 pub record NotesServe (old new : Shown) (result : Result (Unit {0}) Stop) : Type 0 where
   pub works : UnlessNoteStop result (new.works ≡ old.works)
@@ -239,6 +208,10 @@ module _ {R : Type 0} where
     pub holds : HoldsCheckpoints rules image story.earlier (entries story) story.recoveries story.survivor session
     pub received_are : logs.received session.log ≡ received rules.bounds (entries story)
 
+  -- the outcome of a session that answers so
+  abbrev pub outcome_of : Answer → SessionState R → Outcome
+  outcome_of end session = record { end = end; recorded = session.recorded; tail = session.choices; taken = session.taken; steps = session.steps }
+
   -- what a session allows its guest and its link, by how its access rule is read
   abbrev pub rules_by : (R → Heap → ℕ → ℕ → Bool) → SessionState R → Rules
   rules_by permits session = rules_of session.options (permits session.cpu.rule)
@@ -246,7 +219,7 @@ module _ {R : Type 0} where
   -- A session came to one of its ends, or was broken off. Where events may not be taken any more, one was asked for.
   abbrev pub StopsBy : Rules → Image → Since → Seen → SessionState R → Stop → Type 0
   StopsBy rules image began seen session (stop.Ends end) = (ending : IsEnding rules image began seen session end) × (seen.takes ≡ false → IsAsking rules ending.story)
-  StopsBy rules image began seen session (stop.Breaks end) = (off : IsBrokenOff rules image began seen session end) × (seen.takes ≡ false → WasAsked rules off.account)
+  StopsBy rules image began seen session (stop.Breaks end) = (off : IsBrokenOff rules image began seen session end) × (seen.takes ≡ false → WasAsked rules off.telling.account)
 
   -- it was broken off
   abbrev pub BreaksBy : Rules → Image → Since → Seen → SessionState R → Stop → Type 0

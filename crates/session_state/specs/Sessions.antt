@@ -1,15 +1,7 @@
 -- What a contract sees of a session.
 use Rattle.std.specs.Prelude.{◌≡◌, ℕ, ◌*◌, ◌/◌, List, [], nat_lt, if◌then◌else◌}
-use Rattle.alloc_env.specs.declared.env.Env.{Env}
-use Rattle.alloc_env.specs.declared.env.Env.TheVariants.{Plain}
-use Rattle.block_book.specs.declared.choice.Choice.{Choice}
-use Rattle.elf_image.specs.declared.image.Image.{Image}
-use Rattle.ckpt_ring.specs.Rings.{Checkpoints, checkpoints}
-use Rattle.guest_cpu.specs.Cpus.{CpuState, IsFreshCpu}
-use Rattle.item_log.specs.Log.{Log, empty_log}
 use Rattle.item_log.specs.Log as logs
-use Rattle.reply_ledger.specs.Ledger.{Ledger, no_replies}
-use Rattle.session_state.specs.declared.options.Options.{Options}
+use Rattle.session_state.specs.Terms.{Choice, Env, Plain, Checkpoints, checkpoints, Log, empty_log, Ledger, no_replies, Image, CpuState, IsFreshCpu, Options}
 use Rattle.session_state.specs.Options.{AreInRange}
 
 -- A session: its options, its guest with its checkpoints, the items and the replies; how many events came; of the run that it answers for

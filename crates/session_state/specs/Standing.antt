@@ -1,51 +1,12 @@
 -- Where a session stands between two events of its guest.
-use Rattle.std.specs.Prelude.{◌≡◌, ◌≢◌, ◌⊎◌, ℕ, ◌+◌, ◌<◌, ◌≤◌, List, [], ◌++◌, length, map, take, drop, true, false, Option, None, Some}
-use Rattle.links.specs.declared.journal.Entry.{Entry}
-use Rattle.links.specs.Links.{Phases, Told, Tells, Grew, events_in}
-use Rattle.links.specs.Seen.{Seen}
-use Rattle.rx_io.specs.Sends.{Send}
-use Rattle.elf_image.specs.declared.image.Image.{Image}
-use Rattle.reply_ledger.specs.Ledger.{Ledger}
-use Rattle.run_history.specs.declared.answer.Answer.{Answer}
+use Rattle.std.specs.Prelude.{◌≡◌, ◌≢◌, ◌⊎◌, ℕ, ◌+◌, ◌<◌, ◌≤◌, List, [], ◌++◌, length, map, take, drop, true, Option, None, Some, IfSome}
 use Rattle.run_history.specs.declared.answer.Answer.TheVariants as answer
-use Rattle.run_history.specs.declared.answer.Cause.{Cause}
-use Rattle.run_history.specs.Call.{may_send}
-use Rattle.run_history.specs.Served.{Path, Served, FailsBy, AsksFor}
-use Rattle.guest_cpu.specs.Serving.{standing_of}
-use Rattle.guest_runs.specs.Runs.{IsBounded}
-use Rattle.session_history.specs.Heeding.{heeded, items_in, received, AreHeeded}
 use Rattle.item_log.specs.Log as logs
-use Rattle.session_history.specs.Opened.{opens, is_open}
-use Rattle.session_history.specs.Owing.{Moment, journal, Latest, latest, received_before, Stands, IsDueBy, IsPassed, OwesNothing, place_at}
-use Rattle.session_history.specs.Lawful.{Rules, Survivor, is_closing, Chapter, entries_of}
-use Rattle.session_history.specs.Account.{Session, journal_of, IsAccount}
-use Rattle.session_history.specs.Serving.{moment_of, Serving, first_survivor}
-use Rattle.session_history.specs.Keeping.{KeepsReplies, KeepsItems, KeepsPhases}
-use Rattle.session_history.specs.Giving.{AreGiven}
-use Rattle.session_history.specs.Ends.{IsEnd, IsWaiting, StandsAt, EndsBy, before_end}
-use Rattle.trials.specs.Tables.{Trial}
-use Rattle.recovery.specs.Trying.{steps_of}
-use Rattle.session_state.specs.Recovered.{spent, GivesUpBy, AreLastTrials, HasNoted, IsNoteFault, AreTables, AreAllTables}
-use Rattle.recovery.specs.Handling.{HaveRings, HasHandled, stands_of}
+use Rattle.session_state.specs.Terms.{Send, Entry, Grew, Phases, Tells, Told, events_in, Seen, Choice, Ledger, Image, Answer, Cause, may_send, AsksFor, FailsBy, Path, Served, standing_of, IsBounded, journal_of, IsEnd, IsWaiting, StandsAt, before_end, AreHeeded, heeded, items_in, received, KeepsItems, KeepsPhases, KeepsReplies, Rules, is_closing, is_open, opens, IsDueBy, IsPassed, Latest, Moment, OwesNothing, Stands, journal, latest, place_at, received_before, Serving, first_survivor, moment_of, Episode, Try, Noted, AreRecovered, episode_of, HasHandled, stands_of, AreBehind, IsInForce, KeepsRing, steps_of, TellsMore}
+pub use Rattle.session_state.specs.Recovered.{Story, entries}
+use Rattle.session_state.specs.Recovered.{Walk, Telling, story_of, trials_of, last_of, episodes_of, spent, HasGivenUp, GivesUpBy, IsTelling, HasNoted, HasNothingBehind, IsNoteFault, AreTables, AreAllTables}
 use Rattle.session_state.specs.Leaving.{HoldsCheckpoints, UnlessGaveUp, IsAtRequest, HandlesRequests, keeping_of}
-use Rattle.recovery.specs.Watching.{TellsMore}
-use Rattle.trials.specs.Episodes.{Recovery, episode_of, AreRecovered}
-use Rattle.recovery.specs.Rings.{KeepsRing, AreBehind, IsInForce}
-use Rattle.block_book.specs.declared.choice.Choice.{Choice}
-use Rattle.session_notes.specs.declared.episode.Episode.{Episode}
-use Rattle.session_notes.specs.declared.episode.Try.{Try}
-use Rattle.session_notes.specs.Noting.{Noted}
 use Rattle.session_state.specs.Sessions.{SessionState}
-
--- a session so far, as data: the chapters of earlier survivors, with the recovery behind each, the survivor, and the entries of its time
-pub record Story : Type 0 where
-  pub earlier : List Chapter
-  pub recoveries : List Recovery
-  pub survivor : Survivor
-  pub since : List Entry
-
-abbrev pub entries : Story → List Entry
-entries story = entries_of story.earlier ++ story.since
 
 abbrev pub moment : Story → Moment
 moment story = moment_of story.earlier story.since story.survivor.now.state.machine.taken
@@ -189,14 +150,13 @@ module _ {R : Type 0} where
   -- at one of its ends, before what is left is passed
   pub record IsEnding (rules : Rules) (image : Image) (began : Since) (seen : Seen) (session : SessionState R) (end : Answer) : Type 0 where
     pub story : Story
-    pub trials : List Trial
+    pub walk : Option Walk
     pub lost : ℕ
-    pub lost_is : began.lost ≡ lost + steps_of trials
+    pub lost_is : began.lost ≡ lost + steps_of (trials_of walk)
     pub noted : Noted
-    pub last : List Episode
-    pub last_noted : HasNotedMore noted began.noted [] last
+    pub last_noted : HasNotedMore noted began.noted [] (last_of story.survivor walk)
     pub told : IsTold rules image (unwatched (record began { lost = lost; noted = noted })) seen.told story
-    pub tables : TellsMore began.tables_before began.tables (AreAllTables rules image (keeping_of session) story.earlier story.since story.survivor story.recoveries trials last end)
+    pub tables : TellsMore began.tables_before began.tables (AreAllTables rules story walk end)
     pub answers : AnswersFor (record began { lost = lost; noted = noted }) story session
     pub received_are : logs.received session.log ≡ received rules.bounds (entries story)
     pub replies : KeepsReplies rules.bounds (entries story) None (sends story) session.replies
@@ -207,28 +167,22 @@ module _ {R : Type 0} where
     pub live : UnlessGaveUp end (session.cpu.slots.live ≡ standing_of story.survivor.now)
     pub is_end : IsEnd end
     pub stands : StandsAt rules (entries story) seen.coming story.survivor end
-    pub tried : AreLastTrials rules image (keeping_of session) story.earlier story.since story.recoveries story.survivor trials last
-    pub gave_up : GivesUpBy rules image (keeping_of session) story.earlier story.since story.recoveries story.survivor trials end
+    pub walked : IfSome walk (HasGivenUp rules image (keeping_of session) story)
+    pub gave_up : GivesUpBy walk end
 
   -- a session that was broken off, by no end of its own
   pub record IsBrokenOff (rules : Rules) (image : Image) (began : Since) (seen : Seen) (session : SessionState R) (end : Answer) : Type 0 where
-    pub account : Session
-    pub tells : Tells began.told seen.told (journal_of account)
-    pub is_account : IsAccount rules image account false
-    pub ends : EndsBy rules seen.coming account end
-    pub pieces : AreGiven account.ending
+    pub telling : Telling
+    pub is : IsTelling rules image (keeping_of session) seen.coming telling end
     pub no_end : IsEnd end → ⊥
-    pub recoveries : List Recovery
-    pub holds : (IsNoteFault end → ⊥) → HoldsCheckpoints rules image account.earlier (before_end account) recoveries account.survivor session
-    pub handled : IsAtRequest end → HasHandled rules image (keeping_of session) account.earlier (before_end account) recoveries account.survivor (account.survivor.now.state.machine.taken + 1) (stands_of session.cpu.slots.saved)
-    pub recovered : AreRecovered rules image [] (first_survivor image) account.earlier recoveries account.survivor
-    pub ringed : HaveRings rules image (keeping_of session) account.earlier recoveries
-    pub trials : List Trial
-    pub last : List Episode
-    pub tried : AreLastTrials rules image (keeping_of session) account.earlier account.since recoveries account.survivor trials last
-    pub notes : HasNoted began.noted_before began.noted end account.survivor.now.choices (map episode_of recoveries ++ last) session.recorded session.choices
-    pub tables : TellsMore began.tables_before began.tables (AreAllTables rules image (keeping_of session) account.earlier account.since account.survivor recoveries trials last end)
-    pub taken : session.taken ≡ account.survivor.now.state.machine.taken
-    pub steps : session.steps ≡ account.survivor.now.steps
-    pub counted : end ≢ answer.Memory → spent recoveries + steps_of trials ≡ began.lost + account.survivor.begun.steps
-    pub later : account.survivor.begun.steps ≤ account.survivor.now.steps
+    pub none_came : telling.account.came ≡ None
+    pub tells : Tells began.told seen.told (journal_of telling.account)
+    pub holds : (IsNoteFault end → ⊥) → HoldsCheckpoints rules image telling.account.earlier (before_end telling.account) telling.recoveries telling.account.survivor session
+    pub handled : IsAtRequest end → HasHandled rules image (keeping_of session) telling.account.earlier (before_end telling.account) telling.recoveries telling.account.survivor (telling.account.survivor.now.state.machine.taken + 1) (stands_of session.cpu.slots.saved)
+    pub notes : HasNoted began.noted_before began.noted end telling.account.survivor.now.choices (episodes_of (story_of telling) telling.walk) session.recorded session.choices
+    pub unnoted : 0 < length notes.missing → HasNothingBehind telling
+    pub tables : TellsMore began.tables_before began.tables (AreAllTables rules (story_of telling) telling.walk end)
+    pub taken : session.taken ≡ telling.account.survivor.now.state.machine.taken
+    pub steps : session.steps ≡ telling.account.survivor.now.steps
+    pub counted : end ≢ answer.Memory → spent telling.recoveries + steps_of (trials_of telling.walk) ≡ began.lost + telling.account.survivor.begun.steps
+    pub later : telling.account.survivor.begun.steps ≤ telling.account.survivor.now.steps

@@ -1,16 +1,7 @@
 -- Fronts of what a run emits agree with what was passed, and a byte that differs stays.
-use Rattle.std.proofs.Common.{◌≡◌, ℕ, ◌<◌, Bool, true, false, cond, eqb, ◌&&◌, List, [], ◌∷◌, ◌++◌, refl, sym, ◌∙◌, ap, subst, arith, append-nil}
-use Rattle.std.proofs.lemmas.Bool.{eq-eqb, lt-leb}
 use Rattle.std.proofs.lemmas.List.Elements.{filter-append}
-use Rattle.rx_io.specs.Prefix.{Prefix}
-use Rattle.rx_io.specs.Sends.{Send, sent_to}
-use Rattle.reply_ledger.specs.Trials.{agree}
-use Rattle.run_history.specs.Machine.{State}
-use Rattle.run_history.specs.Run.{output}
 use Rattle.run_history.proofs.Outputs.{prefix_sent}
-use Rattle.session_history.specs.Passing.{until, AreBetween}
-use Rattle.session_history.proofs.Growing.{Grows}
-use Rattle.trials.specs.Laws.{CheckpointUnharmed}
+use Rattle.trials.proofs.Terms.{Bool, List, [], ap, append-nil, arith, cond, eqb, false, refl, subst, sym, true, ℕ, ◌&&◌, ◌++◌, ◌<◌, ◌∙◌, ◌∷◌, ◌≡◌, eq-eqb, lt-leb, Prefix, Send, sent_to, agree, State, output, Grows, AreBetween, until, CheckpointUnharmed}
 use Rattle.trials.proofs.Going.{served_grows}
 
 -- two fronts of one list agree

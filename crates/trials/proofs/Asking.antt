@@ -1,22 +1,6 @@
 -- A run that stands at its request for an item asks nothing of the allocator there, so that no environment matters.
-use Rattle.std.proofs.Common.{◌≡◌, ℕ, ◌+◌, Bool, true, false, cond, leb, List, Option, Some, None, refl, sym, ◌∙◌, ap, subst}
-use Rattle.std.specs.Prelude.{slice_get, is_some, option_map}
-use Rattle.std.proofs.lemmas.Option.{none-some, same_Some}
-use Rattle.rx_io.specs.declared.bytes.Item.{Item}
-use Rattle.block_book.specs.declared.choice.Choice.{Choice}
-use Rattle.block_book.specs.Answer.{is_allowed}
-use Rattle.alloc_env.specs.declared.env.Env.{Env}
-use Rattle.run_history.specs.declared.answer.Cause.TheVariants.{BadAccess, Hang}
-use Rattle.run_history.specs.Machine.{Machine, State, register, Effect, Goes, Wants, Chooses, Fails}
-use Rattle.run_history.specs.Call.{takes, chooses, allocated, freed}
-use Rattle.run_history.specs.Run.{does, after}
-use Rattle.run_history.specs.Touching.{instruction_at, touched}
-use Rattle.run_history.specs.Served.{Limits, Guest, Request, Malloc, Free, Nothing, request_of, Grant, granted, grant, is_refused, does_with, serves, Override, env_at, Path, guest_of, longer, served_next, planned_next, AsksFor}
-use Rattle.run_history.proofs.Shapes.{Alone, Shape, Same, Takes, Picks, does_shape}
-use Rattle.run_history.proofs.Runs.{received_keeps}
-use Rattle.run_history.proofs.Serves.{mallocs, serves_to}
 use Rattle.run_history.proofs.Blocks.{frees}
-use Rattle.trials.specs.Laws.{AsksUnderAll}
+use Rattle.trials.proofs.Terms.{Bool, List, None, Option, Some, ap, cond, false, leb, refl, subst, sym, true, ℕ, ◌+◌, ◌∙◌, ◌≡◌, none-some, same_Some, is_some, option_map, slice_get, Item, Choice, is_allowed, Env, BadAccess, Hang, received_keeps, mallocs, serves_to, Alone, Picks, Same, Shape, Takes, does_shape, allocated, chooses, freed, takes, Chooses, Effect, Fails, Goes, Machine, State, Wants, register, after, does, AsksFor, Free, Grant, Guest, Limits, Malloc, Nothing, Override, Path, Request, does_with, env_at, grant, granted, guest_of, is_refused, longer, planned_next, request_of, served_next, serves, instruction_at, touched, AsksUnderAll}
 
 -- the request of the guest's instruction
 abbrev request_at : Guest → Request

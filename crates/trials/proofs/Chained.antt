@@ -1,16 +1,5 @@
 -- Checkpoints as a chain of runs.
-use Rattle.std.proofs.Common.{◌≡◌, inl, inr, ℕ, zero, suc, ◌+◌, ◌<◌, ◌≤◌, Bool, cond, List, [], ◌∷◌, drop, Some, refl, sym, ◌∙◌, ap, subst, arith}
-use Rattle.std.specs.Prelude.{slice_get}
-use Rattle.std.proofs.lemmas.Bool.{ne_eqb}
-use Rattle.std.proofs.lemmas.Option.{none-some, same_Some}
-use Rattle.rx_io.specs.declared.bytes.Item.{Item}
-use Rattle.elf_image.specs.declared.image.Image.{Image}
-use Rattle.alloc_env.specs.declared.env.Env.{Env}
-use Rattle.run_history.specs.Served.{Limits, Override, env_at, Path, origin, served_next, Served}
-use Rattle.session_history.proofs.Paths.{served_same, served_on}
-use Rattle.trials.specs.Trials.{plan_of_trial}
-use Rattle.trials.specs.Chains.{IsCheckpoint, AreCheckpoints, AreChained}
-use Rattle.trials.specs.Laws.{ChainedAt, ChainedDrop, ChainedAdopt}
+use Rattle.trials.proofs.Terms.{Bool, List, Some, [], ap, arith, cond, drop, inl, inr, refl, subst, suc, sym, zero, ℕ, ◌+◌, ◌<◌, ◌∙◌, ◌∷◌, ◌≡◌, ◌≤◌, ne_eqb, none-some, same_Some, slice_get, Item, Env, Image, Limits, Override, Path, Served, env_at, origin, served_next, served_on, served_same, plan_of_trial, AreChained, AreCheckpoints, IsCheckpoint, ChainedAdopt, ChainedAt, ChainedDrop}
 use Rattle.trials.proofs.Going.{taken_later, nothing_before, served_as}
 use Rattle.trials.proofs.Planned.{env_before}
 

@@ -1,13 +1,6 @@
 -- What the definitions compute at values.
-use Rattle.std.proofs.Common.{◌≡◌, ℕ, List, [], ◌∷◌, map, None, Some, refl}
-use Rattle.std.specs.Prelude.{option_map}
-use Rattle.alloc_env.specs.declared.env.Env.TheVariants.{Plain, Pad, Zero, Isolate, Delay, All}
-use Rattle.run_history.specs.declared.answer.Cause.TheVariants.{Hang}
-use Rattle.run_history.specs.Served.{Override, env_at, Path}
 use Rattle.session_notes.specs.declared.episode.Tried.TheVariants.{Asks, Behind}
-use Rattle.trials.specs.Trials.{plan_of_trial}
-use Rattle.trials.specs.Tables.{Chance, table, Trial, survivor_in}
-use Rattle.trials.specs.Episodes.{Recovery, episode_of, adopted_by}
+use Rattle.trials.proofs.Terms.{List, None, Some, [], map, refl, ℕ, ◌∷◌, ◌≡◌, option_map, All, Delay, Isolate, Pad, Plain, Zero, Hang, Override, Path, env_at, plan_of_trial, Chance, Trial, survivor_in, table, Recovery, adopted_by, episode_of}
 
 -- a plan that is in force before a failure: Delay from the start on, up to 5 items
 abbrev delayed : List Override

@@ -1,19 +1,6 @@
 -- What a served run adds, and how two runs from one place stand to each other.
-use Rattle.std.proofs.Common.{◌≡◌, ◌⊎◌, inl, inr, ℕ, zero, suc, ◌+◌, ◌<◌, ◌≤◌, List, [], ◌∷◌, ◌++◌, Option, Some, None, refl, sym, ◌∙◌, ap, subst, arith, replicate, ◌-◌}
-use Rattle.std.specs.Prelude.{slice_get, option_and_then}
-use Rattle.std.proofs.lemmas.Bool.{cases_lt}
 use Rattle.std.proofs.lemmas.List.{length-replicate}
-use Rattle.std.proofs.lemmas.Option.{option_and_then_some, none-some, same_Some}
-use Rattle.rx_io.specs.declared.bytes.Item.{Item}
-use Rattle.block_book.specs.declared.choice.Choice.{Choice}
-use Rattle.alloc_env.specs.declared.env.Env.{Env}
-use Rattle.run_history.specs.Run.{does, next}
-use Rattle.run_history.specs.Served.{Limits, Override, Path, Served, served_next, env_at, planned_next, serve}
-use Rattle.run_history.proofs.Repeats.{repeated_keeps, repeated_add, repeated_from}
-use Rattle.run_history.proofs.Runs.{next_after, element_behind}
-use Rattle.run_history.proofs.Serves.{serves_to}
-use Rattle.session_history.proofs.Growing.{Grows, grows_same, grows_on, run_grows}
-use Rattle.session_history.proofs.Paths.{served_on}
+use Rattle.trials.proofs.Terms.{List, None, Option, Some, [], ap, arith, inl, inr, refl, replicate, subst, suc, sym, zero, ℕ, ◌++◌, ◌+◌, ◌-◌, ◌<◌, ◌∙◌, ◌∷◌, ◌≡◌, ◌≤◌, ◌⊎◌, cases_lt, none-some, option_and_then_some, same_Some, option_and_then, slice_get, Item, Choice, Env, repeated_add, repeated_from, repeated_keeps, element_behind, next_after, serves_to, does, next, Limits, Override, Path, Served, env_at, planned_next, serve, served_next, Grows, grows_on, grows_same, run_grows, served_on}
 
 -- answers of malloc, of which this one has this number
 answers_with : Option Choice → ℕ → List Choice

@@ -1,3 +1,4 @@
+pub mod Terms
 pub mod Asking
 pub mod Going
 pub mod Planned

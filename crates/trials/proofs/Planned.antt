@@ -1,20 +1,6 @@
 -- A run that was made in one environment is one under the plan of its trial.
-use Rattle.std.proofs.Common.{◌≡◌, ◌⊎◌, inl, inr, ℕ, ◌+◌, ◌<◌, ◌≤◌, Bool, cond, eqb, ltb, List, [], ◌∷◌, None, sym, ◌∙◌, ap, subst, arith}
-use Rattle.std.proofs.lemmas.Bool.{cond_both, eqb-false, lt-ltb, le-ltb}
-use Rattle.rx_io.specs.declared.bytes.Item.{Item}
-use Rattle.rx_io.specs.Sends.{Send}
-use Rattle.elf_image.specs.declared.image.Image.{Image}
-use Rattle.alloc_env.specs.declared.env.Env.{Env}
-use Rattle.alloc_env.specs.declared.env.Env.TheVariants.{Plain}
-use Rattle.run_history.specs.declared.answer.Cause.{Cause}
-use Rattle.run_history.specs.Machine.{start, start_machine, Wants, Fails}
-use Rattle.run_history.specs.Served.{Limits, Override, env_at, Path, origin, guest_of, serves, served_next, planned_next, Served, FailsBy, AsksFor}
-use Rattle.session_notes.specs.declared.episode.Tried.{Tried}
 use Rattle.session_notes.specs.declared.episode.Tried.TheVariants as tried
-use Rattle.trials.specs.Trials.{plan_of_trial, IsContradicted, IsBehindAt, IsPast, ComesTo}
-use Rattle.session_history.specs.Passing.{Covers}
-use Rattle.trials.specs.Chains.{IsCheckpoint}
-use Rattle.trials.specs.Laws.{everywhere, TrialServes, TrialComes}
+use Rattle.trials.proofs.Terms.{Bool, List, None, [], ap, arith, cond, eqb, inl, inr, ltb, subst, sym, ℕ, ◌+◌, ◌<◌, ◌∙◌, ◌∷◌, ◌≡◌, ◌≤◌, ◌⊎◌, cond_both, eqb-false, le-ltb, lt-ltb, Item, Send, Env, Plain, Image, Cause, Fails, Wants, start, start_machine, AsksFor, FailsBy, Limits, Override, Path, Served, env_at, guest_of, origin, planned_next, served_next, serves, Covers, Tried, ComesTo, IsBehindAt, IsContradicted, IsPast, plan_of_trial, IsCheckpoint, TrialComes, TrialServes, everywhere}
 use Rattle.trials.proofs.Asking.{asks_under_all, asks_next, asks_takes}
 use Rattle.trials.proofs.Going.{taken_later, later_of, served_as}
 

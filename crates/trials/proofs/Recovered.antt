@@ -1,24 +1,6 @@
 -- What a recovery fixes, and how a session goes on behind it.
-use Rattle.std.proofs.Common.{◌≡◌, ℕ, true, List, Some, sym, ◌∙◌, ap, subst}
-use Rattle.std.specs.Prelude.{slice_get}
-use Rattle.rx_io.specs.declared.bytes.Item.{Item}
-use Rattle.rx_io.specs.Sends.{Send}
-use Rattle.elf_image.specs.declared.image.Image.{Image}
-use Rattle.run_history.specs.declared.answer.Cause.{Cause}
-use Rattle.run_history.specs.Machine.{start, start_machine, Fails}
-use Rattle.run_history.specs.Served.{Limits, Override, Path, origin, Served, FailsBy}
-use Rattle.session_history.specs.Heeding.{items_in}
-use Rattle.session_history.specs.Passing.{passed_in, AreBetween, Covers}
-use Rattle.session_history.specs.Lawful.{Survivor}
-use Rattle.session_history.proofs.Passing.{timed_on}
-use Rattle.session_notes.specs.declared.episode.Tried.{Tried}
 use Rattle.session_notes.specs.declared.episode.Tried.TheVariants as tried
-use Rattle.session_notes.specs.Survival.{survives}
-use Rattle.trials.specs.Trials.{IsUnharmed, ComesTo}
-use Rattle.trials.specs.Tables.{Trial}
-use Rattle.trials.specs.Chains.{AreChained}
-use Rattle.trials.specs.Episodes.{Recovery, point_of, IsRecovery, adopted_by}
-use Rattle.trials.specs.EpisodeLaws.{OneRecovery, RecoveryAdopts, RecoveryGivesUp}
+use Rattle.trials.proofs.Terms.{List, Some, ap, subst, sym, true, ℕ, ◌∙◌, ◌≡◌, slice_get, Item, Send, Image, Cause, Fails, start, start_machine, FailsBy, Limits, Override, Path, Served, origin, timed_on, items_in, Survivor, AreBetween, Covers, passed_in, Tried, survives, ComesTo, IsUnharmed, Trial, AreChained, IsRecovery, Recovery, adopted_by, point_of, OneRecovery, RecoveryAdopts, RecoveryGivesUp}
 use Rattle.trials.proofs.Going.{served_grows}
 use Rattle.trials.proofs.Chained.{chained_at, chained_adopt, chained_from}
 use Rattle.trials.proofs.Walked.{one_walk, none_survives, walk_adopts, walk_gives_up}

@@ -1,27 +1,7 @@
 -- What came of a trial is one, and is found in one place.
-use Rattle.std.proofs.Common.{◌≡◌, ◌⊎◌, inl, inr, ℕ, ◌<◌, ◌≤◌, true, false, leb, List, Option, Some, None, refl, sym, ◌∙◌, ap, subst, arith}
-use Rattle.std.specs.Prelude.{slice_get, is_some, IsSome}
-use Rattle.std.proofs.lemmas.Bool.{lt-leb}
-use Rattle.std.proofs.lemmas.Option.{none-some, same_Some}
-use Rattle.rx_io.specs.declared.bytes.Item.{Item}
-use Rattle.rx_io.specs.Prefix.{Prefix}
-use Rattle.rx_io.specs.Sends.{Send, sent_to}
-use Rattle.alloc_env.specs.declared.env.Env.{Env}
-use Rattle.reply_ledger.specs.Trials.{agree}
-use Rattle.run_history.specs.declared.answer.Cause.{Cause}
-use Rattle.run_history.specs.Machine.{Wants, Fails}
-use Rattle.run_history.specs.Run.{does, after, output}
-use Rattle.run_history.specs.Touching.{touched}
-use Rattle.run_history.specs.Served.{Limits, Guest, Override, grant, is_refused, does_with, serves, env_at, Path, guest_of, planned_next, Served, FailsBy, AsksFor}
-use Rattle.run_history.proofs.Runs.{Later as Missing, extends_same, does_more}
-use Rattle.run_history.proofs.Serves.{serves_to}
-use Rattle.session_history.specs.Passing.{until, AreBetween, Covers}
-use Rattle.session_history.proofs.Passing.{all_until, timed_on}
-use Rattle.session_history.proofs.Paths.{served_same}
-use Rattle.session_notes.specs.declared.episode.Tried.{Tried}
+use Rattle.run_history.proofs.Runs.{Later as Missing}
 use Rattle.session_notes.specs.declared.episode.Tried.TheVariants as tried
-use Rattle.trials.specs.Trials.{IsUnharmed, IsBehindAt, IsPast, ComesTo}
-use Rattle.trials.specs.Laws.{OneResult}
+use Rattle.trials.proofs.Terms.{List, None, Option, Some, ap, arith, false, inl, inr, leb, refl, subst, sym, true, ℕ, ◌<◌, ◌∙◌, ◌≡◌, ◌≤◌, ◌⊎◌, lt-leb, none-some, same_Some, IsSome, is_some, slice_get, Item, Prefix, Send, sent_to, Env, agree, Cause, does_more, extends_same, serves_to, Fails, Wants, after, does, output, AsksFor, FailsBy, Guest, Limits, Override, Path, Served, does_with, env_at, grant, guest_of, is_refused, planned_next, serves, touched, all_until, timed_on, served_same, AreBetween, Covers, until, Tried, ComesTo, IsBehindAt, IsPast, IsUnharmed, OneResult}
 use Rattle.trials.proofs.Asking.{asks_takes}
 use Rattle.trials.proofs.Going.{served_grows, taken_later, steps_later, Later, later_served, later_steps, Compared, Equal, Before, Behind, compare, same_next}
 use Rattle.trials.proofs.Agreeing.{differs_on, until_still, output_on}

@@ -1,38 +1,11 @@
 -- The journal at a failure is the shortest.
-use Rattle.std.proofs.Common.{◌≡◌, ◌≢◌, inl, inr, ℕ, ◌<◌, ◌≤◌, Bool, true, false, cond, List, [], ◌∷◌, ◌++◌, length, Option, Some, None, refl, sym, ◌∙◌, ap, subst, arith, append-nil, append_assoc}
-use Rattle.std.specs.Prelude.{slice_get, MatchOption}
-use Rattle.std.proofs.lemmas.Option.{none-some, same_Some, slice_get_within}
-use Rattle.rx_io.specs.declared.bytes.Item.{Item}
-use Rattle.links.specs.declared.journal.Entry.{Entry}
 use Rattle.links.specs.declared.journal.Entry.TheVariants as entry
-use Rattle.rx_io.specs.Prefix.{Prefix}
-use Rattle.rx_io.specs.Sends.{Send, sent_to}
-use Rattle.elf_image.specs.declared.image.Image.{Image}
-use Rattle.block_book.specs.declared.choice.Choice.{Choice}
-use Rattle.block_book.specs.Answer.{is_allowed}
-use Rattle.run_history.specs.declared.answer.Cause.{Cause}
-use Rattle.run_history.specs.Machine.{State, register, start, start_machine, Effect, Goes, Emits, Ends, Wants, Chooses, Fails}
-use Rattle.run_history.specs.Call.{takes, malloc, allocated, received}
-use Rattle.run_history.specs.Run.{does, after}
-use Rattle.run_history.specs.Served.{Limits, Override, Path, origin, Served, planned_next, env_at, FailsBy, AsksFor}
-use Rattle.run_history.proofs.Repeats.{repeated_keeps}
-use Rattle.run_history.proofs.Runs.{received_keeps, allocated_keeps}
-use Rattle.run_history.proofs.Serves.{serves_to}
-use Rattle.run_history.proofs.Shapes.{Shape, Same, Takes, Picks, Alone, does_shape}
-use Rattle.session_history.specs.Heeding.{items_in}
 use Rattle.session_history.specs.Heeding as heeding
-use Rattle.session_history.specs.Passing.{passed_in}
-use Rattle.session_history.specs.Owing.{Place, moment_at, Latest, latest, Stands}
-use Rattle.session_history.specs.Lawful.{Rules, Survivor, IsDueEvent, IsDuePiece, IsDue, AreDue, AreLawful, LeavesNothing, Chapter, entries_of}
-use Rattle.session_history.specs.Account.{journal_of, after_ending}
-use Rattle.session_history.specs.Serving.{first_survivor}
-use Rattle.session_history.specs.Giving.{AreGiven}
 use Rattle.session_history.proofs.Due.{behind_all}
 use Rattle.session_history.proofs.Owing.{owed_later, latest_stands, due_at}
 use Rattle.session_history.proofs.Sessions.{piece_due}
 use Rattle.session_history.proofs.Endings.{fronts_same, given_broken, received_at_end}
-use Rattle.trials.specs.Tables.{Trial, survivor_in}
-use Rattle.trials.specs.Episodes.{Recovery, IsRecovery, adopted_by, AreRecovered}
+use Rattle.trials.proofs.Terms.{Bool, List, None, Option, Some, [], ap, append-nil, append_assoc, arith, cond, false, inl, inr, length, refl, subst, sym, true, ℕ, ◌++◌, ◌<◌, ◌∙◌, ◌∷◌, ◌≡◌, ◌≢◌, ◌≤◌, none-some, same_Some, slice_get_within, MatchOption, is_some, slice_get, Item, Prefix, Send, sent_to, Entry, Choice, is_allowed, Image, Cause, repeated_keeps, allocated_keeps, received_keeps, serves_to, Alone, Picks, Same, Shape, Takes, does_shape, allocated, malloc, received, takes, Chooses, Effect, Emits, Ends, Fails, Goes, State, Wants, register, start, start_machine, after, does, AsksFor, FailsBy, Limits, Override, Path, Served, env_at, origin, planned_next, after_ending, journal_of, AreGiven, items_in, AreDue, AreLawful, Chapter, IsDue, IsDueEvent, IsDuePiece, LeavesNothing, Rules, Survivor, entries_of, Latest, Place, Stands, latest, moment_at, passed_in, first_survivor, Trial, survivor_in, AreRecovered, IsRecovery, Recovery, adopted_by}
 use Rattle.trials.specs.Shortest.{IsShortest, RecoveriesAreShortest, FailureIsShortest}
 use Rattle.trials.proofs.Going.{served_grows, later_of}
 use Rattle.trials.proofs.Chained.{chained_from}
@@ -171,12 +144,12 @@ chapters_shortest rules image items before first (earlier ∷ front) chapter bac
     (λ trial rest. chapters_shortest rules image items (before ++ earlier.entries) (adopted_by recovery trial) front chapter back recoveries now lawful.2 rest) are.3)
 
 pub recoveries_are_shortest : RecoveriesAreShortest
-recoveries_are_shortest rules image session at_end recoveries front chapter back account are split =
+recoveries_are_shortest rules image session recoveries front chapter back account are split =
     chapters_shortest rules image (items_in rules.bounds (journal_of session)) [] (first_survivor image) front chapter back recoveries session.survivor (subst (AreLawful rules (items_in rules.bounds (journal_of session)) []) split account.earlier)
     (subst (λ (chapters : List Chapter). AreRecovered rules image [] (first_survivor image) chapters recoveries session.survivor) split are)
 
 pub failure_is_shortest : FailureIsShortest
-failure_is_shortest rules image session at_end cause account given fails owes =
+failure_is_shortest rules image session cause account given fails owes =
     are_shortest rules (items_in rules.bounds (journal_of session)) (entries_of session.earlier) session.since session.survivor cause account.since owes fails
     (subst (λ (items : List Item). session.survivor.now.state.machine.taken ≤ length items)
-    (received_at_end rules.bounds session given (given_broken rules session.survivor.now.state.sends (after_ending session at_end) session.broken account.broken)) account.taken)
+    (received_at_end rules.bounds session given (given_broken rules session.survivor.now.state.sends (after_ending session (is_some session.came)) session.broken account.broken)) account.taken)

@@ -1,23 +1,6 @@
 -- The survivors of a session, one adopted behind the failure of the one before it.
-use Rattle.std.proofs.Common.{◌≡◌, inl, inr, ℕ, ◌<◌, true, List, [], ◌∷◌, ◌++◌, Option, Some, None, refl, sym, ap, subst, append-nil, append_assoc}
-use Rattle.std.specs.Prelude.{is_some, MatchOption}
-use Rattle.rx_io.specs.declared.bytes.Item.{Item}
-use Rattle.links.specs.declared.journal.Entry.{Entry}
-use Rattle.rx_io.specs.Sends.{Send}
-use Rattle.run_history.specs.declared.answer.Cause.{Cause}
-use Rattle.run_history.specs.Served.{Limits, Override, Path, origin, Served, FailsBy}
-use Rattle.session_history.specs.Heeding.{items_in}
-use Rattle.session_history.specs.Passing.{passed_in}
-use Rattle.session_history.specs.Lawful.{entries_of}
-use Rattle.session_history.specs.Serving.{gone_on}
-use Rattle.session_history.proofs.Paths.{served_same, served_with}
-use Rattle.session_notes.specs.declared.episode.Tried.{Tried}
 use Rattle.session_notes.specs.declared.episode.Tried.TheVariants as tried
-use Rattle.session_notes.specs.Survival.{survives}
-use Rattle.trials.specs.Trials.{ComesTo}
-use Rattle.trials.specs.Tables.{Trial, survivor_in}
-use Rattle.trials.specs.Episodes.{point_of, IsRecovery, adopted_by, AreRecovered}
-use Rattle.trials.specs.EpisodeLaws.{PointsRise, RecoveredFirst, RecoveredOn, RecoveredThen}
+use Rattle.trials.proofs.Terms.{List, None, Option, Some, [], ap, append-nil, append_assoc, inl, inr, refl, subst, sym, true, ℕ, ◌++◌, ◌<◌, ◌∷◌, ◌≡◌, MatchOption, is_some, Item, Send, Entry, Cause, FailsBy, Limits, Override, Path, Served, origin, served_same, served_with, items_in, entries_of, passed_in, gone_on, Tried, survives, ComesTo, Trial, survivor_in, AreRecovered, IsRecovery, adopted_by, point_of, PointsRise, RecoveredFirst, RecoveredOn, RecoveredThen}
 use Rattle.trials.proofs.Going.{later_of, later_served, Compared, Equal, Before, Behind, compare}
 use Rattle.trials.proofs.Chained.{chained_from}
 use Rattle.trials.proofs.Results.{asks_on, ended_on, fails_on, apart_asks_fails, apart_ended}

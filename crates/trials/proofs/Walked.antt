@@ -1,17 +1,5 @@
 -- What trials over a table fix.
-use Rattle.std.proofs.Common.{◌≡◌, ◌⊎◌, inl, inr, ℕ, zero, suc, Bool, true, false, cond, List, [], ◌∷◌, ◌++◌, map, Some, None, refl, sym, ◌∙◌, ap, subst}
-use Rattle.std.specs.Prelude.{slice_get, MatchBool}
-use Rattle.std.proofs.lemmas.Option.{none-some, same_Some}
-use Rattle.rx_io.specs.declared.bytes.Item.{Item}
-use Rattle.rx_io.specs.Sends.{Send}
-use Rattle.alloc_env.specs.declared.env.Env.{Env}
-use Rattle.run_history.specs.Served.{Limits, Override, Path}
-use Rattle.session_history.specs.Passing.{AreBetween}
-use Rattle.session_notes.specs.declared.episode.Tried.{Tried}
-use Rattle.session_notes.specs.Survival.{survives}
-use Rattle.trials.specs.Trials.{plan_of_trial, IsTrial}
-use Rattle.trials.specs.Tables.{Chance, chances_at, environments, table, Trial, IsRight, WalksOver, survivor_in}
-use Rattle.trials.specs.Laws.{NoneSurvives, OneWalk, WalkAdopts, WalkGivesUp}
+use Rattle.trials.proofs.Terms.{Bool, List, None, Some, [], ap, cond, false, inl, inr, map, refl, subst, suc, sym, true, zero, ℕ, ◌++◌, ◌∙◌, ◌∷◌, ◌≡◌, ◌⊎◌, none-some, same_Some, MatchBool, slice_get, Item, Send, Env, Limits, Override, Path, AreBetween, Tried, survives, IsTrial, plan_of_trial, Chance, IsRight, Trial, WalksOver, chances_at, environments, survivor_in, table, NoneSurvives, OneWalk, WalkAdopts, WalkGivesUp}
 use Rattle.trials.proofs.Results.{one_result}
 
 -- the sends of a checkpoint were made with no more items than it took

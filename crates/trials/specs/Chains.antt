@@ -1,8 +1,6 @@
 -- The checkpoints of a session's ring, as runs.
 use Rattle.std.specs.Prelude.{◌≡◌, ◌⊎◌, ◌<◌, List, [], ◌∷◌}
-use Rattle.rx_io.specs.declared.bytes.Item.{Item}
-use Rattle.elf_image.specs.declared.image.Image.{Image}
-use Rattle.run_history.specs.Served.{Limits, Override, Path, origin, Served, AsksFor}
+use Rattle.trials.specs.Terms.{Item, Image, AsksFor, Limits, Override, Path, Served, origin}
 
 -- a checkpoint is the start, or a run that took items and stands at its request for the next one
 abbrev pub IsCheckpoint : Limits → Image → Path → Type 0

@@ -1,14 +1,6 @@
 -- What holds of each recovery.
 use Rattle.std.specs.Prelude.{◌≡◌, ℕ, ◌<◌, ◌≤◌, false, None, Some, List, [], ◌∷◌, ◌++◌, drop, slice_get}
-use Rattle.links.specs.declared.journal.Entry.{Entry}
-use Rattle.elf_image.specs.declared.image.Image.{Image}
-use Rattle.rx_io.specs.declared.bytes.Item.{Item}
-use Rattle.run_history.specs.Served.{Path, Served, origin}
-use Rattle.session_history.specs.Heeding.{items_in}
-use Rattle.session_history.specs.Passing.{passed_in, Covers, IsFeasible}
-use Rattle.session_history.specs.Lawful.{Rules, Survivor, Chapter, entries_of}
-use Rattle.session_history.specs.Serving.{gone_on, first_survivor}
-use Rattle.session_notes.specs.Survival.{survives}
+use Rattle.trials.specs.Terms.{Item, Entry, Image, Path, Served, origin, items_in, Chapter, Rules, Survivor, entries_of, Covers, IsFeasible, passed_in, first_survivor, gone_on, survives}
 use Rattle.trials.specs.Tables.{Trial, table, IsRight, survivor_in}
 use Rattle.trials.specs.Chains.{AreCheckpoints, AreChained}
 use Rattle.trials.specs.Episodes.{Recovery, point_of, IsRecovery, adopted_by, AreRecovered}

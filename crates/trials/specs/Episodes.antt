@@ -1,13 +1,7 @@
 -- The episodes of a session's recovery: a failure, and what was tried after it.
 use Rattle.std.specs.Prelude.{◌≡◌, ℕ, List, [], ◌∷◌, ◌++◌, map, MatchOption}
-use Rattle.links.specs.declared.journal.Entry.{Entry}
-use Rattle.elf_image.specs.declared.image.Image.{Image}
-use Rattle.run_history.specs.declared.answer.Cause.{Cause}
-use Rattle.run_history.specs.Served.{Path, FailsBy}
-use Rattle.session_history.specs.Heeding.{items_in}
-use Rattle.session_history.specs.Passing.{passed_in}
-use Rattle.session_history.specs.Lawful.{Rules, Survivor, Chapter}
 use Rattle.session_notes.specs.declared.episode.Episode.{Episode}
+use Rattle.trials.specs.Terms.{Entry, Image, Cause, FailsBy, Path, items_in, Chapter, Rules, Survivor, passed_in}
 use Rattle.trials.specs.Trials.{plan_of_trial}
 use Rattle.trials.specs.Tables.{Trial, try_of, table, WalksOver, survivor_in}
 use Rattle.trials.specs.Chains.{AreCheckpoints, AreChained}

@@ -1,13 +1,6 @@
 -- What holds of all trials, and of a run that is adopted.
 use Rattle.std.specs.Prelude.{◌≡◌, ℕ, ◌+◌, ◌<◌, List, [], ◌∷◌, ◌++◌, drop, map, false, None, Some, slice_get}
-use Rattle.rx_io.specs.declared.bytes.Item.{Item}
-use Rattle.rx_io.specs.Sends.{Send}
-use Rattle.elf_image.specs.declared.image.Image.{Image}
-use Rattle.alloc_env.specs.declared.env.Env.{Env}
-use Rattle.run_history.specs.Served.{Limits, Override, Path, origin, Served, AsksFor}
-use Rattle.session_history.specs.Passing.{AreBetween, Covers, IsFeasible}
-use Rattle.session_notes.specs.declared.episode.Tried.{Tried}
-use Rattle.session_notes.specs.Survival.{survives}
+use Rattle.trials.specs.Terms.{Item, Send, Env, Image, AsksFor, Limits, Override, Path, Served, origin, AreBetween, Covers, IsFeasible, Tried, survives}
 use Rattle.trials.specs.Trials.{plan_of_trial, IsUnharmed, IsTrial}
 use Rattle.trials.specs.Tables.{Trial, table, WalksOver, IsRight, survivor_in, IsAdopted}
 use Rattle.trials.specs.Chains.{IsCheckpoint, AreCheckpoints, AreChained}

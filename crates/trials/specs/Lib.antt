@@ -1,3 +1,4 @@
+pub mod Terms
 pub mod Trials
 pub mod Tables
 pub mod Chains

@@ -1,16 +1,8 @@
 -- The journal that brought a survivor to its failure is the shortest one that does.
-use Rattle.std.specs.Prelude.{◌≡◌, ◌≢◌, ◌<◌, ◌≤◌, List, [], ◌∷◌, ◌++◌, Bool, Some}
-use Rattle.links.specs.declared.journal.Entry.{Entry}
-use Rattle.elf_image.specs.declared.image.Image.{Image}
-use Rattle.run_history.specs.declared.answer.Cause.{Cause}
-use Rattle.run_history.specs.Served.{FailsBy}
+use Rattle.std.specs.Prelude.{◌≡◌, ◌≢◌, ◌<◌, ◌≤◌, List, [], ◌∷◌, ◌++◌, Some}
 use Rattle.session_history.specs.Heeding.{received}
-use Rattle.session_history.specs.Owing.{Latest, latest}
-use Rattle.session_history.specs.Lawful.{Rules, Survivor, Chapter, entries_of, LeavesNothing}
-use Rattle.session_history.specs.Account.{Session, IsAccount}
-use Rattle.session_history.specs.Serving.{first_survivor}
-use Rattle.session_history.specs.Giving.{AreGiven}
 use Rattle.session_history.specs.Ends.{OwesNothingBefore}
+use Rattle.trials.specs.Terms.{Entry, Image, Cause, FailsBy, IsAccount, Session, AreGiven, Chapter, LeavesNothing, Rules, Survivor, entries_of, Latest, latest, first_survivor}
 use Rattle.trials.specs.Episodes.{Recovery, AreRecovered}
 
 -- What a journal had when a survivor failed, of whose time it has some entries: it brought the items that the survivor took, and its
@@ -24,13 +16,13 @@ pub record IsShortest (rules : Rules) (start since : List Entry) (survivor : Sur
 -- at each recovery of a session the journal was the shortest
 abbrev pub RecoveriesAreShortest : Type 0
 RecoveriesAreShortest =
-    (rules : Rules) (image : Image) (session : Session) (at_end : Bool) (recoveries : List Recovery) (front : List Chapter) (chapter : Chapter) (back : List Chapter) → IsAccount rules image session at_end →
+    (rules : Rules) (image : Image) (session : Session) (recoveries : List Recovery) (front : List Chapter) (chapter : Chapter) (back : List Chapter) → IsAccount rules image session →
     AreRecovered rules image [] (first_survivor image) session.earlier recoveries session.survivor → session.earlier ≡ front ++ chapter ∷ back →
     IsShortest rules (entries_of front) chapter.entries chapter.survivor
 
 -- and so it is where the last survivor failed
 abbrev pub FailureIsShortest : Type 0
 FailureIsShortest =
-    (rules : Rules) (image : Image) (session : Session) (at_end : Bool) (cause : Cause) → IsAccount rules image session at_end → AreGiven session.ending →
+    (rules : Rules) (image : Image) (session : Session) (cause : Cause) → IsAccount rules image session → AreGiven session.ending →
     FailsBy rules.limits session.survivor.plan session.survivor.now cause → OwesNothingBefore rules session →
     IsShortest rules (entries_of session.earlier) session.since session.survivor

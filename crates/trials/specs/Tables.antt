@@ -1,13 +1,7 @@
 -- In which order trials are made after a failure.
 use Rattle.std.specs.Prelude.{◌≡◌, ℕ, List, [], ◌∷◌, ◌++◌, map, true, Option, None, Some, option_map, slice_get, MatchBool, if◌then◌else◌}
-use Rattle.rx_io.specs.declared.bytes.Item.{Item}
-use Rattle.rx_io.specs.Sends.{Send}
-use Rattle.alloc_env.specs.declared.env.Env.{Env}
-use Rattle.alloc_env.specs.declared.env.Env.TheVariants.{Pad, Zero, Isolate, Delay, All}
-use Rattle.run_history.specs.Served.{Limits, Override, Path}
-use Rattle.session_notes.specs.declared.episode.Tried.{Tried}
 use Rattle.session_notes.specs.declared.episode.Try.{Try}
-use Rattle.session_notes.specs.Survival.{survives}
+use Rattle.trials.specs.Terms.{Item, Send, Env, All, Delay, Isolate, Pad, Zero, Limits, Override, Path, Tried, survives}
 use Rattle.trials.specs.Trials.{plan_of_trial, IsTrial}
 
 -- the environments in which a program is tried, in their order

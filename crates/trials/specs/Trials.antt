@@ -1,15 +1,7 @@
 -- What comes of a trial: a program that failed runs again from a checkpoint, in another environment.
 use Rattle.std.specs.Prelude.{◌≡◌, ℕ, ◌+◌, ◌<◌, ◌≤◌, List, ◌∷◌, false, ◌⊎◌, Some, IsSome, if◌then◌else◌, ◌==◌}
-use Rattle.rx_io.specs.declared.bytes.Item.{Item}
-use Rattle.rx_io.specs.Sends.{Send, sent_to}
-use Rattle.alloc_env.specs.declared.env.Env.{Env}
-use Rattle.reply_ledger.specs.Trials.{agree}
-use Rattle.run_history.specs.Machine.{State}
-use Rattle.run_history.specs.Run.{output}
-use Rattle.run_history.specs.Served.{Limits, Override, Path, Served, planned_next, FailsBy, AsksFor}
-use Rattle.session_history.specs.Passing.{Covers, CoversBefore, Agrees, IsFeasible}
-use Rattle.session_notes.specs.declared.episode.Tried.{Tried}
 use Rattle.session_notes.specs.declared.episode.Tried.TheVariants as tried
+use Rattle.trials.specs.Terms.{Item, Send, sent_to, Env, agree, State, output, AsksFor, FailsBy, Limits, Override, Path, Served, planned_next, Agrees, Covers, CoversBefore, IsFeasible, Tried}
 
 -- The plan of a trial, which stays in force if the trial is adopted. Up to the checkpoint, where so many items were taken, the earlier
 -- plan; from the next item on, or from the start where the checkpoint is the start, the trial's environment, until four items more

@@ -1,24 +1,8 @@
 -- Bytes that are taken and written in parts.
-use Rattle.std.proofs.Common.{◌≡◌, ℕ, ◌+◌, ◌<◌, ◌≤◌, Result, Ok, Err, inl, inr, subst, List, [], ◌++◌, length, take, drop, Option, None, Some, sym, ◌∙◌, ap, append_assoc, length-append, refl, arith}
-use Rattle.std.proofs.lemmas.List.{take-append-le, length-take-le, take-append-drop}
-use Rattle.std.proofs.Math.Seq.{take-append-add}
 use borrow.Rule.Slice.PartMut.{put_mid, post_of}
-use Rattle.rx_io.proofs.Composing.{took_same, gave_same}
-use Rattle.rx_io.specs.Outside.{Stream, Took}
-use Rattle.std.specs.Io.KnownBytes.{Appends, Keeps}
-use Rattle.rx_io.specs.Prefix.{Prefix}
-use Rattle.links.specs.Links.{Phases}
-use Rattle.rx_io.specs.declared.fault.IoFault.{IoFault}
 use Rattle.rx_io.specs.declared.fault.IoFault.TheVariants as io
-use Rattle.links.specs.declared.journal.LinkEvent.{LinkEvent}
 use Rattle.links.specs.declared.journal.LinkEvent.TheVariants as event
-use Rattle.links.specs.declared.journal.LinkFault.{LinkFault}
-use Rattle.links.specs.declared.journal.LinkFault.TheVariants.{Refused, ReadFault, WriteFault, Memory}
-use Rattle.trunk_wire.specs.CallLaws.{reads_more}
-use Rattle.trunk_wire.specs.Calls.{Reads, Writes, count_after, Brings, IsRefused, TakesBy, WritesBy, Behind, read_fault, write_fault}
-use Rattle.trunk_wire.specs.Frames.{header_bytes, IsFrameOf, piece_frame, FitsTwoBytes}
-use Rattle.trunk_wire.specs.Grammar.{Part, front, header_refusal, event_of}
-use Rattle.trunk_wire.specs.declared.header.Header.{Header}
+use Rattle.trunk_wire.proofs.Terms.{Err, List, None, Ok, Option, Result, Some, [], ap, append_assoc, arith, drop, inl, inr, length, length-append, refl, subst, sym, take, ℕ, ◌++◌, ◌+◌, ◌<◌, ◌∙◌, ◌≡◌, ◌≤◌, take-append-add, length-take-le, take-append-drop, take-append-le, Appends, IoFault, Stream, Took, Prefix, LinkEvent, LinkFault, Memory, ReadFault, Refused, WriteFault, Phases, Header, FitsTwoBytes, IsFrameOf, header_bytes, piece_frame, Part, event_of, front, header_refusal, Behind, Brings, IsRefused, Reads, TakesBy, Writes, WritesBy, count_after, read_fault, write_fault, reads_more}
 use Rattle.trunk_wire.proofs.GrammarLemmas.{front-refused, front-cut, frame-passes, passes_all}
 
 -- what stands in a buffer once its part from a on was filled up to n
@@ -35,10 +19,6 @@ put_mid_room a k n xs ys within short =
 
 pub split_whole : (n : ℕ) (front rest whole : List ℕ) → front ++ rest ≡ whole → (front ++ take n rest) ++ drop n rest ≡ whole
 split_whole n front rest whole e = append_assoc front (take n rest) (drop n rest) ∙ ap (λ l. front ++ l) (take-append-drop n rest) ∙ e
-
--- a call took none
-pub reads_same : (old mid new : Option Stream) (before now : ℕ) (bytes : List ℕ) → Reads old mid before now bytes → Took mid new [] → Reads old new before now bytes
-reads_same old mid new before now bytes first second = record { took = took_same old mid new bytes first.took second; count = first.count }
 
 -- the last byte of those that fill a part was taken and counted
 pub reads_counted : (old new : Option Stream) (before now : ℕ) (bytes : List ℕ) (n : ℕ) → Took old new bytes → length bytes ≡ n → now ≡ count_after before n → Reads old new before now bytes
@@ -93,10 +73,6 @@ takes_as phases Taken Other drained (Err WriteFault) as_other taken = absurd tak
 pub reads_behind : (old mid new : Option Stream) (before between now : ℕ) (first bytes : List ℕ) → Reads old mid before between first → Behind first (Reads mid new between now) bytes → Reads old new before now bytes
 reads_behind old mid new before between now first bytes read (rest, is, taken) =
     subst (Reads old new before now) (sym is) (reads_more old mid new before between now first rest read taken)
-
--- a call gave none
-pub writes_same : (old mid new : Option (List ℕ)) (before now : ℕ) (bytes : List ℕ) → Writes old mid before now bytes → Keeps mid new → Writes old new before now bytes
-writes_same old mid new before now bytes first second = record { wrote = gave_same old mid new bytes first.wrote second; count = first.count }
 
 pub writes_counted : (old new : Option (List ℕ)) (before now : ℕ) (bytes : List ℕ) (n : ℕ) → Appends old new bytes → length bytes ≡ n → now ≡ count_after before n → Writes old new before now bytes
 writes_counted old new before now bytes n wrote counted count = record { wrote = wrote; count = count ∙ ap (count_after before) (sym counted) }

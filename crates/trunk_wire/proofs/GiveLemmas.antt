@@ -1,25 +1,9 @@
 -- What a trunk tells after a piece was given.
-use Rattle.std.proofs.Common.{◌≡◌, ℕ, ◌+◌, ◌-◌, ◌^◌, ◌<◌, ◌≤◌, nat_le, Bool, true, false, List, [], ◌∷◌, ◌++◌, length, drop, Option, None, Some, option_map, IfSome, Result, Ok, Err, is_ok, if◌then◌else◌, arith, append-nil, length-append, refl, sym, ap, ◌∙◌, subst}
-use Rattle.std.proofs.Math.Seq.{drop-length}
-use Rattle.links.specs.Links.{Phases, IsFresh, Grew, Tells, Gives, Cuts, events_in, pieces_in, cut_entries, Piece}
-use Rattle.rx_io.specs.Outside.{Stream}
-use Rattle.rx_io.specs.Prefix.{Prefix}
-use Rattle.links.specs.declared.journal.Entry.{Entry}
 use Rattle.links.specs.declared.journal.Entry.TheVariants as entry
-use Rattle.links.specs.declared.journal.Given.{Given}
-use Rattle.links.specs.declared.journal.Given.TheVariants.{All, Gone}
-use Rattle.links.specs.declared.journal.LinkEvent.{LinkEvent}
-use Rattle.links.specs.declared.journal.LinkFault.{LinkFault}
-use Rattle.links.specs.declared.journal.LinkFault.TheVariants.{Refused, ReadFault, WriteFault, Memory}
-use Rattle.trunk_wire.specs.Calls.{Writes, WritesBy, count_after}
-use Rattle.trunk_wire.specs.Frames.{piece_frame, FitsTwoBytes}
-use Rattle.trunk_wire.specs.Parts.{put_bytes, last_bytes}
-use Rattle.trunk_wire.specs.Pieces.{read_from, events, fresh, cut_piece, piece_reader, written, pieces}
-use Rattle.trunk_wire.specs.Tellings.{is_empty, is_whole, told_events, told_pieces, trunk_told, told_nothing}
-use Rattle.trunk_wire.proofs.LinkLemmas.{grew_nothing}
+use Rattle.trunk_wire.proofs.Terms.{Bool, Err, IfSome, List, None, Ok, Option, Result, Some, [], ap, append-nil, arith, drop, false, if◌then◌else◌, is_ok, length, length-append, nat_le, option_map, refl, subst, sym, true, ℕ, ◌++◌, ◌+◌, ◌-◌, ◌<◌, ◌^◌, ◌∙◌, ◌∷◌, ◌≡◌, ◌≤◌, drop-length, and_parts, le-leb, leb-true, Stream, Prefix, Entry, Given, All, Gone, LinkEvent, LinkFault, Memory, ReadFault, Refused, WriteFault, grew_nothing, Cuts, Gives, Grew, IsFresh, Phases, Piece, Tells, cut_entries, events_in, pieces_in, FitsTwoBytes, piece_frame, last_bytes, put_bytes, cut_piece, events, fresh, piece_reader, pieces, read_from, written, Writes, WritesBy, count_after, is_empty, is_whole, told_events, told_nothing, told_pieces, trunk_told}
 use Rattle.trunk_wire.proofs.PieceLemmas.{WritesCut, put_bytes-piece, put_bytes-cut}
 use Rattle.trunk_wire.proofs.ProgressLemmas.{put_bytes-append}
-use Rattle.trunk_wire.proofs.TellingLemmas.{InStep, in_step_to, last_bytes-append, empty_list, le_from, le_to, both_true}
+use Rattle.trunk_wire.proofs.TellingLemmas.{InStep, in_step_to, last_bytes-append, empty_list}
 
 -- a link is in step with its sink
 pub record IsWhole (wrote : ℕ) (bytes : List ℕ) : Type 0 where
@@ -28,8 +12,8 @@ pub record IsWhole (wrote : ℕ) (bytes : List ℕ) : Type 0 where
 
 whole_from : (wrote : ℕ) (bytes : List ℕ) → is_whole wrote true bytes ≡ true → IsWhole wrote bytes
 whole_from wrote bytes is =
-    let both = both_true (nat_le wrote (length bytes)) (is_empty (written (last_bytes wrote bytes)).part) is in
-    record { within = le_from wrote (length bytes) both.0; between = empty_list (written (last_bytes wrote bytes)).part both.1 }
+    let both = and_parts (nat_le wrote (length bytes)) (is_empty (written (last_bytes wrote bytes)).part) is in
+    record { within = leb-true wrote (length bytes) both.0; between = empty_list (written (last_bytes wrote bytes)).part both.1 }
 
 -- the pieces of bytes and of more of them, where the bytes are whole frames
 written_more : (bytes more : List ℕ) → (written bytes).part ≡ [] → written (bytes ++ more) ≡ put_bytes piece_reader (record { whole = (written bytes).whole; state = tt; part = [] }) more
@@ -50,7 +34,7 @@ grow_whole : (wrote now conn : ℕ) (bytes piece : List ℕ) → FitsTwoBytes co
 grow_whole wrote now conn bytes piece conn_few few step count =
     let last = last_bytes-append wrote now bytes (piece_frame conn piece) step.within count in
     let all = ap written last ∙ written_more (last_bytes wrote bytes) (piece_frame conn piece) step.between ∙ put_bytes-piece conn piece (written (last_bytes wrote bytes)).whole conn_few few in record {
-      in_step = rw (le_to now (length (bytes ++ piece_frame conn piece)) (omega (arith, count, step.within, length-append bytes (piece_frame conn piece))))
+      in_step = rw (le-leb now (length (bytes ++ piece_frame conn piece)) (omega (arith, count, step.within, length-append bytes (piece_frame conn piece))))
           (ap (λ progress. is_empty progress.part) all);
       grown = ap (λ progress. progress.whole ++ cut_piece progress.part) all
           ∙ append-nil ((written (last_bytes wrote bytes)).whole ++ record { conn = conn; bytes = piece; gone = false } ∷ [])
@@ -61,7 +45,7 @@ grow_cut : (wrote now conn : ℕ) (bytes piece front : List ℕ) → ((before : 
     → Grows wrote now false bytes (bytes ++ front) (pieces_in (cut_entries conn (drop 5 front)))
 grow_cut wrote now conn bytes piece front cut step count =
     let last = last_bytes-append wrote now bytes front step.within count in record {
-      in_step = rw (le_to now (length (bytes ++ front)) (omega (arith, count, step.within, length-append bytes front))) refl;
+      in_step = rw (le-leb now (length (bytes ++ front)) (omega (arith, count, step.within, length-append bytes front))) refl;
       grown = ap pieces last
           ∙ ap (λ progress. progress.whole ++ cut_piece progress.part) (written_more (last_bytes wrote bytes) front step.between)
           ∙ (cut (written (last_bytes wrote bytes)).whole).1
@@ -132,7 +116,7 @@ give_told events old new wrote now conn piece (Err Memory) few conn_few some pie
 give_told events old new wrote now conn piece (Err ReadFault) few conn_few some piece_few wrote_it = absurd wrote_it
 give_told events old new wrote now conn piece (Err (Refused kind offset)) few conn_few some piece_few wrote_it = absurd wrote_it
 
-no_bytes : (bytes : List ℕ) → last_bytes 0 bytes ≡ []
+pub no_bytes : (bytes : List ℕ) → last_bytes 0 bytes ≡ []
 no_bytes bytes = let all : length bytes - 0 ≡ length bytes = omega arith in rw all (drop-length bytes)
 
 -- where nothing was taken and nothing written, nothing is told
@@ -149,7 +133,7 @@ start_events (Some stream) phases new =
 start_pieces : (sink : Option (List ℕ)) → told_pieces sink 0 true ≡ option_map (λ _. []) sink
 start_pieces None = refl
 start_pieces (Some bytes) =
-    let whole : is_whole 0 true bytes ≡ true = rw (le_to 0 (length bytes) (omega arith), no_bytes bytes) refl in
+    let whole : is_whole 0 true bytes ≡ true = rw (le-leb 0 (length bytes) (omega arith), no_bytes bytes) refl in
     rw whole (ap (λ l. Some (pieces l)) (no_bytes bytes))
 
 pub start_told : (source : Option Stream) (sink : Option (List ℕ)) (phases : Phases) → IsFresh phases

@@ -1,22 +1,7 @@
 -- One call on a trunk, as a part of how it goes on.
-use Rattle.std.proofs.Common.{◌≡◌, ℕ, ◌^◌, ◌<◌, Bool, true, false, List, [], ◌∷◌, ◌++◌, length, Option, None, Some, IsSome, Result, Ok, Err, is_ok, append-nil, refl, sym, ◌∙◌, subst}
-use Rattle.std.proofs.lemmas.List.Elements.{All-cons, All-nil}
-use Rattle.links.specs.Links.{Phases, Enters, IsInOrder, phases_after, Piece, StillComes}
-use Rattle.rx_io.specs.Outside.{Stream, IsDrained}
-use Rattle.rx_io.specs.Prefix.{Prefix}
-use Rattle.links.specs.declared.journal.Given.{Given}
-use Rattle.links.specs.declared.journal.Given.TheVariants.{All as Whole, Gone}
-use Rattle.links.specs.declared.journal.LinkEvent.{LinkEvent}
+use Rattle.links.specs.declared.journal.Given.TheVariants.{All as Whole}
 use Rattle.links.specs.declared.journal.LinkEvent.TheVariants as event
-use Rattle.links.specs.declared.journal.LinkFault.{LinkFault}
-use Rattle.links.specs.declared.journal.LinkFault.TheVariants.{Refused, ReadFault, WriteFault, Memory}
-use Rattle.trunk_wire.specs.CallLaws.{count_nothing}
-use Rattle.trunk_wire.specs.Calls.{Reads, Writes, count_after, IsRefused, TakesBy, WritesBy, HasOffset}
-use Rattle.trunk_wire.specs.Frames.{IsFrameOf, piece_frame}
-use Rattle.trunk_wire.specs.Going.{Intake, IsTail, TookFrames, Output, IsFramed, IsCut, WroteFrames}
-use Rattle.trunk_wire.specs.declared.refusal.Refusal.{Refusal}
-use Rattle.trunk_wire.specs.Tellings.{told_coming, refusal_in}
-use Rattle.links.specs.declared.connection_table.TheConstants.{CONNECTIONS}
+use Rattle.trunk_wire.proofs.Terms.{Bool, Err, List, Ok, Result, [], append-nil, false, is_ok, length, refl, subst, sym, true, ℕ, ◌++◌, ◌<◌, ◌^◌, ◌∙◌, ◌∷◌, ◌≡◌, All-cons, All-nil, IsDrained, Prefix, CONNECTIONS, Given, Gone, LinkEvent, LinkFault, Memory, ReadFault, Refused, WriteFault, Enters, IsInOrder, Piece, phases_after, IsFrameOf, piece_frame, HasOffset, Reads, TakesBy, Writes, WritesBy, count_after, count_nothing, refusal_in, Intake, IsCut, IsFramed, IsTail, Output, TookFrames, WroteFrames}
 
 -- the frame of an event was taken
 took_frame : (old new : Intake) (event : LinkEvent) (bytes : List ℕ) → new.takes ≡ true → Reads old.told new.told old.took new.took bytes → IsFrameOf event bytes → IsInOrder old.phases event
@@ -99,14 +84,3 @@ give_wrote old new conn bytes result below some few gives written = by_answer re
     by_answer (Err Memory) gives written = wrote_cut old new piece framed gives written
     by_answer (Err ReadFault) gives written = absurd written
     by_answer (Err (Refused kind offset)) gives written = absurd written
-
--- where what comes is told, a refusal that was answered is the one that the tail has
-pub refusal_told : (phases : Phases) (drained : Type 0) (at : ℕ) (told : Option Stream) (took : ℕ) (next : Phases) (refused : Option Refusal) (kind offset : ℕ) (tail : List ℕ)
-    → StillComes (told_coming told took next false refused) (Err (Refused kind offset)) → IsSome (told_coming told took next false refused) → IsTail phases drained at false refused tail
-    → (offset ≡ at) × IsRefused phases drained kind tail
-refusal_told phases drained at None took next refused kind offset tail still some is = cc
-refusal_told phases drained at (Some stream) took next None kind offset tail still some is = cc
-refusal_told phases drained at (Some stream) took next (Some refusal) kind offset tail still some is =
-    let same_kind : refusal.kind ≡ kind = cc in
-    let same_offset : refusal.offset ≡ offset = cc in
-    (sym same_offset ∙ is.0, subst (λ k. IsRefused phases drained k tail) same_kind is.1)

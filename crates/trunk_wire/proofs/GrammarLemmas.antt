@@ -1,21 +1,7 @@
 -- The grammar of the trunk: whole frames, cut ones and refused ones.
-use Rattle.std.proofs.Common.{◌≡◌, ℕ, ◌<◌, nat_lt, ◌==◌, not, ◌&&◌, ◌||◌, Bool, true, false, List, [], ◌∷◌, ◌++◌, length, take, Option, None, Some, if◌then◌else◌, arith, append-nil, length-append, refl, sym, ap, ◌∙◌, subst}
-use Rattle.std.proofs.lemmas.Bool.{ltb-true, lt-ltb, eqb-true}
-use Rattle.std.proofs.lemmas.Bool.Decides.{nat_tests}
-use Rattle.std.proofs.lemmas.List.{nil_from_length}
-use Rattle.std.proofs.Math.Seq.{take-append_seam}
-use Rattle.links.specs.ConnectionTables.{is_unopened, is_open, is_in_order}
-use Rattle.links.specs.Links.{Phases, Unopened, Open, IsInOrder, phases_after}
-use Rattle.links.specs.declared.journal.LinkEvent.{LinkEvent}
 use Rattle.links.specs.declared.journal.LinkEvent.TheVariants as event
-use Rattle.trunk_wire.specs.Frames.{header_of, header_bytes, frame, IsFrame, IsFrameOf, FitsTwoBytes, from_two_bytes, high_byte, low_byte}
-use Rattle.trunk_wire.specs.Grammar.{Whole, Part, Bad, front, front_by, front_accepted, front_behind, header_refusal, event_of, is_known, is_extra, is_reopened, is_not_open}
-use Rattle.trunk_wire.specs.Parts.{put_bytes}
-use Rattle.trunk_wire.specs.Pieces.{whole_event, event_reader}
-use Rattle.trunk_wire.specs.declared.header.Header.{Header}
-use Rattle.trunk_wire.specs.declared.header.TheConstants.{OPEN, BYTES, CLOSE, SETTLE}
+use Rattle.trunk_wire.proofs.Terms.{Bool, List, None, Option, Some, [], ap, append-nil, arith, false, if◌then◌else◌, length, length-append, nat_lt, not, refl, subst, sym, take, true, ℕ, ◌&&◌, ◌++◌, ◌<◌, ◌==◌, ◌∙◌, ◌∷◌, ◌≡◌, take-append_seam, eqb-true, lt-ltb, ltb-true, nat_tests, nil_from_length, CONNECTIONS, LinkEvent, IsInOrder, Open, Phases, Unopened, phases_after, Header, BYTES, CLOSE, OPEN, SETTLE, FitsTwoBytes, IsFrame, IsFrameOf, frame, from_two_bytes, header_bytes, header_of, high_byte, low_byte, Bad, Part, Whole, event_of, front, front_accepted, front_behind, front_by, header_refusal, is_extra, is_known, is_not_open, is_reopened, put_bytes, event_reader, whole_event}
 use Rattle.trunk_wire.proofs.ProgressLemmas.{IsSteady, put_bytes-whole}
-use Rattle.links.specs.declared.connection_table.TheConstants.{CONNECTIONS}
 
 -- behind an accepted header, a payload that is too short with more bytes is too short without them
 short_front : (header : Header) (payload more : List ℕ) → whole_event (front_accepted header (payload ++ more)) ≡ None → whole_event (front_accepted header payload) ≡ None
@@ -37,15 +23,6 @@ front_steady phases (kind ∷ conn_low ∷ conn_high ∷ length_low ∷ length_h
 
 pub events_steady : IsSteady event_reader
 events_steady = record { fronts = front_steady }
-
--- fewer than five bytes are a part
-pub front-short : (phases : Phases) (bytes : List ℕ) → length bytes < 5 → front phases bytes ≡ Part
-front-short phases [] few = refl
-front-short phases (_ ∷ []) few = refl
-front-short phases (_ ∷ _ ∷ []) few = refl
-front-short phases (_ ∷ _ ∷ _ ∷ []) few = refl
-front-short phases (_ ∷ _ ∷ _ ∷ _ ∷ []) few = refl
-front-short phases (_ ∷ _ ∷ _ ∷ _ ∷ _ ∷ payload) few = absurd (omega arith)
 
 -- a refused header is refused whatever follows it
 bad_by : (refusal : Option ℕ) (kind : ℕ) (header : Header) (payload more : List ℕ) → front_by refusal (front_accepted header payload) ≡ Bad kind
@@ -104,14 +81,6 @@ passes_all phases header none =
 passed : (phases : Phases) (header : Header) → Passes phases header → header_refusal phases header ≡ None
 passed phases header all = rw (all.known, all.below, all.no_extra, all.not_reopened, all.open_now) refl
 
--- the kind of a header that passes
-same_kind : (n kind : ℕ) → (n == kind) ≡ true → n ≡ kind
-same_kind n kind same = eqb-true n kind same
-
-bool_false : (b : Bool) → not b ≡ false → b ≡ true
-bool_false true is = refl
-bool_false false is = cc
-
 last_kind : (n : ℕ) → (not (nat_lt n OPEN) && not (nat_lt SETTLE n)) ≡ true → (n == OPEN) ≡ false → (n == BYTES) ≡ false → (n == CLOSE) ≡ false → n ≡ SETTLE
 last_kind n known not_open not_bytes not_close = grind (arith, nat_tests)
 
@@ -155,23 +124,12 @@ frame-passes phases header payload all few counted = by_kind (header.kind == OPE
     by_kind : (opens bytes closes : Bool) → (header.kind == OPEN) ≡ opens → (header.kind == BYTES) ≡ bytes → (header.kind == CLOSE) ≡ closes
         → IsFrameOf (if opens then event.Opens header.conn else if bytes then event.Piece header.conn payload else if closes then event.Closes header.conn else event.Settles) (header_bytes header ++ payload)
     by_kind true bytes closes is_open_kind is_bytes is_close =
-        is_frame_without phases header OPEN payload all few (not_other header.kind OPEN BYTES is_open_kind refl) (same_kind header.kind OPEN is_open_kind) counted
-    by_kind false true closes is_open_kind is_bytes is_close = is_frame phases header BYTES payload all few (same_kind header.kind BYTES is_bytes) counted
+        is_frame_without phases header OPEN payload all few (not_other header.kind OPEN BYTES is_open_kind refl) (eqb-true header.kind OPEN is_open_kind) counted
+    by_kind false true closes is_open_kind is_bytes is_close = is_frame phases header BYTES payload all few (eqb-true header.kind BYTES is_bytes) counted
     by_kind false false true is_open_kind is_bytes is_close =
-        is_frame_without phases header CLOSE payload all few is_bytes (same_kind header.kind CLOSE is_close) counted
+        is_frame_without phases header CLOSE payload all few is_bytes (eqb-true header.kind CLOSE is_close) counted
     by_kind false false false is_open_kind is_bytes is_close =
         (header.conn, is_frame_without phases header SETTLE payload all few is_bytes (last_kind header.kind all.known is_open_kind is_bytes is_close) counted)
-
--- and that event is in order
-pub order-passes : (phases : Phases) (header : Header) (payload : List ℕ) → Passes phases header → is_in_order phases (event_of header payload) ≡ true
-order-passes phases header payload all = by_kind (header.kind == OPEN) (header.kind == BYTES) (header.kind == CLOSE) all.not_reopened all.open_now
-  where
-    by_kind : (opens bytes closes : Bool) → (opens && not (is_unopened (phases header.conn))) ≡ false → ((bytes || closes) && not (is_open (phases header.conn))) ≡ false
-        → is_in_order phases (if opens then event.Opens header.conn else if bytes then event.Piece header.conn payload else if closes then event.Closes header.conn else event.Settles) ≡ true
-    by_kind true bytes closes first second = rw (all.below, bool_false (is_unopened (phases header.conn)) first) refl
-    by_kind false true closes first second = rw (all.below, bool_false (is_open (phases header.conn)) second) refl
-    by_kind false false true first second = rw (all.below, bool_false (is_open (phases header.conn)) second) refl
-    by_kind false false false first second = refl
 
 -- the header of an event's frame passes where the event is in order
 passes_kind : (phases : Phases) (kind conn count : ℕ) → nat_lt conn CONNECTIONS ≡ true → is_known (record { kind = kind; conn = conn; length = count }) ≡ true

@@ -1,3 +1,4 @@
+pub mod Terms
 pub mod ProgressLemmas
 pub mod GrammarLemmas
 pub mod CallLemmas

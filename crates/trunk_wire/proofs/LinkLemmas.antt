@@ -1,27 +1,9 @@
 -- The clauses of a link, by what was taken and written.
-use Rattle.std.proofs.Common.{◌≡◌, ℕ, ◌+◌, ◌-◌, ◌^◌, ◌<◌, ◌≤◌, Bool, true, false, List, [], ◌∷◌, ◌++◌, length, Option, None, Some, IfSome, Result, Ok, Err, is_ok, if◌then◌else◌, arith, append-nil, length-append, refl, sym, ap, ◌∙◌, subst, inl, inr}
-use Rattle.links.specs.Links.{Phases, Enters, IsInOrder, phases_after, Grew, Tells, Nexts, events_in, pieces_in, Piece, Comes, Refuses, GoesBy}
-use Rattle.rx_io.specs.Outside.{Stream, Took, IsDrained}
-use Rattle.links.specs.declared.journal.Entry.{Entry}
 use Rattle.links.specs.declared.journal.Entry.TheVariants as entry
-use Rattle.links.specs.declared.journal.LinkEvent.{LinkEvent}
 use Rattle.links.specs.declared.journal.LinkEvent.TheVariants as event
-use Rattle.links.specs.declared.journal.LinkFault.{LinkFault}
-use Rattle.links.specs.declared.journal.LinkFault.TheVariants.{Refused, ReadFault, WriteFault, Memory}
-use Rattle.trunk_wire.specs.Calls.{Reads, count_after, IsRefused, TakesBy, HasOffset}
-use Rattle.trunk_wire.specs.Frames.{IsFrameOf}
-use Rattle.trunk_wire.specs.Grammar.{Whole, Part, Bad, front, coming_of, event_at}
-use Rattle.trunk_wire.specs.Parts.{last_bytes}
-use Rattle.trunk_wire.specs.Pieces.{whole_event, events, fresh}
-use Rattle.trunk_wire.specs.Tellings.{is_in_step, told_events, told_coming, trunk_told}
-use Rattle.trunk_wire.specs.declared.refusal.Refusal.{Refusal}
+use Rattle.trunk_wire.proofs.Terms.{Bool, Err, IfSome, List, None, Ok, Option, Result, Some, [], ap, append-nil, arith, false, if◌then◌else◌, inl, inr, is_ok, length, length-append, refl, subst, sym, true, ℕ, ◌++◌, ◌+◌, ◌-◌, ◌<◌, ◌^◌, ◌∙◌, ◌∷◌, ◌≡◌, ◌≤◌, IsDrained, Stream, Took, Entry, LinkEvent, LinkFault, Memory, ReadFault, Refused, WriteFault, grew_nothing, Comes, Enters, GoesBy, Grew, IsInOrder, Nexts, Phases, Piece, Refuses, Tells, events_in, phases_after, pieces_in, Refusal, IsFrameOf, Bad, Part, Whole, coming_of, event_at, front, last_bytes, events, fresh, whole_event, HasOffset, IsRefused, Reads, TakesBy, count_after, is_in_step, told_coming, told_events, trunk_told}
 use Rattle.trunk_wire.proofs.GrammarLemmas.{frame-accepted, front-accepted, front-bad}
 use Rattle.trunk_wire.proofs.TellingLemmas.{InStep, StepsTo, in_step_from, step_frame, step_none, step_part}
-
--- a list that didn't grow
-pub grew_nothing : {T : Type 0} (told : Option (List T)) → Grew told told []
-grew_nothing None = tt
-grew_nothing (Some list) = sym (append-nil list)
 
 grew_by : (took now : ℕ) (phases next : Phases) (takes : Bool) (taken later : List ℕ) (more : List LinkEvent) → (InStep took phases taken → StepsTo took now next takes taken later more)
     → Grew (if is_in_step took phases true taken then Some (events fresh (last_bytes took taken)) else None)
@@ -37,7 +19,7 @@ grew_by took now phases next takes taken later more steps = by_test (is_in_step 
 counted_more : (took now : ℕ) (taken later left bytes : List ℕ) → took ≤ length taken → later ≡ taken ++ bytes → length later + length left < 2 ^ 64 - 1 → now ≡ count_after took (length bytes) → now ≡ took + length bytes
 counted_more took now taken later left bytes within is few count = omega (arith, ap length is, length-append taken bytes)
 
-abbrev Countable : Option Stream → Type 0
+abbrev pub Countable : Option Stream → Type 0
 Countable source = IfSome source (λ stream. length stream.taken + length stream.left < 2 ^ 64 - 1)
 
 -- the frame of an event was taken
@@ -76,7 +58,7 @@ told_part (Some old) (Some new) took now phases next bytes few read none =
     subst P (sym read.took.0) (step_part took now phases next old.taken bytes step
     (counted_more took now old.taken new.taken new.left bytes step.within read.took.0 few read.count) none))
 
-not_whole : (phases : Phases) (drained : Type 0) (kind : ℕ) (bytes : List ℕ) → IsRefused phases drained kind bytes → whole_event (front phases bytes) ≡ None
+pub not_whole : (phases : Phases) (drained : Type 0) (kind : ℕ) (bytes : List ℕ) → IsRefused phases drained kind bytes → whole_event (front phases bytes) ≡ None
 not_whole phases drained kind bytes (inl bad) = ap whole_event bad.0
 not_whole phases drained kind bytes (inr cut) = ap whole_event cut.1
 

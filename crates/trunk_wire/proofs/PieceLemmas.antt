@@ -1,13 +1,5 @@
 -- Frames of output: whole ones and cut ones.
-use Rattle.std.proofs.Common.{◌≡◌, ℕ, ◌<◌, nat_lt, Bool, false, List, [], ◌∷◌, ◌++◌, length, drop, None, Some, if◌then◌else◌, arith, append-nil, length-append, refl, sym, ap, ◌∙◌, subst}
-use Rattle.std.proofs.lemmas.Bool.{lt-ltb}
-use Rattle.std.proofs.lemmas.Bool.Decides.{nat_tests}
-use Rattle.links.specs.Links.{Piece, pieces_in, cut_entries}
-use Rattle.rx_io.specs.Prefix.{Prefix}
-use Rattle.trunk_wire.specs.Frames.{piece_frame, from_two_bytes, FitsTwoBytes, high_byte, low_byte}
-use Rattle.trunk_wire.specs.Parts.{put_bytes}
-use Rattle.trunk_wire.specs.Pieces.{whole_piece, cut_piece, piece_reader}
-use Rattle.trunk_wire.specs.declared.header.TheConstants.{BYTES}
+use Rattle.trunk_wire.proofs.Terms.{Bool, List, None, Some, [], ap, append-nil, arith, drop, false, if◌then◌else◌, length, length-append, nat_lt, refl, subst, sym, ℕ, ◌++◌, ◌<◌, ◌∙◌, ◌∷◌, ◌≡◌, lt-ltb, nat_tests, Prefix, Piece, cut_entries, pieces_in, BYTES, FitsTwoBytes, from_two_bytes, high_byte, low_byte, piece_frame, put_bytes, cut_piece, piece_reader, whole_piece}
 use Rattle.trunk_wire.proofs.GrammarLemmas.{ended, two_bytes_back}
 use Rattle.trunk_wire.proofs.ProgressLemmas.{IsSteady, put_bytes-part, put_bytes-whole}
 

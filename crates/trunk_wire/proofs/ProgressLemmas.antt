@@ -1,6 +1,5 @@
 -- Bytes that are read one after another.
-use Rattle.std.proofs.Common.{◌≡◌, ℕ, List, [], ◌∷◌, ◌++◌, None, Some, append_assoc, append-nil, refl, sym, ap, ◌∙◌}
-use Rattle.trunk_wire.specs.Parts.{Progress, Reader, put_part, put_byte, put_bytes}
+use Rattle.trunk_wire.proofs.Terms.{List, None, Some, [], ap, append-nil, append_assoc, refl, sym, ℕ, ◌++◌, ◌∙◌, ◌∷◌, ◌≡◌, Progress, Reader, put_byte, put_bytes, put_part}
 
 -- what isn't whole with more bytes behind it isn't whole without them
 pub record IsSteady {S X : Type 0} (reader : Reader S X) : Type 0 where

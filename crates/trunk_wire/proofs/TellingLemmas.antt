@@ -1,20 +1,8 @@
 -- What a trunk tells grows with each call.
-use Rattle.std.proofs.Common.{◌≡◌, ℕ, zero, suc, ◌+◌, ◌-◌, ◌<◌, ◌≤◌, nat_le, nat_lt, ◌==◌, Bool, true, false, ◌&&◌, List, [], ◌∷◌, ◌++◌, length, drop, None, if◌then◌else◌, arith, append-nil, length-append, refl, sym, ap, ◌∙◌, inl, inr}
-use Rattle.std.proofs.lemmas.Bool.{ltb-true, cases_lt}
-use Rattle.std.proofs.lemmas.Bool.Decides.{nat_tests}
-use Rattle.std.proofs.lemmas.List.{drop-append-le}
-use Rattle.links.specs.Links.{Phases, Phase, Unopened, Open, Closed, IsInOrder, phases_after, with_phase}
-use Rattle.links.specs.declared.journal.LinkEvent.{LinkEvent}
 use Rattle.links.specs.declared.journal.LinkEvent.TheVariants as event
-use Rattle.trunk_wire.specs.Frames.{IsFrameOf, from_two_bytes}
-use Rattle.trunk_wire.specs.Grammar.{front, front_by, front_accepted, header_refusal}
-use Rattle.trunk_wire.specs.Parts.{Progress, put_bytes, last_bytes}
-use Rattle.trunk_wire.specs.Pieces.{whole_event, event_reader, read_from, events, fresh}
-use Rattle.trunk_wire.specs.Tellings.{same_phase, same_phases, is_empty, is_in_step}
-use Rattle.trunk_wire.specs.declared.header.Header.{Header}
+use Rattle.trunk_wire.proofs.Terms.{Bool, List, None, [], ap, append-nil, arith, drop, false, if◌then◌else◌, inl, inr, length, length-append, nat_le, nat_lt, refl, suc, sym, true, zero, ℕ, ◌&&◌, ◌++◌, ◌+◌, ◌-◌, ◌<◌, ◌==◌, ◌∙◌, ◌∷◌, ◌≡◌, ◌≤◌, and_parts, cases_lt, le-leb, leb-true, ltb-true, drop-append-le, CONNECTIONS, LinkEvent, Closed, IsInOrder, Open, Phase, Phases, Unopened, phases_after, with_phase, Header, IsFrameOf, from_two_bytes, front, front_accepted, front_by, header_refusal, Progress, last_bytes, put_bytes, event_reader, events, fresh, read_from, whole_event, is_empty, is_in_step, same_phase, same_phases}
 use Rattle.trunk_wire.proofs.GrammarLemmas.{frame-accepted, events_steady, put_bytes-frame}
 use Rattle.trunk_wire.proofs.ProgressLemmas.{put_bytes-append, put_bytes-part}
-use Rattle.links.specs.declared.connection_table.TheConstants.{CONNECTIONS}
 
 -- each connection below CONNECTIONS has the same phase
 pub record Agree (phases others : Phases) : Type 0 where
@@ -36,15 +24,11 @@ same_phase_self Unopened = refl
 same_phase_self Open = refl
 same_phase_self Closed = refl
 
-pub both_true : (a b : Bool) → (a && b) ≡ true → (a ≡ true) × (b ≡ true)
-both_true true b is = (refl, is)
-both_true false b is = cc
-
 same_phases_to : (n : ℕ) (phases others : Phases) → same_phases n phases others ≡ true → (conn : ℕ) → conn < n → phases conn ≡ others conn
 unfolding same_phases
 same_phases_to zero phases others is conn below = absurd (omega arith)
 same_phases_to (suc n) phases others is conn below =
-    let both = both_true (same_phase (phases n) (others n)) (same_phases n phases others) is in
+    let both = and_parts (same_phase (phases n) (others n)) (same_phases n phases others) is in
     elim (cases_lt conn n) [
       | inl less ↦ same_phases_to n phases others both.1 conn less
       | inr past ↦ let last : conn ≡ n = omega arith in rw last (same_phase_to (phases n) (others n) both.0)
@@ -107,28 +91,22 @@ pub empty_list : (bytes : List ℕ) → is_empty bytes ≡ true → bytes ≡ []
 empty_list [] is = refl
 empty_list (byte ∷ bytes) is = cc
 
-pub le_from : (m n : ℕ) → nat_le m n ≡ true → m ≤ n
-le_from m n is = grind (arith, nat_tests)
-
-pub le_to : (m n : ℕ) → m ≤ n → nat_le m n ≡ true
-le_to m n le = grind (arith, nat_tests)
-
 pub in_step_from : (took : ℕ) (phases : Phases) (taken : List ℕ) → is_in_step took phases true taken ≡ true → InStep took phases taken
 in_step_from took phases taken is =
-    let first = both_true (nat_le took (length taken)) (is_empty (read_from fresh (last_bytes took taken)).part && same_phases CONNECTIONS (read_from fresh (last_bytes took taken)).state phases) is in
-    let second = both_true (is_empty (read_from fresh (last_bytes took taken)).part) (same_phases CONNECTIONS (read_from fresh (last_bytes took taken)).state phases) first.1 in record {
-      within = le_from took (length taken) first.0;
+    let first = and_parts (nat_le took (length taken)) (is_empty (read_from fresh (last_bytes took taken)).part && same_phases CONNECTIONS (read_from fresh (last_bytes took taken)).state phases) is in
+    let second = and_parts (is_empty (read_from fresh (last_bytes took taken)).part) (same_phases CONNECTIONS (read_from fresh (last_bytes took taken)).state phases) first.1 in record {
+      within = leb-true took (length taken) first.0;
       between = empty_list (read_from fresh (last_bytes took taken)).part second.0;
       agree = record { same = same_phases_to CONNECTIONS (read_from fresh (last_bytes took taken)).state phases second.1 };
     }
 
 pub in_step_to : (took : ℕ) (phases : Phases) (taken : List ℕ) → InStep took phases taken → is_in_step took phases true taken ≡ true
 in_step_to took phases taken step =
-    rw (le_to took (length taken) step.within, step.between) (same_phases_from CONNECTIONS (read_from fresh (last_bytes took taken)).state phases step.agree.same)
+    rw (le-leb took (length taken) step.within, step.between) (same_phases_from CONNECTIONS (read_from fresh (last_bytes took taken)).state phases step.agree.same)
 
 -- a link that takes no more is in step with as many bytes as it has counted
 stopped_to : (took : ℕ) (phases : Phases) (taken : List ℕ) → took ≤ length taken → is_in_step took phases false taken ≡ true
-stopped_to took phases taken within = rw (le_to took (length taken) within) refl
+stopped_to took phases taken within = rw (le-leb took (length taken) within) refl
 
 -- the same progress, with the part that it has
 as_between : (progress : Progress Phases LinkEvent) → progress.part ≡ [] → progress ≡ record { whole = progress.whole; state = progress.state; part = [] }

@@ -1,7 +1,7 @@
 -- What several calls on the trunk take and write, one after another.
 use Rattle.std.proofs.Common.{◌≡◌, ℕ, ◌+◌, List, [], ◌++◌, length, Option, arith, sym, ap, ◌∙◌, length-append}
-use Rattle.rx_io.specs.Outside.{Stream}
 use Rattle.rx_io.proofs.Composing.{took_nothing, took_more, gave_nothing, gave_more}
+use Rattle.trunk_wire.specs.Terms.{Stream}
 use Rattle.trunk_wire.specs.Calls.{Reads, Writes, count_after}
 
 -- a count goes on by none, and by a sum
@@ -15,6 +15,7 @@ count_more before mid now m n first second = omega arith
 pub reads_nothing : (source : Option Stream) (count : ℕ) → Reads source source count count []
 reads_nothing source count = record { took = took_nothing source; count = count_nothing count }
 
+-- two reads, one behind the other, took the bytes of both
 pub reads_more : (old mid new : Option Stream) (before between now : ℕ) (bytes more : List ℕ) → Reads old mid before between bytes → Reads mid new between now more → Reads old new before now (bytes ++ more)
 reads_more old mid new before between now bytes more first second = record {
   took = took_more old mid new bytes more first.took second.took;
@@ -25,6 +26,7 @@ reads_more old mid new before between now bytes more first second = record {
 pub writes_nothing : (sink : Option (List ℕ)) (count : ℕ) → Writes sink sink count count []
 writes_nothing sink count = record { wrote = gave_nothing sink; count = count_nothing count }
 
+-- two writes, one behind the other, wrote the bytes of both
 pub writes_more : (old mid new : Option (List ℕ)) (before between now : ℕ) (bytes more : List ℕ) → Writes old mid before between bytes → Writes mid new between now more → Writes old new before now (bytes ++ more)
 writes_more old mid new before between now bytes more first second = record {
   wrote = gave_more old mid new bytes more first.wrote second.wrote;

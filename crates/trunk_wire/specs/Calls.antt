@@ -1,18 +1,9 @@
 -- What a call on the trunk takes from its source and writes to its sink.
 use Rattle.std.specs.Prelude.{◌≡◌, ◌⊎◌, ℕ, ◌+◌, ◌-◌, ◌^◌, ◌<◌, min, max, List, [], ◌++◌, length, take, Option, None, Some, Result, Ok, Err, Vec}
 use Rattle.std.specs.declared.alloc.Global.{Global}
-use Rattle.std.specs.Io.KnownBytes.{Appends}
-use Rattle.links.specs.Links.{Phases}
-use Rattle.rx_io.specs.Outside.{Stream, Took, IsDrained}
-use Rattle.rx_io.specs.Prefix.{Prefix}
-use Rattle.rx_io.specs.declared.fault.IoFault.{IoFault}
 use Rattle.rx_io.specs.declared.fault.IoFault.TheVariants as io
-use Rattle.links.specs.declared.journal.Given.{Given}
-use Rattle.links.specs.declared.journal.Given.TheVariants.{All, Gone}
-use Rattle.links.specs.declared.journal.LinkEvent.{LinkEvent}
 use Rattle.links.specs.declared.journal.LinkEvent.TheVariants as event
-use Rattle.links.specs.declared.journal.LinkFault.{LinkFault}
-use Rattle.links.specs.declared.journal.LinkFault.TheVariants.{Refused, ReadFault, WriteFault, Memory}
+use Rattle.trunk_wire.specs.Terms.{Appends, IoFault, IsDrained, Stream, Took, Prefix, Given, All, Gone, LinkEvent, LinkFault, Memory, ReadFault, Refused, WriteFault, Phases}
 use Rattle.trunk_wire.specs.Frames.{IsFrameOf, piece_frame}
 use Rattle.trunk_wire.specs.Grammar.{Part, Bad, front}
 

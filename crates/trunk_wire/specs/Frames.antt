@@ -1,12 +1,10 @@
 -- Frames of many connections on one stream. A frame is its kind (one byte), its connection and its payload's length (two
 -- bytes each, little-endian), and the payload.
 use Rattle.std.specs.Prelude.{◌≡◌, ℕ, ◌+◌, ◌*◌, ◌/◌, ◌%◌, ◌^◌, ◌<◌, List, [], ◌∷◌, ◌++◌, length, flat_map}
-use Rattle.links.specs.Links.{Piece}
-use Rattle.links.specs.declared.journal.LinkEvent.{LinkEvent}
 use Rattle.links.specs.declared.journal.LinkEvent.TheVariants as event
+use Rattle.trunk_wire.specs.Terms.{CONNECTIONS, LinkEvent, Piece}
 use Rattle.trunk_wire.specs.declared.header.Header.{Header}
 use Rattle.trunk_wire.specs.declared.header.TheConstants.{OPEN, BYTES, CLOSE, SETTLE}
-use Rattle.links.specs.declared.connection_table.TheConstants.{CONNECTIONS}
 
 -- the lower and the higher byte of a number of two bytes
 abbrev pub low_byte : ℕ → ℕ
@@ -26,13 +24,16 @@ two_bytes n = low_byte n ∷ high_byte n ∷ []
 abbrev pub from_two_bytes : ℕ → ℕ → ℕ
 from_two_bytes low high = low + 256 * high
 
+-- a header as its five bytes: the kind, the connection and the payload's length
 abbrev pub header_bytes : Header → List ℕ
 header_bytes header = header.kind ∷ (two_bytes header.conn ++ two_bytes header.length)
 
+-- the header that five bytes are
 abbrev pub header_of : ℕ → ℕ → ℕ → ℕ → ℕ → Header
 header_of kind conn_low conn_high length_low length_high =
     record { kind = kind; conn = from_two_bytes conn_low conn_high; length = from_two_bytes length_low length_high }
 
+-- a header with the payload behind it
 abbrev pub frame : ℕ → ℕ → List ℕ → List ℕ
 frame kind conn payload = header_bytes (record { kind = kind; conn = conn; length = length payload }) ++ payload
 
@@ -59,5 +60,6 @@ AreFramesOf (first ∷ events) bytes = (front : List ℕ) × (rest : List ℕ) �
 abbrev pub piece_frame : ℕ → List ℕ → List ℕ
 piece_frame conn bytes = frame BYTES conn bytes
 
+-- the frames of pieces, one behind the other
 abbrev pub frames : List Piece → List ℕ
 frames pieces = flat_map (λ (piece : Piece). piece_frame piece.conn piece.bytes) pieces

@@ -1,14 +1,10 @@
 -- How a trunk goes on: what it takes from its source and writes to its sink over any number of calls.
 use Rattle.std.specs.Prelude.{◌≡◌, ℕ, ◌^◌, ◌<◌, Bool, true, false, All, List, [], ◌∷◌, ◌++◌, length, Option, None, Some}
-use Rattle.links.specs.Links.{Phases, IsInOrder, phases_after, Piece}
-use Rattle.rx_io.specs.Outside.{Stream, IsDrained}
-use Rattle.rx_io.specs.Prefix.{Prefix}
-use Rattle.links.specs.declared.journal.LinkEvent.{LinkEvent}
+use Rattle.trunk_wire.specs.Terms.{IsDrained, Stream, Prefix, CONNECTIONS, LinkEvent, IsInOrder, Phases, Piece, phases_after}
 use Rattle.trunk_wire.specs.Calls.{Reads, Writes, count_after, IsRefused}
 use Rattle.trunk_wire.specs.Frames.{AreFramesOf, piece_frame, frames}
 use Rattle.trunk_wire.specs.Grammar.{Part, front}
 use Rattle.trunk_wire.specs.declared.refusal.Refusal.{Refusal}
-use Rattle.links.specs.declared.connection_table.TheConstants.{CONNECTIONS}
 
 -- events in order, one after another
 abbrev pub AreInOrder : Phases → List LinkEvent → Type 0

@@ -3,14 +3,11 @@ use Rattle.std.proofs.Common.{◌≡◌, ℕ, Bool, true, false, List, [], ◌�
 use Rattle.std.proofs.Math.Path.{fun_ext}
 use Rattle.std.proofs.lemmas.List.Elements.{All-append, All-nil}
 use Rattle.std.proofs.lemmas.Grind.{flat_map-append}
-use Rattle.links.specs.Links.{Phases, phases_after, Piece}
-use Rattle.rx_io.specs.Outside.{Stream, IsDrained}
-use Rattle.links.specs.declared.journal.LinkEvent.{LinkEvent}
+use Rattle.trunk_wire.specs.Terms.{IsDrained, Stream, LinkEvent, Phases, Piece, phases_after, IsSound}
 use Rattle.trunk_wire.specs.CallLaws.{reads_nothing, reads_more, writes_nothing, writes_more}
 use Rattle.trunk_wire.specs.Calls.{Reads, Writes, count_after}
 use Rattle.trunk_wire.specs.Frames.{AreFramesOf, piece_frame, frames}
 use Rattle.trunk_wire.specs.Going.{AreInOrder, phases_behind, Intake, IsTail, TookFrames, TakesOn, Output, IsFramed, IsCut, WroteFrames, GivesOn}
-use Rattle.links.specs.Seen.{IsSound}
 use Rattle.links.specs.TableLaws.{open_gives, open_below}
 use Rattle.trunk_wire.specs.TrunkLinks.{TrunkWent, seen_of, intake_of, output_of}
 use Rattle.trunk_wire.specs.declared.trunk_link.TrunkLink.{TrunkLink}
@@ -92,10 +89,12 @@ wrote_frames first second third gives one two =
       cut = two.cut;
     }
 
+-- a link that took nothing between has gone on
 pub takes_same : (takes : Bool) (intake : Intake) → intake.takes ≡ takes → TakesOn takes intake intake
 takes_same true intake is = took_none intake is
 takes_same false intake is = refl
 
+-- a link that gave nothing between has gone on
 pub gives_same : (gives : Bool) (output : Output) → output.gives ≡ gives → GivesOn gives output output
 gives_same true output is = wrote_none output is
 gives_same false output is = refl
@@ -112,6 +111,7 @@ gives_on true false first second third first_is second_is one two = subst (Wrote
 gives_on false true first second third first_is second_is one two = let same : second.gives ≡ first.gives = ap (λ output. output.gives) one in cc
 gives_on false false first second third first_is second_is one two = two ∙ one
 
+-- what a link over a trunk shows is sound at each moment
 pub trunk_sound : {S K : Type 0} (source_told : S → Option Stream) (source_faults : S → ℕ) (sink_told : K → Option (List ℕ)) (sink_faults : K → ℕ) (link : TrunkLink S K) → IsSound (seen_of source_told source_faults sink_told sink_faults link)
 trunk_sound source_told source_faults sink_told sink_faults link = record { gives_open = open_gives link.table; below = open_below link.table }
 

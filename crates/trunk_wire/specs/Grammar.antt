@@ -1,13 +1,10 @@
 -- The grammar of the trunk: what comes at the first byte of a frame.
 use Rattle.std.specs.Prelude.{ℕ, nat_lt, ◌==◌, Bool, not, ◌&&◌, ◌||◌, List, [], ◌∷◌, length, take, Option, None, Some, if◌then◌else◌}
-use Rattle.links.specs.ConnectionTables.{is_unopened, is_open}
-use Rattle.links.specs.Links.{Phases, Coming, Comes, Refuses}
-use Rattle.links.specs.declared.journal.LinkEvent.{LinkEvent}
 use Rattle.links.specs.declared.journal.LinkEvent.TheVariants as event
+use Rattle.trunk_wire.specs.Terms.{CONNECTIONS, LinkEvent, is_open, is_unopened, Comes, Coming, Phases, Refuses}
 use Rattle.trunk_wire.specs.Frames.{header_of}
 use Rattle.trunk_wire.specs.declared.header.Header.{Header}
 use Rattle.trunk_wire.specs.declared.header.TheConstants.{OPEN, BYTES, CLOSE, SETTLE}
-use Rattle.links.specs.declared.connection_table.TheConstants.{CONNECTIONS}
 
 -- the kind is one of the four
 abbrev pub is_known : Header → Bool
@@ -53,13 +50,16 @@ pub data Front : Type 0 where
 abbrev pub front_accepted : Header → List ℕ → Front
 front_accepted header payload = if nat_lt (length payload) header.length then Part else Whole (event_of header (take header.length payload))
 
+-- a header that is refused by a kind, or what stands there otherwise
 abbrev pub front_by : Option ℕ → Front → Front
 front_by None front = front
 front_by (Some kind) front = Bad kind
 
+-- what bytes with this header and this payload begin with
 abbrev pub front_behind : Phases → Header → List ℕ → Front
 front_behind phases header payload = front_by (header_refusal phases header) (front_accepted header payload)
 
+-- what bytes begin with, where connections are in these phases
 abbrev pub front : Phases → List ℕ → Front
 front phases (kind ∷ conn_low ∷ conn_high ∷ length_low ∷ length_high ∷ payload) = front_behind phases (header_of kind conn_low conn_high length_low length_high) payload
 front phases _ = Part
@@ -71,6 +71,7 @@ coming_of offset (Whole event) = Comes event
 coming_of offset Part = Refuses 5 offset
 coming_of offset (Bad kind) = Refuses kind offset
 
+-- what comes of the bytes from an offset on; without bytes the link ends
 abbrev pub event_at : Phases → ℕ → List ℕ → Coming
 event_at phases offset [] = Comes event.Ends
 event_at phases offset (byte ∷ bytes) = coming_of offset (front phases (byte ∷ bytes))

@@ -1,3 +1,4 @@
+pub mod Terms
 pub mod Frames
 pub mod Grammar
 pub mod Parts

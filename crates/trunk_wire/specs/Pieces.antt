@@ -1,11 +1,11 @@
 -- The events that a stream of frames brings in, and the pieces that one takes out.
 use Rattle.std.specs.Prelude.{ℕ, nat_lt, ◌==◌, false, List, [], ◌∷◌, ◌++◌, length, flat_map, Option, None, Some, if◌then◌else◌}
-use Rattle.links.specs.Links.{Phases, phases_after, Piece, Unopened}
-use Rattle.links.specs.declared.journal.LinkEvent.{LinkEvent}
+use Rattle.trunk_wire.specs.Terms.{LinkEvent, Phases, Piece, Unopened, phases_after}
 use Rattle.trunk_wire.specs.Frames.{from_two_bytes}
 use Rattle.trunk_wire.specs.Grammar.{Front, Whole, Part, Bad, front}
 use Rattle.trunk_wire.specs.Parts.{Progress, Reader, put_bytes}
 
+-- the event of a whole frame, and none of anything else
 abbrev pub whole_event : Front → Option LinkEvent
 whole_event (Whole event) = Some event
 whole_event Part = None
@@ -15,6 +15,7 @@ whole_event (Bad kind) = None
 abbrev pub event_reader : Reader Phases LinkEvent
 event_reader = record { whole_of = λ phases part. whole_event (front phases part); after = phases_after }
 
+-- the events that bytes are, where connections were in these phases before
 abbrev pub read_from : Phases → List ℕ → Progress Phases LinkEvent
 read_from phases bytes = put_bytes event_reader (record { whole = []; state = phases; part = [] }) bytes
 
@@ -39,9 +40,11 @@ cut_piece (kind ∷ conn_low ∷ conn_high ∷ length_low ∷ length_high ∷ by
     record { conn = from_two_bytes conn_low conn_high; bytes = byte ∷ bytes; gone = false } ∷ []
 cut_piece _ = []
 
+-- a part that is a whole frame of output is a piece
 abbrev pub piece_reader : Reader (Unit {0}) Piece
 piece_reader = record { whole_of = λ _ part. whole_piece part; after = λ piece state. state }
 
+-- the pieces that bytes are
 abbrev pub written : List ℕ → Progress (Unit {0}) Piece
 written bytes = put_bytes piece_reader (record { whole = []; state = tt; part = [] }) bytes
 

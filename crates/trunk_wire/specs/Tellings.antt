@@ -1,16 +1,12 @@
 -- What a trunk tells of the bytes that it took and wrote.
 use Rattle.std.specs.Prelude.{ℕ, zero, suc, nat_le, Bool, true, false, ◌&&◌, List, [], ◌∷◌, length, Option, None, Some, Result, Ok, Err, option_map, if◌then◌else◌}
-use Rattle.links.specs.Links.{Phase, Unopened, Open, Closed, Phases, Told, Coming, Refuses, Piece}
-use Rattle.rx_io.specs.Outside.{Stream}
-use Rattle.links.specs.declared.journal.LinkEvent.{LinkEvent}
-use Rattle.links.specs.declared.journal.LinkFault.{LinkFault}
-use Rattle.links.specs.declared.journal.LinkFault.TheVariants.{Refused}
+use Rattle.trunk_wire.specs.Terms.{Stream, CONNECTIONS, LinkEvent, LinkFault, Refused, Closed, Coming, Open, Phase, Phases, Piece, Refuses, Told, Unopened}
 use Rattle.trunk_wire.specs.Grammar.{event_at}
 use Rattle.trunk_wire.specs.Parts.{last_bytes}
 use Rattle.trunk_wire.specs.declared.refusal.Refusal.{Refusal}
 use Rattle.trunk_wire.specs.Pieces.{read_from, events, fresh, written, pieces}
-use Rattle.links.specs.declared.connection_table.TheConstants.{CONNECTIONS}
 
+-- whether two phases are the same one
 abbrev pub same_phase : Phase → Phase → Bool
 same_phase Unopened Unopened = true
 same_phase Open Open = true
@@ -22,6 +18,7 @@ unfoldable pub same_phases : ℕ → Phases → Phases → Bool
 same_phases zero phases others = true
 same_phases (suc n) phases others = same_phase (phases n) (others n) && same_phases n phases others
 
+-- whether there is no byte
 abbrev pub is_empty : List ℕ → Bool
 is_empty [] = true
 is_empty (byte ∷ bytes) = false

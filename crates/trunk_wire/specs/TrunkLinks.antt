@@ -1,13 +1,7 @@
 -- What a trunk link has.
 use Rattle.std.specs.Prelude.{◌≡◌, ℕ, List, length, Option, None, Some, Result}
-use Rattle.links.specs.ConnectionTables.{phases_in}
-use Rattle.links.specs.Links.{Phases, Told, Coming, Counts}
-use Rattle.links.specs.Seen.{Seen}
 use Rattle.links.specs.LinkForms.{handed_by, gives_below_4096}
-use Rattle.rx_io.specs.Outside.{Stream}
-use Rattle.links.specs.declared.journal.Given.{Given}
-use Rattle.links.specs.declared.journal.LinkEvent.{LinkEvent}
-use Rattle.links.specs.declared.journal.LinkFault.{LinkFault}
+use Rattle.trunk_wire.specs.Terms.{Stream, Given, LinkEvent, LinkFault, phases_in, Coming, Counts, Phases, Told, Seen}
 use Rattle.trunk_wire.specs.Calls.{TakesFrame, WritesFrame, HasOffset}
 use Rattle.trunk_wire.specs.Tellings.{told_events, told_pieces, told_coming, trunk_told, refusal_in}
 use Rattle.trunk_wire.specs.Going.{Intake, Output, TakesOn, GivesOn}
@@ -15,6 +9,7 @@ use Rattle.trunk_wire.specs.declared.refusal.Refusal.{Refusal}
 use Rattle.trunk_wire.specs.declared.trunk_link.TrunkLink.{TrunkLink}
 
 module _ {S K : Type 0} where
+  -- what a link takes bytes of, and what it writes bytes to
   abbrev pub source_of : TrunkLink S K → S
   source_of link = link.source
 
@@ -28,6 +23,7 @@ module _ {S K : Type 0} where
   abbrev pub wrote_of : TrunkLink S K → ℕ
   wrote_of link = link.wrote
 
+  -- whether each connection of a link never opened, is open, or closed
   abbrev pub trunk_phases : TrunkLink S K → Phases
   trunk_phases link = phases_in link.table
 
@@ -66,6 +62,7 @@ module _ {S K : Type 0} where
     pub wrote : link.wrote ≡ 0
     pub refused : link.refused ≡ None
 
+  -- what a link took of its source, and what it wrote to its sink
   abbrev pub intake_of : (S → Option Stream) → TrunkLink S K → Intake
   intake_of source_told link = record { told = source_told link.source; took = link.took; phases = phases_in link.table; takes = link.takes; refused = link.refused }
 

@@ -1,10 +1,4 @@
-use Rattle.std.proofs.Common.{sym, ◌∙◌, ap}
-use Rattle.std.specs.Option.{option_or}
-use Rattle.std.proofs.lemmas.Bool.{not-true, not-false}
-use Rattle.block_book.specs.Heap.{Heap}
-use Rattle.block_book.specs.Placement.{placement}
-use Rattle.alloc_env.specs.declared.treatment.Treatment.{Treatment}
-use Rattle.alloc_env.specs.Treatment.{treatment_of}
+use Rattle.alloc_env.proofs.Terms.{ap, sym, ◌∙◌, not-false, not-true, option_or, Heap, placement, Treatment, treatment_of}
 use Rattle.alloc_env.proofs.Mallocs.{spot-anywhere, spot-above}
 use Rattle.alloc_env.proofs.serving.place_by.Goals as goal
 

@@ -1,9 +1,4 @@
-use Rattle.std.proofs.Common.{◌≡◌, true, false, sym, ◌∙◌, ap, subst, Some, refl}
-use Rattle.block_book.specs.Heap.{Heap}
-use Rattle.block_book.specs.Answer.{live_blocks}
-use Rattle.alloc_env.specs.declared.treatment.Treatment.{Treatment}
-use Rattle.alloc_env.specs.Treatment.{treatment_of}
-use Rattle.alloc_env.specs.Laws.{Follows}
+use Rattle.alloc_env.proofs.Terms.{Some, ap, false, refl, subst, sym, true, ◌∙◌, ◌≡◌, live_blocks, Heap, Treatment, treatment_of, Follows}
 use Rattle.alloc_env.proofs.Frees.{live-standing, freed-follows, null-follows, delayed-follows, free-null, free-standing, keeps-delayed, refuses-delayed}
 use Rattle.alloc_env.proofs.serving.serve_free.Goals as goal
 

@@ -1,6 +1,4 @@
-use Rattle.std.proofs.Common.{◌∙◌, ap}
-use Rattle.block_book.specs.Heap.{recycled}
-use Rattle.alloc_env.specs.declared.treatment.Treatment.{Treatment}
+use Rattle.alloc_env.proofs.Terms.{ap, ◌∙◌, recycled, Treatment}
 use Rattle.alloc_env.proofs.Mallocs.{answers-first, answers-again, answers-null}
 use Rattle.alloc_env.proofs.serving.serve_malloc.Goals as goal
 

@@ -1,5 +1,4 @@
-use Rattle.std.proofs.Common.{◌≡◌, take, drop}
-use Rattle.asm_lines.specs.Bytes.{cut}
+use Rattle.asm_lines.proofs.Terms.{drop, take, ◌≡◌, cut}
 use Rattle.asm_lines.proofs.Cutting.{behind_front}
 use Rattle.asm_lines.proofs.bytes.cut.Given as goal
 

@@ -1,5 +1,4 @@
-use Rattle.std.proofs.Common.{◌≡◌, ◌++◌, take, drop}
-use Rattle.asm_lines.specs.Bytes.{first_word, behind_word}
+use Rattle.asm_lines.proofs.Terms.{drop, take, ◌++◌, ◌≡◌, behind_word, first_word}
 use Rattle.asm_lines.proofs.bytes.split_word.Given as goal
 
 abbrev pub invariant-loop-i : goal.invariant-loop-i

@@ -1,4 +1,4 @@
-use Rattle.std.proofs.Common.{sym, ◌∙◌}
+use Rattle.asm_lines.proofs.Terms.{sym, ◌∙◌}
 use Rattle.asm_lines.proofs.Cutting.{strip_blanks-last_blank, strip_blanks-last_other}
 use Rattle.asm_lines.proofs.bytes.strip_blanks.Goals as goal
 

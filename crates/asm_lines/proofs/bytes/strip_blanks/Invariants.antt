@@ -1,5 +1,4 @@
-use Rattle.std.proofs.Common.{◌≡◌, length}
-use Rattle.asm_lines.specs.Bytes.{strip_blanks}
+use Rattle.asm_lines.proofs.Terms.{length, ◌≡◌, strip_blanks}
 use Rattle.asm_lines.proofs.bytes.strip_blanks.Given as goal
 
 abbrev pub invariant-blanks : goal.invariant-blanks

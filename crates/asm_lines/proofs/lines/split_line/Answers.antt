@@ -1,4 +1,4 @@
-use Rattle.std.proofs.Common.{arith}
+use Rattle.asm_lines.proofs.Terms.{arith}
 use Rattle.asm_lines.proofs.Cutting.{lines_of-cut, lines_of-uncut, cut_length}
 use Rattle.asm_lines.proofs.lines.split_line.Goals as goal
 

@@ -1,5 +1,4 @@
-use Rattle.std.proofs.Common.{◌≡◌, ◌++◌, take, drop, false}
-use Rattle.asm_lines.specs.Lines.{uncommented}
+use Rattle.asm_lines.proofs.Terms.{drop, false, take, ◌++◌, ◌≡◌, uncommented}
 use Rattle.asm_lines.proofs.lines.uncommented.Given as goal
 
 abbrev pub invariant-loop-i : goal.invariant-loop-i

@@ -1,4 +1,4 @@
-use Rattle.asm_lines.specs.Mnemonics.{form_of, mnemonic_table}
+use Rattle.asm_lines.proofs.Terms.{form_of, mnemonic_table}
 use Rattle.asm_lines.proofs.mnemonics.form_of.Goals as goal
 
 pub returns : goal.returns

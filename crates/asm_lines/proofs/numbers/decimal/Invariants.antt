@@ -1,4 +1,4 @@
-use Rattle.std.proofs.Common.{drop}
+use Rattle.asm_lines.proofs.Terms.{drop}
 use Rattle.asm_lines.proofs.Clipping.{IsDecimalSoFar}
 use Rattle.asm_lines.proofs.numbers.decimal.Given as goal
 

@@ -1,4 +1,4 @@
-use Rattle.std.proofs.Common.{drop}
+use Rattle.asm_lines.proofs.Terms.{drop}
 use Rattle.asm_lines.proofs.Clipping.{IsHexSoFar}
 use Rattle.asm_lines.proofs.numbers.hexadecimal_digits.Given as goal
 

@@ -1,5 +1,4 @@
-use Rattle.std.proofs.Common.{option_map, ap, sym, ◌∙◌}
-use Rattle.asm_lines.specs.Numbers.{clipped_int}
+use Rattle.asm_lines.proofs.Terms.{ap, option_map, sym, ◌∙◌, clipped_int}
 use Rattle.asm_lines.proofs.Clipping.{number_of-short}
 use Rattle.asm_lines.proofs.numbers.number_of.Goals as goal
 

@@ -1,5 +1,4 @@
-use Rattle.std.proofs.Common.{◌≡◌, length}
-use Rattle.asm_lines.specs.Statements.{is_written}
+use Rattle.asm_lines.proofs.Terms.{length, ◌≡◌, is_written}
 use Rattle.asm_lines.proofs.operands.is_written.Given as goal
 
 abbrev pub invariant-bytes : goal.invariant-bytes

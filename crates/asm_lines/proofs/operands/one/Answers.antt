@@ -1,4 +1,4 @@
-use Rattle.std.proofs.Common.{sym, ap, ◌∙◌, Ok, rules}
+use Rattle.asm_lines.proofs.Terms.{Ok, ap, rules, sym, ◌∙◌}
 use Rattle.asm_lines.proofs.Parting.{one_empty, one_comma, one_part}
 use Rattle.asm_lines.proofs.operands.one.Goals as goal
 

@@ -1,4 +1,4 @@
-use Rattle.std.proofs.Common.{rules}
+use Rattle.asm_lines.proofs.Terms.{rules}
 use Rattle.asm_lines.proofs.Parting.{three_uncut, three_cut, three_comma, three_parts_of}
 use Rattle.asm_lines.proofs.operands.three.Goals as goal
 

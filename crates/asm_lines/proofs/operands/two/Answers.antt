@@ -1,4 +1,4 @@
-use Rattle.std.proofs.Common.{rules}
+use Rattle.asm_lines.proofs.Terms.{rules}
 use Rattle.asm_lines.proofs.Parting.{two_uncut, two_comma, two_parts_of}
 use Rattle.asm_lines.proofs.operands.two.Goals as goal
 

@@ -1,4 +1,4 @@
-use Rattle.asm_lines.specs.Registers.{register_of, register_table}
+use Rattle.asm_lines.proofs.Terms.{register_of, register_table}
 use Rattle.asm_lines.proofs.registers.register_of.Goals as goal
 
 pub returns : goal.returns

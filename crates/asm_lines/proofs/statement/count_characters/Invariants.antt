@@ -1,5 +1,4 @@
-use Rattle.std.proofs.Common.{◌≡◌, ◌+◌, ◌≤◌, length}
-use Rattle.asm_lines.specs.Statements.{characters}
+use Rattle.asm_lines.proofs.Terms.{length, ◌+◌, ◌≡◌, ◌≤◌, characters}
 use Rattle.asm_lines.proofs.statement.count_characters.Given as goal
 
 abbrev pub invariant-bytes : goal.invariant-bytes

@@ -1,4 +1,4 @@
-use Rattle.std.proofs.Common.{rules}
+use Rattle.asm_lines.proofs.Terms.{rules}
 use Rattle.asm_lines.proofs.Parting.{lone_empty, lone_filled}
 use Rattle.asm_lines.proofs.statements.lone_instruction.Goals as goal
 

@@ -1,5 +1,4 @@
-use Rattle.std.proofs.Common.{◌≡◌, drop}
-use Rattle.asm_lines.specs.Bytes.{look_up}
+use Rattle.asm_lines.proofs.Terms.{drop, ◌≡◌, look_up}
 use Rattle.asm_lines.specs.Tables.{rows_of}
 use Rattle.asm_lines.proofs.tables.look_up.Given as goal
 

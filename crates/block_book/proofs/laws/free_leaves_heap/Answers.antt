@@ -1,5 +1,4 @@
-use Rattle.std.proofs.Common.{not, eqb}
-use Rattle.block_book.specs.declared.block.Block.{Block}
+use Rattle.block_book.proofs.Terms.{eqb, not, Block}
 use Rattle.block_book.proofs.Sound.{sound-filter, sound-delayed}
 use Rattle.block_book.proofs.laws.free_leaves_heap.Goals as goal
 

@@ -1,6 +1,4 @@
-use Rattle.std.proofs.Common.{not, eqb}
-use Rattle.block_book.specs.declared.block.Block.{Block}
-use Rattle.block_book.specs.Block.{live_block}
+use Rattle.block_book.proofs.Terms.{eqb, not, Block, live_block}
 use Rattle.block_book.proofs.Sound.{sound-with}
 use Rattle.block_book.proofs.Rooms.{put-room, bare-insert, bare-filter}
 use Rattle.block_book.proofs.laws.put_leaves_heap.Goals as goal

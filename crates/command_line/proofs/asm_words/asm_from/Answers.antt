@@ -1,4 +1,4 @@
-use Rattle.command_line.specs.Commands.{asm_value, asm_form}
+use Rattle.command_line.proofs.Terms.{asm_form, asm_value}
 use Rattle.command_line.proofs.asm_words.asm_from.Goals as goal
 
 pub returns : goal.returns

@@ -1,9 +1,4 @@
-use Rattle.std.proofs.Common.{◌≡◌, ◌∙◌, ap}
-use Rattle.std.proofs.lemmas.Result.{IfErr-weaker, IfOk-weaker}
-use Rattle.clap.specs.Words.{App, app_of, is_simple, matches_of, takes}
-use Rattle.command_line.specs.Parts.{texts_of}
-use Rattle.command_line.specs.Reading.{app_of_form}
-use Rattle.command_line.specs.Commands.{asm_form}
+use Rattle.command_line.proofs.Terms.{ap, ◌∙◌, ◌≡◌, IfErr-weaker, IfOk-weaker, App, app_of, is_simple, matches_of, takes, texts_of, asm_form, app_of_form}
 use Rattle.command_line.proofs.Readable.{asm_read, asm_readable, asm_taken}
 use Rattle.command_line.proofs.asm_words.read_asm.Goals as goal
 

@@ -1,6 +1,4 @@
-use Rattle.std.proofs.Common.{◌≡◌, ◌∙◌, true, false, sym, ap}
-use Rattle.std.specs.Str.{bytes_eq}
-use Rattle.command_line.specs.Commands.{asm_form, replay_form, run_form}
+use Rattle.command_line.proofs.Terms.{ap, false, sym, true, ◌∙◌, ◌≡◌, bytes_eq, asm_form, replay_form, run_form}
 use Rattle.command_line.proofs.Asking.{asm_asked, asm_refused, first_word, of_asm, of_none, of_replay, of_run, replay_asked, replay_refused, run_asked, run_refused}
 use Rattle.command_line.proofs.command.find_command.Goals as goal
 

@@ -1,6 +1,4 @@
-use Rattle.std.proofs.Common.{◌∙◌, ap, sym, Some}
-use Rattle.command_line.specs.Parts.{texts_of}
-use Rattle.command_line.specs.Commands.{RunValue, run, run_shown}
+use Rattle.command_line.proofs.Terms.{Some, ap, sym, ◌∙◌, texts_of, RunValue, run, run_shown}
 use Rattle.command_line.proofs.Ranges.{ranges_of}
 use Rattle.command_line.proofs.command.read_command.Goals as goal
 

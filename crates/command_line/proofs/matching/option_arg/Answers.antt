@@ -1,6 +1,5 @@
-use Rattle.std.proofs.Common.{ap, option_map}
-use Rattle.clap.specs.Words.{rule_of}
-use Rattle.command_line.specs.Table.{row_read}
+use Rattle.std.proofs.Common.{option_map}
+use Rattle.command_line.proofs.Terms.{ap, rule_of, row_read}
 use Rattle.command_line.proofs.Arguing.{default_rule, named_rule}
 use Rattle.command_line.proofs.matching.option_arg.Goals as goal
 

@@ -1,7 +1,4 @@
-use Rattle.std.proofs.Common.{◌∙◌, ap}
-use Rattle.clap.specs.Words.{app_of, with_rule}
-use Rattle.command_line.specs.Reading.{option_rule}
-use Rattle.command_line.specs.Table.{row_read}
+use Rattle.command_line.proofs.Terms.{ap, ◌∙◌, app_of, with_rule, row_read, option_rule}
 use Rattle.command_line.proofs.Listed.{fold_next, fold_past}
 use Rattle.command_line.proofs.matching.with_options.Goals as goal
 

@@ -1,7 +1,4 @@
-use Rattle.std.proofs.Common.{◌≡◌, drop, fold, map}
-use Rattle.clap.specs.Words.{app_of, with_rule}
-use Rattle.command_line.specs.Reading.{option_rule}
-use Rattle.command_line.specs.Table.{row_read}
+use Rattle.command_line.proofs.Terms.{drop, fold, map, ◌≡◌, app_of, with_rule, row_read, option_rule}
 use Rattle.command_line.proofs.matching.with_options.Given as goal
 
 abbrev pub invariant-loop-row : goal.invariant-loop-row

@@ -1,5 +1,5 @@
-use Rattle.std.proofs.Common.{◌∙◌, ap, Bor}
-use Rattle.clap.specs.Words.{Text, app_of, new_rule, with_rule}
+use Rattle.clap.specs.Words.{Text}
+use Rattle.command_line.proofs.Terms.{Bor, ap, ◌∙◌, app_of, new_rule, with_rule}
 use Rattle.command_line.proofs.Listed.{fold_next, fold_past}
 use Rattle.command_line.proofs.matching.with_positionals.Goals as goal
 

@@ -1,5 +1,5 @@
-use Rattle.std.proofs.Common.{◌≡◌, Bor, drop, fold, map}
-use Rattle.clap.specs.Words.{Text, app_of, new_rule, with_rule}
+use Rattle.clap.specs.Words.{Text}
+use Rattle.command_line.proofs.Terms.{Bor, drop, fold, map, ◌≡◌, app_of, new_rule, with_rule}
 use Rattle.command_line.proofs.matching.with_positionals.Given as goal
 
 abbrev pub invariant-loop-name : goal.invariant-loop-name

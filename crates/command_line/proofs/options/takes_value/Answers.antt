@@ -1,6 +1,4 @@
-use Rattle.std.proofs.Common.{◌∙◌, Bor}
-use Rattle.std.specs.Str.{bytes_eq}
-use Rattle.command_line.specs.Texts.{Text}
+use Rattle.command_line.proofs.Terms.{Bor, ◌∙◌, bytes_eq, Text}
 use Rattle.command_line.proofs.Listed.{list_any-map}
 use Rattle.command_line.proofs.options.takes_value.Goals as goal
 

@@ -1,7 +1,4 @@
-use Rattle.std.proofs.Common.{◌≡◌, drop}
-use Rattle.command_line.specs.Options.{has_required}
-use Rattle.command_line.specs.Table.{rows_read}
-use Rattle.command_line.specs.Parts.{parts_of}
+use Rattle.command_line.proofs.Terms.{drop, ◌≡◌, parts_of, rows_read, has_required}
 use Rattle.command_line.proofs.parts.are_complete.Given as goal
 
 abbrev pub invariant-loop-row : goal.invariant-loop-row

@@ -1,6 +1,5 @@
-use Rattle.std.proofs.Common.{◌≡◌, ◌∙◌, sym, ap, nat_eq, ℕ, zero, suc, refl, true, ◌&&◌, arith}
+use Rattle.command_line.proofs.Terms.{ap, arith, nat_eq, refl, suc, sym, true, zero, ℕ, ◌&&◌, ◌∙◌, ◌≡◌, Parts, are_positionals}
 use Rattle.command_line.proofs.Taking.{ended}
-use Rattle.command_line.specs.Parts.{Parts, are_positionals}
 use Rattle.command_line.proofs.parts.are_names.Goals as goal
 
 zero_left : (left : ℕ) → nat_eq left 0 ≡ (nat_eq 0 left && true)

@@ -1,5 +1,4 @@
-use Rattle.std.proofs.Common.{◌≡◌, length}
-use Rattle.command_line.specs.Parts.{are_positionals, parts_of}
+use Rattle.command_line.proofs.Terms.{length, ◌≡◌, are_positionals, parts_of}
 use Rattle.command_line.proofs.parts.are_names.Given as goal
 
 abbrev pub invariant-parts : goal.invariant-parts

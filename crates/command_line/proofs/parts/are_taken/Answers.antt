@@ -1,8 +1,5 @@
-use Rattle.std.proofs.Common.{◌∙◌, sym, ap}
+use Rattle.command_line.proofs.Terms.{ap, sym, ◌∙◌, Parts, rows_read, are_options}
 use Rattle.command_line.proofs.Taking.{ended}
-use Rattle.command_line.specs.Options.{are_options}
-use Rattle.command_line.specs.Table.{rows_read}
-use Rattle.command_line.specs.Parts.{Parts}
 use Rattle.command_line.proofs.parts.are_taken.Goals as goal
 
 pub returns : goal.returns

@@ -1,7 +1,4 @@
-use Rattle.std.proofs.Common.{◌≡◌, length}
-use Rattle.command_line.specs.Options.{are_options}
-use Rattle.command_line.specs.Table.{rows_read}
-use Rattle.command_line.specs.Parts.{parts_of}
+use Rattle.command_line.proofs.Terms.{length, ◌≡◌, parts_of, rows_read, are_options}
 use Rattle.command_line.proofs.parts.are_taken.Given as goal
 
 abbrev pub invariant-parts : goal.invariant-parts

@@ -1,8 +1,5 @@
-use Rattle.std.proofs.Common.{◌∙◌, sym, ap}
+use Rattle.command_line.proofs.Terms.{ap, sym, ◌∙◌, Parts, row_read, given}
 use Rattle.command_line.proofs.Taking.{ended}
-use Rattle.command_line.specs.Options.{given}
-use Rattle.command_line.specs.Table.{row_read}
-use Rattle.command_line.specs.Parts.{Parts}
 use Rattle.command_line.proofs.parts.given.Goals as goal
 
 pub returns : goal.returns

@@ -1,7 +1,4 @@
-use Rattle.std.proofs.Common.{◌≡◌, length}
-use Rattle.command_line.specs.Options.{given}
-use Rattle.command_line.specs.Table.{row_read}
-use Rattle.command_line.specs.Parts.{parts_of}
+use Rattle.command_line.proofs.Terms.{length, ◌≡◌, parts_of, row_read, given}
 use Rattle.command_line.proofs.parts.given.Given as goal
 
 abbrev pub invariant-parts : goal.invariant-parts

@@ -1,6 +1,4 @@
-use Rattle.std.proofs.Common.{◌≡◌, drop}
-use Rattle.command_line.specs.Options.{is_taken}
-use Rattle.command_line.specs.Table.{rows_read}
+use Rattle.command_line.proofs.Terms.{drop, ◌≡◌, rows_read, is_taken}
 use Rattle.command_line.proofs.parts.is_taken.Given as goal
 
 abbrev pub invariant-loop-row : goal.invariant-loop-row

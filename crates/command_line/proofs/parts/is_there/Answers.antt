@@ -1,7 +1,5 @@
-use Rattle.std.proofs.Common.{◌∙◌, sym, ap}
+use Rattle.command_line.proofs.Terms.{ap, sym, ◌∙◌, Parts, has_option}
 use Rattle.command_line.proofs.Taking.{ended}
-use Rattle.command_line.specs.Options.{has_option}
-use Rattle.command_line.specs.Parts.{Parts}
 use Rattle.command_line.proofs.parts.is_there.Goals as goal
 
 pub returns : goal.returns

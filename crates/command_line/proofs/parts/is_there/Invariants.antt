@@ -1,6 +1,4 @@
-use Rattle.std.proofs.Common.{◌≡◌, length}
-use Rattle.command_line.specs.Options.{has_option}
-use Rattle.command_line.specs.Parts.{parts_of}
+use Rattle.command_line.proofs.Terms.{length, ◌≡◌, parts_of, has_option}
 use Rattle.command_line.proofs.parts.is_there.Given as goal
 
 abbrev pub invariant-parts : goal.invariant-parts

@@ -1,5 +1,4 @@
-use Rattle.std.proofs.Common.{◌≡◌, true, false, ap, sym, ◌∙◌, refl}
-use Rattle.command_line.specs.Texts.{is_dashed}
+use Rattle.command_line.proofs.Terms.{ap, false, refl, sym, true, ◌∙◌, ◌≡◌, is_dashed}
 use Rattle.command_line.proofs.Taking.{positional_first, option_alone, option_first}
 use Rattle.command_line.proofs.parts.next_part.Goals as goal
 

@@ -1,7 +1,5 @@
-use Rattle.std.proofs.Common.{◌∙◌, sym, ap}
+use Rattle.command_line.proofs.Terms.{ap, sym, ◌∙◌, slice_get, Parts}
 use Rattle.command_line.proofs.Taking.{ended}
-use Rattle.std.specs.Prelude.{slice_get}
-use Rattle.command_line.specs.Parts.{Parts}
 use Rattle.command_line.proofs.parts.positional.Goals as goal
 
 pub returns : goal.returns

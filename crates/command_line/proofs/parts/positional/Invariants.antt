@@ -1,5 +1,5 @@
-use Rattle.std.proofs.Common.{◌≡◌, slice_get, length}
-use Rattle.command_line.specs.Parts.{parts_of}
+use Rattle.std.proofs.Common.{slice_get}
+use Rattle.command_line.proofs.Terms.{length, ◌≡◌, parts_of}
 use Rattle.command_line.proofs.parts.positional.Given as goal
 
 abbrev pub invariant-parts : goal.invariant-parts

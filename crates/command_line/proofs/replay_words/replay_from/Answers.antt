@@ -1,4 +1,4 @@
-use Rattle.command_line.specs.Commands.{replay_value, replay_form}
+use Rattle.command_line.proofs.Terms.{replay_form, replay_value}
 use Rattle.command_line.proofs.replay_words.replay_from.Goals as goal
 
 pub returns : goal.returns

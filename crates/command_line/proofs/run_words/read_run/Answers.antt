@@ -1,9 +1,4 @@
-use Rattle.std.proofs.Common.{◌≡◌, ◌∙◌, ap}
-use Rattle.std.proofs.lemmas.Result.{IfErr-weaker, IfOk-weaker}
-use Rattle.clap.specs.Words.{App, app_of, is_simple, matches_of, takes}
-use Rattle.command_line.specs.Parts.{texts_of}
-use Rattle.command_line.specs.Reading.{app_of_form}
-use Rattle.command_line.specs.Commands.{run_form}
+use Rattle.command_line.proofs.Terms.{ap, ◌∙◌, ◌≡◌, IfErr-weaker, IfOk-weaker, App, app_of, is_simple, matches_of, takes, texts_of, run_form, app_of_form}
 use Rattle.command_line.proofs.Readable.{run_read, run_readable, run_taken}
 use Rattle.command_line.proofs.run_words.read_run.Goals as goal
 

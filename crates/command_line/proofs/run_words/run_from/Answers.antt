@@ -1,7 +1,4 @@
-use Rattle.std.proofs.Common.{◌∙◌, ℕ, ap, unwrap_or}
-use Rattle.command_line.specs.Texts.{Text, number_of}
-use Rattle.command_line.specs.Table.{form_row, frame_row, record_row, report_row}
-use Rattle.command_line.specs.Commands.{form_of, frame_of, run_value, run_form}
+use Rattle.command_line.proofs.Terms.{ap, unwrap_or, ℕ, ◌∙◌, Text, number_of, form_row, frame_row, record_row, report_row, form_of, frame_of, run_form, run_value}
 use Rattle.command_line.proofs.run_words.run_from.Goals as goal
 
 abbrev number_read : Text → ℕ

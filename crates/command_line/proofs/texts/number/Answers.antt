@@ -1,5 +1,4 @@
-use Rattle.std.proofs.Common.{◌≡◌, true, rules}
-use Rattle.command_line.specs.Texts.{is_numeral}
+use Rattle.command_line.proofs.Terms.{rules, true, ◌≡◌, is_numeral}
 use Rattle.command_line.proofs.Numbers.{refused}
 use Rattle.command_line.proofs.texts.number.Goals as goal
 

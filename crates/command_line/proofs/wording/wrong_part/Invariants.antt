@@ -1,4 +1,4 @@
-use Rattle.std.proofs.Common.{length}
+use Rattle.command_line.proofs.Terms.{length}
 use Rattle.command_line.proofs.wording.wrong_part.Given as goal
 
 abbrev pub decreases-parts : goal.decreases-parts

@@ -1,25 +1,24 @@
-use Rattle.std.proofs.Common.{◌+◌, ◌-◌, sym, ◌∙◌, arith}
-use Rattle.cow_pages.proofs.PutThere.{put_behind, put_before, first_length, part_length}
+use Rattle.cow_pages.proofs.Terms.{arith, sym, ◌+◌, ◌-◌, ◌∙◌, length-take-le, PAGE}
+use Rattle.cow_pages.proofs.PutThere.{put_behind, put_before, part_length}
 use Rattle.cow_pages.proofs.frame_copy.copy_frame.Goals as goal
-use Rattle.cow_pages.specs.declared.frame_copy.TheConstants.{PAGE}
 
 pub slice_bounds-copy_from_slice-end-then-from-to : goal.slice_bounds-copy_from_slice-end-then-from-to
 slice_bounds-copy_from_slice-end-then-from-to c =
-    sym (first_length PAGE c.split_at_mut-front.result.1.now (omega (arith, c.requires.fits, c.split_at_mut-front.ensures.back_len)))
+    sym (length-take-le PAGE c.split_at_mut-front.result.1.now (omega (arith, c.requires.fits, c.split_at_mut-front.ensures.back_len)))
 
 pub copy_from_slice-requires : goal.copy_from_slice-requires
 copy_from_slice-requires c =
-    first_length PAGE c.split_at_mut-front.result.1.now (omega (arith, c.requires.fits, c.split_at_mut-front.ensures.back_len))
+    length-take-le PAGE c.split_at_mut-front.result.1.now (omega (arith, c.requires.fits, c.split_at_mut-front.ensures.back_len))
     ∙ sym (part_length c.args.from PAGE (c.args.from + PAGE - c.args.from) c.split_at_mut-front.result.0.now (omega (arith, c.requires.apart, c.if-from-to.true, c.split_at_mut-front.ensures.front_len)) (omega arith))
 
 pub slice_bounds-copy_from_slice-end-else-from-to-3 : goal.slice_bounds-copy_from_slice-end-else-from-to-3
 slice_bounds-copy_from_slice-end-else-from-to-3 c =
-    sym (first_length PAGE c.split_at_mut-front-else-from-to.result.1.now (omega (arith, c.requires.there, c.split_at_mut-front-else-from-to.ensures.back_len)))
+    sym (length-take-le PAGE c.split_at_mut-front-else-from-to.result.1.now (omega (arith, c.requires.there, c.split_at_mut-front-else-from-to.ensures.back_len)))
 
 pub copy_from_slice-requires-else-from-to : goal.copy_from_slice-requires-else-from-to
 copy_from_slice-requires-else-from-to c =
     part_length c.args.to PAGE (c.args.to + PAGE - c.args.to) c.split_at_mut-front-else-from-to.result.0.now (omega (arith, c.requires.apart, c.if-from-to.false, c.split_at_mut-front-else-from-to.ensures.front_len)) (omega arith)
-    ∙ sym (first_length PAGE c.split_at_mut-front-else-from-to.result.1.now (omega (arith, c.requires.there, c.split_at_mut-front-else-from-to.ensures.back_len)))
+    ∙ sym (length-take-le PAGE c.split_at_mut-front-else-from-to.result.1.now (omega (arith, c.requires.there, c.split_at_mut-front-else-from-to.ensures.back_len)))
 
 pub returns-then-from-to : goal.returns-then-from-to
 returns-then-from-to c =

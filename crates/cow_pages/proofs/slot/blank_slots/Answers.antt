@@ -1,5 +1,4 @@
-use Rattle.std.proofs.Common.{length, refl, ap, ◌∙◌}
-use Rattle.std.proofs.lemmas.List.{length-replicate}
+use Rattle.cow_pages.proofs.Terms.{ap, length, refl, ◌∙◌, length-replicate}
 use Rattle.cow_pages.proofs.Making.{blank_none, blank_more}
 use Rattle.cow_pages.proofs.slot.blank_slots.Goals as goal
 

@@ -1,4 +1,4 @@
-use Rattle.cow_pages.specs.Pool.{AreBlank}
+use Rattle.cow_pages.proofs.Terms.{AreBlank}
 use Rattle.cow_pages.proofs.slot.blank_slots.Given as goal
 
 abbrev pub invariant-slots : goal.invariant-slots

@@ -1,5 +1,4 @@
-use Rattle.std.proofs.Common.{◌≡◌, drop, vec_capacity}
-use Rattle.cow_pages.specs.Pool.{IsStack}
+use Rattle.cow_pages.proofs.Terms.{drop, vec_capacity, ◌≡◌, IsStack}
 use Rattle.cow_pages.proofs.tables.give_up.Given as goal
 
 abbrev pub invariant-entries : goal.invariant-entries

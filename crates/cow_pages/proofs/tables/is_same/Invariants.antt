@@ -1,4 +1,4 @@
-use Rattle.std.proofs.Common.{◌≡◌, ℕ, ◌<◌, true, get_or}
+use Rattle.cow_pages.proofs.Terms.{get_or, true, ℕ, ◌<◌, ◌≡◌}
 use Rattle.cow_pages.proofs.tables.is_same.Given as goal
 
 abbrev pub invariant-entries : goal.invariant-entries

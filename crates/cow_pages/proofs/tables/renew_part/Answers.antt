@@ -1,21 +1,20 @@
-use Rattle.std.proofs.Common.{◌≡◌, ◌+◌, ◌<◌, length, get_or, refl, ◌∙◌, subst, arith}
-use Rattle.cow_pages.specs.Pool.{IsRenewed}
+use Rattle.cow_pages.proofs.Terms.{arith, get_or, length, refl, subst, ◌+◌, ◌<◌, ◌∙◌, ◌≡◌, IsRenewed}
 use Rattle.cow_pages.proofs.Renewals.{renewed_some, renewed_room, renewed_on, walked, walked_counts, at_most_one}
 use Rattle.cow_pages.proofs.tables.renew_part.Goals as goal
 use Rattle.cow_pages.proofs.tables.renew_part.Goals.{then-other-frame, else-other-frame}
 
 pub uncount_frame-removed-requires-clause-some : goal.uncount_frame-removed-requires-clause-some
-uncount_frame-removed-requires-clause-some c = renewed_some _ _ _ _ _ _ c.entries.invariant.renewed (omega (arith, c.entries.auto.table, c.entries-test.true, c.requires.inside)) refl
+uncount_frame-removed-requires-clause-some c = renewed_some _ _ _ _ _ _ c.entries.invariant.renewed (omega (arith, c.entries.auto.table, c.entries-test.true, c.requires.range.inside)) refl
 
 pub uncount_frame-removed-requires-clause-reserved : goal.uncount_frame-removed-requires-clause-reserved
-uncount_frame-removed-requires-clause-reserved c = omega (arith, renewed_room _ _ _ _ _ _ c.entries.invariant.renewed (omega (arith, c.entries.auto.table, c.entries-test.true, c.requires.inside)) refl, c.entries.auto.counts, c.entries.invariant.reserved, c.requires.reserved)
+uncount_frame-removed-requires-clause-reserved c = omega (arith, renewed_room _ _ _ _ _ _ c.entries.invariant.renewed (omega (arith, c.entries.auto.table, c.entries-test.true, c.requires.range.inside)) refl, c.entries.auto.counts, c.entries.invariant.reserved, c.requires.reserved)
 
 pub entries-preserved : goal.entries-preserved
 entries-preserved c =
     elim c.if-other-frame.branch [
       | then-other-frame w ↦
           (let so = c.entries.invariant.renewed in
-          let inside : c.entries.k < length c.entries.table = omega (arith, c.entries.auto.table, c.entries-test.true, c.requires.inside) in
+          let inside : c.entries.k < length c.entries.table = omega (arith, c.entries.auto.table, c.entries-test.true, c.requires.range.inside) in
           let down = w.uncount_frame-removed.ensures in
           let up = w.count_frame-added.ensures in
           record {

@@ -1,5 +1,4 @@
-use Rattle.std.proofs.Common.{◌≡◌, ◌+◌, ◌≤◌, vec_capacity}
-use Rattle.cow_pages.specs.Pool.{IsRenewed, Recounts}
+use Rattle.cow_pages.proofs.Terms.{vec_capacity, ◌+◌, ◌≡◌, ◌≤◌, IsRenewed, Recounts}
 use Rattle.cow_pages.proofs.tables.renew_part.Given as goal
 
 abbrev pub invariant-entries : goal.invariant-entries

@@ -1,5 +1,4 @@
-use Rattle.std.proofs.Common.{◌≡◌, ◌+◌, ◌-◌, take, drop, subst, arith}
-use Rattle.cow_pages.specs.Pool.{Recounts}
+use Rattle.cow_pages.proofs.Terms.{arith, drop, subst, take, ◌+◌, ◌-◌, ◌≡◌, Recounts}
 use Rattle.cow_pages.proofs.Renewals.{renewed_on, same_part, renewed_all, recounts_on}
 use Rattle.cow_pages.proofs.tables.renew_table.Goals as goal
 use Rattle.cow_pages.specs.declared.tables.TheConstants.{BLOCK}

@@ -1,5 +1,4 @@
-use Rattle.std.proofs.Common.{◌≡◌, ◌-◌, ◌≤◌, length, vec_capacity}
-use Rattle.cow_pages.specs.Pool.{IsRenewed, Recounts}
+use Rattle.cow_pages.proofs.Terms.{length, vec_capacity, ◌-◌, ◌≡◌, ◌≤◌, IsRenewed, Recounts}
 use Rattle.cow_pages.proofs.tables.renew_table.Given as goal
 
 abbrev pub invariant-blocks-2 : goal.invariant-blocks-2

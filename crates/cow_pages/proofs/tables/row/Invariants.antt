@@ -1,5 +1,4 @@
-use Rattle.std.proofs.Common.{◌≤◌, vec_capacity}
-use Rattle.cow_pages.specs.Pool.{IsRow}
+use Rattle.cow_pages.proofs.Terms.{vec_capacity, ◌≤◌, IsRow}
 use Rattle.cow_pages.proofs.tables.row.Given as goal
 
 abbrev pub invariant-numbers : goal.invariant-numbers

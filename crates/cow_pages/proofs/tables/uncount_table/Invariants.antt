@@ -1,4 +1,4 @@
-use Rattle.std.proofs.Common.{◌≡◌, vec_capacity}
+use Rattle.cow_pages.proofs.Terms.{vec_capacity, ◌≡◌}
 use Rattle.cow_pages.proofs.Walks.{Uncounting}
 use Rattle.cow_pages.proofs.tables.uncount_table.Given as goal
 

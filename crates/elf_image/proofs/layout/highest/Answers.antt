@@ -1,4 +1,4 @@
-use Rattle.std.proofs.Common.{sym, ◌∙◌}
+use Rattle.elf_image.proofs.Terms.{sym, ◌∙◌}
 use Rattle.elf_image.proofs.Windows.{highest-drop_all}
 use Rattle.elf_image.proofs.layout.highest.Goals as goal
 

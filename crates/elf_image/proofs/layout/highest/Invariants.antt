@@ -1,5 +1,4 @@
-use Rattle.std.proofs.Common.{◌≡◌, ◌<◌, ◌^◌, drop, max}
-use Rattle.elf_image.specs.Layout.{highest}
+use Rattle.elf_image.proofs.Terms.{drop, max, ◌<◌, ◌^◌, ◌≡◌, highest}
 use Rattle.elf_image.proofs.layout.highest.Given as goal
 
 abbrev pub invariant-loop-segment : goal.invariant-loop-segment

@@ -1,5 +1,4 @@
-use Rattle.std.proofs.Common.{◌+◌, drop, sym, ap, ◌∙◌}
-use Rattle.elf_image.specs.Layout.{lowest}
+use Rattle.elf_image.proofs.Terms.{ap, drop, sym, ◌+◌, ◌∙◌, lowest}
 use Rattle.elf_image.proofs.Windows.{lowest_from, lowest_from-first, lowest_from-drop, lowest_from-drop_all}
 use Rattle.elf_image.proofs.layout.lowest.Goals as goal
 

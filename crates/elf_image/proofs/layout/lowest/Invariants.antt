@@ -1,5 +1,4 @@
-use Rattle.std.proofs.Common.{◌≡◌, drop}
-use Rattle.elf_image.specs.Layout.{lowest}
+use Rattle.elf_image.proofs.Terms.{drop, ◌≡◌, lowest}
 use Rattle.elf_image.proofs.Windows.{lowest_from}
 use Rattle.elf_image.proofs.layout.lowest.Given as goal
 

@@ -1,5 +1,4 @@
-use Rattle.std.proofs.Common.{◌≡◌, take, map}
-use Rattle.elf_image.specs.Extents.{extent_of}
+use Rattle.elf_image.proofs.Terms.{map, take, ◌≡◌, extent_of}
 use Rattle.elf_image.proofs.overlap.extents.Given as goal
 
 abbrev pub invariant-segments : goal.invariant-segments

@@ -1,6 +1,4 @@
-use Rattle.std.proofs.Common.{rules, ap, ◌∙◌}
-use Rattle.std.proofs.lemmas.List.Sorted.{IsNonDecreasingBy-from_sort_by_key}
-use Rattle.elf_image.specs.Extents.{meets_from}
+use Rattle.elf_image.proofs.Terms.{ap, rules, ◌∙◌, IsNonDecreasingBy-from_sort_by_key, meets_from}
 use Rattle.elf_image.proofs.Overlaps.{overlap_from_sorted, start_of}
 use Rattle.elf_image.proofs.overlap.has_overlap.Goals as goal
 

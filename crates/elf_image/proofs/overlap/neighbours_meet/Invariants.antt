@@ -1,5 +1,4 @@
-use Rattle.std.proofs.Common.{◌≡◌, drop}
-use Rattle.elf_image.specs.Extents.{meets_from}
+use Rattle.elf_image.proofs.Terms.{drop, ◌≡◌, meets_from}
 use Rattle.elf_image.proofs.overlap.neighbours_meet.Given as goal
 
 abbrev pub invariant-extents : goal.invariant-extents

@@ -1,6 +1,4 @@
-use Rattle.std.proofs.Common.{◌≡◌, take, map}
-use Rattle.std.specs.List.{filter}
-use Rattle.elf_image.specs.ProgramFile.{is_loaded, place_of}
+use Rattle.elf_image.proofs.Terms.{map, take, ◌≡◌, filter, is_loaded, place_of}
 use Rattle.elf_image.proofs.program_header.places.Given as goal
 
 abbrev pub invariant-headers : goal.invariant-headers

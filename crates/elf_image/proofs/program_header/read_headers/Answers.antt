@@ -1,4 +1,4 @@
-use Rattle.std.proofs.Common.{length, ap, arith}
+use Rattle.elf_image.proofs.Terms.{ap, arith, length}
 use Rattle.elf_image.proofs.Headers.{length-headers_from}
 use Rattle.elf_image.proofs.program_header.read_headers.Goals as goal
 

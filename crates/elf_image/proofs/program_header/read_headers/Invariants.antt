@@ -1,5 +1,4 @@
-use Rattle.std.proofs.Common.{◌≡◌}
-use Rattle.elf_image.specs.ProgramFile.{headers_from}
+use Rattle.elf_image.proofs.Terms.{◌≡◌, headers_from}
 use Rattle.elf_image.proofs.program_header.read_headers.Given as goal
 
 abbrev pub invariant-headers : goal.invariant-headers

@@ -1,4 +1,4 @@
-use Rattle.std.proofs.Common.{arith}
+use Rattle.elf_image.proofs.Terms.{arith}
 use Rattle.elf_image.proofs.Refusing.{header_lies, table_lies}
 use Rattle.elf_image.proofs.reading.headers_of.Goals as goal
 

@@ -1,10 +1,5 @@
-use Rattle.std.proofs.Common.{◌≡◌, ℕ, rules, arith, None, Some, List, length, map, sym, refl, ap₂, ◌∙◌}
-use Rattle.std.specs.List.{filter}
-use Rattle.std.proofs.lemmas.List.Elements.{All-same}
-use Rattle.elf_image.specs.declared.segment.Segment.{Segment}
-use Rattle.elf_image.specs.Layout.{IsPlaced, HasBytes, layout_refusal}
-use Rattle.elf_image.specs.ProgramFile.{program_headers, is_loaded, place_of, segment_of}
-use Rattle.elf_image.specs.Refusals.{header_refusal, table_refusal}
+use Rattle.elf_image.proofs.Terms.{List, None, Some, ap₂, arith, length, map, refl, rules, sym, ℕ, ◌∙◌, ◌≡◌, All-same, filter, Segment, HasBytes, IsPlaced, layout_refusal, is_loaded, place_of, segment_of, header_refusal, table_refusal}
+use Rattle.elf_image.specs.ProgramFile.{program_headers}
 use Rattle.elf_image.proofs.Refusing.{header_lies, few_segments, segments_unrefused, all_placed, all_full, segments_are, layout_is, refused_by_header, refused_by_table, refused_by_layout}
 use Rattle.elf_image.proofs.reading.read_image.Goals as goal
 

@@ -1,4 +1,4 @@
-use Rattle.std.proofs.Common.{sym, ◌∙◌}
+use Rattle.elf_image.proofs.Terms.{sym, ◌∙◌}
 use Rattle.elf_image.proofs.Numbers.{number_at-byte}
 use Rattle.elf_image.proofs.refused_field.byte_field.Goals as goal
 

@@ -1,8 +1,5 @@
-use Rattle.std.proofs.Common.{◌≡◌, None, true, arith, length, rules, sym, ap, subst, ◌∙◌}
-use Rattle.std.specs.Prelude.{is_some}
+use Rattle.elf_image.proofs.Terms.{None, ap, arith, length, rules, subst, sym, true, ◌∙◌, ◌≡◌, is_some, header_refusal, HasTable}
 use Rattle.elf_image.specs.ProgramFile.{program_headers}
-use Rattle.elf_image.specs.Refusals.{header_refusal}
-use Rattle.elf_image.specs.RefusedFields.{HasTable}
 use Rattle.elf_image.proofs.Headers.{has_table}
 use Rattle.elf_image.proofs.Refusing.{header_lies}
 use Rattle.elf_image.proofs.Found.{header_field_found}

@@ -1,5 +1,4 @@
-use Rattle.std.proofs.Common.{◌≡◌, None, length, rules}
-use Rattle.elf_image.specs.Refusals.{table_refusal}
+use Rattle.elf_image.proofs.Terms.{None, length, rules, ◌≡◌, table_refusal}
 use Rattle.elf_image.proofs.Refusing.{segments_unrefused, all_full}
 use Rattle.elf_image.proofs.refused_field.field_of_segments.Goals as goal
 

@@ -1,7 +1,4 @@
-use Rattle.std.proofs.Common.{◌≡◌, ◌+◌, ◌≤◌, ◌<◌, ◌^◌, map, rules, ap, ◌∙◌}
-use Rattle.std.specs.List.{filter}
-use Rattle.elf_image.specs.Layout.{window_start}
-use Rattle.elf_image.specs.ProgramFile.{is_loaded, place_of}
+use Rattle.elf_image.proofs.Terms.{ap, map, rules, ◌+◌, ◌<◌, ◌^◌, ◌∙◌, ◌≡◌, ◌≤◌, filter, window_start, is_loaded, place_of}
 use Rattle.elf_image.proofs.Found.{same_some}
 use Rattle.elf_image.proofs.Reaches.{lowest_found, highest_found}
 use Rattle.elf_image.proofs.refused_field.field_of_window.Goals as goal

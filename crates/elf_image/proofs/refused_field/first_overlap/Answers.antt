@@ -1,9 +1,4 @@
-use Rattle.std.proofs.Common.{◌≡◌, ◌+◌, ◌-◌, ◌/◌, ◌∙◌, arith, ap, map}
-use Rattle.std.specs.List.{filter}
-use Rattle.std.proofs.lemmas.List.Elements.{All-same}
-use Rattle.elf_image.specs.Layout.{HasBytes}
-use Rattle.elf_image.specs.ProgramFile.{is_loaded, place_of}
-use Rattle.elf_image.specs.RefusedFields.{first_places}
+use Rattle.elf_image.proofs.Terms.{ap, arith, map, ◌+◌, ◌-◌, ◌/◌, ◌∙◌, ◌≡◌, All-same, filter, HasBytes, is_loaded, place_of, first_places}
 use Rattle.elf_image.proofs.Prefixes.{full_first, overlap-none, overlap_some, overlap-all}
 use Rattle.elf_image.proofs.refused_field.first_overlap.Goals as goal
 

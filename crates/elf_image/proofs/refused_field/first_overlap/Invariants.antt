@@ -1,6 +1,4 @@
-use Rattle.std.proofs.Common.{◌≡◌, ◌<◌, ◌≤◌, ◌-◌, true, false, length}
-use Rattle.elf_image.specs.Layout.{overlap}
-use Rattle.elf_image.specs.RefusedFields.{first_places}
+use Rattle.elf_image.proofs.Terms.{false, length, true, ◌-◌, ◌<◌, ◌≡◌, ◌≤◌, overlap, first_places}
 use Rattle.elf_image.proofs.refused_field.first_overlap.Given as goal
 
 abbrev pub invariant-halves : goal.invariant-halves

@@ -1,8 +1,4 @@
-use Rattle.std.proofs.Common.{◌≡◌, rules, sym, subst, List, ℕ}
-use Rattle.std.proofs.lemmas.List.Elements.{All-same}
-use Rattle.elf_image.specs.Layout.{HasWordFlags}
-use Rattle.elf_image.specs.Image.{written}
-use Rattle.elf_image.specs.Refusals.{IsImage}
+use Rattle.elf_image.proofs.Terms.{List, rules, subst, sym, ℕ, ◌≡◌, All-same, HasWordFlags, written, IsImage}
 use Rattle.elf_image.proofs.RoundTrip.{round_trip, file_bytes-fit}
 use Rattle.elf_image.proofs.writing.write_image.Goals as goal
 

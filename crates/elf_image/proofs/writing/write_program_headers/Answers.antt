@@ -1,9 +1,4 @@
-use Rattle.std.proofs.Common.{◌+◌, ◌++◌, length, drop, sym, ap, ◌∙◌, subst}
-use Rattle.std.proofs.lemmas.List.{take_all}
-use Rattle.std.proofs.lemmas.List.Elements.{All-more, All-same}
-use Rattle.elf_image.specs.declared.segment.Segment.{Segment}
-use Rattle.elf_image.specs.Layout.{HasWordFlags}
-use Rattle.elf_image.specs.Image.{file_bytes, program_headers}
+use Rattle.elf_image.proofs.Terms.{ap, drop, length, subst, sym, ◌++◌, ◌+◌, ◌∙◌, take_all, All-more, All-same, Segment, HasWordFlags, file_bytes, program_headers}
 use Rattle.elf_image.proofs.Written.{headers_more, place_more}
 use Rattle.elf_image.proofs.writing.write_program_headers.Goals as goal
 

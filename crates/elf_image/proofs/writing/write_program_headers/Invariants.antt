@@ -1,7 +1,4 @@
-use Rattle.std.proofs.Common.{◌≡◌, ◌+◌, ◌*◌, ◌++◌, length, take, drop}
-use Rattle.std.specs.List.{All}
-use Rattle.elf_image.specs.Layout.{HasWordFlags}
-use Rattle.elf_image.specs.Image.{file_bytes, program_headers}
+use Rattle.elf_image.proofs.Terms.{drop, length, take, ◌*◌, ◌++◌, ◌+◌, ◌≡◌, All, HasWordFlags, file_bytes, program_headers}
 use Rattle.elf_image.proofs.writing.write_program_headers.Given as goal
 
 abbrev pub invariant-segments : goal.invariant-segments

@@ -1,5 +1,4 @@
-use Rattle.std.proofs.Common.{◌≡◌, ◌++◌, take}
-use Rattle.elf_image.specs.Image.{file_bytes}
+use Rattle.elf_image.proofs.Terms.{take, ◌++◌, ◌≡◌, file_bytes}
 use Rattle.elf_image.proofs.writing.write_segments.Given as goal
 
 abbrev pub invariant-segments : goal.invariant-segments

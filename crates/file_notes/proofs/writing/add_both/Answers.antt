@@ -1,4 +1,4 @@
-use Rattle.file_notes.specs.Writing.{all_kept}
+use Rattle.file_notes.proofs.Terms.{all_kept}
 use Rattle.file_notes.proofs.WritingLemmas.{both}
 use Rattle.file_notes.proofs.writing.add_both.Goals as goal
 

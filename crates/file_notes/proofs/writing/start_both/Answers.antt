@@ -1,4 +1,4 @@
-use Rattle.file_notes.specs.Writing.{nothing_kept}
+use Rattle.file_notes.proofs.Terms.{nothing_kept}
 use Rattle.file_notes.proofs.WritingLemmas.{both}
 use Rattle.file_notes.proofs.writing.start_both.Goals as goal
 

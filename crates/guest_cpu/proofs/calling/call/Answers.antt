@@ -1,8 +1,5 @@
-use Rattle.std.proofs.Common.{Some, None, refl, sym, ◌∙◌, subst}
 use Rattle.call_gate.specs.declared.call.Call.TheVariants as kind
-use Rattle.guest_space.specs.Space.{flat}
-use Rattle.guest_cpu.specs.Standing.{standing}
-use Rattle.guest_cpu.specs.Turns.{Turned, IsSend}
+use Rattle.guest_cpu.proofs.Terms.{None, Some, refl, subst, sym, ◌∙◌, flat, standing, IsSend, Turned}
 use Rattle.guest_cpu.specs.declared.event.Event.TheVariants as event
 use Rattle.guest_cpu.proofs.CoreLemmas.{answered_turn, emitted_turn, lacking_turn}
 use Rattle.guest_cpu.proofs.CallTurns.{turn_made, turn_refused_call, turn_bad_call}

@@ -1,6 +1,4 @@
-use Rattle.std.proofs.Common.{rules}
-use Rattle.guest_space.specs.Space.{flat}
-use Rattle.guest_cpu.specs.Standing.{zeroed_range}
+use Rattle.guest_cpu.proofs.Terms.{rules, flat, zeroed_range}
 use Rattle.guest_cpu.proofs.HeapLemmas.{heap_permits, zeroed_within}
 use Rattle.guest_cpu.proofs.CoreLemmas.{allocated_turn}
 use Rattle.guest_cpu.proofs.calling.malloc.Goals as goal

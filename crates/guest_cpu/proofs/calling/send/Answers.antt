@@ -1,7 +1,4 @@
-use Rattle.std.proofs.Common.{refl, rules}
-use Rattle.elf_image.specs.Memory.{read, bytes_at}
-use Rattle.guest_space.specs.Space.{flat}
-use Rattle.guest_cpu.specs.Standing.{answering}
+use Rattle.guest_cpu.proofs.Terms.{refl, rules, bytes_at, read, flat, answering}
 use Rattle.guest_cpu.proofs.CoreLemmas.{sent_long, sent_closed, sent_empty, sent_bytes}
 use Rattle.guest_cpu.proofs.calling.send.Goals as goal
 

@@ -1,7 +1,4 @@
-use Rattle.std.proofs.Common.{rules}
-use Rattle.std.specs.Prelude.{slice_index}
-use Rattle.block_book.specs.Answer.{live_blocks}
-use Rattle.guest_space.specs.Space.{flat}
+use Rattle.guest_cpu.proofs.Terms.{rules, slice_index, live_blocks, flat}
 use Rattle.guest_cpu.proofs.HeapLemmas.{heap_permits, zeroed_within}
 use Rattle.guest_cpu.proofs.ChoiceLemmas.{chose}
 use Rattle.guest_cpu.proofs.choosing.choose.Goals as goal

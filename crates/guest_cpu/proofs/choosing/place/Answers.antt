@@ -1,6 +1,5 @@
-use Rattle.std.proofs.Common.{◌≢◌, rules}
-use Rattle.std.specs.Prelude.{length, nat_lt}
-use Rattle.block_book.specs.Heap.{most_blocks}
+use Rattle.std.specs.Prelude.{length}
+use Rattle.guest_cpu.proofs.Terms.{rules, ◌≢◌, nat_lt, most_blocks}
 use Rattle.guest_cpu.proofs.ChoiceLemmas.{allowed_clear, room_is, room_answer, placed_live}
 use Rattle.guest_cpu.proofs.choosing.place.Goals as goal
 

@@ -1,5 +1,4 @@
-use Rattle.std.proofs.Common.{◌≡◌, length, All}
-use Rattle.guest_cpu.specs.Cpus.{IsStartCore}
+use Rattle.guest_cpu.proofs.Terms.{All, length, ◌≡◌, IsStartCore}
 use Rattle.guest_cpu.proofs.making.cores.Given as goal
 
 abbrev pub invariant-loop : goal.invariant-loop

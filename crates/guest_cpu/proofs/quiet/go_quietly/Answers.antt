@@ -1,4 +1,4 @@
-use Rattle.std.proofs.Common.{refl}
+use Rattle.guest_cpu.proofs.Terms.{refl}
 use Rattle.guest_cpu.proofs.QuietLemmas.{ran_nothing}
 use Rattle.guest_cpu.proofs.quiet.go_quietly.Goals as goal
 

@@ -1,7 +1,4 @@
-use Rattle.std.proofs.Common.{◌≡◌, ◌≤◌, length, refl, ◌∙◌, ap, arith, rules}
-use Rattle.std.proofs.lemmas.List.{take_min}
-use Rattle.std.specs.Prelude.{slice_index, take}
-use Rattle.run_history.specs.Call.{received}
+use Rattle.guest_cpu.proofs.Terms.{ap, arith, length, refl, rules, ◌∙◌, ◌≡◌, ◌≤◌, take_min, slice_index, take, received}
 use Rattle.guest_cpu.proofs.RangeLemmas.{permitted-fewer}
 use Rattle.guest_cpu.proofs.receiving.receive.Goals as goal
 

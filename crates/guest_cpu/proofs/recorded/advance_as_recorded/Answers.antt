@@ -1,7 +1,4 @@
-use Rattle.std.proofs.Common.{Some, None, refl, sym, ◌∙◌, ap, subst, rules}
-use Rattle.guest_space.specs.Space.{flat}
-use Rattle.guest_cpu.specs.Standing.{standing, machine_of}
-use Rattle.guest_cpu.specs.Turns.{TurnsBy}
+use Rattle.guest_cpu.proofs.Terms.{None, Some, ap, refl, rules, subst, sym, ◌∙◌, flat, machine_of, standing, TurnsBy}
 use Rattle.guest_cpu.specs.declared.event.Question.TheVariants as question
 use Rattle.guest_cpu.proofs.TurnLemmas.{is_at}
 use Rattle.guest_cpu.proofs.RecordTurns.{recorded_within, recorded_reached, recorded_unfetched, recorded_step, recorded_step_failed}

@@ -1,8 +1,5 @@
-use Rattle.std.proofs.Common.{Some, None, refl, sym, ◌∙◌, ap, subst}
 use Rattle.call_gate.specs.declared.call.Call.TheVariants as kind
-use Rattle.guest_space.specs.Space.{flat}
-use Rattle.guest_cpu.specs.Standing.{standing}
-use Rattle.guest_cpu.specs.Turns.{IsSend}
+use Rattle.guest_cpu.proofs.Terms.{None, Some, ap, refl, subst, sym, ◌∙◌, flat, standing, IsSend}
 use Rattle.guest_cpu.specs.declared.event.Question.TheVariants as question
 use Rattle.guest_cpu.proofs.RecordTurns.{recorded_made, recorded_badly, recorded_refused, recorded_answered, recorded_emitted, recorded_lacking}
 use Rattle.guest_cpu.proofs.recorded.recorded_call.Goals as goal

@@ -1,7 +1,4 @@
-use Rattle.std.proofs.Common.{Some, None, refl, sym, ◌∙◌, ap, rules}
-use Rattle.guest_space.specs.Space.{flat}
-use Rattle.rv_exec.specs.Stepping.{limits_of}
-use Rattle.guest_cpu.specs.Standing.{standing, machine_of}
+use Rattle.guest_cpu.proofs.Terms.{None, Some, ap, refl, rules, sym, ◌∙◌, flat, limits_of, machine_of, standing}
 use Rattle.guest_cpu.proofs.TurnLemmas.{turn_hangs, turn_unfetched, is_at}
 use Rattle.guest_cpu.proofs.StepTurns.{stepped, step_failed}
 use Rattle.guest_cpu.proofs.turning.advance.Goals as goal

@@ -1,5 +1,4 @@
-use Rattle.std.proofs.Common.{◌-◌, subst}
-use Rattle.cow_pages.specs.Writes.{Writes}
+use Rattle.guest_space.proofs.Terms.{subst, ◌-◌, Writes}
 use Rattle.guest_space.proofs.StartLemmas.{filling_more}
 use Rattle.guest_space.proofs.filling.fill.Goals as goal
 

@@ -1,5 +1,4 @@
-use Rattle.std.proofs.Common.{◌≡◌, map, take}
-use Rattle.guest_space.specs.Space.{segment_span}
+use Rattle.guest_space.proofs.Terms.{map, take, ◌≡◌, segment_span}
 use Rattle.guest_space.proofs.filling.spans_of.Given as goal
 
 abbrev pub invariant-loop-segment : goal.invariant-loop-segment

@@ -1,5 +1,4 @@
-use Rattle.std.proofs.Common.{◌≡◌, false, sym, ◌∙◌, rules}
-use Rattle.std.proofs.lemmas.Bool.{false≢true}
+use Rattle.guest_space.proofs.Terms.{false, rules, sym, ◌∙◌, ◌≡◌, false≢true}
 use Rattle.guest_space.proofs.span.each_has.Goals as goal
 
 pub returns-then-not-some_has : goal.returns-then-not-some_has

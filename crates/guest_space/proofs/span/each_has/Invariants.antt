@@ -1,4 +1,4 @@
-use Rattle.guest_space.specs.Ranges.{AreHeld}
+use Rattle.guest_space.proofs.Terms.{AreHeld}
 use Rattle.guest_space.proofs.span.each_has.Given as goal
 
 abbrev pub invariant-loop-k : goal.invariant-loop-k

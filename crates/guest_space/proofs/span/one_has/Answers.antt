@@ -1,4 +1,4 @@
-use Rattle.std.proofs.Common.{sym, ◌∙◌}
+use Rattle.guest_space.proofs.Terms.{sym, ◌∙◌}
 use Rattle.guest_space.proofs.FlatLemmas.{range_held}
 use Rattle.guest_space.proofs.span.one_has.Goals as goal
 

@@ -1,4 +1,4 @@
-use Rattle.std.proofs.Common.{sym, ◌∙◌}
+use Rattle.guest_space.proofs.Terms.{sym, ◌∙◌}
 use Rattle.guest_space.proofs.FlatLemmas.{some_has-drop_has, some_has-drop_lacks, some_has-drop_all}
 use Rattle.guest_space.proofs.span.some_has.Goals as goal
 

@@ -1,5 +1,4 @@
-use Rattle.std.proofs.Common.{◌≡◌, drop}
-use Rattle.guest_space.specs.Ranges.{some_has}
+use Rattle.guest_space.proofs.Terms.{drop, ◌≡◌, some_has}
 use Rattle.guest_space.proofs.span.some_has.Given as goal
 
 -- the spans so far don't have the address

@@ -1,4 +1,4 @@
-use Rattle.std.proofs.Common.{sym, ◌∙◌}
+use Rattle.guest_space.proofs.Terms.{sym, ◌∙◌}
 use Rattle.guest_space.proofs.StretchLemmas.{range_long, stretch_open}
 use Rattle.guest_space.proofs.span.stretch_at.Goals as goal
 

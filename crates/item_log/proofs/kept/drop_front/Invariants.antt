@@ -1,4 +1,4 @@
-use Rattle.std.proofs.Common.{◌≡◌, drop}
+use Rattle.item_log.proofs.Terms.{drop, ◌≡◌}
 use Rattle.item_log.proofs.kept.drop_front.Given as goal
 
 abbrev pub invariant-loop-i : goal.invariant-loop-i

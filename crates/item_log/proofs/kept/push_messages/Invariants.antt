@@ -1,7 +1,6 @@
-use Rattle.std.proofs.Common.{◌≡◌, ◌++◌, map}
 use Rattle.std.specs.VecDeque.{deque_capacity}
 use Rattle.std.specs.Vec.Iter.{into_iter_items}
-use Rattle.item_log.specs.Heard.{message_item}
+use Rattle.item_log.proofs.Terms.{map, ◌++◌, ◌≡◌, message_item}
 use Rattle.item_log.proofs.kept.push_messages.Given as goal
 
 abbrev pub invariant-loop-bytes : goal.invariant-loop-bytes

@@ -1,5 +1,4 @@
-use Rattle.std.proofs.Common.{sym, ◌∙◌, rules}
-use Rattle.links.specs.Links.{events_in}
+use Rattle.link_gate.proofs.Terms.{rules, sym, ◌∙◌, events_in}
 use Rattle.link_gate.proofs.Ordering.{in_order_shown}
 use Rattle.link_gate.proofs.Answering.{stood_of, event_is_new, hears_taken}
 use Rattle.link_gate.proofs.Connecting.{stays_of, fault_stays, stood_below, counted_most, same_replies, open_phase, connected_behind}

@@ -1,10 +1,4 @@
-use Rattle.std.proofs.Common.{◌≡◌, ◌∙◌, sym, subst, length, true, refl}
-use Rattle.rx_io.specs.Sends.{Send}
-use Rattle.reply_ledger.specs.Ledger.{is_open}
-use Rattle.reply_ledger.specs.Parts.{rest_part}
-use Rattle.reply_ledger.proofs.PartLemmas.{first_fits}
-use Rattle.session_history.specs.Keeping.{AreSendable}
-use Rattle.session_history.specs.Giving.{IsClosing}
+use Rattle.link_gate.proofs.Terms.{length, refl, subst, sym, true, ◌∙◌, ◌≡◌, Send, first_fits, is_open, rest_part, IsClosing, AreSendable}
 use Rattle.link_gate.proofs.GoingLemmas.{going_none}
 use Rattle.link_gate.proofs.FoundLemmas.{rest_found, none_found, first_some, first_few, rest_moves, rest_breaks, rest_ends, rest_gone}
 use Rattle.link_gate.proofs.NotingLemmas.{given_none, given_then, given_stopped, given_done, still_given, sends_again, noted_sends, noted_stamps, noted_open, noted_known, noted_less, noted_gives}

@@ -1,11 +1,4 @@
-use Rattle.std.proofs.Common.{◌≡◌, ℕ, true, List}
-use Rattle.rx_io.specs.Sends.{Send}
-use Rattle.reply_ledger.specs.Ledger.{is_open, IsOpened}
-use Rattle.session_history.specs.Heeding.{received}
-use Rattle.session_history.specs.Owing.{Moment, journal}
-use Rattle.session_history.specs.Lawful.{Rules}
-use Rattle.session_history.specs.Giving.{IsClosing}
-use Rattle.link_gate.specs.Passing.{AreStampedBy, HasSameSends}
+use Rattle.link_gate.proofs.Terms.{List, true, ℕ, ◌≡◌, Send, IsOpened, is_open, IsClosing, received, Rules, Moment, journal, AreStampedBy, HasSameSends}
 use Rattle.link_gate.proofs.GoingLemmas.{Going}
 use Rattle.link_gate.proofs.NotingLemmas.{HasGiven, left}
 use Rattle.link_gate.proofs.passing.pass_rest.Given as goal

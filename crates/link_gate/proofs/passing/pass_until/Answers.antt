@@ -1,7 +1,4 @@
-use Rattle.std.proofs.Common.{◌∙◌, sym, subst, length}
-use Rattle.reply_ledger.proofs.PartLemmas.{first_fits, opened_known}
-use Rattle.reply_ledger.specs.Parts.{shown_part, next_part}
-use Rattle.session_history.specs.Keeping.{AreSendable}
+use Rattle.link_gate.proofs.Terms.{length, subst, sym, ◌∙◌, first_fits, opened_known, next_part, shown_part, AreSendable}
 use Rattle.link_gate.proofs.FoundLemmas.{next_found, none_found, first_some, first_few, until_moves, until_breaks, until_ends}
 use Rattle.link_gate.proofs.NotingLemmas.{given_then, given_stopped, given_done, still_given, sends_again, noted_sends, noted_stamps, noted_open, noted_less, noted_gives}
 use Rattle.link_gate.proofs.passing.pass_until.Goals as goal

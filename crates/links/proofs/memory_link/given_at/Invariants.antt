@@ -1,5 +1,4 @@
-use Rattle.std.proofs.Common.{◌≡◌, drop}
-use Rattle.links.specs.MemoryLinks.{gone_at}
+use Rattle.links.proofs.Terms.{drop, ◌≡◌, gone_at}
 use Rattle.links.proofs.memory_link.given_at.Given as goal
 
 abbrev pub invariant-gones : goal.invariant-gones

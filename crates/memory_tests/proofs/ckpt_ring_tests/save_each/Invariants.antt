@@ -1,6 +1,5 @@
-use Rattle.std.proofs.Common.{◌≡◌, ◌≤◌}
-use Rattle.ckpt_ring.specs.Slots.{newest_slot}
 use Rattle.ckpt_ring.specs.Rings.{checkpoints_of}
+use Rattle.memory_tests.proofs.Terms.{◌≡◌, ◌≤◌, newest_slot}
 use Rattle.memory_tests.proofs.ckpt_ring_tests.save_each.Given as goal
 
 abbrev pub invariant-loop-taken : goal.invariant-loop-taken

@@ -1,5 +1,5 @@
 use Rattle.std.proofs.lemmas.Grind.{common_steps}
-use Rattle.std.proofs.Common.{arith}
+use Rattle.msg_frame.proofs.Terms.{arith}
 use Rattle.msg_frame.proofs.Parting.{drop-append}
 use Rattle.msg_frame.proofs.build.joined.Goals as goal
 

@@ -1,5 +1,4 @@
-use Rattle.std.proofs.Common.{arith, length-append}
-use Rattle.msg_frame.specs.Messages.{cut}
+use Rattle.msg_frame.proofs.Terms.{arith, length-append, cut}
 use Rattle.msg_frame.proofs.Lengths.{length_missing, length_refused, length_within}
 use Rattle.msg_frame.proofs.ends.length_end.Goals as goal
 

@@ -1,5 +1,4 @@
-use Rattle.std.proofs.Common.{arith}
-use Rattle.msg_frame.specs.Messages.{cut}
+use Rattle.msg_frame.proofs.Terms.{arith, cut}
 use Rattle.msg_frame.proofs.Lines.{line_missing, line_too_long, line_within, line_over}
 use Rattle.msg_frame.proofs.ends.line_end.Goals as goal
 

@@ -1,4 +1,4 @@
-use Rattle.std.proofs.Common.{arith}
+use Rattle.msg_frame.proofs.Terms.{arith}
 use Rattle.msg_frame.proofs.Parting.{whole_missing, whole_within, whole_refused}
 use Rattle.msg_frame.proofs.ends.whole_end.Goals as goal
 

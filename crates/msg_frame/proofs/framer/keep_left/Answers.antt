@@ -1,4 +1,4 @@
-use Rattle.std.proofs.Common.{rules}
+use Rattle.msg_frame.proofs.Terms.{rules}
 use Rattle.msg_frame.proofs.framer.keep_left.Goals as goal
 
 pub returns-then-is_empty-clause-kept : goal.returns-then-is_empty-clause-kept

@@ -1,6 +1,4 @@
-use Rattle.std.proofs.Common.{rules, ◌≡◌, ◌∷◌, [], ◌++◌, take, drop, arith}
-use Rattle.msg_frame.specs.Messages.{cut}
-use Rattle.msg_frame.specs.Skipped.{skipped}
+use Rattle.msg_frame.proofs.Terms.{[], arith, drop, rules, take, ◌++◌, ◌∷◌, ◌≡◌, cut, skipped}
 use Rattle.msg_frame.proofs.Short.{no_rest}
 use Rattle.msg_frame.proofs.Walking.{walk_on, left_of-push}
 use Rattle.msg_frame.proofs.framer.take_messages.Goals as goal

@@ -1,7 +1,4 @@
-use Rattle.std.proofs.Common.{◌≡◌, ◌++◌, length}
-use Rattle.msg_frame.specs.Messages.{behind, cut}
-use Rattle.msg_frame.specs.Feeding.{IsRest}
-use Rattle.msg_frame.specs.Takes.{left_of}
+use Rattle.msg_frame.proofs.Terms.{length, ◌++◌, ◌≡◌, behind, cut, IsRest, left_of}
 use Rattle.msg_frame.proofs.framer.take_messages.Given as goal
 
 abbrev pub invariant-messages : goal.invariant-messages

@@ -1,10 +1,4 @@
-use Rattle.std.proofs.Common.{◌≡◌, ℕ, ◌+◌, ◌∙◌, arith, rules, sym}
-use Rattle.links.specs.LinkForms.{handed_by}
-use Rattle.trunk_wire.specs.Tellings.{told_nothing}
-use Rattle.trunk_wire.specs.TrunkLinks.{intake_of, output_of}
-use Rattle.session_history.specs.Answering.{HasAnswerCause}
-use Rattle.over_trunk.specs.Replaying.{ReplaysTrunk}
-use Rattle.over_trunk.specs.Serving.{trunk_counts}
+use Rattle.over_trunk.proofs.Terms.{arith, rules, sym, ℕ, ◌+◌, ◌∙◌, ◌≡◌, handed_by, told_nothing, intake_of, output_of, HasAnswerCause, trunk_counts, ReplaysTrunk}
 use Rattle.over_trunk.proofs.FrontLemmas.{broken_off}
 use Rattle.over_trunk.proofs.TrunkLemmas.{replays}
 use Rattle.over_trunk.proofs.replaying.replay_trunk.Goals as goal

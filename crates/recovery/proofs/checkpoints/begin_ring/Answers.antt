@@ -1,17 +1,14 @@
-use Rattle.recovery.proofs.RingLemmas.{ring_begins}
-use Rattle.std.proofs.Common.{arith, sym, ◌∙◌, ap}
-use Rattle.ckpt_ring.specs.Slots.{Slots}
-use Rattle.guest_cpu.specs.Standing.{Standing}
-use Rattle.recovery.proofs.RingLemmas.{some_saved}
+use Rattle.recovery.proofs.Terms.{ap, arith, sym, ◌∙◌, Slots, Standing}
+use Rattle.recovery.proofs.RingLemmas.{ring_begins, some_saved}
 use Rattle.recovery.proofs.Handled.{first_stand}
 use Rattle.recovery.proofs.checkpoints.begin_ring.Goals as goal
 
 pub returns-clause-keeps : goal.returns-clause-keeps
 returns-clause-keeps g c rules image log ledger start =
-    ring_begins rules image c.args.cpu.now c.save.new.t c.save.new.self log ledger c.args.ring.now.capacity c.save.ensures.saved.0 c.requires.none.saved start.live start.items start.sends c.save.ensures.saved.1 c.save.ensures.same
-    (omega (arith, c.save.ensures.capacity, c.requires.none.capacity)) c.save.ensures.base (ap (λ p. p.1) c.save.ensures.fixed ∙ start.window) (record { pages = c.sound.ensures.pages; written = c.sound.ensures.written })
+    ring_begins rules image c.args.cpu.now c.save.new.t c.save.new.self log ledger c.args.ring.now.capacity c.save.ensures.saves.saved.0 c.requires.none.saved start.live start.items start.sends c.save.ensures.saves.saved.1 c.save.ensures.stands.same
+    (omega (arith, c.save.ensures.saves.capacity, c.requires.none.capacity)) c.save.ensures.stands.base (ap (λ p. p.1) c.save.ensures.fixed ∙ start.window) (record { pages = c.sound.ensures.pages; written = c.sound.ensures.written })
 
 pub returns-clause-first : goal.returns-clause-first
 returns-clause-first g c =
-    first_stand c.args.ring.now.capacity c.save.ensures.saved.0 c.args.cpu.now.slots c.save.new.t.slots c.requires.none.saved c.save.ensures.saved.1
-    (some_saved c.save.new.t.slots.saved c.save.ensures.saved.0 (sym c.save.ensures.base ∙ ap (λ (slots : Slots Standing). slots.base) c.save.ensures.saved.1))
+    first_stand c.args.ring.now.capacity c.save.ensures.saves.saved.0 c.args.cpu.now.slots c.save.new.t.slots c.requires.none.saved c.save.ensures.saves.saved.1
+    (some_saved c.save.new.t.slots.saved c.save.ensures.saves.saved.0 (sym c.save.ensures.stands.base ∙ ap (λ (slots : Slots Standing). slots.base) c.save.ensures.saves.saved.1))

@@ -1,7 +1,4 @@
-use Rattle.std.proofs.Common.{◌-◌, min, take, ◌∙◌, ap}
-use Rattle.reply_ledger.specs.Ledger.{Ledger, is_open}
-use Rattle.reply_ledger.specs.Parts.{settled}
-use Rattle.reply_ledger.proofs.ConnectionLemmas.{is_open-trimmed}
+use Rattle.recovery.proofs.Terms.{ap, min, take, ◌-◌, ◌∙◌, is_open-trimmed, Ledger, is_open, settled}
 use Rattle.recovery.proofs.ForgetLemmas.{forgets}
 use Rattle.recovery.proofs.forgetting.forget.Goals as goal
 

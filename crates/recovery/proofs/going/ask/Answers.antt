@@ -1,7 +1,4 @@
-use Rattle.std.proofs.Common.{◌∙◌, ap}
-use Rattle.guest_cpu.specs.declared.marks.Marks.{Marks}
-use Rattle.guest_cpu.specs.Standing.{Standing}
-use Rattle.reply_ledger.specs.Trials.{CoversBefore}
+use Rattle.recovery.proofs.Terms.{ap, ◌∙◌, CoversBefore, Marks, Standing}
 use Rattle.recovery.proofs.Joining.{test_holds, test_fails}
 use Rattle.recovery.proofs.Running.{live_base}
 use Rattle.recovery.proofs.Coming.{asks_past, asks_behind}

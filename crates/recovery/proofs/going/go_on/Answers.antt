@@ -1,5 +1,4 @@
-use Rattle.std.proofs.Common.{◌<◌, ◌∙◌, subst, arith}
-use Rattle.recovery.specs.Going.{IsLaterIf, ComesIf}
+use Rattle.recovery.proofs.Terms.{arith, subst, ◌<◌, ◌∙◌, ComesIf, IsLaterIf}
 use Rattle.recovery.proofs.Running.{base_on}
 use Rattle.recovery.proofs.Looping.{gone_none, under_now, tries_now, tries_few}
 use Rattle.recovery.proofs.going.go_on.Goals as goal

@@ -1,4 +1,4 @@
-use Rattle.std.proofs.Common.{◌-◌, ◌^◌}
+use Rattle.recovery.proofs.Terms.{◌-◌, ◌^◌}
 use Rattle.recovery.proofs.Looping.{HasGone}
 use Rattle.recovery.proofs.going.go_on.Given as goal
 

@@ -1,9 +1,4 @@
-use Rattle.std.proofs.Common.{◌≡◌, List, sym, ◌∙◌, ap, subst, arith}
-use Rattle.guest_cpu.specs.declared.marks.Marks.{Marks}
-use Rattle.guest_cpu.specs.Standing.{Standing}
-use Rattle.run_history.specs.Served.{Limits}
-use Rattle.block_book.specs.declared.choice.Choice.{Choice}
-use Rattle.recovery.specs.Going.{IsTrying}
+use Rattle.recovery.proofs.Terms.{List, ap, arith, subst, sym, ◌∙◌, ◌≡◌, Choice, Limits, Marks, Standing, IsTrying}
 use Rattle.recovery.proofs.Running.{trying_room, live_base, base_on}
 use Rattle.recovery.proofs.Turning.{keeps_sent, later_if, later_sent, ran_later, ran_least, asks_now, chooses_now, chooses_later, exits_now, fails_now, emits_asks, emits_now, emits_later}
 use Rattle.recovery.proofs.going.turn.Goals as goal

@@ -1,9 +1,6 @@
-use Rattle.std.proofs.Common.{◌+◌, ◌≤◌, List, length, refl, sym, ◌∙◌, subst}
-use Rattle.block_book.specs.declared.choice.Choice.{Choice}
-use Rattle.recovery.specs.Recovering.{Adopts}
+use Rattle.recovery.proofs.Terms.{List, length, refl, subst, sym, ◌+◌, ◌∙◌, ◌≤◌, Choice, Adopts, keeping_by}
 use Rattle.recovery.proofs.Survived.{has_survived, none_survived}
 use Rattle.recovery.proofs.Recoveries.{recovers, episode_tells, can_adopt, adopts_run, adopted_slots, walked_keeping}
-use Rattle.recovery.specs.Handling.{keeping_by}
 use Rattle.recovery.proofs.recovering.recover.Goals as goal
 
 pub returns-in-None-clause-recovers : goal.returns-in-None-clause-recovers

@@ -1,5 +1,4 @@
-use Rattle.std.proofs.Common.{ap}
-use Rattle.reply_ledger.specs.Trials.{discarded}
+use Rattle.recovery.proofs.Terms.{ap, discarded}
 use Rattle.recovery.proofs.Starting.{failed_still}
 use Rattle.recovery.proofs.Ending.{under_saved}
 use Rattle.recovery.proofs.WalkLemmas.{can_still_try}

@@ -1,5 +1,4 @@
-use Rattle.std.proofs.Common.{◌∙◌}
-use Rattle.session_notes.specs.Survival.{survives}
+use Rattle.recovery.proofs.Terms.{◌∙◌, survives}
 use Rattle.recovery.proofs.Ending.{checkpoint_there, settled_tried, settled_keeps, under_saved}
 use Rattle.recovery.proofs.trying.attempt.Goals as goal
 

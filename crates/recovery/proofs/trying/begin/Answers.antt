@@ -1,10 +1,4 @@
-use Rattle.std.proofs.Common.{◌≡◌, List, length, sym, ◌∙◌, ap, subst, arith}
-use Rattle.block_book.specs.declared.choice.Choice.{Choice}
-use Rattle.reply_ledger.specs.Ledger.{Ledger}
-use Rattle.reply_ledger.specs.Trials.{begun, discarded}
-use Rattle.guest_cpu.specs.declared.marks.Marks.{Marks}
-use Rattle.guest_cpu.specs.Standing.{Standing}
-use Rattle.recovery.specs.Going.{IsTrying}
+use Rattle.recovery.proofs.Terms.{List, ap, arith, length, subst, sym, ◌∙◌, ◌≡◌, Choice, Ledger, begun, discarded, Marks, Standing, IsTrying}
 use Rattle.recovery.proofs.Starting.{begins, restored_at, restored_keeps, restored_none, restored_sends}
 use Rattle.recovery.proofs.trying.begin.Goals as goal
 

@@ -1,10 +1,4 @@
-use Rattle.std.proofs.Common.{List, Option, refl, ◌∙◌, subst, arith}
-use Rattle.std.specs.Prelude.{Ok}
-use Rattle.std.proofs.lemmas.List.{take_all}
-use Rattle.alloc_env.specs.declared.env.Env.{Env}
-use Rattle.trials.specs.Tables.{chances_at, environments}
-use Rattle.recovery.specs.declared.walking.Adopted.{Adopted}
-use Rattle.recovery.specs.Walking.{OneBy, LedgerBy, FailedSome}
+use Rattle.recovery.proofs.Terms.{List, Option, arith, refl, subst, ◌∙◌, take_all, Ok, Env, chances_at, environments, Adopted, FailedSome, LedgerBy, OneBy}
 use Rattle.recovery.proofs.Starting.{failed_still}
 use Rattle.recovery.proofs.Running.{saved_on}
 use Rattle.recovery.proofs.Ending.{under_saved}

@@ -1,4 +1,4 @@
-use Rattle.std.proofs.Common.{sym}
+use Rattle.recovery.proofs.Terms.{sym}
 use Rattle.recovery.proofs.Ending.{checkpoint_there}
 use Rattle.recovery.proofs.Adopting.{trial_of, is_made, is_adopted, adopt_asks, adopted_survives, none_adopted}
 use Rattle.recovery.proofs.walking.try_one.Goals as goal

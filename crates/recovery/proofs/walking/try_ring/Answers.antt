@@ -1,8 +1,4 @@
-use Rattle.std.proofs.Common.{◌<◌, length, Option, List, [], refl, sym, ◌∙◌, subst, arith}
-use Rattle.std.specs.Prelude.{Ok}
-use Rattle.session_notes.specs.declared.episode.Try.{Try}
-use Rattle.recovery.specs.declared.walking.Adopted.{Adopted}
-use Rattle.recovery.specs.Walking.{AllBy, LedgerBy, FailedSome}
+use Rattle.recovery.proofs.Terms.{List, Option, [], arith, length, refl, subst, sym, ◌<◌, ◌∙◌, Ok, Try, Adopted, AllBy, FailedSome, LedgerBy}
 use Rattle.recovery.proofs.Starting.{failed_still}
 use Rattle.recovery.proofs.Running.{saved_on}
 use Rattle.recovery.proofs.Ending.{under_saved, checkpoint_there, ring_length}

@@ -1,5 +1,4 @@
-use Rattle.std.proofs.Common.{arith}
-use Rattle.replay.specs.Giving.{BreaksOff}
+use Rattle.replay.proofs.Terms.{arith, BreaksOff}
 use Rattle.replay.proofs.LoopLemmas.{gone_nowhere, gone_turning, turns_then}
 use Rattle.replay.proofs.StartLemmas.{starts_between, starts_at, replayed_none, replayed_by, answers_link}
 use Rattle.replay.proofs.replaying.replay_by.Goals as goal

@@ -1,4 +1,4 @@
-use Rattle.std.proofs.Common.{◌-◌}
+use Rattle.replay.proofs.Terms.{◌-◌}
 use Rattle.replay.proofs.LoopLemmas.{HasTurned}
 use Rattle.replay.proofs.replaying.replay_by.Given as goal
 

@@ -1,5 +1,5 @@
-use Rattle.std.proofs.Common.{◌<◌, ◌≤◌, length, sym, ◌∙◌, arith}
-use Rattle.reply_ledger.proofs.AgreeLemmas.{agree-past, agree-done, agree-same, agree-apart}
+use Rattle.reply_ledger.proofs.Lemmas.{agree-apart, agree-done, agree-past, agree-same}
+use Rattle.reply_ledger.proofs.Terms.{arith, length, sym, ◌<◌, ◌∙◌, ◌≤◌}
 use Rattle.reply_ledger.proofs.account.agree_from.Goals as goal
 
 pub returns-then-at-len : goal.returns-then-at-len

@@ -1,5 +1,4 @@
-use Rattle.std.proofs.Common.{◌≡◌, ◌+◌, drop}
-use Rattle.reply_ledger.specs.Trials.{agree}
+use Rattle.reply_ledger.proofs.Terms.{drop, ◌+◌, ◌≡◌, agree}
 use Rattle.reply_ledger.proofs.account.agree_from.Given as goal
 
 abbrev pub invariant-loop-byte : goal.invariant-loop-byte

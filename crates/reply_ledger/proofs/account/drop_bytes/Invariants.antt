@@ -1,4 +1,4 @@
-use Rattle.std.proofs.Common.{◌≡◌, drop}
+use Rattle.reply_ledger.proofs.Terms.{drop, ◌≡◌}
 use Rattle.reply_ledger.proofs.account.drop_bytes.Given as goal
 
 abbrev pub invariant-loop : goal.invariant-loop

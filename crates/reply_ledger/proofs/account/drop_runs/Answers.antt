@@ -1,7 +1,5 @@
-use Rattle.std.proofs.Common.{◌<◌, length, sym, ◌∙◌, ap, arith}
-use Rattle.std.proofs.lemmas.Bool.{eqb-true, eqb-false}
-use Rattle.reply_ledger.specs.Tallies.{runs_past}
-use Rattle.reply_ledger.proofs.RunLemmas.{runs_past-stays, runs_past-goes, runs_past-none}
+use Rattle.reply_ledger.proofs.Lemmas.{runs_past-goes, runs_past-none, runs_past-stays}
+use Rattle.reply_ledger.proofs.Terms.{ap, arith, length, sym, ◌<◌, ◌∙◌, eqb-false, eqb-true, runs_past}
 use Rattle.reply_ledger.proofs.account.drop_runs.Goals as goal
 
 pub returns-then-index-at : goal.returns-then-index-at

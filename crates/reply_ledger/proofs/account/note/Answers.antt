@@ -1,5 +1,5 @@
-use Rattle.std.proofs.Common.{refl, arith}
-use Rattle.reply_ledger.proofs.RunLemmas.{Notes-set}
+use Rattle.reply_ledger.proofs.Lemmas.{Notes-set}
+use Rattle.reply_ledger.proofs.Terms.{arith, refl}
 use Rattle.reply_ledger.proofs.account.note.Goals as goal
 
 pub returns-then-last-stamp-clause-ok : goal.returns-then-last-stamp-clause-ok

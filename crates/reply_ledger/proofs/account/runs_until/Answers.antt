@@ -1,8 +1,5 @@
-use Rattle.std.proofs.Common.{◌+◌, ◌-◌, ◌/◌, ◌<◌, length, arith}
-use Rattle.std.proofs.lemmas.Bool.{le-leb, lt-leb}
-use Rattle.std.specs.Prelude.{nat_le}
-use Rattle.reply_ledger.specs.declared.account.Run.{Run}
-use Rattle.reply_ledger.proofs.RunLemmas.{parted-low, parted-high}
+use Rattle.reply_ledger.proofs.Lemmas.{parted-high, parted-low}
+use Rattle.reply_ledger.proofs.Terms.{arith, length, ◌+◌, ◌-◌, ◌/◌, ◌<◌, le-leb, lt-leb, nat_le, Run}
 use Rattle.reply_ledger.proofs.account.runs_until.Goals as goal
 
 pub half-preserved-then-index-item : goal.half-preserved-then-index-item

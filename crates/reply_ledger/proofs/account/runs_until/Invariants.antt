@@ -1,7 +1,4 @@
-use Rattle.std.proofs.Common.{◌≡◌, ◌-◌, ◌≤◌, length, true, false}
-use Rattle.std.specs.Prelude.{nat_le}
-use Rattle.std.specs.List.{AllWithin}
-use Rattle.reply_ledger.specs.declared.account.Run.{Run}
+use Rattle.reply_ledger.proofs.Terms.{false, length, true, ◌-◌, ◌≡◌, ◌≤◌, AllWithin, nat_le, Run}
 use Rattle.reply_ledger.proofs.account.runs_until.Given as goal
 
 abbrev pub invariant-half : goal.invariant-half

@@ -1,9 +1,5 @@
-use Rattle.std.proofs.Common.{◌<◌, length, ◌∙◌, refl, sym, ap, arith, List, ℕ}
-use Rattle.std.proofs.lemmas.Bool.{leb-true}
-use Rattle.std.specs.Prelude.{slice_get}
-use Rattle.std.specs.Map.{values_of}
-use Rattle.reply_ledger.specs.Tallies.{Tally, adopted_tally, tries_all}
-use Rattle.reply_ledger.proofs.TallyLemmas.{all_retallied-start, all_retallied-more, length-part_retallied, value_unchanged, list_all-at}
+use Rattle.reply_ledger.proofs.Lemmas.{all_retallied-more, all_retallied-start, length-part_retallied, list_all-at, value_unchanged}
+use Rattle.reply_ledger.proofs.Terms.{List, ap, arith, length, refl, sym, ℕ, ◌<◌, ◌∙◌, leb-true, values_of, slice_get, Tally, adopted_tally, tries_all}
 use Rattle.reply_ledger.proofs.accounts.adopt.Goals as goal
 
 pub loop-i-init : goal.loop-i-init

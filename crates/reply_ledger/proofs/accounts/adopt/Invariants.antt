@@ -1,5 +1,4 @@
-use Rattle.std.proofs.Common.{◌≡◌, ◌++◌, take, drop}
-use Rattle.reply_ledger.specs.Tallies.{all_retallied, adopted_tally}
+use Rattle.reply_ledger.proofs.Terms.{drop, take, ◌++◌, ◌≡◌, adopted_tally, all_retallied}
 use Rattle.reply_ledger.proofs.accounts.adopt.Given as goal
 
 abbrev pub invariant-loop-i : goal.invariant-loop-i

@@ -1,8 +1,5 @@
-use Rattle.std.proofs.Common.{[], sym, arith}
-use Rattle.reply_ledger.specs.Ledger.{bytes_of}
-use Rattle.reply_ledger.specs.Tallies.{Tally}
-use Rattle.reply_ledger.proofs.AgreeLemmas.{agree-past}
-use Rattle.reply_ledger.proofs.TallyLemmas.{number_at-some, passed_at-some, passed_at-none}
+use Rattle.reply_ledger.proofs.Lemmas.{agree-past, number_at-some, passed_at-none, passed_at-some}
+use Rattle.reply_ledger.proofs.Terms.{[], arith, sym, bytes_of, Tally}
 use Rattle.reply_ledger.proofs.accounts.agrees.Goals as goal
 
 pub returns-in-Some : goal.returns-in-Some

@@ -1,6 +1,5 @@
-use Rattle.std.proofs.Common.{◌<◌, length, refl, arith}
-use Rattle.reply_ledger.specs.Tallies.{begun_tally}
-use Rattle.reply_ledger.proofs.TallyLemmas.{all_retallied-start, all_retallied-more, length-part_retallied}
+use Rattle.reply_ledger.proofs.Lemmas.{all_retallied-more, all_retallied-start, length-part_retallied}
+use Rattle.reply_ledger.proofs.Terms.{arith, length, refl, ◌<◌, begun_tally}
 use Rattle.reply_ledger.proofs.accounts.begin_trial.Goals as goal
 
 pub loop-i-init : goal.loop-i-init

@@ -1,5 +1,4 @@
-use Rattle.std.proofs.Common.{◌≡◌, ◌++◌, take, drop}
-use Rattle.reply_ledger.specs.Tallies.{all_retallied, begun_tally}
+use Rattle.reply_ledger.proofs.Terms.{drop, take, ◌++◌, ◌≡◌, all_retallied, begun_tally}
 use Rattle.reply_ledger.proofs.accounts.begin_trial.Given as goal
 
 abbrev pub invariant-loop-i : goal.invariant-loop-i

@@ -1,6 +1,5 @@
-use Rattle.std.proofs.Common.{ap, arith}
-use Rattle.reply_ledger.specs.Tallies.{Tally, given_up_tally}
-use Rattle.reply_ledger.proofs.TallyLemmas.{written, unwritten, number_at-some}
+use Rattle.reply_ledger.proofs.Lemmas.{number_at-some, unwritten, written}
+use Rattle.reply_ledger.proofs.Terms.{ap, arith, Tally, given_up_tally}
 use Rattle.reply_ledger.proofs.accounts.give_up.Goals as goal
 
 pub give_up-requires : goal.give_up-requires

@@ -1,6 +1,5 @@
-use Rattle.std.proofs.Common.{ap}
-use Rattle.reply_ledger.specs.Tallies.{gone_tally}
-use Rattle.reply_ledger.proofs.TallyLemmas.{written, unwritten}
+use Rattle.reply_ledger.proofs.Lemmas.{unwritten, written}
+use Rattle.reply_ledger.proofs.Terms.{ap, gone_tally}
 use Rattle.reply_ledger.proofs.accounts.leave.Goals as goal
 
 pub returns-in-Some : goal.returns-in-Some

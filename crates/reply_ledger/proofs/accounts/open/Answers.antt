@@ -1,7 +1,5 @@
-use Rattle.std.proofs.Common.{◌++◌, ◌∷◌, [], ◌∙◌, ap}
-use Rattle.std.specs.Prelude.{nat_eq}
 use Rattle.indexmap.proofs.CallerLemmas.{insert_entry-new}
-use Rattle.reply_ledger.specs.Tallies.{Tally}
+use Rattle.reply_ledger.proofs.Terms.{[], ap, ◌++◌, ◌∙◌, ◌∷◌, nat_eq, Tally}
 use Rattle.reply_ledger.proofs.accounts.open.Goals as goal
 
 pub returns-clause-ok : goal.returns-clause-ok

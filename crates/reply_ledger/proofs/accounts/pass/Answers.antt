@@ -1,8 +1,6 @@
-use Rattle.std.proofs.Common.{◌+◌, ap, drop, take, arith, length}
-use Rattle.reply_ledger.specs.Ledger.{stamped}
-use Rattle.reply_ledger.specs.Entries.{stream_behind}
-use Rattle.reply_ledger.specs.Tallies.{Tally, passed_end, passed_tally}
-use Rattle.reply_ledger.proofs.TallyLemmas.{number_at-some, written, written-same, unwritten, on_ok, on_err}
+use Rattle.std.proofs.lemmas.Result.{on_ok_weaker, on_err_weaker}
+use Rattle.reply_ledger.proofs.Lemmas.{number_at-some, unwritten, written, written-same}
+use Rattle.reply_ledger.proofs.Terms.{ap, arith, drop, length, take, ◌+◌, stamped, Tally, passed_end, passed_tally, stream_behind}
 use Rattle.reply_ledger.proofs.accounts.pass.Goals as goal
 
 pub pass-requires : goal.pass-requires
@@ -14,13 +12,13 @@ pass-requires c =
 pub returns-in-Some-clause-ok : goal.returns-in-Some-clause-ok
 returns-in-Some-clause-ok c =
     let passed = number_at-some passed_end c.args.accounts.now.entries c.args.conn c.in-Some.account.now c.in-Some.ensures.value in
-    rw passed (on_ok c.pass.result (written c.args.accounts.now.entries _ c.args.conn
+    rw passed (on_ok_weaker c.pass.result (written c.args.accounts.now.entries _ c.args.conn
     (passed_tally (stamped c.args.stamp (take c.args.count (stream_behind c.args.conn (c.in-Some.account.now.earlier + length c.in-Some.account.now.passed) (drop c.args.from c.args.sends.now.items)))))
     c.in-Some.account.now c.pass.new.self c.in-Some.ensures.unique c.in-Some.ensures.value (c.get_mut.follows.holds c.pass.new.self).0) c.pass.ensures.ok)
 
 pub returns-in-Some-clause-err : goal.returns-in-Some-clause-err
 returns-in-Some-clause-err c =
-    on_err c.pass.result (written-same c.args.accounts.now.entries _ c.args.conn c.in-Some.account.now c.pass.new.self c.in-Some.ensures.value (c.get_mut.follows.holds c.pass.new.self).0) c.pass.ensures.err
+    on_err_weaker c.pass.result (written-same c.args.accounts.now.entries _ c.args.conn c.in-Some.account.now c.pass.new.self c.in-Some.ensures.value (c.get_mut.follows.holds c.pass.new.self).0) c.pass.ensures.err
 
 pub returns-in-None-clause-ok : goal.returns-in-None-clause-ok
 returns-in-None-clause-ok c =

@@ -1,6 +1,5 @@
-use Rattle.std.proofs.Common.{◌≤◌, ℕ, ap, subst}
-use Rattle.reply_ledger.specs.Tallies.{Tally, sent_tally}
-use Rattle.reply_ledger.proofs.TallyLemmas.{written, unwritten, number_at-some}
+use Rattle.reply_ledger.proofs.Lemmas.{number_at-some, unwritten, written}
+use Rattle.reply_ledger.proofs.Terms.{ap, subst, ℕ, ◌≤◌, Tally, sent_tally}
 use Rattle.reply_ledger.proofs.accounts.send.Goals as goal
 
 pub send-requires : goal.send-requires

@@ -1,4 +1,4 @@
-use Rattle.std.proofs.Common.{◌≡◌, ◌++◌, take}
+use Rattle.reply_ledger.proofs.Terms.{take, ◌++◌, ◌≡◌}
 use Rattle.reply_ledger.proofs.entry.append.Given as goal
 
 abbrev pub invariant-loop-byte : goal.invariant-loop-byte

@@ -1,4 +1,4 @@
-use Rattle.std.proofs.Common.{◌++◌, ◌≤◌, length, ◌∙◌, ap, arith, take, append_assoc, List, ℕ}
+use Rattle.reply_ledger.proofs.Terms.{List, ap, append_assoc, arith, length, take, ℕ, ◌++◌, ◌∙◌, ◌≤◌}
 use Rattle.reply_ledger.proofs.StreamLemmas.{gather-turn, gather-none}
 use Rattle.reply_ledger.proofs.entry.gather.Goals as goal
 

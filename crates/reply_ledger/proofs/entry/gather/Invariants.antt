@@ -1,5 +1,4 @@
-use Rattle.std.proofs.Common.{◌≡◌, ◌++◌, List, ℕ, take, drop}
-use Rattle.reply_ledger.specs.Entries.{stream_behind}
+use Rattle.reply_ledger.proofs.Terms.{List, drop, take, ℕ, ◌++◌, ◌≡◌, stream_behind}
 use Rattle.reply_ledger.proofs.entry.gather.Given as goal
 
 abbrev pub invariant-loop-i : goal.invariant-loop-i

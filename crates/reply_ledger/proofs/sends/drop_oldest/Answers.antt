@@ -1,10 +1,5 @@
-use Rattle.std.proofs.Common.{◌≡◌, ℕ, List, length, drop, refl, sym, ◌∙◌, ap, subst, arith}
-use Rattle.std.proofs.lemmas.List.{drop-drop}
-use Rattle.reply_ledger.specs.Tallies.{Tally, given_up_tally, connections_of, retallied}
-use Rattle.reply_ledger.specs.Entries.{sends_of}
-use Rattle.reply_ledger.specs.Inside.{Laid, earlier_at, sent_ends}
-use Rattle.reply_ledger.proofs.ConnectionLemmas.{trimmed-none, number_at-same}
-use Rattle.reply_ledger.proofs.EntryLemmas.{oldest-gone, oldest-fits, oldest-laid, trimmed-more}
+use Rattle.reply_ledger.proofs.Lemmas.{number_at-same, trimmed-none, oldest-fits, oldest-gone, oldest-laid, trimmed-more}
+use Rattle.reply_ledger.proofs.Terms.{List, ap, arith, drop, length, refl, subst, sym, ℕ, ◌∙◌, ◌≡◌, drop-drop, Tally, connections_of, given_up_tally, retallied, sends_of, Laid, earlier_at, sent_ends}
 use Rattle.reply_ledger.proofs.sends.drop_oldest.Goals as goal
 
 pub loop-init : goal.loop-init

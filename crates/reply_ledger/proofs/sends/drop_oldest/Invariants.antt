@@ -1,8 +1,4 @@
-use Rattle.std.proofs.Common.{◌≡◌, ℕ, take, drop}
-use Rattle.reply_ledger.specs.Trimming.{trimmed_connections}
-use Rattle.reply_ledger.specs.Tallies.{connections_of}
-use Rattle.reply_ledger.specs.Entries.{sends_of}
-use Rattle.reply_ledger.specs.Inside.{Laid, earlier_at, sent_ends}
+use Rattle.reply_ledger.proofs.Terms.{drop, take, ℕ, ◌≡◌, trimmed_connections, connections_of, sends_of, Laid, earlier_at, sent_ends}
 use Rattle.reply_ledger.proofs.sends.drop_oldest.Given as goal
 
 abbrev pub invariant-loop : goal.invariant-loop

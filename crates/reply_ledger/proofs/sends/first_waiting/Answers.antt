@@ -1,7 +1,5 @@
-use Rattle.std.proofs.Common.{◌<◌, length, sym, ◌∙◌, arith}
-use Rattle.reply_ledger.specs.Tallies.{connections_of}
-use Rattle.reply_ledger.specs.Inside.{waits_in}
-use Rattle.reply_ledger.proofs.PositionLemmas.{position-le, position-here, position-next}
+use Rattle.reply_ledger.proofs.Lemmas.{position-here, position-le, position-next}
+use Rattle.reply_ledger.proofs.Terms.{arith, length, sym, ◌<◌, ◌∙◌, connections_of, waits_in}
 use Rattle.reply_ledger.proofs.sends.first_waiting.Goals as goal
 
 pub returns-then-waits : goal.returns-then-waits

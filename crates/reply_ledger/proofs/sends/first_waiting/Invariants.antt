@@ -1,7 +1,4 @@
-use Rattle.std.proofs.Common.{◌≤◌}
-use Rattle.std.specs.List.{position_or_len}
-use Rattle.reply_ledger.specs.Tallies.{connections_of}
-use Rattle.reply_ledger.specs.Inside.{waits_in}
+use Rattle.reply_ledger.proofs.Terms.{◌≤◌, position_or_len, connections_of, waits_in}
 use Rattle.reply_ledger.proofs.sends.first_waiting.Given as goal
 
 abbrev pub invariant-loop-i : goal.invariant-loop-i

@@ -1,5 +1,5 @@
-use Rattle.std.proofs.Common.{sym, ap, ◌∙◌, Bool, if◌then◌else◌}
-use Rattle.reply_ledger.proofs.ConnectionLemmas.{is_open-of}
+use Rattle.reply_ledger.proofs.Lemmas.{is_open-of}
+use Rattle.reply_ledger.proofs.Terms.{Bool, ap, if◌then◌else◌, sym, ◌∙◌}
 use Rattle.reply_ledger.proofs.sends.first_with_rest.Goals as goal
 
 pub returns-then-is_open : goal.returns-then-is_open

@@ -1,12 +1,5 @@
-use Rattle.std.proofs.Common.{◌≡◌, ◌+◌, ◌-◌, ◌≤◌, ℕ, suc, List, length, take, refl, sym, ◌∙◌, ap, subst, arith}
-use Rattle.rx_io.specs.Sends.{sent_to}
-use Rattle.reply_ledger.specs.declared.entry.Entry.{Entry}
-use Rattle.reply_ledger.specs.Tallies.{Tally, begun_tally, tried_tally, connections_of}
-use Rattle.reply_ledger.specs.Entries.{sends_of}
-use Rattle.reply_ledger.specs.Inside.{earlier_at, sent_ends, tried_ends}
-use Rattle.std.proofs.lemmas.List.{take_all}
-use Rattle.reply_ledger.proofs.ConnectionLemmas.{connections_of-all_hidden, connections_of-hidden, number_at-all, number_at-same}
-use Rattle.reply_ledger.proofs.EntryLemmas.{rewound}
+use Rattle.reply_ledger.proofs.Lemmas.{connections_of-all_hidden, connections_of-hidden, number_at-all, number_at-same, rewound}
+use Rattle.reply_ledger.proofs.Terms.{List, ap, arith, length, refl, subst, suc, sym, take, ℕ, ◌+◌, ◌-◌, ◌∙◌, ◌≡◌, ◌≤◌, take_all, sent_to, Entry, Tally, begun_tally, connections_of, tried_tally, sends_of, earlier_at, sent_ends, tried_ends}
 use Rattle.reply_ledger.proofs.sends.rewind.Goals as goal
 
 pub back-init : goal.back-init

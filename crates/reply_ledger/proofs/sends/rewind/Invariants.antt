@@ -1,8 +1,4 @@
-use Rattle.std.proofs.Common.{◌≡◌, ◌+◌, ◌≤◌, ℕ, length, take}
-use Rattle.rx_io.specs.Sends.{sent_to}
-use Rattle.reply_ledger.specs.Tallies.{connections_of}
-use Rattle.reply_ledger.specs.Entries.{sends_of}
-use Rattle.reply_ledger.specs.Inside.{earlier_at, sent_ends, tried_ends}
+use Rattle.reply_ledger.proofs.Terms.{length, take, ℕ, ◌+◌, ◌≡◌, ◌≤◌, sent_to, connections_of, sends_of, earlier_at, sent_ends, tried_ends}
 use Rattle.reply_ledger.proofs.sends.rewind.Given as goal
 
 abbrev pub invariant-back : goal.invariant-back

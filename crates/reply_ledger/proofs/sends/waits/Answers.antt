@@ -1,7 +1,4 @@
-use Rattle.std.proofs.Common.{sym, ap, ◌∙◌, Bool, ℕ, List, length, not, ◌&&◌}
-use Rattle.std.specs.Prelude.{◌==◌}
-use Rattle.reply_ledger.specs.Tallies.{passed_end}
-use Rattle.reply_ledger.specs.Entries.{rest_of}
+use Rattle.reply_ledger.proofs.Terms.{Bool, List, ap, length, not, sym, ℕ, ◌&&◌, ◌∙◌, ◌==◌, passed_end, rest_of}
 use Rattle.reply_ledger.proofs.WaitingLemmas.{waits-some, waits-none}
 use Rattle.reply_ledger.proofs.sends.waits.Goals as goal
 

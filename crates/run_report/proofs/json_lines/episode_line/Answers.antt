@@ -1,5 +1,5 @@
 use Rattle.std.proofs.Common.{◌∙◌, ap}
-use Rattle.serde_json.specs.Written.{has_float}
+use Rattle.run_report.specs.Terms.{has_float}
 use Rattle.run_report.proofs.Floats.{no_float}
 use Rattle.run_report.proofs.json_lines.episode_line.Goals as goal
 

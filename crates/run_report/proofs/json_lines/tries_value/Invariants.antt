@@ -1,5 +1,5 @@
 use Rattle.std.proofs.Common.{◌≡◌, map, take}
-use Rattle.serde_json.specs.View.{view}
+use Rattle.run_report.specs.Terms.{view}
 use Rattle.run_report.specs.JsonLines.{try_data}
 use Rattle.run_report.proofs.json_lines.tries_value.Given as goal
 

@@ -1,8 +1,4 @@
-use Rattle.std.proofs.Common.{◌≡◌, ◌<◌, ◌^◌, List, length, subst, sym, ◌∙◌, rules, ap}
-use Rattle.std.proofs.lemmas.List.Elements.{All-same}
-use Rattle.elf_image.specs.declared.segment.Segment.{Segment}
-use Rattle.elf_image.specs.Layout.{IsPlaced, layout_refusal}
-use Rattle.rv_asm.specs.Layout.{text_start}
+use Rattle.rv_asm.proofs.Terms.{List, ap, length, rules, subst, sym, ◌<◌, ◌^◌, ◌∙◌, ◌≡◌, All-same, Segment, IsPlaced, layout_refusal, text_start}
 use Rattle.rv_asm.proofs.Images.{segments_of, accepted, all_placed, few}
 use Rattle.rv_asm.proofs.assembling.image_of.Goals as goal
 

@@ -1,5 +1,4 @@
-use Rattle.std.proofs.Common.{◌≢◌, length, arith, sym, ◌∙◌}
-use Rattle.std.proofs.lemmas.Bool.{eqb-false}
+use Rattle.rv_asm.proofs.Terms.{arith, length, sym, ◌∙◌, ◌≢◌, eqb-false}
 use Rattle.rv_asm.proofs.Surveys.{survey_stops, survey_ends, survey_goes_on}
 use Rattle.rv_asm.proofs.surveying.survey.Goals as goal
 

@@ -1,6 +1,4 @@
-use Rattle.std.proofs.Common.{◌≡◌, ◌+◌, ◌≤◌, length}
-use Rattle.asm_lines.specs.Lines.{lines_of}
-use Rattle.rv_asm.specs.Passes.{no_lines, after_lines, lines_fault}
+use Rattle.rv_asm.proofs.Terms.{length, ◌+◌, ◌≡◌, ◌≤◌, lines_of, after_lines, lines_fault, no_lines}
 use Rattle.rv_asm.proofs.surveying.survey.Given as goal
 
 abbrev pub invariant-lines : goal.invariant-lines

@@ -1,4 +1,4 @@
-use Rattle.std.proofs.Common.{rules}
+use Rattle.rv_asm.proofs.Terms.{rules}
 use Rattle.rv_asm.proofs.Labelling.{spot_of-small}
 use Rattle.rv_asm.proofs.writing.address_of.Goals as goal
 

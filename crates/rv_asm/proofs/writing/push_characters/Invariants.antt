@@ -1,5 +1,4 @@
-use Rattle.std.proofs.Common.{◌≡◌, ◌++◌, length}
-use Rattle.asm_lines.specs.Statements.{characters}
+use Rattle.rv_asm.proofs.Terms.{length, ◌++◌, ◌≡◌, characters}
 use Rattle.rv_asm.proofs.writing.push_characters.Given as goal
 
 abbrev pub invariant-bytes : goal.invariant-bytes

@@ -1,5 +1,4 @@
-use Rattle.std.proofs.Common.{ℕ, subst}
-use Rattle.rv_asm.specs.Steps.{WritesStatement}
+use Rattle.rv_asm.proofs.Terms.{subst, ℕ, WritesStatement}
 use Rattle.rv_asm.proofs.Putting.{placed_in_text, placed_in_data}
 use Rattle.rv_asm.proofs.writing.write_placed.Goals as goal
 

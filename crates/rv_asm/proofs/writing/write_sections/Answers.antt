@@ -1,5 +1,5 @@
-use Rattle.std.proofs.Common.{sym, ◌∙◌, rules}
 use Rattle.asm_lines.specs.declared.form.Section.TheVariants as section
+use Rattle.rv_asm.proofs.Terms.{rules, sym, ◌∙◌}
 use Rattle.rv_asm.proofs.Putting.{are_in_more, linked_fault}
 use Rattle.rv_asm.proofs.writing.write_sections.Goals as goal
 

@@ -1,7 +1,5 @@
-use Rattle.std.proofs.Common.{◌≡◌, take, drop}
 use Rattle.asm_lines.specs.declared.form.Section.TheVariants as section
-use Rattle.rv_asm.specs.Assembling.{AreBytes}
-use Rattle.rv_asm.specs.Passes.{section_cells, labels_fault}
+use Rattle.rv_asm.proofs.Terms.{drop, take, ◌≡◌, AreBytes, labels_fault, section_cells}
 use Rattle.rv_asm.proofs.writing.write_sections.Given as goal
 
 abbrev pub invariant-statements : goal.invariant-statements

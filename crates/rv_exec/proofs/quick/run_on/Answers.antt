@@ -1,7 +1,5 @@
-use Rattle.std.proofs.Common.{◌≡◌, ◌+◌, ◌-◌, ◌%◌, sym, ap, ◌∙◌, subst, arith}
 use Rattle.std.proofs.lemmas.Bool.Decides.{nat_tests}
-use Rattle.guest_space.specs.Space.{flat}
-use Rattle.rv_exec.specs.Quick.{regs_of, Ran}
+use Rattle.rv_exec.proofs.Terms.{ap, arith, subst, sym, ◌%◌, ◌+◌, ◌-◌, ◌∙◌, ◌≡◌, flat, Ran, regs_of}
 use Rattle.rv_exec.proofs.QuickLemmas.{fetched_is, step_done, ran_none, ran_more}
 use Rattle.rv_exec.proofs.quick.run_on.Goals as goal
 

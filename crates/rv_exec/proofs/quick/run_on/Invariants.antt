@@ -1,9 +1,6 @@
-use Rattle.std.proofs.Common.{◌≡◌, ◌+◌, ◌-◌, ◌%◌, ◌≤◌}
-use Rattle.std.specs.Prelude.{slice_index, IfSome, Ok}
-use Rattle.guest_space.specs.Space.{flat}
-use Rattle.guest_space.specs.Access.{Reads}
+use Rattle.std.specs.Prelude.{Ok}
 use Rattle.guest_space.specs.Stretches.{AreOpen}
-use Rattle.rv_exec.specs.Quick.{regs_of, Ran}
+use Rattle.rv_exec.proofs.Terms.{◌%◌, ◌+◌, ◌-◌, ◌≡◌, ◌≤◌, IfSome, slice_index, Reads, flat, Ran, regs_of}
 use Rattle.rv_exec.proofs.quick.run_on.Given as goal
 
 -- so many instructions were done, each counted

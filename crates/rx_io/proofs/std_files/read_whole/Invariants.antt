@@ -1,5 +1,4 @@
-use Rattle.std.proofs.Common.{◌≤◌, length}
-use Rattle.std.specs.Io.KnownBytes.{Consumes}
+use Rattle.rx_io.proofs.Terms.{length, ◌≤◌, Consumes}
 use Rattle.rx_io.proofs.std_files.read_whole.Given as goal
 
 abbrev pub invariant-pieces : goal.invariant-pieces

@@ -1,5 +1,4 @@
-use Rattle.std.proofs.Common.{◌≡◌, List, ℕ, ◌++◌, length}
-use Rattle.std.specs.Io.KnownBytes.{Appends}
+use Rattle.rx_io.proofs.Terms.{List, length, ℕ, ◌++◌, ◌≡◌, Appends}
 use Rattle.rx_io.proofs.std_files.write_whole.Given as goal
 
 abbrev pub invariant-pieces : goal.invariant-pieces

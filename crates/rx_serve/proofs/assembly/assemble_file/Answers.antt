@@ -1,5 +1,4 @@
-use Rattle.std.proofs.Common.{◌∙◌, subst}
-use Rattle.rx_serve.specs.Assembly.{Writes}
+use Rattle.rx_serve.proofs.Terms.{subst, ◌∙◌, Writes}
 use Rattle.rx_serve.proofs.AssemblyLemmas.{assembles, writes_cause}
 use Rattle.rx_serve.proofs.assembly.assemble_file.Goals as goal
 

@@ -1,8 +1,7 @@
-use Rattle.std.proofs.Common.{ℕ, List, arith, subst}
-use Rattle.std.specs.Prelude.{Err}
 use Rattle.schedule_file.specs.Answers.{ReadsRecord}
 use Rattle.schedule_file.specs.declared.recorded.RecordRefusal.{RecordRefusal}
 use Rattle.schedule_file.specs.declared.recorded.RecordRefusal.TheVariants.{Refused}
+use Rattle.rx_serve.proofs.Terms.{List, arith, subst, ℕ, Err}
 use Rattle.rx_serve.proofs.RecordLemmas.{line_few}
 use Rattle.rx_serve.proofs.replaying.load_record.Goals as goal
 

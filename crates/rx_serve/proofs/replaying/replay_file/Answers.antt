@@ -1,7 +1,4 @@
-use Rattle.std.proofs.Common.{◌≡◌, ℕ, ◌-◌, ◌*◌, ◌%◌, ◌≤◌, arith}
-use Rattle.command_line.specs.Commands.{replay_shown}
-use Rattle.rx_serve.specs.Outside.{outside}
-use Rattle.rx_serve.specs.Replaying.{window_in}
+use Rattle.rx_serve.proofs.Terms.{arith, ℕ, ◌%◌, ◌*◌, ◌-◌, ◌≡◌, ◌≤◌, replay_shown, outside, window_in}
 use Rattle.rx_serve.proofs.ReplayLemmas.{has_replayed, no_file_fault}
 use Rattle.rx_serve.proofs.replaying.replay_file.Goals as goal
 

@@ -1,6 +1,4 @@
-use Rattle.std.proofs.Common.{◌≡◌, rules, Some}
-use Rattle.command_line.specs.Commands.{command_of, run, run_shown}
-use Rattle.command_line.specs.Parts.{texts_of}
+use Rattle.rx_serve.proofs.Terms.{Some, rules, ◌≡◌, command_of, run, run_shown, texts_of}
 use Rattle.rx_serve.proofs.NamesLemmas.{names_differ}
 use Rattle.rx_serve.proofs.run.run_rx.Goals as goal
 

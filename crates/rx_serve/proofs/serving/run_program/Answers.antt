@@ -1,8 +1,4 @@
-use Rattle.std.proofs.Common.{◌≤◌, ◌<◌, ◌^◌, ◌∙◌, Ok, subst, sym, refl, rules}
-use Rattle.command_line.specs.Commands.{run_shown}
-use Rattle.schedule_file.specs.declared.recorded.TheConstants.{MAX_TAKEN}
-use Rattle.rx_serve.specs.Noting.{StartsFiles}
-use Rattle.rx_serve.specs.Outside.{outside}
+use Rattle.rx_serve.proofs.Terms.{Ok, refl, rules, subst, sym, ◌<◌, ◌^◌, ◌∙◌, ◌≤◌, MAX_TAKEN, run_shown, outside, StartsFiles}
 use Rattle.rx_serve.proofs.RunLemmas.{not_begun, no_memory, begun_own, ready, run_ends, counts_fit}
 use Rattle.rx_serve.proofs.SettingsLemmas.{window_few, window_is, options_in_range}
 use Rattle.rx_serve.proofs.serving.run_program.Goals as goal

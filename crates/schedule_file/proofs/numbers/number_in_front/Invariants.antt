@@ -1,4 +1,4 @@
-use Rattle.std.proofs.Common.{length}
+use Rattle.schedule_file.proofs.Terms.{length}
 use Rattle.schedule_file.proofs.Digits.{IsNumberSoFar}
 use Rattle.schedule_file.proofs.numbers.number_in_front.Given as goal
 

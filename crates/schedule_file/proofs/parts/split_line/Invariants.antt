@@ -1,5 +1,4 @@
-use Rattle.std.proofs.Common.{◌≡◌, ◌++◌, take, drop}
-use Rattle.schedule_file.specs.Steps.{first_line, behind_line}
+use Rattle.schedule_file.proofs.Terms.{drop, take, ◌++◌, ◌≡◌, behind_line, first_line}
 use Rattle.schedule_file.proofs.parts.split_line.Given as goal
 
 abbrev pub invariant-loop-i : goal.invariant-loop-i

@@ -1,12 +1,6 @@
-use Rattle.std.proofs.Common.{sym, ◌∙◌, ◌+◌, ◌≡◌, ℕ, List, Ok, Err, length, arith, subst}
 use Rattle.std.specs.Global.{Vec}
 use Rattle.std.specs.Vec.{vec_len}
-use Rattle.block_book.specs.declared.choice.Choice.{Choice}
-use Rattle.schedule_file.specs.declared.recorded.Head.{Head}
-use Rattle.schedule_file.specs.declared.recorded.End.{End}
-use Rattle.schedule_file.specs.declared.recorded.Recorded.{Recorded}
-use Rattle.schedule_file.specs.declared.recorded.RecordRefusal.TheVariants.{Refused}
-use Rattle.schedule_file.specs.Answers.{ReadsRecord}
+use Rattle.schedule_file.proofs.Terms.{Err, List, Ok, arith, length, subst, sym, ℕ, ◌+◌, ◌∙◌, ◌≡◌, Choice, End, Head, Refused, Recorded, ReadsRecord}
 use Rattle.schedule_file.proofs.Whole.{refuses_head, refuses_end, refuses_more, reads_record}
 use Rattle.schedule_file.proofs.reading.read_record.Goals as goal
 

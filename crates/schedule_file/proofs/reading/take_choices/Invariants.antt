@@ -1,5 +1,4 @@
-use Rattle.std.proofs.Common.{length}
-use Rattle.schedule_file.specs.Steps.{IsBehind}
+use Rattle.schedule_file.proofs.Terms.{length, IsBehind}
 use Rattle.schedule_file.proofs.reading.take_choices.Given as goal
 
 abbrev pub invariant-lines : goal.invariant-lines

@@ -1,5 +1,4 @@
-use Rattle.std.proofs.Common.{sym, ◌∙◌, ap, true, false}
-use Rattle.std.specs.Prelude.{bytes_eq}
+use Rattle.schedule_file.proofs.Terms.{ap, false, sym, true, ◌∙◌, bytes_eq}
 use Rattle.schedule_file.proofs.Written.{choice_of-length}
 use Rattle.schedule_file.proofs.Told.{no_choice, choice_by}
 use Rattle.schedule_file.proofs.telling.choice_of.Goals as goal

@@ -1,6 +1,4 @@
-use Rattle.std.proofs.Common.{sym, ◌∙◌, ap, true, false}
-use Rattle.std.specs.Prelude.{bytes_eq}
-use Rattle.schedule_file.specs.Telling.{number_from, behind_digits, clipped}
+use Rattle.schedule_file.proofs.Terms.{ap, false, sym, true, ◌∙◌, bytes_eq, behind_digits, clipped, number_from}
 use Rattle.schedule_file.proofs.Told.{no_end, end_by}
 use Rattle.schedule_file.proofs.telling.end_of.Goals as goal
 

@@ -1,7 +1,4 @@
-use Rattle.std.proofs.Common.{◌-◌, ◌≡◌, ◌≤◌, length, arith, subst, sym}
-use Rattle.std.proofs.lemmas.List.{length-take-le}
-use Rattle.trunk_wire.specs.CallLaws.{reads_more}
-use Rattle.trunk_wire.specs.Calls.{Reads, count_after}
+use Rattle.trunk_wire.proofs.Terms.{arith, length, subst, sym, ◌-◌, ◌≡◌, ◌≤◌, length-take-le, Reads, count_after, reads_more}
 use Rattle.trunk_wire.proofs.CallLemmas.{take-put_mid_front, put_mid_room, reads_counted}
 use Rattle.trunk_wire.proofs.reading.fill.Goals as goal
 

@@ -1,5 +1,4 @@
-use Rattle.std.proofs.Common.{◌≡◌, ◌≤◌, ◌-◌, length, take}
-use Rattle.trunk_wire.specs.Calls.{Reads}
+use Rattle.trunk_wire.proofs.Terms.{length, take, ◌-◌, ◌≡◌, ◌≤◌, Reads}
 use Rattle.trunk_wire.proofs.reading.fill.Given as goal
 
 abbrev pub invariant-fill : goal.invariant-fill

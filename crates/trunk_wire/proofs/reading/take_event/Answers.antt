@@ -1,9 +1,4 @@
-use Rattle.std.proofs.Common.{◌≡◌, length, subst, arith, sym, ◌∙◌}
-use Rattle.std.proofs.lemmas.List.{take_all}
-use Rattle.links.specs.ConnectionTables.{phases_in}
-use Rattle.rx_io.specs.Outside.{IsDrained}
-use Rattle.trunk_wire.specs.Calls.{Reads, Behind}
-use Rattle.trunk_wire.specs.Frames.{header_bytes}
+use Rattle.trunk_wire.proofs.Terms.{arith, length, subst, sym, ◌∙◌, ◌≡◌, take_all, IsDrained, phases_in, header_bytes, Behind, Reads}
 use Rattle.trunk_wire.proofs.CallLemmas.{takes_as, reads_behind}
 use Rattle.trunk_wire.proofs.reading.take_event.Goals as goal
 

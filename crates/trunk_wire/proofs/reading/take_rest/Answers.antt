@@ -1,9 +1,4 @@
-use Rattle.std.proofs.Common.{arith, sym}
-use Rattle.links.specs.ConnectionTables.{phases_in}
-use Rattle.rx_io.specs.Outside.{IsDrained}
-use Rattle.trunk_wire.specs.CallLaws.{reads_nothing}
-use Rattle.trunk_wire.specs.Calls.{Reads, Behind}
-use Rattle.trunk_wire.specs.Frames.{header_bytes}
+use Rattle.trunk_wire.proofs.Terms.{arith, sym, IsDrained, phases_in, header_bytes, Behind, Reads, reads_nothing}
 use Rattle.trunk_wire.proofs.CallLemmas.{rest_refused, rest_cut, rest_truncated, rest_whole, takes_fault}
 use Rattle.trunk_wire.proofs.reading.take_rest.Goals as goal
 

@@ -1,7 +1,4 @@
-use Rattle.std.proofs.Common.{◌≡◌, ◌≤◌, ◌++◌, length, take, arith}
-use Rattle.std.proofs.lemmas.List.{length-take-le}
-use Rattle.trunk_wire.specs.CallLaws.{writes_more}
-use Rattle.trunk_wire.specs.Calls.{count_after}
+use Rattle.trunk_wire.proofs.Terms.{arith, length, take, ◌++◌, ◌≡◌, ◌≤◌, length-take-le, count_after, writes_more}
 use Rattle.trunk_wire.proofs.CallLemmas.{split_whole, writes_counted}
 use Rattle.trunk_wire.proofs.writing.write_all.Goals as goal
 

@@ -1,5 +1,4 @@
-use Rattle.std.proofs.Common.{◌≡◌, ◌≤◌, ◌++◌, List, ℕ, length}
-use Rattle.trunk_wire.specs.Calls.{Writes}
+use Rattle.trunk_wire.proofs.Terms.{List, length, ℕ, ◌++◌, ◌≡◌, ◌≤◌, Writes}
 use Rattle.trunk_wire.proofs.writing.write_all.Given as goal
 
 abbrev pub invariant-give : goal.invariant-give

@@ -1,8 +1,4 @@
-use Rattle.std.proofs.Common.{◌≡◌, ◌++◌, subst, ap}
-use Rattle.rx_io.specs.Prefix.{Prefix}
-use Rattle.trunk_wire.specs.CallLaws.{writes_more}
-use Rattle.trunk_wire.specs.Calls.{Writes}
-use Rattle.trunk_wire.specs.Frames.{piece_frame}
+use Rattle.trunk_wire.proofs.Terms.{ap, subst, ◌++◌, ◌≡◌, Prefix, piece_frame, Writes, writes_more}
 use Rattle.trunk_wire.proofs.CallLemmas.{writes_fault, Prefix-append, Prefix-behind}
 use Rattle.trunk_wire.proofs.writing.write_frame.Goals as goal
 

@@ -1,9 +1,6 @@
-use Rattle.std.proofs.Common.{◌≡◌, ◌<◌, true, sym, ◌∙◌, ap, subst, arith, if◌then◌else◌}
 use Rattle.std.specs.Result.{is_ok}
-use Rattle.std.specs.List.{insert}
 use Rattle.std.specs.Vec.{vec_len, vec_capacity}
-use Rattle.block_book.specs.Heap.{IsHeap, heap_of, with_block}
-use Rattle.block_book.specs.Search.{HasRoom, passed}
+use Rattle.block_book.proofs.Terms.{ap, arith, if◌then◌else◌, subst, sym, true, ◌<◌, ◌∙◌, ◌≡◌, insert, IsHeap, heap_of, with_block, HasRoom, passed}
 use Rattle.block_book.proofs.Sound.{sound-with, inserted}
 use Rattle.block_book.proofs.book.Book.add.Goals as goal
 

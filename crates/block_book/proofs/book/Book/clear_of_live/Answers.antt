@@ -1,6 +1,4 @@
-use Rattle.std.proofs.Common.{sym, ◌∙◌, ap, ◌&&◌}
-use Rattle.std.specs.List.{list_all}
-use Rattle.block_book.specs.Heap.{Heap}
+use Rattle.block_book.proofs.Terms.{ap, sym, ◌&&◌, ◌∙◌, list_all, Heap}
 use Rattle.block_book.proofs.Rooms.{clear-is, clear_of}
 use Rattle.block_book.proofs.book.Book.clear_of_live.Goals as goal
 

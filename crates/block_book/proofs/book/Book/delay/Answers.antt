@@ -1,7 +1,4 @@
-use Rattle.std.proofs.Common.{◌<◌, Some, length, sym, ◌∙◌, ap, subst}
-use Rattle.std.proofs.lemmas.Option.{slice_get-get_or}
-use Rattle.block_book.specs.Heap.{IsHeap, heap_of, with_delayed}
-use Rattle.block_book.specs.Search.{FindsLive}
+use Rattle.block_book.proofs.Terms.{Some, ap, length, subst, sym, ◌<◌, ◌∙◌, slice_get-get_or, IsHeap, heap_of, with_delayed, FindsLive}
 use Rattle.block_book.proofs.Sound.{sound-delayed, put_off}
 use Rattle.block_book.proofs.book.Book.delay.Goals as goal
 

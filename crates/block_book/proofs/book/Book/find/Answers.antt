@@ -1,4 +1,4 @@
-use Rattle.std.proofs.Common.{sym, ◌∙◌, arith}
+use Rattle.block_book.proofs.Terms.{arith, sym, ◌∙◌}
 use Rattle.block_book.proofs.Finding.{stands-at, stands-elsewhere, stands-nowhere}
 use Rattle.block_book.proofs.book.Book.find.Goals as goal
 

@@ -1,4 +1,4 @@
-use Rattle.std.proofs.Common.{sym, ◌∙◌}
+use Rattle.block_book.proofs.Terms.{sym, ◌∙◌}
 use Rattle.block_book.proofs.Finding.{held-some, held-none, held-past}
 use Rattle.block_book.proofs.book.Book.holds.Goals as goal
 

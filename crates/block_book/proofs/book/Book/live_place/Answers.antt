@@ -1,5 +1,4 @@
-use Rattle.std.proofs.Common.{◌≡◌, slice_get, Some, None, sym, ◌∙◌, ap}
-use Rattle.block_book.specs.Search.{passed}
+use Rattle.block_book.proofs.Terms.{None, Some, ap, slice_get, sym, ◌∙◌, ◌≡◌, passed}
 use Rattle.block_book.proofs.Finding.{finds-live, finds-other, finds-nothing}
 use Rattle.block_book.proofs.book.Book.live_place.Goals as goal
 

@@ -1,5 +1,4 @@
-use Rattle.std.proofs.Common.{◌≡◌, ◌+◌, ◌*◌, ◌/◌, ◌<◌, ◌≤◌, ◌^◌, length, max, sym, ◌∙◌, ap, subst, arith}
-use Rattle.block_book.specs.Heap.{Heap, IsHeap}
+use Rattle.block_book.proofs.Terms.{ap, arith, length, max, subst, sym, ◌*◌, ◌+◌, ◌/◌, ◌<◌, ◌^◌, ◌∙◌, ◌≡◌, ◌≤◌, Heap, IsHeap}
 use Rattle.block_book.proofs.Fitting.{walk-begins, turn-stops, turn-goes, walk-ends, walk-fails}
 use Rattle.block_book.proofs.book.Book.lowest_fit.Goals as goal
 

@@ -1,4 +1,4 @@
-use Rattle.std.proofs.Common.{◌≡◌, ◌≤◌, ◌^◌}
+use Rattle.block_book.proofs.Terms.{◌^◌, ◌≡◌, ◌≤◌}
 use Rattle.block_book.proofs.Fitting.{Walks}
 use Rattle.block_book.proofs.book.Book.lowest_fit.Given as goal
 

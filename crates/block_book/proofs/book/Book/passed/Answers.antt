@@ -1,10 +1,5 @@
-use Rattle.std.proofs.Common.{◌≡◌, leb, sym, ◌∙◌, ap, subst, rules}
-use Rattle.std.specs.List.Sorted.{IsNonDecreasingBy}
 use Rattle.std.proofs.lemmas.List.Sorted.{IsPartitionPoint-from_clause, IsPartitionedBy-leb}
-use Rattle.block_book.specs.declared.block.Block.{Block}
-use Rattle.block_book.specs.Block.{extent_end}
-use Rattle.block_book.specs.Heap.{Heap, IsHeap}
-use Rattle.block_book.specs.Search.{passed}
+use Rattle.block_book.proofs.Terms.{ap, leb, rules, subst, sym, ◌∙◌, ◌≡◌, IsNonDecreasingBy, Block, extent_end, Heap, IsHeap, passed}
 use Rattle.block_book.proofs.Rising.{stand-rising}
 use Rattle.block_book.proofs.Finding.{passed-is}
 use Rattle.block_book.proofs.book.Book.passed.Goals as goal

@@ -1,8 +1,4 @@
-use Rattle.std.proofs.Common.{◌≡◌, ◌+◌, ◌*◌, ◌<◌, ◌≤◌, length, sym, ◌∙◌, ap, subst, arith}
-use Rattle.std.specs.Option.{option_map}
-use Rattle.block_book.specs.Block.{reserved_size}
-use Rattle.block_book.specs.Heap.{Heap, most_blocks}
-use Rattle.block_book.specs.Placement.{fit}
+use Rattle.block_book.proofs.Terms.{ap, arith, length, subst, sym, ◌*◌, ◌+◌, ◌<◌, ◌∙◌, ◌≡◌, ◌≤◌, option_map, reserved_size, Heap, most_blocks, fit}
 use Rattle.block_book.proofs.Sizes.{reserved-least}
 use Rattle.block_book.proofs.Fitting.{fit-fits}
 use Rattle.block_book.proofs.Rooms.{placement-full, placement-fit, place-room}

@@ -1,5 +1,4 @@
-use Rattle.std.proofs.Common.{◌≡◌, true, ◌<◌, length, sym, ◌∙◌, subst, arith}
-use Rattle.block_book.specs.Heap.{is_bare, Heap, IsHeap, most_blocks}
+use Rattle.block_book.proofs.Terms.{arith, length, subst, sym, true, ◌<◌, ◌∙◌, ◌≡◌, Heap, IsHeap, is_bare, most_blocks}
 use Rattle.block_book.proofs.Rooms.{put-room, bare-insert}
 use Rattle.block_book.proofs.book.Book.put.Goals as goal
 

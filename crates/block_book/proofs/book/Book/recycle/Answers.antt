@@ -1,7 +1,4 @@
-use Rattle.std.proofs.Common.{sym, ◌∙◌, ap, subst, not, rules, of_calls, arith}
-use Rattle.std.proofs.lemmas.List.Elements.{filter_from_retain}
-use Rattle.block_book.specs.declared.block.Block.{Block}
-use Rattle.block_book.specs.Heap.{IsHeap, heap_of, recycled}
+use Rattle.block_book.proofs.Terms.{ap, arith, not, of_calls, rules, subst, sym, ◌∙◌, filter_from_retain, Block, IsHeap, heap_of, recycled}
 use Rattle.block_book.proofs.Sound.{sound-filter}
 use Rattle.block_book.proofs.book.Book.recycle.Goals as goal
 

@@ -1,7 +1,4 @@
-use Rattle.std.proofs.Common.{◌≡◌, true, Some, sym, ◌∙◌, ap, subst, not, eqb, arith}
-use Rattle.block_book.specs.declared.block.Block.{Block}
-use Rattle.block_book.specs.Heap.{is_bare, IsHeap, heap_of, without_block}
-use Rattle.block_book.specs.Search.{FindsLive}
+use Rattle.block_book.proofs.Terms.{Some, ap, arith, eqb, not, subst, sym, true, ◌∙◌, ◌≡◌, Block, IsHeap, heap_of, is_bare, without_block, FindsLive}
 use Rattle.block_book.proofs.Sound.{sound-filter, removed}
 use Rattle.block_book.proofs.Rooms.{bare-filter}
 use Rattle.block_book.proofs.book.Book.release.Goals as goal

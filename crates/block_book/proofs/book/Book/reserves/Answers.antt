@@ -1,4 +1,4 @@
-use Rattle.std.proofs.Common.{sym, ◌∙◌}
+use Rattle.block_book.proofs.Terms.{sym, ◌∙◌}
 use Rattle.block_book.proofs.Finding.{reserved-some, reserved-none, reserved-past}
 use Rattle.block_book.proofs.book.Book.reserves.Goals as goal
 

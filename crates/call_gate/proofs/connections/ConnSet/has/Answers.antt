@@ -1,5 +1,4 @@
-use Rattle.std.proofs.Common.{length, ◌<◌, ◌≤◌, ◌/◌, ◌∙◌, arith}
-use Rattle.std.proofs.lemmas.Bool.{le-ltb}
+use Rattle.call_gate.proofs.Terms.{arith, length, ◌/◌, ◌<◌, ◌∙◌, ◌≤◌, le-ltb}
 use Rattle.call_gate.proofs.Flags.{read_flag, read_past}
 use Rattle.call_gate.proofs.connections.ConnSet.has.Goals as goal
 

@@ -1,6 +1,4 @@
-use Rattle.std.proofs.Common.{◌≡◌}
-use Rattle.ckpt_ring.specs.Slots.{without_newer_slots}
-use Rattle.ckpt_ring.specs.Rings.{checkpoints, without_newer}
+use Rattle.ckpt_ring.proofs.Terms.{◌≡◌, checkpoints, without_newer, without_newer_slots}
 use Rattle.ckpt_ring.proofs.ring.Ring.drop_newer.Given as goal
 
 abbrev pub invariant-loop : goal.invariant-loop

@@ -1,5 +1,4 @@
-use Rattle.std.proofs.Common.{◌≡◌, ◌-◌, length, ap, sym, ◌∙◌, inl, arith}
-use Rattle.ckpt_ring.specs.Rings.{checkpoints_of}
+use Rattle.ckpt_ring.proofs.Terms.{ap, arith, inl, length, sym, ◌-◌, ◌∙◌, ◌≡◌, checkpoints_of}
 use Rattle.ckpt_ring.proofs.SlotLemmas.{newest_at, stands_within}
 use Rattle.ckpt_ring.proofs.ring.Ring.drop_newest.Goals as goal
 use Rattle.ckpt_ring.proofs.ring.Ring.drop_newest.Goals.{in-Some, in_default}

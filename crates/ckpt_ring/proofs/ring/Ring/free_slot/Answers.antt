@@ -1,4 +1,4 @@
-use Rattle.std.proofs.Common.{sym, ◌∙◌, arith}
+use Rattle.ckpt_ring.proofs.Terms.{arith, sym, ◌∙◌}
 use Rattle.ckpt_ring.proofs.SlotLemmas.{free_from_test, free_from_all}
 use Rattle.ckpt_ring.proofs.ring.Ring.free_slot.Goals as goal
 

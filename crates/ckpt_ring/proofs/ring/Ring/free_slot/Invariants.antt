@@ -1,5 +1,4 @@
-use Rattle.std.proofs.Common.{◌≡◌, ℕ, ◌<◌, true, eqb}
-use Rattle.std.specs.List.{list_any}
+use Rattle.ckpt_ring.proofs.Terms.{eqb, true, ℕ, ◌<◌, ◌≡◌, list_any}
 use Rattle.ckpt_ring.proofs.ring.Ring.free_slot.Given as goal
 
 abbrev pub invariant-loop-slot : goal.invariant-loop-slot

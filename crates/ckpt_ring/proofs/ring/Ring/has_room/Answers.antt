@@ -1,6 +1,4 @@
-use Rattle.std.proofs.Common.{arith, ◌≡◌, ◌+◌, ◌≤◌, length, ap, sym, ◌∙◌}
-use Rattle.std.specs.Prelude.{sum}
-use Rattle.ckpt_ring.specs.Slots.{all_numbers}
+use Rattle.ckpt_ring.proofs.Terms.{ap, arith, length, sym, ◌+◌, ◌∙◌, ◌≡◌, ◌≤◌, sum, all_numbers}
 use Rattle.ckpt_ring.proofs.SlotLemmas.{length-checkpoints_of}
 use Rattle.ckpt_ring.proofs.RingLemmas.{has_room_by_used, sum-all_numbers, length-all_numbers}
 use Rattle.ckpt_ring.proofs.ring.Ring.has_room.Goals as goal

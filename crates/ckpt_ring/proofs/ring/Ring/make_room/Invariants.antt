@@ -1,13 +1,10 @@
-use Rattle.std.proofs.Common.{◌≡◌, ℕ, length}
-use Rattle.ckpt_ring.specs.Slots.{newest_slot}
-use Rattle.ckpt_ring.specs.Rings.{checkpoints_of, saved_in_ring}
+use Rattle.ckpt_ring.proofs.Terms.{length, ℕ, ◌≡◌, StandsOnNewest, saved_in_ring}
 use Rattle.ckpt_ring.proofs.ring.Ring.make_room.Given as goal
 
 abbrev pub invariant-room : goal.invariant-room
 invariant-room g l = record {
   capacity : l.self.capacity ≡ l.fn.self.capacity;
-  same : l.self.standing ≡ checkpoints_of g.T.Snapshot.taken_in (g.T.Snapshot.slots l.t).saved;
-  base : (g.T.Snapshot.slots l.t).base ≡ newest_slot (g.T.Snapshot.slots l.t).saved;
+  stands : StandsOnNewest g.T.Snapshot.taken_in l.self.standing (g.T.Snapshot.slots l.t);
   left : (slot : ℕ) → saved_in_ring l.fn.self.capacity slot (g.T.Snapshot.slots l.t) ≡ saved_in_ring l.fn.self.capacity slot (g.T.Snapshot.slots l.fn.t);
   fixed : g.T.Snapshot.fixed l.t ≡ g.T.Snapshot.fixed l.fn.t;
 }

@@ -1,6 +1,4 @@
-use Rattle.std.proofs.Common.{◌≡◌, ◌-◌, sym, length}
-use Rattle.ckpt_ring.specs.Slots.{slot_numbers, restored}
-use Rattle.ckpt_ring.specs.Rings.{from_newest}
+use Rattle.ckpt_ring.proofs.Terms.{length, sym, ◌-◌, ◌≡◌, from_newest, restored, slot_numbers}
 use Rattle.ckpt_ring.proofs.SlotLemmas.{place_of, slot_at, restored_at, contains_at, some_at}
 use Rattle.ckpt_ring.proofs.ring.Ring.restore.Goals as goal
 

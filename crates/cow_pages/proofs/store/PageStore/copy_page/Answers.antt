@@ -1,9 +1,6 @@
-use Rattle.std.proofs.Common.{◌<◌, ◌*◌, length, sym, ap, subst, ◌∙◌, arith}
-use Rattle.std.proofs.lemmas.List.{get_or_read}
-use Rattle.cow_pages.specs.Writes.{is_shared}
+use Rattle.cow_pages.proofs.Terms.{ap, arith, length, subst, sym, ◌*◌, ◌<◌, ◌∙◌, get_or_read, PAGE, is_shared}
 use Rattle.cow_pages.proofs.Copying.{free_there, moved_sound, moved_owns, moved_apart}
 use Rattle.cow_pages.proofs.store.PageStore.copy_page.Goals as goal
-use Rattle.cow_pages.specs.declared.frame_copy.TheConstants.{PAGE}
 
 pub unreachable-requires : goal.unreachable-requires
 unreachable-requires c =

@@ -1,5 +1,4 @@
-use Rattle.std.proofs.Common.{◌≡◌, ◌+◌, ◌-◌, take, drop, ap, ◌∙◌, arith}
-use Rattle.cow_pages.specs.Little.{little_number}
+use Rattle.cow_pages.proofs.Terms.{ap, arith, drop, take, ◌+◌, ◌-◌, ◌∙◌, ◌≡◌, little_number}
 use Rattle.cow_pages.proofs.Stores.{lawful}
 use Rattle.cow_pages.proofs.Runs.{run_is}
 use Rattle.cow_pages.proofs.store.PageStore.half_at.Goals as goal

@@ -1,5 +1,4 @@
-use Rattle.std.proofs.Common.{ap, ◌∙◌}
-use Rattle.cow_pages.specs.Pages.{held_of}
+use Rattle.cow_pages.proofs.Terms.{ap, ◌∙◌, held_of}
 use Rattle.cow_pages.proofs.Stores.{lawful, held-is}
 use Rattle.cow_pages.proofs.store.PageStore.held.Goals as goal
 

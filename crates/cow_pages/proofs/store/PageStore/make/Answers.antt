@@ -1,4 +1,4 @@
-use Rattle.std.proofs.Common.{refl}
+use Rattle.cow_pages.proofs.Terms.{refl}
 use Rattle.cow_pages.proofs.Stores.{lawful}
 use Rattle.cow_pages.proofs.Making.{made_sound, made_is}
 use Rattle.cow_pages.proofs.store.PageStore.make.Goals as goal

@@ -1,11 +1,7 @@
-use Rattle.std.proofs.Common.{◌<◌, ◌/◌, length, sym, ap, subst, ◌∙◌, nat_lt, arith}
-use Rattle.std.proofs.lemmas.Bool.{lt-ltb}
-use Rattle.std.proofs.lemmas.List.{get_or_read}
-use Rattle.cow_pages.specs.Writes.{is_shared}
+use Rattle.cow_pages.proofs.Terms.{ap, arith, length, nat_lt, subst, sym, ◌/◌, ◌<◌, ◌∙◌, lt-ltb, get_or_read, PAGE, is_shared}
 use Rattle.cow_pages.proofs.Stores.{shared-is, count_read}
 use Rattle.cow_pages.proofs.Copying.{stay_owns}
 use Rattle.cow_pages.proofs.store.PageStore.own_place.Goals as goal
-use Rattle.cow_pages.specs.declared.frame_copy.TheConstants.{PAGE}
 
 pub returns-then-index-eq0-clause-owns : goal.returns-then-index-eq0-clause-owns
 returns-then-index-eq0-clause-owns c =

@@ -1,4 +1,4 @@
-use Rattle.std.proofs.Common.{arith}
+use Rattle.cow_pages.proofs.Terms.{arith}
 use Rattle.cow_pages.proofs.Runs.{byte_done, byte_lawful, used_one}
 use Rattle.cow_pages.proofs.store.PageStore.put_byte.Goals as goal
 

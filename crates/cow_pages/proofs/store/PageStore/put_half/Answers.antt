@@ -1,5 +1,4 @@
-use Rattle.std.proofs.Common.{◌≡◌, ◌+◌, ◌-◌, ◌∙◌, arith}
-use Rattle.cow_pages.specs.Little.{little_bytes}
+use Rattle.cow_pages.proofs.Terms.{arith, ◌+◌, ◌-◌, ◌∙◌, ◌≡◌, little_bytes}
 use Rattle.cow_pages.proofs.Runs.{part_done, part_lawful, used_one}
 use Rattle.cow_pages.proofs.store.PageStore.put_half.Goals as goal
 

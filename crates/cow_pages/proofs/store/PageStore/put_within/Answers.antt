@@ -1,4 +1,4 @@
-use Rattle.std.proofs.Common.{◌≡◌, ◌+◌, ◌-◌, length, arith}
+use Rattle.cow_pages.proofs.Terms.{arith, length, ◌+◌, ◌-◌, ◌≡◌}
 use Rattle.cow_pages.proofs.Runs.{part_done, part_lawful}
 use Rattle.cow_pages.proofs.store.PageStore.put_within.Goals as goal
 

@@ -1,5 +1,4 @@
-use Rattle.std.proofs.Common.{◌≡◌, ◌+◌, ◌-◌, ◌≤◌, ◌++◌, length, take, drop, ap, sym, ◌∙◌, arith}
-use Rattle.std.proofs.lemmas.List.{length-drop, length-take-le}
+use Rattle.cow_pages.proofs.Terms.{ap, arith, drop, length, sym, take, ◌++◌, ◌+◌, ◌-◌, ◌∙◌, ◌≡◌, ◌≤◌, length-drop, length-take-le}
 use Rattle.cow_pages.proofs.Stores.{lawful}
 use Rattle.cow_pages.proofs.Runs.{run_is}
 use Rattle.cow_pages.proofs.RunSteps.{read_more, mid_size}

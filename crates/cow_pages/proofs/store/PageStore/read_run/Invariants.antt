@@ -1,4 +1,4 @@
-use Rattle.std.proofs.Common.{◌≡◌, ◌≤◌, ◌-◌, length, take, drop}
+use Rattle.cow_pages.proofs.Terms.{drop, length, take, ◌-◌, ◌≡◌, ◌≤◌}
 use Rattle.cow_pages.proofs.store.PageStore.read_run.Given as goal
 
 abbrev pub invariant-pages : goal.invariant-pages

@@ -1,12 +1,14 @@
-use Rattle.std.proofs.Common.{false, refl}
+use Rattle.cow_pages.proofs.Terms.{arith, false, refl, common_steps}
 use Rattle.cow_pages.proofs.SlotSteps.{releasing, releasing_counted, releasing_home, releasing_fits, releasing_sound, releasing_view, releasing_lawful}
 use Rattle.cow_pages.proofs.store.PageStore.release.Goals as goal
 
-pub uncount_table-requires-clause-counted : goal.uncount_table-requires-clause-counted
-uncount_table-requires-clause-counted c = releasing_counted _ _ _ _ _ _ _ _ _ _ _ _ _ _ c.self.invariant c.self.view_is c.requires c.as_mut_slice.ensures.value c.as_slice.ensures.value c.index_mut-saved.ensures.value
-
-pub uncount_table-requires-clause-home : goal.uncount_table-requires-clause-home
-uncount_table-requires-clause-home c = releasing_home _ _ _ _ _ _ _ _ _ _ _ _ _ _ c.self.invariant c.self.view_is c.requires c.as_slice.ensures.value c.as_slice-2.ensures.value c.index_mut-saved.ensures.value
+pub uncount_table-requires-clause-fits : goal.uncount_table-requires-clause-fits
+uncount_table-requires-clause-fits c = record {
+  below = grind (arith, common_steps);
+  counted = releasing_counted _ _ _ _ _ _ _ _ _ _ _ _ _ _ c.self.invariant c.self.view_is c.requires c.as_mut_slice.ensures.value c.as_slice.ensures.value c.index_mut-saved.ensures.value;
+  size = grind (arith, common_steps);
+  home = releasing_home _ _ _ _ _ _ _ _ _ _ _ _ _ _ c.self.invariant c.self.view_is c.requires c.as_slice.ensures.value c.as_slice-2.ensures.value c.index_mut-saved.ensures.value;
+}
 
 pub overflow_sub-self : goal.overflow_sub-self
 overflow_sub-self c =

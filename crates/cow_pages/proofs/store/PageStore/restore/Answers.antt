@@ -1,4 +1,4 @@
-use Rattle.std.proofs.Common.{refl}
+use Rattle.cow_pages.proofs.Terms.{refl}
 use Rattle.cow_pages.proofs.Stores.{lawful}
 use Rattle.cow_pages.proofs.SlotSteps.{refilled, restoring}
 use Rattle.cow_pages.proofs.store.PageStore.restore.Goals as goal

@@ -1,5 +1,4 @@
-use Rattle.std.proofs.Common.{true, refl, arith}
-use Rattle.std.specs.Vec.{with_items}
+use Rattle.cow_pages.proofs.Terms.{arith, refl, true, with_items}
 use Rattle.cow_pages.proofs.SlotSteps.{refilled, saving, saving_few, saving_fits, saving_sound, saving_view, saving_used, saving_held, saving_lawful}
 use Rattle.cow_pages.proofs.store.PageStore.save.Goals as goal
 

@@ -1,5 +1,4 @@
-use Rattle.std.proofs.Common.{refl}
-use Rattle.std.specs.Vec.{with_items}
+use Rattle.cow_pages.proofs.Terms.{refl, with_items}
 use Rattle.cow_pages.proofs.SlotSteps.{refilled}
 use Rattle.cow_pages.proofs.SavingOver.{over_fits, saving_over, saving_over_fits, saving_over_sound, saving_over_view, saving_over_held, saving_over_lawful}
 use Rattle.cow_pages.proofs.store.PageStore.save_over.Goals as goal

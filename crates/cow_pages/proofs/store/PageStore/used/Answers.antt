@@ -1,5 +1,4 @@
-use Rattle.std.proofs.Common.{ap, arith}
-use Rattle.cow_pages.specs.Pages.{used_of}
+use Rattle.cow_pages.proofs.Terms.{ap, arith, used_of}
 use Rattle.cow_pages.proofs.Stores.{lawful, used-sum}
 use Rattle.cow_pages.proofs.store.PageStore.used.Goals as goal
 

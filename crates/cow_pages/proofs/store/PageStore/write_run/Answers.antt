@@ -1,5 +1,4 @@
-use Rattle.std.proofs.Common.{◌≡◌, ◌+◌, ◌-◌, ◌≤◌, length, take, drop, subst, arith}
-use Rattle.cow_pages.specs.Writes.{Writes}
+use Rattle.cow_pages.proofs.Terms.{arith, drop, length, subst, take, ◌+◌, ◌-◌, ◌≡◌, ◌≤◌, Writes}
 use Rattle.cow_pages.proofs.Stores.{lawful}
 use Rattle.cow_pages.proofs.RunSteps.{run_more, writes_nothing}
 use Rattle.cow_pages.proofs.store.PageStore.write_run.Goals as goal

@@ -1,6 +1,4 @@
-use Rattle.std.proofs.Common.{◌≤◌, ◌-◌, length, take}
-use Rattle.cow_pages.specs.Pages.{IsLawful}
-use Rattle.cow_pages.specs.Writes.{Writes}
+use Rattle.cow_pages.proofs.Terms.{length, take, ◌-◌, ◌≤◌, IsLawful, Writes}
 use Rattle.cow_pages.proofs.store.PageStore.write_run.Given as goal
 
 abbrev pub invariant-pages : goal.invariant-pages

@@ -1,4 +1,4 @@
-use Rattle.std.proofs.Common.{◌+◌, ◌≤◌, arith}
+use Rattle.cow_pages.proofs.Terms.{arith, ◌+◌, ◌≤◌}
 use Rattle.cow_pages.proofs.Stores.{lawful}
 use Rattle.cow_pages.proofs.RunSteps.{zeros_more, writes_nothing}
 use Rattle.cow_pages.proofs.store.PageStore.zero_run.Goals as goal

@@ -1,6 +1,4 @@
-use Rattle.std.proofs.Common.{◌≤◌, ◌-◌, replicate}
-use Rattle.cow_pages.specs.Pages.{IsLawful}
-use Rattle.cow_pages.specs.Writes.{Writes}
+use Rattle.cow_pages.proofs.Terms.{replicate, ◌-◌, ◌≤◌, IsLawful, Writes}
 use Rattle.cow_pages.proofs.store.PageStore.zero_run.Given as goal
 
 abbrev pub invariant-pages : goal.invariant-pages

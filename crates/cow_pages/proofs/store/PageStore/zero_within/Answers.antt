@@ -1,5 +1,4 @@
-use Rattle.std.proofs.Common.{◌≡◌, ◌+◌, ◌-◌, ◌≤◌, ℕ, replicate, take, drop, length, ap, sym, ◌∙◌, arith}
-use Rattle.std.proofs.lemmas.List.{length-replicate, length-take-le, length-drop}
+use Rattle.cow_pages.proofs.Terms.{ap, arith, drop, length, replicate, sym, take, ℕ, ◌+◌, ◌-◌, ◌∙◌, ◌≡◌, ◌≤◌, length-drop, length-replicate, length-take-le}
 use Rattle.cow_pages.proofs.Runs.{part_done, part_lawful, place_room}
 use Rattle.cow_pages.proofs.store.PageStore.zero_within.Goals as goal
 

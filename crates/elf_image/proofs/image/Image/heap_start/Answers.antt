@@ -1,4 +1,4 @@
-use Rattle.std.proofs.Common.{rules}
+use Rattle.elf_image.proofs.Terms.{rules}
 use Rattle.elf_image.proofs.Refusing.{top_below, page_fits}
 use Rattle.elf_image.proofs.image.Image.heap_start.Goals as goal
 

@@ -1,4 +1,4 @@
-use Rattle.std.proofs.Common.{rules}
+use Rattle.elf_image.proofs.Terms.{rules}
 use Rattle.elf_image.proofs.Refusing.{top_below}
 use Rattle.elf_image.proofs.image.Image.stack_top.Goals as goal
 

@@ -1,4 +1,4 @@
-use Rattle.std.proofs.Common.{sym, ◌∙◌}
+use Rattle.file_notes.proofs.Terms.{sym, ◌∙◌}
 use Rattle.file_notes.proofs.NotesLemmas.{noted_episode}
 use Rattle.file_notes.proofs.file_notes.FileNotesNotes.episode.Goals as goal
 

@@ -1,5 +1,4 @@
 -- `of` makes the empty struct, with what its clause names.
-use Rattle.std.proofs.Common.{[], ◌∷◌, refl}
 use mir.Syntax.{a_type, dcons, dnil, named}
 use mir.Val.{Val, vptr, vstruct, vnil}
 use mir.MapTy.{inst_fn}
@@ -21,6 +20,7 @@ use denote.Triple.Clauses.{closing}
 use denote.Triple.Spec.{triple_of}
 use denote.Triple.Table.{entered}
 use denote.Triple.Walked.{says, stay_none_ref, Stays, walk_of, ends_at, walked, Goes-none_ref, walk_Meets}
+use Rattle.file_notes.proofs.Terms.{[], refl, ◌∷◌}
 use Rattle.file_notes.specs.contracts.past.Past as past
 use Rattle.file_notes.specs.contracts.past.Past.of.{ended, clauses}
 use Rattle.file_notes.specs.contracts.past.Past.of.Key.{name as key}

@@ -1,8 +1,5 @@
-use Rattle.std.proofs.Common.{◌≡◌, ◌∙◌, subst, arith, None, sym}
+use Rattle.guest_cpu.proofs.Terms.{None, arith, subst, sym, ◌∙◌, ◌≡◌, recorded, CpuState, cpu_state, live_of, with_live, Breaks, Reaches}
 use Rattle.guest_cpu.specs.declared.event.Question.TheVariants as question
-use Rattle.guest_cpu.specs.Recording.{recorded}
-use Rattle.guest_cpu.specs.Cpus.{CpuState, cpu_state, live_of, with_live}
-use Rattle.guest_cpu.specs.Running.{Reaches, Breaks}
 use Rattle.guest_cpu.proofs.CpuLemmas.{recorded_lives_by, goes_on, reaches, breaks, same_cpu}
 use Rattle.guest_cpu.proofs.QuietLemmas.{goes_recorded, ran_counts}
 use Rattle.guest_cpu.proofs.cpu.Cpu.run_recorded.Goals as goal

@@ -1,5 +1,4 @@
-use Rattle.std.proofs.Common.{◌≡◌, ◌+◌, ◌-◌}
-use Rattle.guest_cpu.specs.Recording.{recorded}
+use Rattle.guest_cpu.proofs.Terms.{◌+◌, ◌-◌, ◌≡◌, recorded}
 use Rattle.guest_cpu.proofs.CpuLemmas.{Goes}
 use Rattle.guest_cpu.proofs.cpu.Cpu.run_recorded.Given as goal
 

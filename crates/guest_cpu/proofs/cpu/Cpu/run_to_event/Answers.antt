@@ -1,24 +1,20 @@
-use Rattle.std.proofs.Common.{◌≡◌, Ok, ◌∙◌, ap, subst, arith, None, sym}
-use Rattle.rv_exec.specs.Stepping.{limits_of}
+use Rattle.guest_cpu.proofs.Terms.{None, Ok, ap, arith, subst, sym, ◌∙◌, ◌≡◌, limits_of, turn, CpuState, cpu_state, live_of, with_live, Breaks, Reaches}
 use Rattle.guest_cpu.specs.declared.event.Event.TheVariants as event
-use Rattle.guest_cpu.specs.Standing.{turn}
-use Rattle.guest_cpu.specs.Cpus.{CpuState, cpu_state, live_of, with_live}
-use Rattle.guest_cpu.specs.Running.{Reaches, Breaks}
 use Rattle.guest_cpu.proofs.CpuLemmas.{lives_by, goes_on, reaches, breaks, same_cpu}
 use Rattle.guest_cpu.proofs.QuietLemmas.{goes_within, ran_counts}
 use Rattle.guest_cpu.proofs.cpu.Cpu.run_to_event.Goals as goal
-
-pub advance-requires-clause-room : goal.advance-requires-clause-room
-advance-requires-clause-room g c =
-    let room = rw (← c.self.view_is) at c.requires.room in
-    let counts = ran_counts _ _ _ _ _ _ c.go_quietly.ensures.ran in
-    omega (arith, room, counts.few, counts.steps, c.from.ensures, c.saturating_sub-most.ensures, c.run.invariant.5, c.run.invariant.6)
 
 pub advance-requires-clause-heap : goal.advance-requires-clause-heap
 advance-requires-clause-heap g c = (goes_within c.args.budget _ _ _ _ _ _ _ _ _ _ _ _ _ c.run.invariant.0 c.go_quietly.ensures.ran c.from.ensures c.saturating_sub-most.ensures).fits.heap
 
 pub advance-requires-clause-counts : goal.advance-requires-clause-counts
-advance-requires-clause-counts g c = (goes_within c.args.budget _ _ _ _ _ _ _ _ _ _ _ _ _ c.run.invariant.0 c.go_quietly.ensures.ran c.from.ensures c.saturating_sub-most.ensures).fits.counts
+advance-requires-clause-counts g c =
+    let room = rw (← c.self.view_is) at c.requires.room in
+    let counts = ran_counts _ _ _ _ _ _ c.go_quietly.ensures.ran in
+    record {
+      counted = (goes_within c.args.budget _ _ _ _ _ _ _ _ _ _ _ _ _ c.run.invariant.0 c.go_quietly.ensures.ran c.from.ensures c.saturating_sub-most.ensures).fits.counts;
+      room = omega (arith, room, counts.few, counts.steps, c.from.ensures, c.saturating_sub-most.ensures, c.run.invariant.5, c.run.invariant.6);
+    }
 
 pub run-preserved : goal.run-preserved
 run-preserved g c =

@@ -1,6 +1,4 @@
-use Rattle.std.proofs.Common.{◌≡◌, ◌+◌, ◌-◌, ◌≤◌}
-use Rattle.rv_exec.specs.Stepping.{limits_of}
-use Rattle.guest_cpu.specs.Standing.{turn}
+use Rattle.guest_cpu.proofs.Terms.{◌+◌, ◌-◌, ◌≡◌, ◌≤◌, limits_of, turn}
 use Rattle.guest_cpu.proofs.CpuLemmas.{Goes}
 use Rattle.guest_cpu.proofs.cpu.Cpu.run_to_event.Given as goal
 

@@ -1,9 +1,4 @@
-use Rattle.std.proofs.Common.{◌≡◌, length, refl, subst}
-use Rattle.ckpt_ring.specs.Slots.{AreSound}
-use Rattle.page_line.specs.Line.{count_true}
-use Rattle.run_history.specs.Served.{IsLaidOut}
-use Rattle.guest_cpu.specs.Standing.{marks_of, AreCounted}
-use Rattle.guest_cpu.specs.Cpus.{CpuState}
+use Rattle.guest_cpu.proofs.Terms.{length, refl, subst, ◌≡◌, AreSound, count_true, IsLaidOut, AreCounted, marks_of, CpuState}
 use Rattle.guest_cpu.proofs.SavedLemmas.{cpu_sound, written_length}
 use Rattle.guest_cpu.proofs.cpu.Cpu.sound.Goals as goal
 

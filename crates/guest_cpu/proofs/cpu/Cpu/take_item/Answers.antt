@@ -1,8 +1,5 @@
-use Rattle.std.proofs.Common.{◌≡◌, subst}
-use Rattle.guest_space.specs.Space.{flat}
-use Rattle.guest_cpu.specs.Cpus.{CpuState, cpu_state, live_of}
+use Rattle.guest_cpu.proofs.Terms.{subst, ◌≡◌, flat, machine_of, CpuState, cpu_state, live_of}
 use Rattle.guest_cpu.specs.Receiving.{live_with_item, received_range}
-use Rattle.guest_cpu.specs.Standing.{machine_of}
 use Rattle.guest_cpu.proofs.RangeLemmas.{wants_permitted}
 use Rattle.guest_cpu.proofs.CpuLemmas.{moved_cpu}
 use Rattle.guest_cpu.proofs.cpu.Cpu.take_item.Goals as goal

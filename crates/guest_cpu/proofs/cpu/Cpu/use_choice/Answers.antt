@@ -1,8 +1,4 @@
-use Rattle.std.proofs.Common.{◌≡◌, subst}
-use Rattle.guest_space.specs.Space.{flat}
-use Rattle.guest_cpu.specs.Cpus.{CpuState, cpu_state, live_of}
-use Rattle.guest_cpu.specs.Recording.{live_with_choice, chosen_standing}
-use Rattle.guest_cpu.specs.Standing.{standing, size_asked, zeroed_range}
+use Rattle.guest_cpu.proofs.Terms.{subst, ◌≡◌, flat, size_asked, standing, zeroed_range, chosen_standing, live_with_choice, CpuState, cpu_state, live_of}
 use Rattle.guest_cpu.proofs.CpuLemmas.{moved_cpu}
 use Rattle.guest_cpu.proofs.cpu.Cpu.use_choice.Goals as goal
 

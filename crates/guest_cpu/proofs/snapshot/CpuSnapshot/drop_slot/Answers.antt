@@ -1,11 +1,4 @@
-use Rattle.std.proofs.Common.{◌≡◌, ◌⊎◌, ℕ, sym, ap, subst, ◌∙◌, refl}
-use Rattle.std.proofs.lemmas.Bool.{false≢true}
-use Rattle.ckpt_ring.specs.Slots.{Slots, without_newest, without_oldest, IsUnusedNewest, IsOldest}
-use Rattle.guest_space.specs.Space.{flat}
-use Rattle.page_line.specs.Line.{newest_of, written_pages}
-use Rattle.page_line.proofs.Calls.{line_dropped, line_is_oldest, line_is_newest, line_newest_stands, line_oldest_stands}
-use Rattle.guest_cpu.specs.Standing.{Standing, standing}
-use Rattle.guest_cpu.specs.Cpus.{CpuState, state_in, IsCpu}
+use Rattle.guest_cpu.proofs.Terms.{ap, refl, subst, sym, ℕ, ◌∙◌, ◌≡◌, ◌⊎◌, false≢true, IsOldest, IsUnusedNewest, Slots, without_newest, without_oldest, line_dropped, line_is_newest, line_is_oldest, line_newest_stands, line_oldest_stands, newest_of, written_pages, flat, Standing, standing, CpuState, IsCpu, state_in}
 use Rattle.guest_cpu.proofs.SavedLemmas.{slots_in, cpu_drops_newest, cpu_drops_oldest, cpu_keeps_flags, cpu_sound}
 use Rattle.guest_cpu.proofs.snapshot.CpuSnapshot.drop_slot.Given as given
 use Rattle.guest_cpu.proofs.snapshot.CpuSnapshot.drop_slot.Goals as goal

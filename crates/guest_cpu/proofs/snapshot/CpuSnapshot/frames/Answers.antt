@@ -1,6 +1,4 @@
-use Rattle.std.proofs.Common.{subst}
-use Rattle.ckpt_ring.specs.Slots.{AreSound}
-use Rattle.guest_cpu.specs.Cpus.{CpuState}
+use Rattle.guest_cpu.proofs.Terms.{subst, AreSound, CpuState}
 use Rattle.guest_cpu.proofs.SavedLemmas.{cpu_sound}
 use Rattle.guest_cpu.proofs.snapshot.CpuSnapshot.frames.Goals as goal
 

@@ -1,11 +1,5 @@
-use Rattle.std.proofs.Common.{◌≡◌, ◌<◌, length, Some, Contains, All, sym, ap, subst, ◌∙◌, arith}
-use Rattle.std.specs.Prelude.{slice_get}
-use Rattle.ckpt_ring.specs.Slots.{slot_numbers, restored}
-use Rattle.guest_space.specs.Space.{flat}
-use Rattle.page_line.proofs.Saved.{line_has}
-use Rattle.guest_cpu.specs.Standing.{standing}
-use Rattle.guest_cpu.specs.Cpus.{CpuState, state_in, IsCpu}
-use Rattle.guest_cpu.proofs.SavedLemmas.{slots_in, at_index, cpu_restores, cpu_sound}
+use Rattle.guest_cpu.proofs.Terms.{All, Contains, Some, ap, arith, length, refl, subst, sym, ◌<◌, ◌∙◌, ◌≡◌, slice_get_read, slice_get, restored, slot_numbers, line_has, flat, standing, CpuState, IsCpu, state_in}
+use Rattle.guest_cpu.proofs.SavedLemmas.{slots_in, cpu_restores, cpu_sound}
 use Rattle.guest_cpu.proofs.snapshot.CpuSnapshot.restore_from.Given as given
 use Rattle.guest_cpu.proofs.snapshot.CpuSnapshot.restore_from.Goals as goal
 use Rattle.guest_cpu.proofs.snapshot.CpuSnapshot.restore_from.Goals.{After-stand_on}
@@ -25,7 +19,7 @@ back g c =
     let has = subst (λ (state : CpuState _). Contains (slot_numbers state.slots.saved) c.args.slot) (sym c.self.view_is) c.requires in
     let inside = line_has (state_in s.space s.saved.items) (standing s.core (flat s.space)) s.space.store s.line c.args.slot c.self.invariant.line_is has in
     let near : c.args.slot < length s.saved.items = omega (arith, inside.1, c.self.invariant.each_slot) in
-    let there : slice_get s.saved.items c.args.slot ≡ Some c.copy_from.new.self = at_index s.saved.items c.args.slot c.index.result.now near c.index.ensures ∙ ap (λ one. Some one) (sym c.copy_from.ensures) in
+    let there : slice_get s.saved.items c.args.slot ≡ Some c.copy_from.new.self = slice_get_read s.saved.items (length s.saved.items) c.args.slot c.index.result.now refl near c.index.ensures ∙ ap (λ one. Some one) (sym c.copy_from.ensures) in
     subst (λ line. IsCpu c.copy_from.new.self c.restore.new.self s.saved.items line
     × All (λ one. one.slot ≡ c.args.slot → slots_in c.copy_from.new.self c.restore.new.self s.saved.items line ≡ restored one (slots_in s.core s.space s.saved.items s.line)) (slots_in s.core s.space s.saved.items s.line).saved)
     (sym c.stand_on.ensures)

@@ -1,13 +1,5 @@
-use Rattle.std.proofs.Common.{◌≡◌, ◌+◌, ◌≤◌, ◌<◌, length, Some, [], ◌∷◌, ◌++◌, set, sym, ap, subst, ◌∙◌, inr, arith}
-use Rattle.ckpt_ring.specs.Slots.{used_pages, saved_to, without_oldest, IsOldest}
-use Rattle.guest_space.specs.Space.{flat}
-use Rattle.page_line.specs.Line.{line_of}
-use Rattle.page_line.proofs.Calls.{line_dropped, line_has_frames}
-use Rattle.guest_cpu.specs.Standing.{standing, AreCounted}
-use Rattle.guest_cpu.specs.declared.guest_core.Core.{Core}
-use Rattle.block_book.specs.Heap.{SameEnds}
-use Rattle.guest_cpu.specs.Cpus.{CpuState, state_in, IsCpu}
-use Rattle.guest_cpu.proofs.SavedLemmas.{slots_in, all_at, at_index, over_room, cpu_saves_over, cpu_sound}
+use Rattle.guest_cpu.proofs.Terms.{Some, [], ap, arith, inr, length, refl, set, subst, sym, ◌++◌, ◌+◌, ◌<◌, ◌∙◌, ◌∷◌, ◌≡◌, ◌≤◌, slice_get_read, SameEnds, all_at, IsOldest, saved_to, used_pages, without_oldest, line_dropped, line_has_frames, line_of, flat, Core, AreCounted, standing, CpuState, IsCpu, state_in}
+use Rattle.guest_cpu.proofs.SavedLemmas.{slots_in, over_room, cpu_saves_over, cpu_sound}
 use Rattle.guest_cpu.proofs.snapshot.CpuSnapshot.save_over.Given as given
 use Rattle.guest_cpu.proofs.snapshot.CpuSnapshot.save_over.Goals as goal
 use Rattle.guest_cpu.proofs.snapshot.CpuSnapshot.save_over.Goals.{After-push}
@@ -39,7 +31,7 @@ copy_from-requires g c =
     (inr (subst (λ (state : CpuState _). IsOldest c.args.slot state.slots) (sym c.self.view_is) c.requires.oldest)) in
     let near : c.args.slot < length s.saved.items = omega (arith, has.2, c.self.invariant.each_slot) in
     let same = (all_at (λ (other : Core). SameEnds s.core.book other.book × AreCounted other.marks) s.saved.items c.args.slot c.index_mut.result.now c.self.invariant.same
-    (at_index s.saved.items c.args.slot c.index_mut.result.now near c.index_mut.ensures.value)).0 in
+    (slice_get_read s.saved.items (length s.saved.items) c.args.slot c.index_mut.result.now refl near c.index_mut.ensures.value)).0 in
     (sym same.0, sym same.1)
 
 pub push-requires : goal.push-requires

@@ -1,11 +1,4 @@
-use Rattle.std.proofs.Common.{◌≡◌, ◌+◌, ◌≤◌, ◌<◌, length, set, None, Contains, sym, ap, subst, ◌∙◌, arith}
-use Rattle.cow_pages.specs.Pages.{slot_at}
-use Rattle.ckpt_ring.specs.Slots.{slot_numbers, newest_slot, used_pages, saved_to}
-use Rattle.guest_space.specs.Space.{flat}
-use Rattle.page_line.proofs.Saved.{line_hasnt}
-use Rattle.page_line.proofs.Calls.{line_room, line_has_frames}
-use Rattle.guest_cpu.specs.Standing.{standing}
-use Rattle.guest_cpu.specs.Cpus.{CpuState, state_in, IsCpu}
+use Rattle.guest_cpu.proofs.Terms.{Contains, None, ap, arith, length, set, subst, sym, ◌+◌, ◌<◌, ◌∙◌, ◌≡◌, ◌≤◌, slot_at, newest_slot, saved_to, slot_numbers, used_pages, line_has_frames, line_room, line_hasnt, flat, standing, CpuState, IsCpu, state_in}
 use Rattle.guest_cpu.proofs.SavedLemmas.{slots_in, cpu_saves, cpu_sound}
 use Rattle.guest_cpu.proofs.snapshot.CpuSnapshot.save_to.Given as given
 use Rattle.guest_cpu.proofs.snapshot.CpuSnapshot.save_to.Goals as goal

@@ -1,9 +1,5 @@
-use Rattle.std.proofs.Common.{ap, subst, ◌∙◌}
-use Rattle.ckpt_ring.specs.Slots.{AreSound, used_pages}
-use Rattle.guest_space.specs.Space.{flat}
 use Rattle.page_line.proofs.Used.{line_used}
-use Rattle.guest_cpu.specs.Standing.{standing}
-use Rattle.guest_cpu.specs.Cpus.{CpuState, state_in}
+use Rattle.guest_cpu.proofs.Terms.{ap, subst, ◌∙◌, AreSound, used_pages, flat, standing, CpuState, state_in}
 use Rattle.guest_cpu.proofs.SavedLemmas.{cpu_sound}
 use Rattle.guest_cpu.proofs.snapshot.CpuSnapshot.used.Goals as goal
 

@@ -1,8 +1,6 @@
-use Rattle.std.proofs.Common.{◌/◌, refl, subst}
-use Rattle.guest_space.specs.Filling.{Fills}
+use Rattle.guest_space.proofs.Terms.{refl, subst, ◌/◌, PAGE, Fills}
 use Rattle.guest_space.proofs.StartLemmas.{files_seen, is_start, start_lawful}
 use Rattle.guest_space.proofs.space.GuestSpace.make.Goals as goal
-use Rattle.cow_pages.specs.declared.frame_copy.TheConstants.{PAGE}
 
 pub fill-requires-clause-inside : goal.fill-requires-clause-inside
 fill-requires-clause-inside c = files_seen c.args.image.now c.as_slice.result.now c.base-base.result c.in_ok-store.store.pages c.as_slice.ensures c.base-base.ensures c.in_ok-store.ensures.made.pages_are

@@ -1,5 +1,4 @@
-use Rattle.std.proofs.Common.{◌-◌, take, drop, sym, ap, ◌∙◌, arith}
-use Rattle.rv_isa.specs.Words.{little_number}
+use Rattle.guest_space.proofs.Terms.{ap, arith, drop, sym, take, ◌-◌, ◌∙◌, little_number}
 use Rattle.guest_space.proofs.SpaceLemmas.{parts_place, parts_back, parts_reads, one_number, same_number}
 use Rattle.guest_space.proofs.space.GuestSpace.number_in_page.Goals as goal
 

@@ -1,8 +1,4 @@
-use Rattle.std.proofs.Common.{◌≡◌, ◌<◌, ◌-◌, ℕ, true, [], ◌∷◌, length, take, drop, ap, ◌∙◌, arith, rules}
-use Rattle.std.proofs.lemmas.List.{length-take-le}
-use Rattle.rv_isa.specs.Words.{little_number}
-use Rattle.elf_image.specs.Memory.{permitted}
-use Rattle.guest_space.specs.Space.{flat}
+use Rattle.guest_space.proofs.Terms.{[], ap, arith, drop, length, rules, take, true, ℕ, ◌-◌, ◌<◌, ◌∙◌, ◌∷◌, ◌≡◌, length-take-le, little_number, permitted, flat}
 use Rattle.guest_space.proofs.SpaceLemmas.{parts_run, parts_held, parts_reads}
 use Rattle.guest_space.proofs.space.GuestSpace.number_of_each.Goals as goal
 

@@ -1,4 +1,4 @@
-use Rattle.std.proofs.Common.{sym, arith}
+use Rattle.guest_space.proofs.Terms.{arith, sym}
 use Rattle.guest_space.proofs.FlatLemmas.{permitted-far}
 use Rattle.guest_space.proofs.SpaceLemmas.{parts_answer}
 use Rattle.guest_space.proofs.space.GuestSpace.permits.Goals as goal

@@ -1,5 +1,4 @@
-use Rattle.std.proofs.Common.{◌<◌, sym, ap, ◌∙◌, arith}
-use Rattle.rv_isa.specs.Words.{little_bytes}
+use Rattle.guest_space.proofs.Terms.{ap, arith, sym, ◌<◌, ◌∙◌, little_bytes}
 use Rattle.guest_space.proofs.SpaceLemmas.{parts_place, parts_stored, half_bytes_are, same_bytes}
 use Rattle.guest_space.proofs.space.GuestSpace.put_number.Goals as goal
 

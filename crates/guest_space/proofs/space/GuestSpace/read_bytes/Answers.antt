@@ -1,6 +1,5 @@
-use Rattle.std.proofs.Common.{◌≡◌, ◌<◌, ◌-◌, ℕ, length, take, drop, ap, ◌∙◌, arith}
-use Rattle.std.proofs.lemmas.List.{length-replicate}
 use Rattle.cow_pages.proofs.Runs.{refill}
+use Rattle.guest_space.proofs.Terms.{ap, arith, drop, length, take, ℕ, ◌-◌, ◌<◌, ◌∙◌, ◌≡◌, length-replicate}
 use Rattle.guest_space.proofs.SpaceLemmas.{parts_run, parts_held, parts_bytes}
 use Rattle.guest_space.proofs.space.GuestSpace.read_bytes.Goals as goal
 

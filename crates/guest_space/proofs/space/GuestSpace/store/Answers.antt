@@ -1,6 +1,4 @@
-use Rattle.std.proofs.Common.{◌≡◌, true, sym, subst}
-use Rattle.elf_image.specs.Memory.{permitted}
-use Rattle.guest_space.specs.Space.{flat}
+use Rattle.guest_space.proofs.Terms.{subst, sym, true, ◌≡◌, permitted, flat}
 use Rattle.guest_space.proofs.SpaceLemmas.{length-little_bytes}
 use Rattle.guest_space.proofs.space.GuestSpace.store.Goals as goal
 

@@ -1,5 +1,4 @@
-use Rattle.std.proofs.Common.{◌≡◌, ◌-◌, ◌%◌, take, drop, subst, sym, ◌∙◌, arith}
-use Rattle.guest_space.specs.Space.{GuestPages}
+use Rattle.guest_space.proofs.Terms.{arith, drop, subst, sym, take, ◌%◌, ◌-◌, ◌∙◌, ◌≡◌, GuestPages}
 use Rattle.guest_space.proofs.SpaceLemmas.{parts_place, parts_back, parts_reads, same_number}
 use Rattle.guest_space.proofs.space.GuestSpace.whole_word.Goals as goal
 

@@ -1,5 +1,4 @@
-use Rattle.std.proofs.Common.{◌≡◌, ◌<◌, length, subst, rules}
-use Rattle.guest_space.specs.Space.{IsLawfulSpace}
+use Rattle.guest_space.proofs.Terms.{length, rules, subst, ◌<◌, ◌≡◌, IsLawfulSpace}
 use Rattle.guest_space.proofs.SpaceLemmas.{parts_run, parts_put, puts_none, is_held}
 use Rattle.guest_space.proofs.space.GuestSpace.write_bytes.Goals as goal
 

@@ -1,7 +1,4 @@
-use Rattle.std.proofs.Common.{◌≡◌, ◌<◌, ℕ, length, replicate, sym, subst, arith}
-use Rattle.std.proofs.lemmas.List.{length-replicate}
-use Rattle.guest_space.specs.Space.{IsLawfulSpace}
-use Rattle.guest_space.specs.Ranges.{AreHeld}
+use Rattle.guest_space.proofs.Terms.{arith, length, replicate, subst, sym, ℕ, ◌<◌, ◌≡◌, length-replicate, IsLawfulSpace, AreHeld}
 use Rattle.guest_space.proofs.SpaceLemmas.{parts_run, parts_put, puts_none, is_held}
 use Rattle.guest_space.proofs.space.GuestSpace.zero.Goals as goal
 

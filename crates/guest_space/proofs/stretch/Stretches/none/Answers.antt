@@ -1,5 +1,4 @@
-use Rattle.std.proofs.lemmas.List.Elements.{All-replicate}
-use Rattle.guest_space.specs.Stretches.{IsOpen}
+use Rattle.guest_space.proofs.Terms.{All-replicate, IsOpen}
 use Rattle.guest_space.proofs.stretch.Stretches.none.Goals as goal
 
 pub returns : goal.returns

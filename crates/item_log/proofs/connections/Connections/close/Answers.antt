@@ -1,4 +1,4 @@
-use Rattle.std.proofs.Common.{None, refl}
+use Rattle.item_log.proofs.Terms.{None, refl}
 use Rattle.item_log.proofs.Watch.{watched-set}
 use Rattle.item_log.proofs.connections.Connections.close.Goals as goal
 

@@ -1,6 +1,4 @@
-use Rattle.std.proofs.Common.{◌≡◌, Some, get_or, true, ap, ◌∙◌}
-use Rattle.item_log.specs.Connections.{is_open}
-use Rattle.item_log.specs.Watched.{Watched, rests_of}
+use Rattle.item_log.proofs.Terms.{Some, ap, get_or, true, ◌∙◌, ◌≡◌, is_open, Watched, rests_of}
 use Rattle.item_log.proofs.Watch.{feeds_one, open_below}
 use Rattle.item_log.proofs.connections.Connections.feed.Goals as goal
 

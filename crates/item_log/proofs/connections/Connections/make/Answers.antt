@@ -1,5 +1,4 @@
-use Rattle.std.proofs.Common.{◌≡◌, arith}
-use Rattle.item_log.specs.declared.kinds.TheConstants.{CONNECTIONS}
+use Rattle.item_log.proofs.Terms.{arith, ◌≡◌, CONNECTIONS}
 use Rattle.item_log.proofs.Watch.{rests_of-none}
 use Rattle.item_log.proofs.connections.Connections.make.Goals as goal
 

@@ -1,4 +1,4 @@
-use Rattle.std.proofs.Common.{◌≡◌, None, replicate}
+use Rattle.item_log.proofs.Terms.{None, replicate, ◌≡◌}
 use Rattle.item_log.proofs.connections.Connections.make.Given as goal
 
 abbrev pub invariant-loop-i : goal.invariant-loop-i

@@ -1,4 +1,4 @@
-use Rattle.std.proofs.Common.{Some, [], ap}
+use Rattle.item_log.proofs.Terms.{Some, [], ap}
 use Rattle.item_log.proofs.Watch.{watched-set}
 use Rattle.item_log.proofs.connections.Connections.open.Goals as goal
 

@@ -1,4 +1,4 @@
-use Rattle.std.proofs.Common.{rules}
+use Rattle.item_log.proofs.Terms.{rules}
 use Rattle.item_log.proofs.Shown.{logs_show}
 use Rattle.item_log.proofs.item_log.ItemLog.event.Goals as goal
 

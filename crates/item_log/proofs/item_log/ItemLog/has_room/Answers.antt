@@ -1,4 +1,4 @@
-use Rattle.std.proofs.Common.{rules}
+use Rattle.item_log.proofs.Terms.{rules}
 use Rattle.item_log.proofs.item_log.ItemLog.has_room.Goals as goal
 
 pub returns : goal.returns

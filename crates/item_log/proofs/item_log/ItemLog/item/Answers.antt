@@ -1,7 +1,5 @@
-use Rattle.std.proofs.Common.{◌≡◌, Some, arith}
 use Rattle.std.proofs.lemmas.Grind.{common_steps}
-use Rattle.std.proofs.lemmas.Option.{gets}
-use Rattle.item_log.specs.Log.{item_at}
+use Rattle.item_log.proofs.Terms.{Some, arith, ◌≡◌, gets, item_at}
 use Rattle.item_log.proofs.Shown.{is_item_of}
 use Rattle.item_log.proofs.item_log.ItemLog.item.Goals as goal
 

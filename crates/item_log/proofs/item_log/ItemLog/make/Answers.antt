@@ -1,4 +1,4 @@
-use Rattle.std.proofs.Common.{refl}
+use Rattle.item_log.proofs.Terms.{refl}
 use Rattle.item_log.proofs.Shown.{shows_none}
 use Rattle.item_log.proofs.item_log.ItemLog.make.Goals as goal
 

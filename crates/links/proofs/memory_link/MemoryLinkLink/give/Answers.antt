@@ -1,5 +1,4 @@
-use Rattle.std.proofs.Common.{rules}
-use Rattle.links.specs.MemoryLinks.{link_script}
+use Rattle.links.proofs.Terms.{rules, link_script}
 use Rattle.links.proofs.Journaled.{gives_noted}
 use Rattle.links.proofs.memory_link.MemoryLinkLink.give.Goals as goal
 

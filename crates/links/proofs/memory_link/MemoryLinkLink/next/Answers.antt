@@ -1,4 +1,4 @@
-use Rattle.std.proofs.Common.{rules}
+use Rattle.links.proofs.Terms.{rules}
 use Rattle.links.proofs.Journaled.{takes_noted}
 use Rattle.links.proofs.memory_link.MemoryLinkLink.next.Goals as goal
 

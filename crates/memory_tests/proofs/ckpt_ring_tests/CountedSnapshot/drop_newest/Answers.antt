@@ -1,6 +1,4 @@
-use Rattle.std.proofs.Common.{ap, sym, ◌∙◌, subst}
-use Rattle.ckpt_ring.specs.Slots.{StandsEarlier, without_newest}
-use Rattle.memory_tests.specs.CountedSlots.{counted_slots, AreCounted}
+use Rattle.memory_tests.proofs.Terms.{ap, subst, sym, ◌∙◌, StandsEarlier, without_newest, AreCounted, counted_slots}
 use Rattle.memory_tests.proofs.CountedLemmas.{slots_pop, counted-without_newest}
 use Rattle.memory_tests.proofs.ckpt_ring_tests.CountedSnapshot.drop_newest.Goals as goal
 

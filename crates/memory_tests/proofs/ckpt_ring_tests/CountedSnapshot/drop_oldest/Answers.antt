@@ -1,7 +1,4 @@
-use Rattle.std.proofs.Common.{◌≡◌, ℕ, ◌<◌, List, ◌∷◌, length, take, drop, refl, ap, sym, ◌∙◌, subst, arith}
-use Rattle.std.specs.Prelude.{slice_get}
-use Rattle.ckpt_ring.specs.Slots.{Slots, newest_slot, without_oldest}
-use Rattle.memory_tests.specs.CountedSlots.{counted_slots, AreCounted}
+use Rattle.memory_tests.proofs.Terms.{List, ap, arith, drop, length, refl, subst, sym, take, ℕ, ◌<◌, ◌∙◌, ◌∷◌, ◌≡◌, slice_get, Slots, newest_slot, without_oldest, AreCounted, counted_slots}
 use Rattle.memory_tests.proofs.CountedLemmas.{slots_shift, slots_last, counted-without_oldest, few_items, length-saved_of}
 use Rattle.memory_tests.proofs.ckpt_ring_tests.CountedSnapshot.drop_oldest.Goals as goal
 

@@ -1,6 +1,4 @@
-use Rattle.std.proofs.Common.{ℕ, ap, sym, ◌∙◌}
-use Rattle.std.specs.Option.{option_map}
-use Rattle.ckpt_ring.specs.Slots.{Slots, newest_slot}
+use Rattle.memory_tests.proofs.Terms.{ap, sym, ℕ, ◌∙◌, option_map, Slots, newest_slot}
 use Rattle.memory_tests.proofs.CountedLemmas.{newest_slot-saved_of}
 use Rattle.memory_tests.proofs.ckpt_ring_tests.CountedSnapshot.newest.Goals as goal
 

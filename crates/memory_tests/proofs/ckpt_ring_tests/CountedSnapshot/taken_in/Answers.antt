@@ -1,7 +1,4 @@
-use Rattle.std.proofs.Common.{sym, subst, arith}
-use Rattle.std.specs.Prelude.{Contains}
-use Rattle.ckpt_ring.specs.Slots.{Slots, slot_numbers}
-use Rattle.std.proofs.lemmas.Option.{slice_get_within}
+use Rattle.memory_tests.proofs.Terms.{arith, subst, sym, slice_get_within, Contains, Slots, slot_numbers}
 use Rattle.memory_tests.proofs.CountedLemmas.{found_by}
 use Rattle.memory_tests.proofs.ckpt_ring_tests.CountedSnapshot.taken_in.Goals as goal
 

@@ -1,5 +1,4 @@
-use Rattle.std.proofs.Common.{◌≡◌, ℕ, ◌<◌, Some}
-use Rattle.std.specs.Prelude.{slice_get}
+use Rattle.memory_tests.proofs.Terms.{Some, ℕ, ◌<◌, ◌≡◌, slice_get}
 use Rattle.memory_tests.proofs.ckpt_ring_tests.CountedSnapshot.taken_in.Given as goal
 
 abbrev pub invariant-loop-at : goal.invariant-loop-at

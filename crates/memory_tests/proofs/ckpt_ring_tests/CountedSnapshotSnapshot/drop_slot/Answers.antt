@@ -1,5 +1,4 @@
-use Rattle.std.proofs.Common.{refl}
-use Rattle.ckpt_ring.proofs.SoundLemmas.{stands_apart}
+use Rattle.memory_tests.proofs.Terms.{refl, stands_apart}
 use Rattle.memory_tests.proofs.ckpt_ring_tests.CountedSnapshotSnapshot.drop_slot.Goals as goal
 
 pub returns-then-stands_on_newest-clause-newest : goal.returns-then-stands_on_newest-clause-newest

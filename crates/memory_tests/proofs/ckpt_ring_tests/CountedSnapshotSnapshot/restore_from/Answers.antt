@@ -1,7 +1,4 @@
-use Rattle.std.proofs.Common.{◌≡◌, ℕ, sym, subst}
-use Rattle.std.specs.Prelude.{All, slice_get, IsSomeAnd}
-use Rattle.ckpt_ring.specs.Slots.{Saved, Slots, restored}
-use Rattle.memory_tests.specs.CountedSlots.{counted_slots}
+use Rattle.memory_tests.proofs.Terms.{subst, sym, ℕ, ◌≡◌, All, IsSomeAnd, slice_get, Saved, Slots, restored, counted_slots}
 use Rattle.memory_tests.proofs.CountedLemmas.{restored_by}
 use Rattle.memory_tests.proofs.ckpt_ring_tests.CountedSnapshotSnapshot.restore_from.Goals as goal
 

@@ -1,6 +1,6 @@
-use Rattle.std.proofs.Common.{ℕ, ◌+◌, ◌<◌, ◌≤◌, Contains, sym, subst}
-use Rattle.ckpt_ring.specs.Slots.{Slots, slot_numbers, used_pages}
+use Rattle.std.proofs.Common.{Contains}
 use Rattle.ckpt_ring.proofs.ReplaceLemmas.{free-without_oldest, room-without_oldest}
+use Rattle.memory_tests.proofs.Terms.{subst, sym, ℕ, ◌+◌, ◌<◌, ◌≤◌, Slots, slot_numbers, used_pages}
 use Rattle.memory_tests.proofs.CountedLemmas.{below-without_oldest}
 use Rattle.memory_tests.proofs.ckpt_ring_tests.CountedSnapshotSnapshot.save_over.Goals as goal
 

@@ -1,6 +1,4 @@
-use Rattle.std.proofs.Common.{◌≡◌, ℕ, List, [], ◌∷◌, ◌++◌, Some, ap, sym, ◌∙◌, subst}
-use Rattle.ckpt_ring.specs.Slots.{Slots, saved_to}
-use Rattle.memory_tests.specs.CountedSlots.{counted_slots, AreCounted}
+use Rattle.memory_tests.proofs.Terms.{List, Some, [], ap, subst, sym, ℕ, ◌++◌, ◌∙◌, ◌∷◌, ◌≡◌, Slots, saved_to, AreCounted, counted_slots}
 use Rattle.memory_tests.proofs.CountedLemmas.{counted_after, slots_push, push_fits}
 use Rattle.memory_tests.proofs.ckpt_ring_tests.CountedSnapshotSnapshot.save_to.Goals as goal
 

@@ -1,8 +1,7 @@
-use Rattle.std.proofs.Common.{◌+◌, sym, arith}
+use Rattle.memory_tests.proofs.Terms.{arith, sym, ◌+◌, stands_within}
 use Rattle.memory_tests.proofs.CountedLemmas.{pages_more, pages_within, used_pages-saved_of}
 use Rattle.memory_tests.proofs.ckpt_ring_tests.CountedSnapshotSnapshot.used.Goals as goal
 use Rattle.memory_tests.proofs.ckpt_ring_tests.CountedSnapshotSnapshot.used.Goals.{in-Some, in_default}
-use Rattle.ckpt_ring.proofs.SlotLemmas.{stands_within}
 
 pub overflow_add-used : goal.overflow_add-used
 overflow_add-used c =

@@ -1,5 +1,4 @@
-use Rattle.std.proofs.Common.{◌≡◌, ◌+◌, take}
-use Rattle.std.specs.Prelude.{sum_by}
+use Rattle.memory_tests.proofs.Terms.{take, ◌+◌, ◌≡◌, sum_by}
 use Rattle.memory_tests.proofs.ckpt_ring_tests.CountedSnapshotSnapshot.used.Given as goal
 
 abbrev pub invariant-loop-at : goal.invariant-loop-at

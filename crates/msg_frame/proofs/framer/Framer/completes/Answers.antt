@@ -1,6 +1,4 @@
-use Rattle.std.proofs.Common.{rules, ◌∷◌, [], ◌++◌, take, drop, arith, length-append}
-use Rattle.msg_frame.specs.Messages.{cut}
-use Rattle.msg_frame.specs.Skipped.{skipped}
+use Rattle.msg_frame.proofs.Terms.{[], arith, drop, length-append, rules, take, ◌++◌, ◌∷◌, cut, skipped}
 use Rattle.msg_frame.proofs.Short.{no_rest}
 use Rattle.msg_frame.proofs.Walking.{walk_on}
 use Rattle.msg_frame.proofs.framer.Framer.completes.Goals as goal

@@ -1,6 +1,4 @@
-use Rattle.std.proofs.Common.{◌≡◌, ℕ, ◌+◌, ◌≤◌, List, length}
-use Rattle.msg_frame.specs.Messages.{behind, cut}
-use Rattle.msg_frame.specs.Feeding.{IsRest}
+use Rattle.msg_frame.proofs.Terms.{List, length, ℕ, ◌+◌, ◌≡◌, ◌≤◌, behind, cut, IsRest}
 use Rattle.msg_frame.proofs.framer.Framer.completes.Given as goal
 
 -- the messages so far

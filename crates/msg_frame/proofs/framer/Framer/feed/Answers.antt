@@ -1,5 +1,4 @@
-use Rattle.std.proofs.Common.{◌≡◌, Some, arith}
-use Rattle.msg_frame.specs.Messages.{cut}
+use Rattle.msg_frame.proofs.Terms.{Some, arith, ◌≡◌, cut}
 use Rattle.msg_frame.proofs.Short.{rest_is_short}
 use Rattle.msg_frame.proofs.Walking.{takes_keep}
 use Rattle.msg_frame.proofs.framer.Framer.feed.Goals as goal

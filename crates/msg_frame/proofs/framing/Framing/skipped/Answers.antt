@@ -1,4 +1,4 @@
-use Rattle.std.proofs.Common.{rules}
+use Rattle.msg_frame.proofs.Terms.{rules}
 use Rattle.msg_frame.proofs.framing.Framing.skipped.Goals as goal
 
 pub returns-in-Length : goal.returns-in-Length

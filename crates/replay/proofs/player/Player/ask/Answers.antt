@@ -1,8 +1,4 @@
-use Rattle.std.proofs.Common.{◌≡◌, ℕ, ap, subst}
-use Rattle.item_log.specs.Log.{IsItemOf}
-use Rattle.guest_cpu.specs.declared.marks.Marks.{Marks}
-use Rattle.guest_cpu.specs.Standing.{Live}
-use Rattle.guest_cpu.specs.Receiving.{taken_standing}
+use Rattle.replay.proofs.Terms.{ap, subst, ℕ, ◌≡◌, IsItemOf, Marks, taken_standing, Live}
 use Rattle.replay.proofs.TakeLemmas.{item_short, takes_item}
 use Rattle.replay.proofs.player.Player.ask.Goals as goal
 

@@ -1,4 +1,4 @@
-use Rattle.std.proofs.Common.{refl, ◌∙◌}
+use Rattle.replay.proofs.Terms.{refl, ◌∙◌}
 use Rattle.replay.proofs.LoopLemmas.{gone_nowhere, gone_turning, gone_hears, hears_turning, hears_then}
 use Rattle.replay.proofs.player.Player.await_item.Goals as goal
 

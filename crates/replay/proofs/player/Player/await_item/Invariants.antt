@@ -1,4 +1,4 @@
-use Rattle.std.proofs.Common.{◌-◌}
+use Rattle.replay.proofs.Terms.{◌-◌}
 use Rattle.replay.proofs.LoopLemmas.{HasAwaited}
 use Rattle.replay.proofs.player.Player.await_item.Given as goal
 

@@ -1,14 +1,5 @@
-use Rattle.std.proofs.Common.{◌≡◌, Option, Some, None, sym, ◌∙◌, ap, subst}
-use Rattle.std.specs.Prelude.{slice_get}
-use Rattle.block_book.specs.declared.choice.Choice.{Choice}
-use Rattle.run_history.specs.Machine.{register}
-use Rattle.run_history.specs.declared.answer.Answer.{Answer}
 use Rattle.run_history.specs.declared.answer.Answer.TheVariants.{Mismatch}
-use Rattle.guest_cpu.specs.declared.marks.Marks.{Marks}
-use Rattle.guest_cpu.specs.Standing.{Live, Standing}
-use Rattle.guest_cpu.specs.Cpus.{CpuState}
-use Rattle.replay.specs.Replaying.{IsUnusable}
-use Rattle.replay.specs.Playing.{IsWholeEnd, stage_of}
+use Rattle.replay.proofs.Terms.{None, Option, Some, ap, subst, sym, ◌∙◌, ◌≡◌, slice_get, Choice, Answer, register, Marks, CpuState, Live, Standing, IsUnusable, IsWholeEnd, stage_of}
 use Rattle.replay.proofs.ChooseLemmas.{no_choice, with_choice, unusable}
 use Rattle.replay.proofs.player.Player.choose.Goals as goal
 

@@ -1,9 +1,4 @@
-use Rattle.std.proofs.Common.{sym, subst, ◌∙◌, rules}
-use Rattle.links.specs.Links.{events_in}
-use Rattle.run_history.specs.declared.answer.Answer.{Answer}
-use Rattle.link_gate.proofs.Ordering.{in_order_shown}
-use Rattle.replay.specs.Replaying.{LeavesLink}
-use Rattle.replay.specs.Playing.{IsWholeEnd, stage_of}
+use Rattle.replay.proofs.Terms.{rules, subst, sym, ◌∙◌, events_in, Answer, in_order_shown, LeavesLink, IsWholeEnd, stage_of}
 use Rattle.replay.proofs.HearLemmas.{heeds_event, takes_none}
 use Rattle.replay.proofs.LeavingLemmas.{heeds_none, leaves_both, leaves_untaken, taken_known}
 use Rattle.replay.proofs.player.Player.hear.Goals as goal

@@ -1,13 +1,6 @@
-use Rattle.std.proofs.Common.{ℕ, Bool, true, List, sym, ◌∙◌, ap, subst}
-use Rattle.std.specs.Prelude.{Ok, Err, slice_set}
 use Rattle.links.specs.declared.journal.Given.{Given}
 use Rattle.links.specs.declared.journal.Given.TheVariants.{All, Gone}
-use Rattle.links.specs.Links.{Gives}
-use Rattle.links.specs.Seen.{Seen}
-use Rattle.rx_io.specs.Sends.{Send}
-use Rattle.run_history.specs.declared.answer.Answer.{Answer}
-use Rattle.replay.specs.Giving.{IsLastSend}
-use Rattle.replay.specs.Playing.{IsBetween, IsEnd, stage_of, has}
+use Rattle.replay.proofs.Terms.{Bool, List, ap, subst, sym, true, ℕ, ◌∙◌, Err, Ok, slice_set, Send, Gives, Seen, Answer, IsLastSend, IsBetween, IsEnd, has, stage_of}
 use Rattle.replay.proofs.GivingLemmas.{sends_none, sends_whole, sends_cut, sends_broken}
 use Rattle.replay.proofs.player.Player.send.Goals as goal
 

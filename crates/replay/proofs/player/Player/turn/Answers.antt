@@ -1,10 +1,5 @@
-use Rattle.std.proofs.Common.{◌≡◌, ◌+◌, ◌<◌, ◌∙◌, sym, subst, arith}
-use Rattle.std.specs.Prelude.{Err}
-use Rattle.run_history.specs.declared.answer.Answer.{Answer}
 use Rattle.guest_cpu.specs.declared.event.Question.TheVariants as question
-use Rattle.guest_cpu.specs.Cpus.{CpuState, live_of}
-use Rattle.replay.specs.Giving.{IsLastSend}
-use Rattle.replay.specs.Playing.{stage_of, IsWholeEnd}
+use Rattle.replay.proofs.Terms.{arith, subst, sym, ◌+◌, ◌<◌, ◌∙◌, ◌≡◌, Err, Answer, CpuState, live_of, IsLastSend, IsWholeEnd, stage_of}
 use Rattle.replay.proofs.RunLemmas.{same_sends, ComesTo, comes_by}
 use Rattle.replay.proofs.QuestionLemmas.{reached_end, exits_end, failed_end, memory_end, asks_waiting, wants_wanting, emits_sending, comes_to, wants_first, rises_behind, if_ok, ok_always, whole_end, whole_goes}
 use Rattle.replay.proofs.player.Player.turn.Goals as goal

@@ -1,5 +1,5 @@
-use Rattle.std.proofs.Common.{refl, arith}
-use Rattle.reply_ledger.proofs.RunLemmas.{length-passed_in}
+use Rattle.reply_ledger.proofs.Lemmas.{length-passed_in}
+use Rattle.reply_ledger.proofs.Terms.{arith, refl}
 use Rattle.reply_ledger.proofs.account.Account.adopt.Goals as goal
 
 pub invariant_of-self : goal.invariant_of-self

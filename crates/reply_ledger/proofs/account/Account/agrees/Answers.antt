@@ -1,8 +1,5 @@
-use Rattle.std.proofs.Common.{◌-◌, ◌≤◌, length, refl, sym, ◌∙◌, ap, arith, drop, ℕ}
-use Rattle.std.proofs.lemmas.Bool.{le-leb}
-use Rattle.reply_ledger.specs.Trials.{agree}
-use Rattle.reply_ledger.proofs.RunLemmas.{bytes_of-passed_in}
-use Rattle.reply_ledger.proofs.AgreeLemmas.{agree-past}
+use Rattle.reply_ledger.proofs.Lemmas.{bytes_of-passed_in, agree-past}
+use Rattle.reply_ledger.proofs.Terms.{ap, arith, drop, length, refl, sym, ℕ, ◌-◌, ◌∙◌, ◌≤◌, le-leb, agree}
 use Rattle.reply_ledger.proofs.account.Account.agrees.Goals as goal
 
 pub returns-then-behind-len : goal.returns-then-behind-len

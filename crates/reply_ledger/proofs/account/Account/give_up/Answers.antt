@@ -1,5 +1,5 @@
-use Rattle.std.proofs.Common.{refl, ◌∙◌, arith, length-drop}
-use Rattle.reply_ledger.proofs.RunLemmas.{passed_in-drop}
+use Rattle.reply_ledger.proofs.Lemmas.{passed_in-drop}
+use Rattle.reply_ledger.proofs.Terms.{arith, length-drop, refl, ◌∙◌}
 use Rattle.reply_ledger.proofs.account.Account.give_up.Goals as goal
 
 pub invariant_of-self : goal.invariant_of-self

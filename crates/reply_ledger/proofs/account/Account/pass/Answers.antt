@@ -1,8 +1,5 @@
-use Rattle.std.proofs.Common.{◌≡◌, ◌+◌, ◌≤◌, ◌++◌, ℕ, length, take, refl, sym, ◌∙◌, ap, subst, arith, drop, length-append, length-take}
-use Rattle.reply_ledger.specs.Entries.{stream_behind}
-use Rattle.reply_ledger.specs.Ledger.{stamped}
-use Rattle.reply_ledger.specs.Tallies.{passed_in, RunsFrom}
-use Rattle.reply_ledger.proofs.RunLemmas.{passed_in-Notes, length-passed_in}
+use Rattle.reply_ledger.proofs.Lemmas.{length-passed_in, passed_in-Notes}
+use Rattle.reply_ledger.proofs.Terms.{ap, arith, drop, length, length-append, length-take, refl, subst, sym, take, ℕ, ◌++◌, ◌+◌, ◌∙◌, ◌≡◌, ◌≤◌, stamped, RunsFrom, passed_in, stream_behind}
 use Rattle.reply_ledger.proofs.account.Account.pass.Goals as goal
 
 pub overflow_add-end : goal.overflow_add-end

@@ -1,6 +1,5 @@
-use Rattle.std.proofs.Common.{◌≡◌, ◌-◌, ◌≤◌, suc, length, refl, sym, ◌∙◌, ap, arith}
-use Rattle.reply_ledger.specs.declared.account.Run.{Run}
-use Rattle.reply_ledger.proofs.RunLemmas.{until-reach, end_at, end_at-none, end_at-last, runs_in_order, runs-IsPartitionedBy}
+use Rattle.reply_ledger.proofs.Lemmas.{end_at, end_at-last, end_at-none, runs-IsPartitionedBy, runs_in_order, until-reach}
+use Rattle.reply_ledger.proofs.Terms.{ap, arith, length, refl, suc, sym, ◌-◌, ◌∙◌, ◌≡◌, ◌≤◌, Run}
 use Rattle.reply_ledger.proofs.account.Account.passed_until.Goals as goal
 
 pub runs_until-count-requires : goal.runs_until-count-requires

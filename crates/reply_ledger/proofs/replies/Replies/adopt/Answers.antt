@@ -1,20 +1,5 @@
-use Rattle.std.proofs.Common.{◌≡◌, ◌+◌, ◌≤◌, ◌++◌, [], ℕ, List, Bool, Option, None, take, refl, sym, ◌∙◌, ap, subst, arith, if◌then◌else◌}
-use Rattle.std.specs.Prelude.{IsSome}
-use Rattle.std.specs.List.{position_or_len}
-use Rattle.rx_io.specs.Sends.{sent_to}
-use Rattle.reply_ledger.specs.declared.entry.Entry.{Entry}
-use Rattle.reply_ledger.specs.Ledger.{Passed, stamped_to, bytes_of}
-use Rattle.reply_ledger.specs.Tallies.{Tally, adopted_tally, connections_of}
-use Rattle.reply_ledger.specs.Entries.{sends_of}
-use Rattle.reply_ledger.specs.Inside.{Stands, TriesIfAny, Tries, sent_ends, tried_ends, waits_in, trial_of}
-use Rattle.reply_ledger.proofs.ConnectionLemmas.{connections_of-all_hidden, number_at-all}
-use Rattle.reply_ledger.proofs.StandsLemmas.{stands-adopted}
-use Rattle.std.specs.Prelude.{unwrap_or}
-use Rattle.std.proofs.Common.{true}
-use Rattle.reply_ledger.proofs.StandsLemmas.{covers-says, trial-ends}
-use Rattle.std.specs.Prelude.{is_ok}
-use Rattle.rx_io.specs.Prefix.{Prefix}
-use Rattle.reply_ledger.proofs.StandsLemmas.{adopt-room}
+use Rattle.reply_ledger.proofs.Lemmas.{connections_of-all_hidden, number_at-all, adopt-room, covers-says, stands-adopted, trial-ends}
+use Rattle.reply_ledger.proofs.Terms.{Bool, List, None, Option, [], ap, arith, if◌then◌else◌, refl, subst, sym, take, true, ℕ, ◌++◌, ◌+◌, ◌∙◌, ◌≡◌, ◌≤◌, position_or_len, IsSome, is_ok, unwrap_or, Prefix, sent_to, Entry, Passed, bytes_of, stamped_to, Tally, adopted_tally, connections_of, sends_of, Stands, Tries, TriesIfAny, sent_ends, trial_of, tried_ends, waits_in}
 use Rattle.reply_ledger.proofs.replies.Replies.adopt.Goals as goal
 
 pub adopt-requires : goal.adopt-requires

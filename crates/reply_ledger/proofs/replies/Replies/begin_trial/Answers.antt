@@ -1,16 +1,5 @@
-use Rattle.std.proofs.Common.{◌≡◌, ◌-◌, ◌++◌, List, Some, map, take, sym, ◌∙◌, ap, subst, arith}
-use Rattle.std.specs.List.{position_or_len}
-use Rattle.rx_io.specs.Sends.{sent_to}
-use Rattle.reply_ledger.specs.declared.entry.Entry.{Entry}
-use Rattle.reply_ledger.specs.Ledger.{Ledger, Connection, stamped_to, bytes_of}
-use Rattle.reply_ledger.specs.Tallies.{connections_of}
-use Rattle.reply_ledger.specs.Entries.{sends_of}
-use Rattle.reply_ledger.specs.Inside.{Tries, tried_ends, earlier_at, waits_in}
-use Rattle.reply_ledger.proofs.StandsLemmas.{stands-change, tries-begun, own-none, shared-none}
-use Rattle.std.proofs.Common.{append-nil}
-use Rattle.reply_ledger.specs.Trials.{agree}
-use Rattle.reply_ledger.proofs.EntryLemmas.{sends_of-take, length-sends_of}
-use Rattle.reply_ledger.proofs.StandsLemmas.{begun-agrees}
+use Rattle.reply_ledger.proofs.Lemmas.{length-sends_of, sends_of-take, begun-agrees, own-none, shared-none, stands-change, tries-begun}
+use Rattle.reply_ledger.proofs.Terms.{List, Some, ap, append-nil, arith, map, subst, sym, take, ◌++◌, ◌-◌, ◌∙◌, ◌≡◌, position_or_len, sent_to, Entry, Connection, Ledger, bytes_of, stamped_to, agree, connections_of, sends_of, Tries, earlier_at, tried_ends, waits_in}
 use Rattle.reply_ledger.proofs.replies.Replies.begin_trial.Goals as goal
 
 pub rewind-requires-clause-within : goal.rewind-requires-clause-within

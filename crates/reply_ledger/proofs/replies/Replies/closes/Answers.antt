@@ -1,11 +1,5 @@
-use Rattle.std.proofs.Common.{◌≡◌, ◌≤◌, ℕ, List, map, refl, sym, ◌∙◌, ap, subst, arith}
-use Rattle.std.specs.List.{position_or_len}
-use Rattle.reply_ledger.specs.Ledger.{Connection, closed_connection, stamped_to, changed}
-use Rattle.reply_ledger.specs.Tallies.{Tally, closed_tally, connections_of}
-use Rattle.reply_ledger.specs.Entries.{sends_of}
-use Rattle.reply_ledger.specs.Inside.{sent_ends, tried_ends, earlier_at, waits_in, trial_of}
-use Rattle.reply_ledger.proofs.ConnectionLemmas.{connections_of-retallied, number_at-same, keys-changed, earlier_at-changed, stamped_to-changed, closed-falls}
-use Rattle.reply_ledger.proofs.StandsLemmas.{stands-change, tries_any-change, cursor-marked}
+use Rattle.reply_ledger.proofs.Lemmas.{closed-falls, connections_of-retallied, earlier_at-changed, keys-changed, number_at-same, stamped_to-changed, cursor-marked, stands-change, tries_any-change}
+use Rattle.reply_ledger.proofs.Terms.{List, ap, arith, map, refl, subst, sym, ℕ, ◌∙◌, ◌≡◌, ◌≤◌, position_or_len, Connection, changed, closed_connection, stamped_to, Tally, closed_tally, connections_of, sends_of, earlier_at, sent_ends, trial_of, tried_ends, waits_in}
 use Rattle.reply_ledger.proofs.replies.Replies.closes.Goals as goal
 
 pub first_waiting-self-inside-requires : goal.first_waiting-self-inside-requires

@@ -1,10 +1,5 @@
-use Rattle.std.proofs.Common.{[], List, refl, sym, ◌∙◌}
-use Rattle.std.specs.Prelude.{IsSome}
-use Rattle.reply_ledger.specs.Ledger.{Passed}
-use Rattle.reply_ledger.specs.Tallies.{connections_of}
-use Rattle.reply_ledger.specs.Inside.{sent_ends, tried_ends, trial_of}
-use Rattle.std.specs.Prelude.{unwrap_or}
-use Rattle.reply_ledger.proofs.StandsLemmas.{covers-says, trial-ends}
+use Rattle.reply_ledger.proofs.Lemmas.{covers-says, trial-ends}
+use Rattle.reply_ledger.proofs.Terms.{List, [], refl, sym, ◌∙◌, IsSome, unwrap_or, Passed, connections_of, sent_ends, trial_of, tried_ends}
 use Rattle.reply_ledger.proofs.replies.Replies.covers.Goals as goal
 
 pub returns : goal.returns

@@ -1,19 +1,5 @@
-use Rattle.std.proofs.Common.{◌≡◌, [], ℕ, List, sym, ◌∙◌, ap, subst}
-use Rattle.std.specs.Prelude.{nat_eq, IsSome}
-use Rattle.std.specs.List.{IsDistinct}
-use Rattle.rx_io.specs.Sends.{sent_to}
-use Rattle.reply_ledger.specs.Ledger.{Passed, stamped_to, bytes_of}
-use Rattle.reply_ledger.specs.Tallies.{Tally, connections_of}
-use Rattle.reply_ledger.specs.Inside.{sent_ends, tried_ends, trial_of}
-use Rattle.reply_ledger.proofs.ConnectionLemmas.{keys-of, stamped_to-of}
-use Rattle.std.specs.Prelude.{unwrap_or}
-use Rattle.std.proofs.Common.{true}
-use Rattle.reply_ledger.specs.Trials.{agree, until}
-use Rattle.reply_ledger.proofs.StandsLemmas.{covers-says, trial-ends, until-front, agree-front, each_tally, all-each}
-use Rattle.std.specs.Map.{values_of}
-use Rattle.reply_ledger.specs.Ledger.{IsInOrder, stamps_of}
-use Rattle.reply_ledger.proofs.TallyLemmas.{passed_at-some}
-use Rattle.reply_ledger.proofs.StandsLemmas.{until-none}
+use Rattle.reply_ledger.proofs.Lemmas.{passed_at-some, keys-of, stamped_to-of, agree-front, all-each, covers-says, each_tally, trial-ends, until-front, until-none}
+use Rattle.reply_ledger.proofs.Terms.{List, [], ap, subst, sym, true, ℕ, ◌∙◌, ◌≡◌, IsDistinct, values_of, IsSome, nat_eq, unwrap_or, sent_to, IsInOrder, Passed, bytes_of, stamped_to, stamps_of, agree, until, Tally, connections_of, sent_ends, trial_of, tried_ends}
 use Rattle.reply_ledger.proofs.replies.Replies.covers_before.Goals as goal
 
 pub covers_until-requires : goal.covers_until-requires

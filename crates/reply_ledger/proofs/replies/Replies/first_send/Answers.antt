@@ -1,5 +1,4 @@
-use Rattle.std.proofs.Common.{subst}
-use Rattle.reply_ledger.specs.Trimming.{IsLawful}
+use Rattle.reply_ledger.proofs.Terms.{subst, IsLawful}
 use Rattle.reply_ledger.proofs.replies.Replies.first_send.Goals as goal
 
 pub returns-clause-lawful : goal.returns-clause-lawful

@@ -1,5 +1,5 @@
-use Rattle.std.proofs.Common.{sym, ◌∙◌}
-use Rattle.reply_ledger.proofs.ConnectionLemmas.{is_open-of}
+use Rattle.reply_ledger.proofs.Lemmas.{is_open-of}
+use Rattle.reply_ledger.proofs.Terms.{sym, ◌∙◌}
 use Rattle.reply_ledger.proofs.replies.Replies.is_open.Goals as goal
 
 pub returns : goal.returns

@@ -1,7 +1,5 @@
-use Rattle.std.proofs.Common.{refl}
-use Rattle.reply_ledger.specs.Tallies.{connections_of, number_at}
-use Rattle.reply_ledger.specs.Entries.{sends_of}
-use Rattle.reply_ledger.proofs.StandsLemmas.{stands-none}
+use Rattle.reply_ledger.proofs.Lemmas.{stands-none}
+use Rattle.reply_ledger.proofs.Terms.{refl, connections_of, number_at, sends_of}
 use Rattle.reply_ledger.proofs.replies.Replies.make.Goals as goal
 
 pub invariant_of-result : goal.invariant_of-result

@@ -1,12 +1,5 @@
-use Rattle.std.proofs.Common.{◌≡◌, ◌+◌, ℕ, List, Some, length, sym, ◌∙◌, ap, arith}
-use Rattle.reply_ledger.specs.Ledger.{stamped_to}
-use Rattle.reply_ledger.specs.Tallies.{connections_of}
-use Rattle.reply_ledger.specs.Inside.{earlier_at}
-use Rattle.reply_ledger.proofs.ConnectionLemmas.{passed_end-of}
-use Rattle.std.specs.Option.{option_map}
-use Rattle.reply_ledger.specs.Parts.{shown_part, next_part}
-use Rattle.reply_ledger.specs.Entries.{rest_of}
-use Rattle.reply_ledger.proofs.StandsLemmas.{next-found, next-none, next-late}
+use Rattle.reply_ledger.proofs.Lemmas.{passed_end-of, next-found, next-late, next-none}
+use Rattle.reply_ledger.proofs.Terms.{List, Some, ap, arith, length, sym, ℕ, ◌+◌, ◌∙◌, ◌≡◌, option_map, stamped_to, next_part, shown_part, connections_of, rest_of, earlier_at}
 use Rattle.reply_ledger.proofs.replies.Replies.next_piece.Goals as goal
 
 pub returns-then-self-len : goal.returns-then-self-len

@@ -1,13 +1,5 @@
-use Rattle.std.proofs.Common.{◌≡◌, ◌++◌, ◌∷◌, [], ℕ, List, None, map, refl, sym, ◌∙◌, ap, subst, arith}
-use Rattle.std.specs.Prelude.{nat_eq}
-use Rattle.std.specs.List.{IsDistinct}
-use Rattle.reply_ledger.specs.Ledger.{Ledger, Connection, connection_of, new_connection}
-use Rattle.reply_ledger.specs.Tallies.{Tally, new_tally, connections_of}
-use Rattle.reply_ledger.specs.Entries.{sends_of}
-use Rattle.reply_ledger.specs.Inside.{Stands, sent_ends, tried_ends, earlier_at, trial_of}
-use Rattle.reply_ledger.proofs.ConnectionLemmas.{connections_of-push, number_at-push, unknown-of, keys-of, earlier_at-push}
-use Rattle.reply_ledger.proofs.TallyLemmas.{number_at-none}
-use Rattle.reply_ledger.proofs.StandsLemmas.{stands-opened, tries_any-change}
+use Rattle.reply_ledger.proofs.Lemmas.{number_at-none, connections_of-push, earlier_at-push, keys-of, number_at-push, unknown-of, stands-opened, tries_any-change}
+use Rattle.reply_ledger.proofs.Terms.{List, None, [], ap, arith, map, refl, subst, sym, ℕ, ◌++◌, ◌∙◌, ◌∷◌, ◌≡◌, IsDistinct, nat_eq, Connection, Ledger, connection_of, new_connection, Tally, connections_of, new_tally, sends_of, Stands, earlier_at, sent_ends, trial_of, tried_ends}
 use Rattle.reply_ledger.proofs.replies.Replies.opens.Goals as goal
 
 pub open-requires : goal.open-requires

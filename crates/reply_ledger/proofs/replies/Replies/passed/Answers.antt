@@ -1,12 +1,5 @@
-use Rattle.std.proofs.Common.{◌≡◌, ◌≤◌, ℕ, List, take, drop, refl, sym, ◌∙◌, ap, subst, arith}
-use Rattle.std.specs.List.{position_or_len}
-use Rattle.reply_ledger.specs.Ledger.{Ledger, Connection, Passed, passed_connection, stamped, stamped_to, changed}
-use Rattle.reply_ledger.specs.Tallies.{Tally, passed_tally, passed_end, connections_of, number_at}
-use Rattle.reply_ledger.specs.Entries.{sends_of, stream_behind}
-use Rattle.reply_ledger.specs.Inside.{sent_ends, tried_ends, waits_in, trial_of}
-use Rattle.reply_ledger.proofs.ConnectionLemmas.{connections_of-retallied, number_at-same, passed_end-of}
-use Rattle.reply_ledger.proofs.StandsLemmas.{stands-passed, tries-none, own-none, shared-none, cursor-passed, stream-is}
-use Rattle.reply_ledger.proofs.RunLemmas.{length-bytes_of}
+use Rattle.reply_ledger.proofs.Lemmas.{length-bytes_of, connections_of-retallied, number_at-same, passed_end-of, cursor-passed, own-none, shared-none, stands-passed, stream-is, tries-none}
+use Rattle.reply_ledger.proofs.Terms.{List, ap, arith, drop, refl, subst, sym, take, ℕ, ◌∙◌, ◌≡◌, ◌≤◌, position_or_len, Connection, Ledger, Passed, changed, passed_connection, stamped, stamped_to, Tally, connections_of, number_at, passed_end, passed_tally, sends_of, stream_behind, sent_ends, trial_of, tried_ends, waits_in}
 use Rattle.reply_ledger.proofs.replies.Replies.passed.Goals as goal
 
 pub pass-requires : goal.pass-requires

@@ -1,15 +1,6 @@
-use Rattle.std.proofs.Common.{◌≡◌, ◌+◌, ◌<◌, Some, length, sym, ◌∙◌, ap, arith}
-use Rattle.rx_io.specs.Sends.{Send}
-use Rattle.reply_ledger.specs.Ledger.{stamped_to}
-use Rattle.reply_ledger.specs.Tallies.{connections_of}
-use Rattle.reply_ledger.specs.Inside.{earlier_at}
-use Rattle.reply_ledger.proofs.ConnectionLemmas.{passed_end-of}
 use Rattle.std.specs.Prelude.{not}
-use Rattle.std.specs.Option.{option_map}
-use Rattle.std.proofs.Common.{true, false}
-use Rattle.reply_ledger.specs.Parts.{rest_part}
-use Rattle.reply_ledger.proofs.StandsLemmas.{rest-found, rest-none, rests-before, rests-part, rests}
-use Rattle.reply_ledger.proofs.StandsLemmas.{rests-more, rests-bytes}
+use Rattle.reply_ledger.proofs.Lemmas.{passed_end-of, rest-found, rest-none, rests, rests-before, rests-bytes, rests-more, rests-part}
+use Rattle.reply_ledger.proofs.Terms.{Some, ap, arith, false, length, sym, true, ◌+◌, ◌<◌, ◌∙◌, ◌≡◌, option_map, Send, stamped_to, rest_part, connections_of, earlier_at}
 use Rattle.reply_ledger.proofs.replies.Replies.rest_of.Goals as goal
 
 pub loop-i-init : goal.loop-i-init

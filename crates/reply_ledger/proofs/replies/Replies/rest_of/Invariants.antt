@@ -1,7 +1,5 @@
-use Rattle.std.proofs.Common.{◌≡◌, ◌<◌, ℕ, get_or, false}
-use Rattle.reply_ledger.specs.declared.entry.Entry.{Entry}
-use Rattle.reply_ledger.specs.Tallies.{connections_of}
-use Rattle.reply_ledger.proofs.StandsLemmas.{rests}
+use Rattle.reply_ledger.proofs.Lemmas.{rests}
+use Rattle.reply_ledger.proofs.Terms.{false, get_or, ℕ, ◌<◌, ◌≡◌, Entry, connections_of}
 use Rattle.reply_ledger.proofs.replies.Replies.rest_of.Given as goal
 
 abbrev pub invariant-loop-i : goal.invariant-loop-i

@@ -1,17 +1,5 @@
-use Rattle.std.proofs.Common.{◌≡◌, ◌+◌, ◌≤◌, ◌++◌, ◌∷◌, [], ℕ, List, length, refl, sym, ◌∙◌, ap, subst, arith, if◌then◌else◌}
-use Rattle.std.specs.Prelude.{◌==◌}
-use Rattle.std.specs.List.{position_or_len}
-use Rattle.rx_io.specs.Sends.{Send}
-use Rattle.reply_ledger.specs.declared.entry.Entry.{Entry}
-use Rattle.reply_ledger.specs.Ledger.{Ledger, Connection}
-use Rattle.reply_ledger.specs.Tallies.{Tally, sent_tally, connections_of}
-use Rattle.reply_ledger.specs.Entries.{sends_of}
-use Rattle.reply_ledger.specs.Inside.{Stands, sent_ends, tried_ends, waits_in}
-use Rattle.reply_ledger.proofs.ConnectionLemmas.{connections_of-hidden, known-of}
-use Rattle.reply_ledger.proofs.StandsLemmas.{stands-sent, tries-none, own-none, shared-none}
-use Rattle.reply_ledger.proofs.PositionLemmas.{position-append}
-use Rattle.reply_ledger.proofs.EntryLemmas.{sends_of-append, sends_of-one}
-use Rattle.reply_ledger.proofs.StandsLemmas.{sent_ends-set, trial-same}
+use Rattle.reply_ledger.proofs.Lemmas.{connections_of-hidden, known-of, position-append, sends_of-append, sends_of-one, own-none, sent_ends-set, shared-none, stands-sent, trial-same, tries-none}
+use Rattle.reply_ledger.proofs.Terms.{List, [], ap, arith, if◌then◌else◌, length, refl, subst, sym, ℕ, ◌++◌, ◌+◌, ◌∙◌, ◌∷◌, ◌≡◌, ◌≤◌, position_or_len, ◌==◌, Send, Entry, Connection, Ledger, Tally, connections_of, sent_tally, sends_of, Stands, sent_ends, tried_ends, waits_in}
 use Rattle.reply_ledger.proofs.replies.Replies.sent.Goals as goal
 
 pub first_waiting-self-inside-requires : goal.first_waiting-self-inside-requires

@@ -1,17 +1,5 @@
-use Rattle.std.proofs.Common.{◌≡◌, ◌+◌, ◌-◌, ◌≤◌, ◌++◌, ◌∷◌, [], ℕ, List, Some, length, map, drop, refl, sym, ◌∙◌, ap, subst, arith, if◌then◌else◌}
-use Rattle.std.specs.Prelude.{◌==◌, IsSome}
-use Rattle.std.specs.List.{position_or_len}
-use Rattle.rx_io.specs.Sends.{sent_to}
-use Rattle.reply_ledger.specs.declared.entry.Entry.{Entry}
-use Rattle.reply_ledger.specs.Ledger.{Connection, stamped_to, bytes_of}
-use Rattle.reply_ledger.specs.Tallies.{Tally, tried_tally, connections_of, number_at}
-use Rattle.reply_ledger.specs.Entries.{sends_of}
-use Rattle.reply_ledger.specs.Inside.{Stands, TriesIfAny, sent_ends, tried_ends, earlier_at, waits_in, trial_of}
-use Rattle.reply_ledger.proofs.ConnectionLemmas.{connections_of-hidden, number_at-same, known-of, earlier_at-of, stamped_to-of}
-use Rattle.reply_ledger.proofs.StandsLemmas.{stands-change}
-use Rattle.std.specs.Prelude.{unwrap_or}
-use Rattle.reply_ledger.specs.Trials.{agree}
-use Rattle.reply_ledger.proofs.StandsLemmas.{sent_ends-set, trial-ends, tries_any-sent, trial-sent, agrees-sent}
+use Rattle.reply_ledger.proofs.Lemmas.{connections_of-hidden, earlier_at-of, known-of, number_at-same, stamped_to-of, agrees-sent, sent_ends-set, stands-change, trial-ends, trial-sent, tries_any-sent}
+use Rattle.reply_ledger.proofs.Terms.{List, Some, [], ap, arith, drop, if◌then◌else◌, length, map, refl, subst, sym, ℕ, ◌++◌, ◌+◌, ◌-◌, ◌∙◌, ◌∷◌, ◌≡◌, ◌≤◌, position_or_len, IsSome, unwrap_or, ◌==◌, sent_to, Entry, Connection, bytes_of, stamped_to, agree, Tally, connections_of, number_at, tried_tally, sends_of, Stands, TriesIfAny, earlier_at, sent_ends, trial_of, tried_ends, waits_in}
 use Rattle.reply_ledger.proofs.replies.Replies.trial_sent.Goals as goal
 
 pub invariant_of-self-2 : goal.invariant_of-self-2

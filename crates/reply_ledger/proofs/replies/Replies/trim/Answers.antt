@@ -1,15 +1,5 @@
-use Rattle.std.proofs.Common.{◌≡◌, ◌+◌, ◌-◌, ◌≤◌, List, take, drop, min, refl, sym, ◌∙◌, ap, subst, arith}
-use Rattle.rx_io.specs.Sends.{Send}
-use Rattle.reply_ledger.specs.Ledger.{Ledger}
-use Rattle.reply_ledger.specs.Tallies.{connections_of}
-use Rattle.reply_ledger.specs.Entries.{sends_of}
-use Rattle.reply_ledger.specs.Inside.{Laid, sent_ends, tried_ends, earlier_at, waits_in, trial_of}
-use Rattle.reply_ledger.proofs.StandsLemmas.{tries-none, own-none, shared-none}
-use Rattle.reply_ledger.specs.Parts.{settled}
-use Rattle.reply_ledger.specs.Trimming.{trimmed_connections}
-use Rattle.reply_ledger.proofs.PositionLemmas.{position-le}
-use Rattle.reply_ledger.proofs.EntryLemmas.{sends_of-take, sends_of-drop}
-use Rattle.reply_ledger.proofs.StandsLemmas.{trial-same, stands-trimmed, settled-is}
+use Rattle.reply_ledger.proofs.Lemmas.{position-le, sends_of-drop, sends_of-take, own-none, settled-is, shared-none, stands-trimmed, trial-same, tries-none}
+use Rattle.reply_ledger.proofs.Terms.{List, ap, arith, drop, min, refl, subst, sym, take, ◌+◌, ◌-◌, ◌∙◌, ◌≡◌, ◌≤◌, Send, Ledger, settled, trimmed_connections, connections_of, sends_of, Laid, earlier_at, sent_ends, trial_of, tried_ends, waits_in}
 use Rattle.reply_ledger.proofs.replies.Replies.trim.Goals as goal
 
 pub drop_oldest-requires-clause-within : goal.drop_oldest-requires-clause-within

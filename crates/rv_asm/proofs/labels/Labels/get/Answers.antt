@@ -1,5 +1,4 @@
-use Rattle.std.proofs.Common.{sym, ◌∙◌, ap}
-use Rattle.rv_asm.specs.Places.{spot_of}
+use Rattle.rv_asm.proofs.Terms.{ap, sym, ◌∙◌, spot_of}
 use Rattle.rv_asm.proofs.Labelling.{spot_of-labels_in}
 use Rattle.rv_asm.proofs.labels.Labels.get.Goals as goal
 

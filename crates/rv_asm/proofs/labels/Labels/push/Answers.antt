@@ -1,6 +1,5 @@
-use Rattle.std.proofs.Common.{sym, ◌∙◌, ap, ◌++◌, ◌∷◌, []}
 use Rattle.indexmap.proofs.CallerLemmas.{insert_entry-new}
-use Rattle.rv_asm.specs.Places.{spot_of, definition_of}
+use Rattle.rv_asm.proofs.Terms.{[], ap, sym, ◌++◌, ◌∙◌, ◌∷◌, definition_of, spot_of}
 use Rattle.rv_asm.proofs.Labelling.{labels_in, spot_of-labels_in, labels_in-append}
 use Rattle.rv_asm.proofs.labels.Labels.push.Goals as goal
 

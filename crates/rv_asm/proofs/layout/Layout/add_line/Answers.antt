@@ -1,5 +1,4 @@
-use Rattle.std.proofs.Common.{rules, sym, ◌∙◌, ap}
-use Rattle.rv_asm.specs.Passes.{with_statement}
+use Rattle.rv_asm.proofs.Terms.{ap, rules, sym, ◌∙◌, with_statement}
 use Rattle.rv_asm.proofs.Flaws.{unread, out_of_place, repeated, no_words, bad_words, too_large, good_words, after_label, after_words}
 use Rattle.rv_asm.proofs.layout.Layout.add_line.Goals as goal
 

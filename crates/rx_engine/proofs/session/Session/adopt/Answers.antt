@@ -1,13 +1,7 @@
-use Rattle.std.specs.Prelude.{slice_get}
-use Rattle.session_state.specs.Leaving.{keeping_of}
-use Rattle.session_state.proofs.HeldLemmas.{slots_oldest}
-use Rattle.std.proofs.Common.{◌∙◌, ◌≡◌, ◌+◌, ◌^◌, ◌<◌, ◌≤◌, refl, sym, ap, subst, arith, rules}
 use Rattle.rv_exec.specs.Stepping.{limits_of}
 use Rattle.recovery.specs.Recovering.{HasToRecover}
-use Rattle.session_state.specs.Serving.{rules_by}
-use Rattle.session_state.specs.Sessions.{SessionState}
-use Rattle.session_state.specs.Standing.{Since}
-use Rattle.session_state.proofs.AdoptLemmas.{counts_seen, adopting_in, failure_of, failing_moved, to_recover, adopt_none, adopting_at, adopt_some, adopt_least, adopt_breaks, adopted_later}
+use Rattle.session_state.proofs.recovering.AdoptLemmas.{counts_seen, adopting_in, failure_of, failing_moved, to_recover, adopt_none, adopting_at, adopt_some, adopt_least, adopt_breaks, adopted_later}
+use Rattle.rx_engine.proofs.Terms.{ap, arith, refl, rules, subst, sym, ◌+◌, ◌<◌, ◌^◌, ◌∙◌, ◌≡◌, ◌≤◌, slice_get, slots_oldest, keeping_of, rules_by, SessionState, Since}
 use Rattle.rx_engine.proofs.session.Session.adopt.Goals as goal
 
 pub recover-requires : goal.recover-requires

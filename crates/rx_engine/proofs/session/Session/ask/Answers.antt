@@ -1,16 +1,4 @@
-use Rattle.std.proofs.Common.{None, sym, ◌∙◌, ap, subst, rules}
-use Rattle.session_state.specs.Serving.{MayServe}
-use Rattle.session_state.specs.Standing.{Since}
-use Rattle.session_state.proofs.FrameLemmas.{saved_frame, same_rules, noted_frame, forgot_frame}
-use Rattle.session_state.proofs.HearingLemmas.{waits_under, stops_under}
-use Rattle.session_state.proofs.ChoiceLemmas.{waits_untold}
-use Rattle.session_state.proofs.TurnLemmas.{comes_under}
-use Rattle.session_state.proofs.ServingLemmas.{noting_serves, asking_notes, unless_noting, unless_note_stop}
-use Rattle.session_state.proofs.RecoverLemmas.{gives_same}
-use Rattle.session_state.proofs.HeldLemmas.{trimmed_still}
-use Rattle.session_state.specs.Leaving.{keeping_of, IsHandled}
-use Rattle.session_state.specs.Sessions.{SessionState}
-use Rattle.reply_ledger.specs.Ledger.{Ledger, is_open}
+use Rattle.rx_engine.proofs.Terms.{None, ap, rules, subst, sym, ◌∙◌, Ledger, is_open, asking_notes, noting_serves, unless_note_stop, unless_noting, comes_under, stops_under, waits_under, waits_untold, gives_same, forgot_frame, noted_frame, same_rules, saved_frame, trimmed_still, IsHandled, keeping_of, MayServe, SessionState, Since}
 use Rattle.rx_engine.proofs.session.Session.ask.Goals as goal
 
 pub save-requires : goal.save-requires

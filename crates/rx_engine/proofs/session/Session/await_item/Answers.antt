@@ -1,7 +1,5 @@
-use Rattle.std.proofs.Common.{refl, sym, ap, arith}
-use Rattle.session_state.proofs.HearingLemmas.{same_then, same_rules, waits_under, stops_under, cause_then, handled_same}
-use Rattle.session_state.proofs.KnownLemmas.{known_same, known_then}
-use Rattle.session_state.proofs.ServingLemmas.{serves_then, serves_well, serves_may}
+use Rattle.session_state.proofs.events.HearingLemmas.{same_rules}
+use Rattle.rx_engine.proofs.Terms.{ap, arith, refl, sym, known_same, known_then, serves_may, serves_then, serves_well, cause_then, handled_same, same_then, stops_under, waits_under}
 use Rattle.rx_engine.proofs.session.Session.await_item.Goals as goal
 
 pub waits-init : goal.waits-init

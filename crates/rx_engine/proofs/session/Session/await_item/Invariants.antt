@@ -1,6 +1,4 @@
-use Rattle.std.proofs.Common.{◌-◌}
-use Rattle.session_state.specs.Serving.{rules_by}
-use Rattle.session_state.proofs.HearingLemmas.{HasAwaited}
+use Rattle.rx_engine.proofs.Terms.{◌-◌, HasAwaited, rules_by}
 use Rattle.rx_engine.proofs.session.Session.await_item.Given as goal
 
 abbrev pub invariant-waits : goal.invariant-waits

@@ -1,5 +1,4 @@
-use Rattle.std.proofs.Common.{◌*◌, ◌/◌, refl, subst}
-use Rattle.guest_cpu.specs.Cpus.{IsFreshCpu}
+use Rattle.rx_engine.proofs.Terms.{refl, subst, ◌*◌, ◌/◌, IsFreshCpu}
 use Rattle.rx_engine.proofs.session.Session.begin.Goals as goal
 
 pub returns : goal.returns

@@ -1,10 +1,4 @@
-use Rattle.std.proofs.Common.{[], ◌∷◌, ◌++◌, refl, sym, ◌∙◌, ap, subst}
-use Rattle.session_state.specs.Serving.{rules_by}
-use Rattle.session_state.specs.Leaving.{keeping_of}
-use Rattle.session_state.specs.Sessions.{SessionState}
-use Rattle.session_state.specs.Standing.{IsBetween}
-use Rattle.session_state.proofs.StoryLemmas.{still_takes}
-use Rattle.session_state.proofs.ServeLemmas.{run_breaks, run_chooses}
+use Rattle.rx_engine.proofs.Terms.{[], ap, refl, subst, sym, ◌++◌, ◌∙◌, ◌∷◌, run_breaks, run_chooses, still_takes, keeping_of, rules_by, SessionState, IsBetween}
 use Rattle.rx_engine.proofs.session.Session.choose.Goals as goal
 
 pub returns-in-Err-clause-turns : goal.returns-in-Err-clause-turns

@@ -1,14 +1,4 @@
-use Rattle.std.proofs.Common.{◌≡◌, refl, sym, ◌∙◌, subst, rules}
-use Rattle.reply_ledger.specs.Ledger.{Ledger}
-use Rattle.link_gate.specs.Passing.{CanGive}
-use Rattle.session_history.specs.Giving.{IsClosing}
-use Rattle.session_state.specs.Sessions.{SessionState}
-use Rattle.session_state.specs.Standing.{Story, entries, moment, sends, then_story, HasPassed}
-use Rattle.session_state.specs.Serving.{IsToldBy, StandsClosing}
-use Rattle.session_state.proofs.PassLemmas.{may_pass, breaks_by, rest_ok}
-use Rattle.session_state.proofs.PassingLemmas.{closing_can, closed_can, gives_closed, rest_passed, received_given, due_behind, passed_then}
-use Rattle.session_state.proofs.HeldLemmas.{held_by, held_given}
-use Rattle.session_state.proofs.KnownLemmas.{pass_answer}
+use Rattle.rx_engine.proofs.Terms.{refl, rules, subst, sym, ◌∙◌, ◌≡◌, Ledger, IsClosing, CanGive, pass_answer, breaks_by, may_pass, rest_ok, closed_can, closing_can, due_behind, gives_closed, passed_then, received_given, rest_passed, held_by, held_given, IsToldBy, StandsClosing, SessionState, HasPassed, Story, entries, moment, sends, then_story}
 use Rattle.rx_engine.proofs.session.Session.close.Goals as goal
 
 pub pass_rest-requires-clause-may : goal.pass_rest-requires-clause-may

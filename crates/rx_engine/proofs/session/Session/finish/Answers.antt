@@ -1,21 +1,5 @@
-use Rattle.std.specs.Prelude.{IfSome, slice_get}
 use Rattle.reply_ledger.specs.Trimming as ledgers
-use Rattle.std.proofs.Common.{◌≡◌, ◌+◌, ap, false, ◌≤◌, length, refl, sym, ◌∙◌, subst, arith}
-use Rattle.session_state.specs.Serving.{rules_by}
-use Rattle.session_state.specs.Recovered.{HasWatched}
-use Rattle.session_state.specs.Sessions.{SessionState}
-use Rattle.session_state.specs.Standing.{Since, entries, sends, IsAsking, IsEnding}
-use Rattle.recovery.specs.Handling.{HasHandled, stands_of}
-use Rattle.session_state.specs.Leaving.{HandledAt, keeping_of, IsTrimmed, CanForgetSends, HasLeft}
-use Rattle.session_state.specs.Serving.{StandsEnding, UnlessNoteFault}
-use Rattle.session_state.proofs.HeldLemmas.{held_by, trimmed_still}
-use Rattle.session_state.proofs.LeavingLemmas.{unless_note, note_unless, can_forget_sends, left_off, left_end, end_requests, passing_requests}
-use Rattle.session_state.proofs.EndLemmas.{end_of}
-use Rattle.session_state.proofs.PassLemmas.{may_pass}
-use Rattle.session_state.proofs.ChoiceLemmas.{ending_few}
-use Rattle.session_state.proofs.PassingLemmas.{ending_can, ending_ready, finish_ok, finish_fault, finish_unnoted}
-use Rattle.session_state.proofs.KnownLemmas.{fault_no_end}
-use Rattle.session_state.proofs.ServingLemmas.{finish_broken, finish_unnoted_link, finish_well, notes_passing, notes_rest_failed, notes_rest_done}
+use Rattle.rx_engine.proofs.Terms.{ap, arith, length, refl, subst, sym, ◌+◌, ◌∙◌, ◌≡◌, ◌≤◌, IfSome, slice_get, HasHandled, stands_of, end_of, ending_moved, fault_no_end, can_forget_sends, end_requests, left_end, left_off, note_unless, passing_requests, unless_note, finish_broken, finish_unnoted_link, finish_well, notes_passing, notes_rest_done, notes_rest_failed, ending_few, may_pass, ending_can, ending_ready, finish_fault, finish_ok, finish_unnoted, held_by, trimmed_still, CanForgetSends, HandledAt, HasLeft, IsTrimmed, keeping_of, HasWatched, StandsEnding, UnlessNoteFault, outcome_of, rules_by, SessionState, IsEnding, entries, sends}
 use Rattle.rx_engine.proofs.session.Session.finish.Goals as goal
 
 pub pass_until-requires : goal.pass_until-requires
@@ -24,16 +8,14 @@ pass_until-requires g c =
     may_pass (record { can = ending_can e.is; gives = e.gives }) c.received-stamp.ensures.count
 
 pub returns-in-Err-clause-served : goal.returns-in-Err-clause-served
-returns-in-Err-clause-served g c image since ends asked first last all trimmed =
+returns-in-Err-clause-served g c image since first ends finishing trimmed =
     let the_rules = rules_by g.R.AccessRule.rule c.args.self.now in
     let here = (g.N.Notes.shown c.args.notes.now).told in
-    let began : Since = record since { noted = here } in
-    let both = subst (λ (s : SessionState _). (ending : IsEnding the_rules image began (g.K.Link.seen c.args.link.now) s c.args.answer) × ((g.K.Link.seen c.args.link.now).takes ≡ false → IsAsking the_rules ending.story)) (sym c.self.view_is)
-    (ends, asked) in
-    let counts = subst (λ (s : SessionState _). last ≡ first + (began.lost + s.steps)) (sym c.self.view_is) all in
+    let both = ending_moved (sym c.self.view_is) ends finishing in
     let e = both.0 in
-    finish_fault (λ recoveries account. UnlessNoteFault c.answer_to.result (HasLeft the_rules image recoveries account _ c.answer_to.result)) 18446744073709551615 c.pass_until.new.replies c.in-Err.fault e c.in-Err.ensures.keeps.shows.rest c.answer_to.ensures
-    (c.in-Err.ensures.passes the_rules (sends e.story) (end_of e.story) (sym e.received_are ∙ sym c.received-stamp.ensures.count) (ending_ready e)) both.1 here refl refl first last counts
+    let counts : since.lost + c.args.self.now.steps ≡ since.lost + c.self.inside.steps = ap (λ (s : SessionState _). since.lost + s.steps) (sym c.self.view_is) in
+    finish_fault (λ telling. UnlessNoteFault c.answer_to.result (HasLeft the_rules image telling _ c.answer_to.result)) (record since { noted = here }) 18446744073709551615 c.pass_until.new.replies c.in-Err.fault e c.in-Err.ensures.keeps.shows.rest c.answer_to.ensures
+    (c.in-Err.ensures.passes the_rules (sends e.story) (end_of e.story) (sym e.received_are ∙ sym c.received-stamp.ensures.count) (ending_ready e)) both.1 here refl refl counts
     (λ more broken. unless_note c.answer_to.result _ (λ never. left_off (fault_no_end c.in-Err.fault c.answer_to.result c.answer_to.ensures)
     (trimmed_still (record { oldest = ap (λ (t : SessionState _). slice_get t.cpu.slots.saved 0) c.self.view_is; first = ap (λ (t : SessionState _). t.log.first) c.self.view_is; recorded = ap (λ (t : SessionState _). t.recorded) c.self.view_is; sends = c.in-Err.ensures.keeps.sends.first ∙ ap (λ (t : SessionState _). t.replies.first) c.self.view_is; keeping = ap (λ (t : SessionState _). keeping_of t) c.self.view_is }) trimmed)
     (held_by the_rules image e.story.earlier (entries e.story) e.story.recoveries e.story.survivor _ _ refl refl e.holds)
@@ -45,41 +27,37 @@ note_rest-requires g c =
     omega (arith, few, c.self.ranges)
 
 pub returns-in-Err-note_rest-clause-served : goal.returns-in-Err-note_rest-clause-served
-returns-in-Err-note_rest-clause-served g c image since ends asked first last all trimmed =
+returns-in-Err-note_rest-clause-served g c image since first ends finishing trimmed =
     let the_rules = rules_by g.R.AccessRule.rule c.args.self.now in
     let here = (g.N.Notes.shown c.args.notes.now).told in
     let told = (g.N.Notes.shown c.note_rest.new.notes).told in
-    let began : Since = record since { noted = here } in
-    let both = subst (λ (s : SessionState _). (ending : IsEnding the_rules image began (g.K.Link.seen c.args.link.now) s c.args.answer) × ((g.K.Link.seen c.args.link.now).takes ≡ false → IsAsking the_rules ending.story)) (sym c.self.view_is)
-    (ends, asked) in
-    let counts = subst (λ (s : SessionState _). last ≡ first + (began.lost + s.steps)) (sym c.self.view_is) all in
+    let both = ending_moved (sym c.self.view_is) ends finishing in
     let e = both.0 in
+    let counts : since.lost + c.args.self.now.steps ≡ since.lost + c.self.inside.steps = ap (λ (s : SessionState _). since.lost + s.steps) (sym c.self.view_is) in
     let passes = c.in_default.ensures.passes the_rules (sends e.story) (end_of e.story) (sym e.received_are ∙ sym c.received-stamp.ensures.count) (ending_ready e) in
-    subst (λ (s : SessionState _). (watched : HasWatched the_rules image (keeping_of s) began.told (g.K.Link.seen c.pass_until.new.link) c.in-Err-note_rest.fault began.noted_before told s.recorded s.choices s.taken s.steps first last began.tables_before began.tables)
-    × UnlessNoteFault c.in-Err-note_rest.fault (HasLeft the_rules image watched.recovered.recoveries watched.recovered.served.session c.note_rest.new.self c.in-Err-note_rest.fault)) (sym c.in-Err-note_rest.ensures.noted.1)
-    (finish_unnoted (λ recoveries account. UnlessNoteFault c.in-Err-note_rest.fault (HasLeft the_rules image recoveries account c.note_rest.new.self c.in-Err-note_rest.fault)) 18446744073709551615 e c.in_default.ensures.keeps.shows.rest
-    passes both.1 c.in-Err-note_rest.ensures.noted.2 told c.in-Err-note_rest.ensures.noted.0 c.in-Err-note_rest.ensures.shows.episodes first last counts (λ more broken. note_unless c.in-Err-note_rest.fault _ c.in-Err-note_rest.ensures.noted.2))
+    subst (λ (s : SessionState _). (watched : HasWatched the_rules image (keeping_of s) first (g.K.Link.seen c.pass_until.new.link) (outcome_of c.in-Err-note_rest.fault s) since.noted_before told (since.lost + c.args.self.now.steps) since.tables_before since.tables)
+    × UnlessNoteFault c.in-Err-note_rest.fault (HasLeft the_rules image watched.recovered.telling c.note_rest.new.self c.in-Err-note_rest.fault)) (sym c.in-Err-note_rest.ensures.noted.1)
+    (finish_unnoted (λ telling. UnlessNoteFault c.in-Err-note_rest.fault (HasLeft the_rules image telling c.note_rest.new.self c.in-Err-note_rest.fault)) (record since { noted = here }) 18446744073709551615 e c.in_default.ensures.keeps.shows.rest
+    passes both.1 c.in-Err-note_rest.ensures.noted.2 told c.in-Err-note_rest.ensures.noted.0 c.in-Err-note_rest.ensures.shows.episodes counts (λ more broken. note_unless c.in-Err-note_rest.fault _ c.in-Err-note_rest.ensures.noted.2))
 
 pub returns-clause-served : goal.returns-clause-served
-returns-clause-served g c image since ends asked first last all trimmed =
+returns-clause-served g c image since first ends finishing trimmed =
     let the_rules = rules_by g.R.AccessRule.rule c.args.self.now in
     let here = (g.N.Notes.shown c.args.notes.now).told in
     let told = (g.N.Notes.shown c.note_rest.new.notes).told in
-    let began : Since = record since { noted = here } in
-    let both = subst (λ (s : SessionState _). (ending : IsEnding the_rules image began (g.K.Link.seen c.args.link.now) s c.args.answer) × ((g.K.Link.seen c.args.link.now).takes ≡ false → IsAsking the_rules ending.story)) (sym c.self.view_is)
-    (ends, asked) in
-    let counts = subst (λ (s : SessionState _). last ≡ first + (began.lost + s.steps)) (sym c.self.view_is) all in
+    let both = ending_moved (sym c.self.view_is) ends finishing in
     let e = both.0 in
+    let counts : since.lost + c.args.self.now.steps ≡ since.lost + c.self.inside.steps = ap (λ (s : SessionState _). since.lost + s.steps) (sym c.self.view_is) in
     let passes = c.in_default.ensures.passes the_rules (sends e.story) (end_of e.story) (sym e.received_are ∙ sym c.received-stamp.ensures.count) (ending_ready e) in
     let low : c.self.inside.taken ≤ 18446744073709551615 = omega (arith, c.self.ranges) in
     let last_session = c.forget_sends.new.self in
-    let Whole : SessionState _ → Type 0 = λ (s : SessionState _). (watched : HasWatched the_rules image (keeping_of s) began.told (g.K.Link.seen c.pass_until.new.link) c.args.answer began.noted_before told s.recorded s.choices s.taken s.steps first last began.tables_before began.tables)
-    × UnlessNoteFault c.args.answer (HasLeft the_rules image watched.recovered.recoveries watched.recovered.served.session last_session c.args.answer) in
+    let Whole : SessionState _ → Type 0 = λ (s : SessionState _). (watched : HasWatched the_rules image (keeping_of s) first (g.K.Link.seen c.pass_until.new.link) (outcome_of c.args.answer s) since.noted_before told (since.lost + c.args.self.now.steps) since.tables_before since.tables)
+    × UnlessNoteFault c.args.answer (HasLeft the_rules image watched.recovered.telling last_session c.args.answer) in
     let stood = subst (λ (s : SessionState _). IsTrimmed s) (sym c.self.view_is) trimmed in
     subst Whole (sym c.forget_sends.ensures.same)
     (subst Whole (sym c.in_default-note_rest.ensures.noted.1)
-    (finish_ok (λ recoveries account. UnlessNoteFault c.args.answer (HasLeft the_rules image recoveries account last_session c.args.answer)) e c.in_default.ensures.keeps.shows.rest low
-    passes both.1 told c.in_default-note_rest.ensures.noted.0 c.in_default-note_rest.ensures.shows.episodes first last counts
+    (finish_ok (λ telling. UnlessNoteFault c.args.answer (HasLeft the_rules image telling last_session c.args.answer)) (record since { noted = here }) e c.in_default.ensures.keeps.shows.rest low
+    passes both.1 told c.in_default-note_rest.ensures.noted.0 c.in_default-note_rest.ensures.shows.episodes counts
     (λ more broken. unless_note c.args.answer _ (λ never.
     left_end c.pass_until.new.replies e.is_end stood e.holds
     (subst (λ (t : SessionState _). HandledAt c.args.answer (HasHandled the_rules image (keeping_of t) e.story.earlier (entries e.story) e.story.recoveries e.story.survivor e.story.survivor.now.state.machine.taken (stands_of t.cpu.slots.saved)) (HasHandled the_rules image (keeping_of t) e.story.earlier (entries e.story) e.story.recoveries e.story.survivor (e.story.survivor.now.state.machine.taken + 1) (stands_of t.cpu.slots.saved)))

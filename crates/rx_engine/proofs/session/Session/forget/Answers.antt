@@ -1,11 +1,4 @@
-use Rattle.std.proofs.Common.{sym, subst, rules}
-use Rattle.session_state.specs.Sessions.{SessionState}
-use Rattle.session_state.specs.Leaving.{IsRecorded}
-use Rattle.session_state.proofs.LeavingLemmas.{forgot_up}
-use Rattle.session_state.specs.Serving.{rules_by}
-use Rattle.session_state.specs.Standing.{entries}
-use Rattle.session_state.proofs.HearingLemmas.{moved}
-use Rattle.session_state.proofs.ChoiceLemmas.{waits_forgets, waits_forgot}
+use Rattle.rx_engine.proofs.Terms.{rules, subst, sym, forgot_up, moved, waits_forgets, waits_forgot, IsRecorded, rules_by, SessionState, entries}
 use Rattle.rx_engine.proofs.session.Session.forget.Goals as goal
 
 pub forget-requires : goal.forget-requires

@@ -1,20 +1,8 @@
-use Rattle.std.proofs.Common.{◌≤◌, [], ◌∷◌, Ok, Err, refl, sym, ◌∙◌, ap, subst, arith, rules}
-use Rattle.links.specs.Seen.{Seen}
-use Rattle.item_log.specs.Log.{received}
 use Rattle.links.specs.declared.journal.Entry.TheVariants as entry
 use Rattle.links.specs.declared.journal.LinkEvent.TheVariants as event
 use Rattle.link_gate.specs.Calls.{ComesLast}
-use Rattle.session_history.specs.Lawful.{Rules}
-use Rattle.session_state.specs.Sessions.{SessionState}
-use Rattle.session_state.specs.Leaving.{IsHandled}
-use Rattle.session_state.specs.Serving.{rules_by}
-use Rattle.session_state.specs.Standing.{Story, entries, sends, then_story}
-use Rattle.session_state.proofs.GuestLemmas.{received_is}
-use Rattle.session_state.proofs.HearingLemmas.{moved, items_heard, close_heard, settle_heard, end_heard, heard_can, heard_opened, heard_closing, heard_settled, heard_last, heard_saved, story_heard, items_hearing, waits_due, waits_closed, waits_settled, if_ok, all_taken, one_counted, quiet_event, stops_by, ends_by}
-use Rattle.session_state.proofs.HeldLemmas.{held_of}
-use Rattle.session_state.proofs.StoryLemmas.{still_takes}
-use Rattle.session_state.proofs.KnownLemmas.{unnoted_passing, unnoted_stopped}
-use Rattle.session_state.proofs.ServingLemmas.{heard_serves, ended_serves, stopped_serves}
+use Rattle.session_state.proofs.guest.GuestLemmas.{received_is}
+use Rattle.rx_engine.proofs.Terms.{Err, Ok, [], ap, arith, refl, rules, subst, sym, ◌∙◌, ◌∷◌, ◌≤◌, Seen, received, Rules, unnoted_passing, unnoted_stopped, ended_serves, heard_serves, stopped_serves, all_taken, close_heard, end_heard, ends_by, heard_can, heard_closing, heard_last, heard_opened, heard_saved, heard_settled, if_ok, items_heard, items_hearing, moved, one_counted, quiet_event, settle_heard, stops_by, story_heard, waits_closed, waits_due, waits_settled, held_of, still_takes, IsHandled, rules_by, SessionState, Story, entries, sends, then_story}
 use Rattle.rx_engine.proofs.session.Session.hear.Goals as goal
 
 pub pass_due-requires : goal.pass_due-requires

@@ -1,15 +1,7 @@
-use Rattle.std.proofs.Common.{◌≡◌, Err, sym, subst, rules}
-use Rattle.std.specs.Prelude.{IfSome, slice_get}
 use Rattle.recovery.proofs.ForgetLemmas.{behind_marks}
-use Rattle.session_state.specs.Serving.{rules_by}
-use Rattle.session_state.specs.Standing.{Since, entries}
 use Rattle.session_state.specs.declared.stop.Stop.TheVariants as stop
-use Rattle.session_state.proofs.ChoiceLemmas.{waits_told, waits_unnoted, waits_left}
-use Rattle.session_state.proofs.FaultLemmas.{note_answered}
-use Rattle.session_state.proofs.HearingLemmas.{moved}
-use Rattle.session_state.proofs.LeavingLemmas.{noted_up, noted_low}
-use Rattle.session_state.proofs.RecordingLemmas.{up_to_safe, waits_up_to, waits_same}
-use Rattle.session_state.proofs.ServingLemmas.{notes_stopped, notes_noted}
+use Rattle.session_state.proofs.guest.RecordingLemmas.{up_to_safe, waits_up_to, waits_same}
+use Rattle.rx_engine.proofs.Terms.{Err, rules, subst, sym, ◌≡◌, IfSome, slice_get, note_answered, noted_low, noted_up, notes_noted, notes_stopped, moved, waits_left, waits_told, waits_unnoted, rules_by, Since, entries}
 use Rattle.rx_engine.proofs.session.Session.note_choices.Goals as goal
 
 pub note_up_to-requires : goal.note_up_to-requires

@@ -1,11 +1,4 @@
-use Rattle.std.proofs.Common.{refl, sym, ◌∙◌, subst, rules}
-use Rattle.session_history.specs.Giving.{IsReady}
-use Rattle.session_state.specs.Sessions.{SessionState}
-use Rattle.session_state.specs.Standing.{entries, moment, sends}
-use Rattle.session_state.specs.Serving.{IsToldBy, StandsPassing}
-use Rattle.session_state.proofs.PassLemmas.{may_pass, passes_ok, breaks_by}
-use Rattle.session_state.proofs.HeldLemmas.{held_by}
-use Rattle.session_state.proofs.KnownLemmas.{pass_answer}
+use Rattle.rx_engine.proofs.Terms.{refl, rules, subst, sym, ◌∙◌, IsReady, pass_answer, breaks_by, may_pass, passes_ok, held_by, IsToldBy, StandsPassing, SessionState, entries, moment, sends}
 use Rattle.rx_engine.proofs.session.Session.pass.Goals as goal
 
 pub pass_until-requires : goal.pass_until-requires

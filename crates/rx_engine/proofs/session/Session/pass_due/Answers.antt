@@ -1,6 +1,4 @@
-use Rattle.std.proofs.Common.{◌≡◌, ◌+◌, ◌<◌, sym, subst, arith}
-use Rattle.session_state.specs.Sessions.{SessionState}
-use Rattle.session_state.proofs.PassingLemmas.{due_ready, due_passed, none_due, none_passed}
+use Rattle.rx_engine.proofs.Terms.{arith, subst, sym, ◌+◌, ◌<◌, ◌≡◌, due_passed, due_ready, none_due, none_passed, SessionState}
 use Rattle.rx_engine.proofs.session.Session.pass_due.Goals as goal
 
 pub returns-in-Some-clause-passes : goal.returns-in-Some-clause-passes

@@ -1,17 +1,4 @@
-use Rattle.std.proofs.Common.{sym, ◌∙◌, ap, subst, rules}
-use Rattle.links.specs.Seen.{Seen}
-use Rattle.session_state.specs.declared.options.Options.{Options}
-use Rattle.session_state.specs.Serving.{rules_by}
-use Rattle.session_state.specs.Standing.{IsGoing, IsWaitingFor}
-use Rattle.session_state.proofs.NeedLemmas.{going_can, going_told}
-use Rattle.session_state.proofs.HeldLemmas.{guest_oldest, passed_oldest, oldest_then}
-use Rattle.link_gate.specs.Passing.{CanGive}
-use Rattle.reply_ledger.specs.Ledger.{Ledger}
-use Rattle.session_state.proofs.HearingLemmas.{handled_same}
-use Rattle.session_state.proofs.DueLemmas.{comes_between}
-use Rattle.session_state.proofs.FrameLemmas.{guest_frame, same_rules}
-use Rattle.session_state.proofs.KnownLemmas.{counted_same, unnoted_passing}
-use Rattle.session_state.proofs.ServingLemmas.{serves_then, passing_serves}
+use Rattle.rx_engine.proofs.Terms.{ap, rules, subst, sym, ◌∙◌, Seen, Ledger, CanGive, Options, counted_same, unnoted_passing, passing_serves, serves_then, handled_same, comes_between, guest_frame, same_rules, guest_oldest, oldest_then, passed_oldest, going_can, going_told, rules_by, IsGoing, IsWaitingFor}
 use Rattle.rx_engine.proofs.session.Session.receive.Goals as goal
 
 pub take-requires-clause-waits : goal.take-requires-clause-waits

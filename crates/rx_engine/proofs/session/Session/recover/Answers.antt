@@ -1,24 +1,7 @@
-use Rattle.std.proofs.Common.{◌≡◌, ℕ, ◌+◌, None, Some, Err, refl, sym, ◌∙◌, ap, rules}
-use Rattle.links.specs.Seen.{Seen}
 use Rattle.run_history.specs.declared.answer.Answer.TheVariants as answer
-use Rattle.session_state.specs.Leaving.{keeping_of}
-use Rattle.session_state.specs.declared.options.Options.{Options}
 use Rattle.session_state.specs.declared.stop.Stop.TheVariants as stop
-use Rattle.session_state.specs.Serving.{rules_by}
-use Rattle.session_state.specs.Sessions.{SessionState}
-use Rattle.session_state.specs.Standing.{Since}
 use Rattle.session_state.specs.Serving.{end_of}
-use Rattle.session_state.proofs.NeedLemmas.{going_can, going_told}
-use Rattle.session_state.proofs.HeldLemmas.{oldest_then, passed_oldest}
-use Rattle.session_state.proofs.DueLemmas.{comes_between}
-use Rattle.session_state.proofs.HearingLemmas.{if_ok}
-use Rattle.session_state.proofs.FrameLemmas.{passed_frame, passed_counted, passed_adopted}
-use Rattle.session_state.proofs.FaultLemmas.{note_answered}
-use Rattle.session_state.proofs.StartLemmas.{lost_then, lost_counts}
-use Rattle.session_state.proofs.StoryLemmas.{still_takes}
-use Rattle.session_state.proofs.RecoverLemmas.{failing_told, broken_told, ends_adopted, goes_adopted, comes_lost, lost_behind, noted_episode, one_more, gives_same}
-use Rattle.session_state.proofs.KnownLemmas.{unnoted_passing}
-use Rattle.session_state.proofs.ServingLemmas.{memory_serves, unnoted_serves, noting_serves, unless_noting, unless_note_stop, episode_stopped, adopted_serves, passing_serves, asking_notes}
+use Rattle.rx_engine.proofs.Terms.{Err, None, Some, ap, refl, rules, sym, ℕ, ◌+◌, ◌∙◌, ◌≡◌, Seen, Options, note_answered, unnoted_passing, adopted_serves, asking_notes, episode_stopped, memory_serves, noting_serves, passing_serves, unless_note_stop, unless_noting, unnoted_serves, lost_counts, lost_then, if_ok, comes_between, broken_told, comes_lost, ends_adopted, failing_told, gives_same, goes_adopted, lost_behind, noted_episode, one_more, passed_adopted, passed_counted, passed_frame, oldest_then, passed_oldest, going_can, going_told, still_takes, keeping_of, rules_by, SessionState, Since}
 use Rattle.rx_engine.proofs.session.Session.recover.Goals as goal
 
 pub returns-in-Err-clause-turns : goal.returns-in-Err-clause-turns

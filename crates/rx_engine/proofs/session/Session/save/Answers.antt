@@ -1,11 +1,5 @@
-use Rattle.std.proofs.Common.{sym, ap, ◌∙◌, rules}
-use Rattle.session_state.specs.Serving.{rules_by}
-use Rattle.session_state.specs.Standing.{entries}
-use Rattle.session_state.proofs.HearingLemmas.{moved}
-use Rattle.session_state.proofs.SaveLemmas.{waits_goes, waits_asks, waits_whole, waits_counted, waits_saved, waits_live, saves_keeping, behind_saved}
-use Rattle.recovery.specs.Handling.{keeping_by}
-use Rattle.session_state.specs.Leaving.{keeping_of}
-use Rattle.session_state.specs.Sessions.{SessionState}
+use Rattle.session_state.proofs.guest.SaveLemmas.{waits_goes, waits_asks, waits_whole, waits_counted, waits_saved, waits_live, saves_keeping, behind_saved}
+use Rattle.rx_engine.proofs.Terms.{ap, rules, sym, ◌∙◌, keeping_by, moved, keeping_of, rules_by, SessionState, entries}
 use Rattle.rx_engine.proofs.session.Session.save.Goals as goal
 
 pub returns-clause-waits : goal.returns-clause-waits

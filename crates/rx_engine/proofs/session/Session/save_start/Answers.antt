@@ -1,13 +1,7 @@
-use Rattle.std.proofs.Common.{◌≡◌, sym, ◌∙◌, ap, rules}
-use Rattle.item_log.specs.Log.{Log}
-use Rattle.reply_ledger.specs.Ledger.{Ledger}
-use Rattle.session_state.specs.Sessions.{SessionState}
 use Rattle.ckpt_ring.specs.Slots.{Slots}
 use Rattle.guest_cpu.specs.Standing.{Standing}
 use Rattle.recovery.specs.Sessions.{taken_in}
-use Rattle.recovery.specs.Handling.{alone, keeping_by}
-use Rattle.session_state.specs.Leaving.{keeping_of}
-use Rattle.session_state.proofs.StartLemmas.{starts_at, starts_none}
+use Rattle.rx_engine.proofs.Terms.{ap, rules, sym, ◌∙◌, ◌≡◌, Log, Ledger, alone, keeping_by, starts_at, starts_none, keeping_of, SessionState}
 use Rattle.rx_engine.proofs.session.Session.save_start.Goals as goal
 
 pub returns-clause-rings : goal.returns-clause-rings

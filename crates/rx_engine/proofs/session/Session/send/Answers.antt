@@ -1,15 +1,5 @@
-use Rattle.std.proofs.Common.{sym, ◌∙◌, ap, subst}
-use Rattle.links.specs.Seen.{Seen}
-use Rattle.reply_ledger.specs.Ledger.{Ledger, NotBefore, times_of, is_open}
-use Rattle.session_state.specs.Serving.{rules_by}
-use Rattle.session_state.specs.Leaving.{keeping_of}
-use Rattle.session_state.specs.Sessions.{SessionState}
-use Rattle.session_state.proofs.NeedLemmas.{emits_later, going_can, going_told, sent_going}
-use Rattle.session_state.proofs.DueLemmas.{comes_between}
-use Rattle.session_state.proofs.StoryLemmas.{still_takes}
-use Rattle.session_state.proofs.ServeLemmas.{run_breaks}
-use Rattle.session_state.proofs.ServingLemmas.{nothing_passed}
-use Rattle.session_state.proofs.RecoverLemmas.{gives_same}
+use Rattle.session_state.proofs.standing.NeedLemmas.{emits_later}
+use Rattle.rx_engine.proofs.Terms.{ap, subst, sym, ◌∙◌, Seen, Ledger, NotBefore, is_open, times_of, nothing_passed, run_breaks, comes_between, gives_same, going_can, going_told, sent_going, still_takes, keeping_of, rules_by, SessionState}
 use Rattle.rx_engine.proofs.session.Session.send.Goals as goal
 
 pub sent-requires-clause-later : goal.sent-requires-clause-later

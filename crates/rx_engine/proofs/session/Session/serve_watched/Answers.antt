@@ -1,23 +1,7 @@
-use Rattle.std.proofs.Common.{◌≡◌, ℕ, Err, ◌+◌, refl, sym, ◌∙◌, ap, subst, arith}
-use Rattle.session_history.specs.Lawful.{Rules}
-use Rattle.session_state.specs.Recovered.{HasWatched}
-use Rattle.session_state.specs.Serving.{rules_by}
 use Rattle.session_state.specs.declared.stop.Stop.TheVariants.{Breaks, Ends}
-use Rattle.session_state.specs.Sessions.{SessionState}
-use Rattle.session_state.specs.Standing.{Since, told_since, IsBrokenOff}
-use Rattle.link_gate.specs.Passing.{CanGive}
-use Rattle.reply_ledger.specs.Ledger.{Ledger}
 use Rattle.session_state.specs.declared.stop.Stop.{Stop}
-use Rattle.session_state.specs.Serving.{StopsBy, IsCounted, UnlessBroken, UnlessNoteFault, UnlessNoteStop}
-use Rattle.session_state.proofs.TableLemmas.{watched_kept}
-use Rattle.session_state.proofs.EndLemmas.{served_off}
-use Rattle.session_state.proofs.FrameLemmas.{same_rules}
-use Rattle.session_state.proofs.HearingLemmas.{cause_then, stops_under}
-use Rattle.session_state.specs.Leaving.{keeping_of, IsTrimmed, HasLeft}
-use Rattle.session_state.proofs.LeavingLemmas.{unless_note, trimmed_unless, left_off, off_requests, of_link}
-use Rattle.session_state.proofs.StartLemmas.{starts_trimmed, begun_keeping, starts_between, starts_counted, starts_giving, frame_then, between_under, lost_then, lost_counts, lost_all}
-use Rattle.session_state.proofs.KnownLemmas.{known_same, known_then}
-use Rattle.session_state.proofs.ServingLemmas.{answers_broken, answers_finished, notes_broken, notes_finished}
+use Rattle.session_history.specs.Ends.{StaysKnown}
+use Rattle.rx_engine.proofs.Terms.{Err, ap, arith, refl, subst, sym, ℕ, ◌+◌, ◌-◌, ◌∙◌, ◌≡◌, Ledger, Rules, CanGive, served_off, known_same, known_then, left_off, of_link, off_requests, trimmed_unless, unless_note, answers_broken, answers_finished, notes_broken, notes_finished, begun_keeping, between_under, frame_then, lost_all, lost_counts, lost_then, starts_between, starts_counted, starts_giving, starts_trimmed, cause_then, stops_under, watched_kept, same_rules, HasLeft, IsTrimmed, keeping_of, HasWatched, IsCounted, IsFinishing, StopsBy, TakesBy, UnlessBroken, UnlessNoteFault, UnlessNoteStop, outcome_of, rules_by, SessionState, IsBrokenOff, Since, told_since}
 use Rattle.rx_engine.proofs.session.Session.serve_watched.Goals as goal
 
 pub turns-init : goal.turns-init
@@ -86,12 +70,13 @@ returns-in-Err-Breaks-clause-served g c image is =
     let off = stops_under image (told_since (g.K.Link.seen c.args.link.now).told (g.N.Notes.shown c.args.notes.now).told (g.N.Notes.shown c.turn.new.notes).told (g.W.Watch.tables c.args.watch.now) (g.W.Watch.tables c.turn.new.watch) (lost_then c.turns.invariant.lost c.turns.self.cpu.slots.live.steps c.turn.new.self.steps (g.W.Watch.ran c.turn.new.watch + c.turns.steps) (g.W.Watch.ran c.turns.watch + c.turn.new.steps))) (g.K.Link.seen c.turn.new.link) c.turn.new.self (Breaks c.in-Err-Breaks.answer) same
     (subst (λ why. StopsBy here image (told_since (g.K.Link.seen c.args.link.now).told (g.N.Notes.shown c.args.notes.now).told (g.N.Notes.shown c.turn.new.notes).told (g.W.Watch.tables c.args.watch.now) (g.W.Watch.tables c.turn.new.watch) (lost_then c.turns.invariant.lost c.turns.self.cpu.slots.live.steps c.turn.new.self.steps (g.W.Watch.ran c.turn.new.watch + c.turns.steps) (g.W.Watch.ran c.turns.watch + c.turn.new.steps))) (g.K.Link.seen c.turn.new.link) c.turn.new.self why) c.in-Err-Breaks.field-0-is
     (c.in-Err-Breaks.ensures.turns image (told_since (g.K.Link.seen c.args.link.now).told (g.N.Notes.shown c.args.notes.now).told (g.N.Notes.shown c.turns.notes).told (g.W.Watch.tables c.args.watch.now) (g.W.Watch.tables c.turns.watch) c.turns.invariant.lost) (lost_then c.turns.invariant.lost c.turns.self.cpu.slots.live.steps c.turn.new.self.steps (g.W.Watch.ran c.turn.new.watch + c.turns.steps) (g.W.Watch.ran c.turns.watch + c.turn.new.steps)) (between_under (sym same) (c.turns.invariant.stands image is)) (λ others. lost_counts c.turns.invariant.lost c.turns.self.cpu.slots.live.steps c.turn.new.self.steps (g.W.Watch.ran c.turn.new.watch + c.turns.steps) (g.W.Watch.ran c.turns.watch + c.turn.new.steps) c.in-Err-Breaks.ensures.least))) in
-    watched_kept (λ recoveries account. UnlessNoteFault c.in-Err-Breaks.answer (HasLeft the_rules image recoveries account c.turn.new.self c.in-Err-Breaks.answer)) (c.in-Err-Breaks.ensures.keeps.keeping ∙ (c.turns.invariant.keeping ∙ begun_keeping is))
-    (served_off (λ recoveries account. UnlessNoteFault c.in-Err-Breaks.answer (HasLeft the_rules image recoveries account c.turn.new.self c.in-Err-Breaks.answer)) off.0 off.1 (g.W.Watch.ran c.turn.new.watch + c.args.steps.now) (g.W.Watch.ran c.args.watch.now + c.turn.new.steps) (λ others. (lost_all c.args.steps.now c.turns.invariant.lost c.turns.self.cpu.slots.live.steps c.turn.new.self.steps c.turns.steps c.turn.new.steps (g.W.Watch.ran c.args.watch.now) (g.W.Watch.ran c.turns.watch) (g.W.Watch.ran c.turn.new.watch) c.turns.invariant.counted c.in-Err-Breaks.ensures.least))
+    let all = lost_all c.args.steps.now c.turns.invariant.lost c.turns.self.cpu.slots.live.steps c.turn.new.self.steps c.turns.steps c.turn.new.steps (g.W.Watch.ran c.args.watch.now) (g.W.Watch.ran c.turns.watch) (g.W.Watch.ran c.turn.new.watch) c.turns.invariant.counted c.in-Err-Breaks.ensures.least in
+    watched_kept (λ telling. UnlessNoteFault c.in-Err-Breaks.answer (HasLeft the_rules image telling c.turn.new.self c.in-Err-Breaks.answer)) (c.in-Err-Breaks.ensures.keeps.keeping ∙ (c.turns.invariant.keeping ∙ begun_keeping is))
+    (served_off (λ telling. UnlessNoteFault c.in-Err-Breaks.answer (HasLeft the_rules image telling c.turn.new.self c.in-Err-Breaks.answer)) (told_since (g.K.Link.seen c.args.link.now).told (g.N.Notes.shown c.args.notes.now).told (g.N.Notes.shown c.turn.new.notes).told (g.W.Watch.tables c.args.watch.now) (g.W.Watch.tables c.turn.new.watch) (lost_then c.turns.invariant.lost c.turns.self.cpu.slots.live.steps c.turn.new.self.steps (g.W.Watch.ran c.turn.new.watch + c.turns.steps) (g.W.Watch.ran c.turns.watch + c.turn.new.steps))) {first = g.K.Link.seen c.args.link.now} off.0 off.1 (λ others. omega (arith, all))
     (unless_note c.in-Err-Breaks.answer _ (λ never.
     left_off off.0.no_end
     (trimmed_unless c.in-Err-Breaks.answer (IsTrimmed c.turn.new.self) never (subst (λ (why : Stop). UnlessNoteStop (Err why) (IsTrimmed c.turn.new.self)) c.in-Err-Breaks.field-0-is (c.in-Err-Breaks.ensures.keeps.trimmed c.turns.invariant.trimmed))) (off.0.holds never)
-    (off_requests c.in-Err-Breaks.answer off.0.no_end (off.0.holds never).requests off.0.handled never (of_link the_rules (g.K.Link.seen c.turn.new.link).coming off.0.account c.in-Err-Breaks.answer off.0.ends off.0.no_end never)))))
+    (off_requests c.in-Err-Breaks.answer off.0.no_end (off.0.holds never).requests off.0.handled never (of_link the_rules off.0.telling.account c.in-Err-Breaks.answer off.0.is.ended.ends off.0.none_came off.0.no_end never)))))
 
 pub finish-requires : goal.finish-requires
 finish-requires g c =
@@ -122,13 +107,24 @@ returns-in-Err-Ends-clause-served g c image is =
     let stops = stops_under image began (g.K.Link.seen c.turn.new.link) c.turn.new.self (Ends c.in-Err-Ends.answer) (sym then)
     (subst (λ why. StopsBy here image began (g.K.Link.seen c.turn.new.link) c.turn.new.self why) c.in-Err-Ends.field-0-is
     (c.in-Err-Ends.ensures.turns image (told_since (g.K.Link.seen c.args.link.now).told (g.N.Notes.shown c.args.notes.now).told (g.N.Notes.shown c.turns.notes).told (g.W.Watch.tables c.args.watch.now) (g.W.Watch.tables c.turns.watch) c.turns.invariant.lost) (lost_then c.turns.invariant.lost c.turns.self.cpu.slots.live.steps c.turn.new.self.steps (g.W.Watch.ran c.turn.new.watch + c.turns.steps) (g.W.Watch.ran c.turns.watch + c.turn.new.steps)) (between_under (sym same) (c.turns.invariant.stands image is)) (λ others. lost_counts c.turns.invariant.lost c.turns.self.cpu.slots.live.steps c.turn.new.self.steps (g.W.Watch.ran c.turn.new.watch + c.turns.steps) (g.W.Watch.ran c.turns.watch + c.turn.new.steps) c.in-Err-Ends.ensures.least))) in
-    watched_kept (λ recoveries account. UnlessNoteFault c.finish.result (HasLeft the_rules image recoveries account c.finish.new.self c.finish.result))
+    let first = g.K.Link.seen c.args.link.now in
+    let finishing : IsFinishing later first (g.K.Link.seen c.turn.new.link) stops.0.story c.in-Err-Ends.answer = record {
+      asked = stops.1;
+      takes = subst (λ (why : Stop). TakesBy {X = Unit {0}} (g.K.Link.seen c.turn.new.link).takes (Err why)) c.in-Err-Ends.field-0-is c.in-Err-Ends.ensures.keeps.link.takes;
+      known = known_then first.coming (g.K.Link.seen c.turns.link).coming (g.K.Link.seen c.turn.new.link).coming c.turns.invariant.known (subst (λ (why : Stop). UnlessBroken {X = Unit {0}} (Err why) (StaysKnown (g.K.Link.seen c.turns.link).coming (g.K.Link.seen c.turn.new.link).coming)) c.in-Err-Ends.field-0-is c.in-Err-Ends.ensures.keeps.link.known);
+    } in
+    let all = lost_all c.args.steps.now c.turns.invariant.lost c.turns.self.cpu.slots.live.steps c.turn.new.self.steps c.turns.steps c.turn.new.steps (g.W.Watch.ran c.args.watch.now) (g.W.Watch.ran c.turns.watch) (g.W.Watch.ran c.turn.new.watch) c.turns.invariant.counted c.in-Err-Ends.ensures.least in
+    let counts : began.lost + c.turn.new.self.steps ≡ (g.W.Watch.ran c.args.watch.now + c.turn.new.steps) - (g.W.Watch.ran c.turn.new.watch + c.args.steps.now) = omega (arith, all) in
+    watched_kept (λ telling. UnlessNoteFault c.finish.result (HasLeft the_rules image telling c.finish.new.self c.finish.result))
     (ap (λ (s : SessionState _). keeping_of s) c.finish.ensures.same ∙ (c.in-Err-Ends.ensures.keeps.keeping ∙ (c.turns.invariant.keeping ∙ begun_keeping is)))
     (subst
-    (λ (r : Rules). (watched : HasWatched r image (keeping_of c.finish.new.self) began.told (g.K.Link.seen c.finish.new.link) c.finish.result (g.N.Notes.shown c.args.notes.now).told (g.N.Notes.shown c.finish.new.notes).told c.finish.new.self.recorded c.finish.new.self.choices c.finish.new.self.taken c.finish.new.self.steps (g.W.Watch.ran c.turn.new.watch + c.args.steps.now) (g.W.Watch.ran c.args.watch.now + c.turn.new.steps) (g.W.Watch.tables c.args.watch.now) (g.W.Watch.tables c.turn.new.watch))
-    × UnlessNoteFault c.finish.result (HasLeft r image watched.recovered.recoveries watched.recovered.served.session c.finish.new.self c.finish.result))
-    (then ∙ same) (c.finish.ensures.served image began stops.0 stops.1 (g.W.Watch.ran c.turn.new.watch + c.args.steps.now) (g.W.Watch.ran c.args.watch.now + c.turn.new.steps) (lost_all c.args.steps.now c.turns.invariant.lost c.turns.self.cpu.slots.live.steps c.turn.new.self.steps c.turns.steps c.turn.new.steps (g.W.Watch.ran c.args.watch.now) (g.W.Watch.ran c.turns.watch) (g.W.Watch.ran c.turn.new.watch) c.turns.invariant.counted c.in-Err-Ends.ensures.least)
-    (subst (λ (why : Stop). UnlessNoteStop (Err why) (IsTrimmed c.turn.new.self)) c.in-Err-Ends.field-0-is (c.in-Err-Ends.ensures.keeps.trimmed c.turns.invariant.trimmed))))
+    (λ (r : Rules). (watched : HasWatched r image (keeping_of c.finish.new.self) first (g.K.Link.seen c.finish.new.link) (outcome_of c.finish.result c.finish.new.self) (g.N.Notes.shown c.args.notes.now).told (g.N.Notes.shown c.finish.new.notes).told ((g.W.Watch.ran c.args.watch.now + c.turn.new.steps) - (g.W.Watch.ran c.turn.new.watch + c.args.steps.now)) (g.W.Watch.tables c.args.watch.now) (g.W.Watch.tables c.turn.new.watch))
+    × UnlessNoteFault c.finish.result (HasLeft r image watched.recovered.telling c.finish.new.self c.finish.result))
+    (then ∙ same)
+    (subst (λ n. (watched : HasWatched later image (keeping_of c.finish.new.self) first (g.K.Link.seen c.finish.new.link) (outcome_of c.finish.result c.finish.new.self) (g.N.Notes.shown c.args.notes.now).told (g.N.Notes.shown c.finish.new.notes).told n (g.W.Watch.tables c.args.watch.now) (g.W.Watch.tables c.turn.new.watch))
+    × UnlessNoteFault c.finish.result (HasLeft later image watched.recovered.telling c.finish.new.self c.finish.result)) counts
+    (c.finish.ensures.served image began first stops.0 finishing
+    (subst (λ (why : Stop). UnlessNoteStop (Err why) (IsTrimmed c.turn.new.self)) c.in-Err-Ends.field-0-is (c.in-Err-Ends.ensures.keeps.trimmed c.turns.invariant.trimmed)))))
 
 pub returns-in-Err-Breaks-clause-counted_at_least : goal.returns-in-Err-Breaks-clause-counted_at_least
 returns-in-Err-Breaks-clause-counted_at_least g c =

@@ -1,5 +1,4 @@
-use Rattle.std.proofs.Common.{◌≡◌, ◌+◌, ◌-◌, ◌*◌}
-use Rattle.session_state.proofs.StartLemmas.{HasTurned}
+use Rattle.rx_engine.proofs.Terms.{◌*◌, ◌+◌, ◌-◌, ◌≡◌, HasTurned}
 use Rattle.rx_engine.proofs.session.Session.serve_watched.Given as goal
 
 abbrev pub invariant-turns : goal.invariant-turns

@@ -1,10 +1,7 @@
-use Rattle.std.proofs.Common.{◌≡◌, ◌≤◌, None, sym, subst}
-use Rattle.item_log.specs.Log.{IsItemOf}
 use Rattle.run_history.specs.Machine.{Wants}
 use Rattle.run_history.specs.Run.{does}
-use Rattle.session_state.specs.Sessions.{SessionState}
-use Rattle.session_state.proofs.TakeLemmas.{waits_wants, waits_short, taken_going}
-use Rattle.session_state.proofs.ChoiceLemmas.{waits_kept}
+use Rattle.session_state.proofs.guest.TakeLemmas.{waits_wants, waits_short, taken_going}
+use Rattle.rx_engine.proofs.Terms.{None, subst, sym, ◌≡◌, ◌≤◌, IsItemOf, waits_kept, SessionState}
 use Rattle.rx_engine.proofs.session.Session.take.Goals as goal
 
 pub item-requires-clause-kept : goal.item-requires-clause-kept

@@ -1,22 +1,7 @@
-use Rattle.std.proofs.Common.{◌≡◌, ◌+◌, ◌<◌, ◌≤◌, Err, arith, refl, sym, ◌∙◌, ap, subst, rules}
-use Rattle.reply_ledger.specs.Ledger.{Ledger}
-use Rattle.link_gate.specs.Passing.{CanGive}
 use Rattle.session_state.specs.Options.{rules_of}
-use Rattle.session_history.specs.Lawful.{Rules}
 use Rattle.run_history.specs.declared.answer.Answer.TheVariants as answer
 use Rattle.session_state.specs.declared.stop.Stop.TheVariants as stop
-use Rattle.guest_cpu.specs.Cpus.{CpuState}
-use Rattle.session_state.specs.Serving.{rules_by}
-use Rattle.session_state.specs.Sessions.{SessionState}
-use Rattle.session_state.specs.Standing.{Since}
-use Rattle.session_state.specs.Serving.{MayServe}
-use Rattle.session_state.proofs.StoryLemmas.{still_takes}
-use Rattle.session_state.proofs.HearingLemmas.{if_ok, waits_under}
-use Rattle.session_state.proofs.FrameLemmas.{same_rules}
-use Rattle.session_state.proofs.TurnLemmas.{has_run, ran_later, ran_low, emits_later, chooses_later, ran_frame, asks_now, exits_now, fails_now, ran_keeping, breaks_now, comes_under, run_under, fails_under, later_ok, lost_none, lost_failed, further_ok, further_adopted, steps_unless}
-use Rattle.session_state.proofs.RecoverLemmas.{comes_lost}
-use Rattle.session_state.proofs.KnownLemmas.{unnoted_passing}
-use Rattle.session_state.proofs.ServingLemmas.{passing_serves, chosen_serves, exited_serves, memory_serves, unnoted_serves, unnoted_chosen}
+use Rattle.rx_engine.proofs.Terms.{Err, ap, arith, refl, rules, subst, sym, ◌+◌, ◌<◌, ◌∙◌, ◌≡◌, ◌≤◌, Ledger, CpuState, Rules, CanGive, unnoted_passing, chosen_serves, exited_serves, memory_serves, passing_serves, unnoted_chosen, unnoted_serves, asks_now, breaks_now, chooses_later, comes_under, emits_later, exits_now, fails_now, fails_under, further_adopted, further_ok, has_run, later_ok, lost_failed, lost_none, ran_frame, ran_keeping, ran_later, ran_low, run_under, steps_unless, if_ok, waits_under, comes_lost, same_rules, still_takes, MayServe, rules_by, SessionState, Since}
 use Rattle.rx_engine.proofs.session.Session.turn.Goals as goal
 
 pub ask-requires : goal.ask-requires

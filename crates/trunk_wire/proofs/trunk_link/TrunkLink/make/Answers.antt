@@ -1,4 +1,4 @@
-use Rattle.std.proofs.Common.{rules}
+use Rattle.trunk_wire.proofs.Terms.{rules}
 use Rattle.trunk_wire.proofs.GiveLemmas.{start_told}
 use Rattle.trunk_wire.proofs.trunk_link.TrunkLink.make.Goals as goal
 

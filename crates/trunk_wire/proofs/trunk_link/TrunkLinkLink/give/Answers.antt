@@ -1,11 +1,7 @@
-use Rattle.std.proofs.Common.{arith, refl, rules}
-use Rattle.std.proofs.lemmas.Bool.{ltb-true}
-use Rattle.trunk_wire.specs.GoingLaws.{takes_same}
-use Rattle.trunk_wire.specs.TrunkLinks.{intake_of}
+use Rattle.trunk_wire.proofs.Terms.{arith, refl, rules, ltb-true, CONNECTIONS, intake_of, takes_same}
 use Rattle.trunk_wire.proofs.GiveLemmas.{give_told}
 use Rattle.trunk_wire.proofs.GoingLemmas.{give_wrote}
 use Rattle.trunk_wire.proofs.trunk_link.TrunkLinkLink.give.Goals as goal
-use Rattle.links.specs.declared.connection_table.TheConstants.{CONNECTIONS}
 
 pub returns-clause-shows : goal.returns-clause-shows
 returns-clause-shows g c = record {

@@ -1,6 +1,4 @@
-use Rattle.std.proofs.Common.{refl, rules}
-use Rattle.trunk_wire.specs.GoingLaws.{gives_same}
-use Rattle.trunk_wire.specs.TrunkLinks.{output_of}
+use Rattle.trunk_wire.proofs.Terms.{refl, rules, output_of, gives_same}
 use Rattle.trunk_wire.proofs.GoingLemmas.{next_took}
 use Rattle.trunk_wire.proofs.LinkLemmas.{next_told, next_goes_by}
 use Rattle.trunk_wire.proofs.trunk_link.TrunkLinkLink.next.Goals as goal

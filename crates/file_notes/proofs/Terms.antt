@@ -1,0 +1,9 @@
+-- The words and lemmas that this crate's proofs are written in: those of crates below, and its own words.
+pub use Rattle.std.proofs.Common.{Bool, Err, List, None, Ok, Option, Result, Some, [], add-zero, ap, append-nil, append_assoc, arith, inl, inr, length, length-append, refl, subst, suc, sym, take, true, unwrap_or, zero-add, ℕ, ◌++◌, ◌+◌, ◌∙◌, ◌∷◌, ◌≡◌}
+pub use Rattle.file_notes.specs.Terms.{Adds, AddsFront, Choice, Contents, Episode, Form, IoFault, Starts, choice_lines, episode_text}
+pub use Rattle.file_notes.specs.Texts.{episode_texts}
+pub use Rattle.file_notes.specs.Names.{AreTwo, Names, bytes_in}
+pub use Rattle.file_notes.specs.Left.{InRecord, InReport, Left, Nothing, is_whole}
+pub use Rattle.file_notes.specs.Standing.{in_report}
+pub use Rattle.file_notes.specs.Past.{Had, Past, with_episode}
+pub use Rattle.file_notes.specs.Writing.{HasPart, Kept, Writes, WritesBoth, all_kept, nothing_kept}

@@ -1,0 +1,48 @@
+-- The words that this crate's definitions are written in: those of crates below, and types of its code.
+pub use Rattle.std.specs.declared.alloc.AllocError.{AllocError}
+pub use Rattle.block_book.specs.declared.choice.Choice.{Choice}
+pub use Rattle.block_book.specs.Answer.{live_blocks, without_live}
+unfoldable pub use Rattle.block_book.specs.Answer.{is_allowed, is_clear}
+pub use Rattle.block_book.specs.Block.{live_block}
+pub use Rattle.block_book.specs.Heap.{Heap, IsHeap, SameEnds, empty_heap, is_live_at, most_blocks, with_block, without_block}
+pub use Rattle.alloc_env.specs.declared.env.Env.{Env}
+pub use Rattle.alloc_env.specs.Serving.{live_with}
+unfoldable pub use Rattle.alloc_env.specs.Serving.{served_free, served_malloc}
+pub use Rattle.cow_pages.specs.declared.frame_copy.TheConstants.{PAGE}
+pub use Rattle.cow_pages.specs.declared.store.TheConstants.{MAX_SLOTS}
+pub use Rattle.cow_pages.specs.Pages.{IsLawful, IsMade, Pages, Space, slot_at}
+pub use Rattle.ckpt_ring.specs.Slots.{AreSound, IsOldest, IsUnusedNewest, Slots, newest_slot, restored, saved_to, slot_numbers, used_pages, without_newest, without_oldest}
+pub use Rattle.page_line.specs.Line.{IsLine, Line, base_without_oldest, count_true, differ, frames_of, line_of, newest_of, saved_behind, slots_of, with_reached, written_pages, written_since}
+pub use Rattle.rv_isa.specs.declared.instr.Instr.{Instr}
+pub use Rattle.rv_isa.specs.declared.instr.Instr.TheVariants.{Ecall, Store}
+pub use Rattle.rv_isa.specs.Meaning.{store_size}
+unfoldable pub use Rattle.rv_isa.specs.Meaning.{displaced}
+pub use Rattle.elf_image.specs.declared.image.Image.{Image}
+pub use Rattle.elf_image.specs.Image.{base, heap_end, heap_start, memory_of, stack_top}
+pub use Rattle.elf_image.specs.Memory.{Area, bytes_at, each_covered, execute, put_bytes, read, write}
+unfoldable pub use Rattle.elf_image.specs.Memory.{permitted}
+pub use Rattle.run_history.specs.declared.answer.Cause.{Cause}
+pub use Rattle.run_history.specs.declared.answer.Cause.TheVariants.{AssertFailed, BadAccess, BadFree, BadInstruction, Hang}
+pub use Rattle.run_history.specs.declared.regs.Regs.{Regs}
+pub use Rattle.run_history.specs.Call.{answered, chooses, free, malloc, may_send}
+unfoldable pub use Rattle.run_history.specs.Call.{allocated, freed, received}
+pub use Rattle.run_history.specs.Machine.{Chooses, Effect, Emits, Ends, Fails, Goes, Machine, Wants, register, with_register}
+unfoldable pub use Rattle.run_history.specs.Machine.{start_machine}
+pub use Rattle.run_history.specs.Repeating.{repeated}
+pub use Rattle.run_history.specs.Run.{after, word_at}
+unfoldable pub use Rattle.run_history.specs.Run.{does, instruction}
+pub use Rattle.run_history.specs.Served.{Free, Grant, Guest, IsLaidOut, Limits, Malloc, Nothing, Path, Request, does_with, granted, guest_of, is_refused, listed, longer, request_of}
+unfoldable pub use Rattle.run_history.specs.Served.{grant, served_next, serves}
+pub use Rattle.run_history.specs.Touching.{Range, buffer, call_buffer, touched_by}
+unfoldable pub use Rattle.run_history.specs.Touching.{instruction_at, touched}
+pub use Rattle.guest_space.specs.Access.{IsStart, Puts, Releases, Saves, SavesOver}
+pub use Rattle.guest_space.specs.Space.{GuestPages, IsLawfulSpace, Span, blank_span, flat, saved_flat, segment_span}
+pub use Rattle.call_gate.specs.declared.call.Call.{Call}
+pub use Rattle.call_gate.specs.Calls.{called}
+pub use Rattle.call_gate.specs.Checks.{checked}
+pub use Rattle.rv_exec.specs.Execution.{fetched, or_bad}
+pub use Rattle.rv_exec.specs.Quick.{IsStep}
+unfoldable pub use Rattle.rv_exec.specs.Quick.{Ran}
+pub use Rattle.rv_exec.specs.Stepping.{Leaves, StepsTo, limits_of, under}
+pub use Rattle.guest_cpu.specs.declared.event.Event.{Event}
+pub use Rattle.guest_cpu.specs.declared.event.Question.{Question}

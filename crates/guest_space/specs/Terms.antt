@@ -1,0 +1,14 @@
+-- The words that this crate's definitions are written in: those of crates below, and types of its code.
+pub use Rattle.std.specs.List.{All, AllPairs}
+pub use Rattle.cow_pages.specs.declared.frame_copy.TheConstants.{PAGE}
+pub use Rattle.cow_pages.specs.Pages.{IsLawful, IsMade, Pages, Space, has, held_of, saved_numbers, slot_at, used_of}
+pub use Rattle.cow_pages.specs.Writes.{Writes, copied_pages, is_shared, put_at, reaches}
+pub use Rattle.rv_isa.specs.Words.{little_bytes, little_number}
+pub use Rattle.elf_image.specs.declared.image.Image.{Image}
+pub use Rattle.elf_image.specs.declared.layout.TheConstants.{STACK}
+pub use Rattle.elf_image.specs.declared.segment.Segment.{Segment}
+pub use Rattle.elf_image.specs.Image.{base, blank_area, heap_end, heap_start, memory_of, segment_area, stack_top}
+unfoldable pub use Rattle.elf_image.specs.Image.{zeros}
+pub use Rattle.elf_image.specs.Layout.{IsPlaced, share_byte}
+pub use Rattle.elf_image.specs.Memory.{Area, byte_at, bytes_at, covers, each_covered, put_byte, put_bytes, write}
+unfoldable pub use Rattle.elf_image.specs.Memory.{permitted}

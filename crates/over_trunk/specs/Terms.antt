@@ -1,0 +1,45 @@
+-- The words that this crate's definitions are written in: those of crates below, and types of its code.
+pub use Rattle.std.specs.Io.KnownBytes.{Appends}
+pub use Rattle.std.specs.List.{AllByRecursion}
+pub use Rattle.rx_io.specs.Outside.{IsDrained, Stream, Took}
+pub use Rattle.rx_io.specs.Prefix.{Prefix}
+pub use Rattle.rx_io.specs.Sends.{Send, sent_to}
+pub use Rattle.links.specs.declared.journal.Entry.{Entry}
+pub use Rattle.links.specs.declared.journal.LinkEvent.{LinkEvent}
+pub use Rattle.links.specs.LinkForms.{gives_below_4096, handed_by}
+pub use Rattle.links.specs.Links.{Comes, Coming, Counts, Grew, Handed, HasEnded, IsFresh, IsInOrder, Phases, Piece, Refuses, Told, Unopened, cut_entries, events_in, phases_after, pieces_in}
+pub use Rattle.links.specs.Seen.{Seen, no_faults}
+pub use Rattle.block_book.specs.declared.choice.Choice.{Choice}
+pub use Rattle.trunk_wire.specs.declared.refusal.Refusal.{Refusal}
+pub use Rattle.trunk_wire.specs.Calls.{IsRefused, Writes, WritesBy, count_after}
+pub use Rattle.trunk_wire.specs.Frames.{AreFramesOf, IsFrameOf, frames, header_of, piece_frame}
+pub use Rattle.trunk_wire.specs.Going.{AreInOrder, GivesOn, Intake, IsCut, IsFramed, IsTail, Output, TakesOn, TookFrames, WroteFrames, phases_behind}
+pub use Rattle.trunk_wire.specs.Grammar.{Bad, Part, Whole, coming_of, event_at, event_of, front, front_accepted, front_by, header_refusal}
+pub use Rattle.trunk_wire.specs.Parts.{last_bytes, put_bytes}
+pub use Rattle.trunk_wire.specs.Pieces.{event_reader, events, fresh, given_to, payload, pieces, whole_event}
+pub use Rattle.trunk_wire.specs.Tellings.{is_in_step, is_whole, told_coming, told_events, told_nothing, told_pieces, trunk_told}
+pub use Rattle.trunk_wire.specs.TrunkLinks.{TrunkWent, intake_of, output_of, seen_of, told_of}
+pub use Rattle.item_log.specs.Heard.{heard, items_of}
+pub use Rattle.elf_image.specs.declared.image.Image.{Image}
+pub use Rattle.run_history.specs.declared.answer.Answer.{Answer}
+pub use Rattle.run_history.specs.Machine.{State}
+unfoldable pub use Rattle.run_history.specs.Machine.{start}
+pub use Rattle.run_history.specs.Run.{Run, run}
+pub use Rattle.session_history.specs.Account.{IsAccount, Session, journal_of}
+pub use Rattle.session_history.specs.AccountLaws.{AreInTurn, IsComplete}
+pub use Rattle.session_history.specs.Answering.{HasAnswerCause}
+pub use Rattle.session_history.specs.Ends.{HasComeTo, IsEnd, IsEnded, IsLastRefused, StaysKnown, TakesAtEnd, WasAsked, before_end}
+pub use Rattle.session_history.specs.Heeding.{Bounds, LimitEvents, LimitItems, TooLong, Unheeded, heeded, items_in, refusal}
+unfoldable pub use Rattle.session_history.specs.Heeding.{heeded_behind}
+pub use Rattle.session_history.specs.Lawful.{Rules, entries_of}
+pub use Rattle.session_history.specs.Passing.{passed_behind, passed_in}
+pub use Rattle.session_notes.specs.Noting.{Noted}
+pub use Rattle.recovery.specs.Handling.{HasHandled, HasRing, Keeping, Stand, stands_of}
+pub use Rattle.schedule_file.specs.declared.recorded.Recorded.{Recorded}
+pub use Rattle.session_state.specs.Leaving.{HandledAt, HasLeft, keeping_of}
+pub use Rattle.session_state.specs.Recovered.{HasRecovered, IsOutcome, Outcome, Telling}
+pub use Rattle.session_state.specs.Serving.{BreaksAt, LinkAnswers, UnlessNoteFault, outcome_of, rules_by}
+pub use Rattle.session_state.specs.Sessions.{IsBegun, SessionState}
+pub use Rattle.replay.specs.Giving.{AreGiven, BreaksOff, found_gone, piece_of}
+pub use Rattle.replay.specs.Laws.{BringsFirst, HadOneStream, HasSession, IsRecordOf}
+pub use Rattle.replay.specs.Replaying.{AreAsked, EndsBy, HasReplayed, HasReplayedBy, IsAsking, IsReplay, LeavesLink, Replay, bounds_of}

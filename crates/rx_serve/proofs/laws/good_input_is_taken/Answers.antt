@@ -1,0 +1,5 @@
+use Rattle.rx_serve.proofs.SessionLaws.{good_input_is_taken}
+use Rattle.rx_serve.proofs.laws.good_input_is_taken.Goals as goal
+
+pub returns : goal.returns
+returns c = good_input_is_taken c.no_other_end.ensures

@@ -1,0 +1,178 @@
+-- Where a session stands at its begin, and after each turn.
+use Rattle.item_log.specs.Log as logs
+use Rattle.reply_ledger.specs.Inside as I
+use Rattle.reply_ledger.specs.Shows as S
+use Rattle.reply_ledger.specs.Ledger as ledgers
+use Rattle.guest_runs.specs.Laws.{IsStart}
+use Rattle.std.specs.Option.{unwrap_or}
+use Rattle.run_history.specs.Machine as M
+use Rattle.session_history.specs.Heeding as H
+use Rattle.session_state.proofs.Lemmas.{in_force_by, tells_same, none_noted, tells_none, start_trimmed}
+use Rattle.session_state.proofs.Terms.{Bool, List, None, Option, [], ap, arith, drop, false, inl, length, refl, subst, suc, sym, take, true, zero, ℕ, ◌*◌, ◌++◌, ◌+◌, ◌-◌, ◌/◌, ◌∙◌, ◌∷◌, ◌≡◌, ◌≤◌, replicate, slice_get, Send, Grew, IsFresh, Seen, Heap, Checkpoints, Ledger, no_replies, Image, no_connections, origin, CpuState, standing_of, Standing, runs_start, served_same, serving_first, Bounds, items_in, KeepsReplies, Rules, Stands, CanGive, Try, Noted, Shown, recovered_first, in_force_none, handled_first, alone, keeping_by, stands_of, KeepsRing, keeping_for, rules_of, IsBegun, SessionState, AreTables, IsTrimmed, keeping_of, IsBetween, Since, Story, told_since, HasSameFrame, IsCounted, MayServe, StaysKnown}
+
+-- the story of no event
+abbrev first_story : Image → Story
+first_story image = record { earlier = []; recoveries = []; survivor = record { plan = []; begun = origin image; now = origin image }; since = [] }
+
+-- of no send there is none
+none_stands : {send : Send} → Stands [] send → ⊥
+none_stands {send = send} stands = by stands.earlier stands.split
+  where
+    by : (earlier : List Send) → [] ≡ earlier ++ send ∷ stands.later → ⊥
+    by [] same = cc
+    by (first ∷ more) same = cc
+
+-- where no connection is open, none is
+none_open : (count conn : ℕ) → unwrap_or (slice_get (replicate count false) conn) false ≡ false
+none_open zero conn = refl
+none_open (suc count) zero = refl
+none_open (suc count) (suc conn) = none_open count conn
+
+none_known : (conn : ℕ) → unwrap_or (slice_get no_connections conn) false ≡ false
+unfolding no_connections
+none_known conn = none_open 4096 conn
+
+-- a ledger without replies is that of an empty journal
+first_replies : {bounds : Bounds} → KeepsReplies bounds [] None [] no_replies
+unfolding H.heeded_behind I.earlier_at S.stamped_of ledgers.connection_of ledgers.stamped_to ledgers.is_open
+first_replies = record {
+  shows = record { counted = omega arith; kept = refl; opened = λ conn none. refl; earlier = λ conn. refl; passed = λ conn. refl };
+  opened = λ conn. refl;
+  may = λ conn. refl;
+  gone = λ conn is. absurd (let no : ⊥ = cc in no);
+  given_up = λ conn may. omega arith;
+  sendable = tt;
+}
+
+-- how many instructions were counted behind a turn that aren't of the survivor's run: so many as all of them are more
+abbrev pub lost_then : ℕ → ℕ → ℕ → ℕ → ℕ → ℕ
+lost_then lost live steps before after = (lost + live + after) - (steps + before)
+
+pub lost_counts : (lost live steps before after : ℕ) → steps + before ≤ after + live → lost_then lost live steps before after + steps + before ≡ lost + live + after
+lost_counts lost live steps before after least = omega (arith, least)
+
+-- and with what the watch has counted: before the first turn, before this one, and behind it
+pub lost_all : (first lost live steps before after began ran later : ℕ) → began + before ≡ ran + first + (lost + live) → steps + (later + before) ≤ ran + after + live
+    → began + after ≡ later + first + (lost_then lost live steps (later + before) (ran + after) + steps)
+lost_all first lost live steps before after began ran later counted least = omega (arith, counted, least)
+
+module _ {R : Type 0} where
+  -- its guest stands at the start
+  pub starts_at : {image : Image} {session : SessionState R} → IsBegun image session.options session.cpu.rule session → session.cpu.slots.live ≡ standing_of (origin image)
+  starts_at {image = image} begun = let start : IsStart image 0 = runs_start image 0 in begun.cpu.live_is ∙ sym start.stands
+
+  -- it keeps its checkpoints as its options say
+  pub begun_keeping : {image : Image} {session : SessionState R} → IsBegun image session.options session.cpu.rule session → keeping_of session ≡ keeping_for session.options
+  begun_keeping {image = image} {session = session} begun =
+      let same : image.window / 4096 ≡ session.options.window / 4096 = ap (λ n. n / 4096) (sym begun.window) in
+      let pages : session.cpu.slots.pages ≡ session.options.window / 4096 = begun.cpu.pages_are ∙ same in
+      let frames : session.cpu.slots.frames ≡ session.options.frames * (session.options.window / 4096) = begun.cpu.frames_are ∙ ap (λ n. session.options.frames * n) same in
+      λ i. record { ring = (begun.ring i).capacity; every = session.options.every; pages = pages i; frames = frames i }
+
+  pub starts_none : {image : Image} {session : SessionState R} → IsBegun image session.options session.cpu.rule session → session.cpu.slots.live.guest.machine.taken ≡ 0
+  unfolding M.start M.start_machine
+  starts_none begun = ap (λ (s : Standing). s.guest.machine.taken) begun.cpu.live_is
+
+  -- it begins with its start as its first checkpoint
+  starts_saved : (permits : R → Heap → ℕ → ℕ → Bool) {image : Image} {seen : Seen} {noted : Noted} {tables : Option (List (List Try))} {session : SessionState R} {cpu : CpuState R} {ring : Checkpoints} → IsBegun image session.options session.cpu.rule session → IsFresh seen.phases
+      → KeepsRing (rules_of session.options (permits session.cpu.rule)) image [] [] (origin image) (origin image ∷ []) cpu ring session.log session.replies → cpu.slots.live ≡ session.cpu.slots.live
+      → stands_of cpu.slots.saved ≡ alone 0 cpu.slots.pages → IsBetween (rules_of session.options (permits session.cpu.rule)) image (told_since seen.told noted noted tables tables 0) seen (record session { cpu = cpu; ring = ring })
+  unfolding M.start M.start_machine H.heeded_behind
+  starts_saved permits {image = image} {noted = noted} {tables = tables} {session = session} {cpu = cpu} {ring = ring} begun fresh keeps live stands =
+      let rules : Rules = rules_of session.options (permits session.cpu.rule) in
+      let start : IsStart image rules.limits.budget = runs_start image rules.limits.budget in
+      record {
+        going = record {
+          story = first_story image;
+          told = record {
+            serving = serving_first rules image;
+            way = served_same rules.limits (items_in rules.bounds []) [] (origin image);
+            tells = tells_same;
+            recovered = recovered_first rules image;
+            counted = refl;
+            episodes = (none_noted {noted = noted}).episodes_more;
+            tables = tells_none tables (AreTables (rules_of session.options (permits session.cpu.rule)) [] [] []) tt;
+          };
+          answers = record {
+            low = omega (arith, begun.none_recorded);
+            recorded = subst (λ n. Grew noted.choices noted.choices (take n [])) (sym begun.none_recorded) (none_noted {noted = noted}).choices_more;
+            choices = begun.no_choices ∙ sym (ap (λ n. drop n []) begun.none_recorded);
+            taken = begun.no_items;
+            steps = begun.no_steps;
+          };
+          goes = record {
+            lives = start.lives;
+            guest = live ∙ (begun.cpu.live_is ∙ sym start.stands);
+            bounded = start.bounded;
+            few = omega arith;
+            within = λ conn may. absurd (let none : unwrap_or (slice_get no_connections conn) false ≡ false = none_known conn in let no : ⊥ = cc in no);
+            items = record { all_heeded = refl; shows = begun.shows; most = ap (λ (log : logs.Log). log.max_items) begun.log };
+            events = begun.no_events;
+            phases_are = fresh;
+          };
+          saved = record { paths = origin image ∷ []; ring = keeps; early = (omega (arith, begun.none_recorded), tt); requests = inl (handled_first rules image (keeping_by ring.capacity session.options.every cpu.slots) [] (first_story image).survivor (stands_of cpu.slots.saved) stands); in_force = in_force_by begun.plain begun.until_none (in_force_none 0); past = inl (let none : session.until ≡ 0 = begun.until_none in omega (arith, none)) };
+          passed = record { replies = subst (λ (ledger : Ledger). KeepsReplies rules.bounds [] None [] ledger) (sym begun.replies) (first_replies); no_trial = ap (λ (ledger : Ledger). ledger.trial) begun.replies; done = λ send stands due. absurd due };
+          latest = λ last found. absurd (let no : ⊥ = cc in no);
+        };
+        due = λ send stands is taken. absurd (none_stands stands);
+      }
+
+  pub starts_between : (permits : R → Heap → ℕ → ℕ → Bool) {image : Image} {seen : Seen} {noted : Noted} {tables : Option (List (List Try))} {session after : SessionState R} → IsBegun image session.options session.cpu.rule session → IsFresh seen.phases
+      → ((rules : Rules) → KeepsRing rules image [] [] (origin image) (origin image ∷ []) after.cpu after.ring session.log session.replies) → after ≡ record session { cpu = after.cpu; ring = after.ring } → after.cpu.slots.live ≡ session.cpu.slots.live
+      → stands_of after.cpu.slots.saved ≡ alone 0 after.cpu.slots.pages → IsBetween (rules_of session.options (permits session.cpu.rule)) image (told_since seen.told noted noted tables tables 0) seen after
+  starts_between permits {image = image} {seen = seen} {noted = noted} {tables = tables} {session = session} begun fresh keeps same live stands =
+      subst (λ (s : SessionState R). IsBetween (rules_of session.options (permits session.cpu.rule)) image (told_since seen.told noted noted tables tables 0) seen s) (sym same)
+      (starts_saved permits begun fresh (keeps (rules_of session.options (permits session.cpu.rule))) live stands)
+
+  -- how far a session has come that serves
+  pub record HasTurned (Outside : Type 0) (permits : R → Heap → ℕ → ℕ → Bool) (before seen : Seen) (shown now : Shown) (tables_before tables : Option (List (List Try))) (first last : ℕ) (old new : SessionState R) : Type 0 where
+    pub lost : ℕ
+    pub stands : (image : Image) → IsBegun image old.options old.cpu.rule old → IsBetween (rules_of old.options (permits old.cpu.rule)) image (told_since before.told shown.told now.told tables_before tables lost) seen new
+    pub may : MayServe seen new.replies
+    pub frame : HasSameFrame old new
+    pub known : StaysKnown before.coming seen.coming
+    pub marked : IsCounted new
+    pub trimmed : IsTrimmed new
+    pub keeping : keeping_of new ≡ keeping_of old
+    pub counted : last ≡ first + (lost + new.cpu.slots.live.steps)
+    pub no_takes_fell : before.counts.takes ≤ seen.counts.takes
+    pub no_gives_fell : before.counts.gives ≤ seen.counts.gives
+    pub no_faults_fell : shown.faults ≤ now.faults
+    pub works : now.works ≡ shown.works
+    pub outside : Outside
+
+  -- it gives to each connection that is open: none was opened
+  pub starts_giving : {image : Image} {seen : Seen} {session : SessionState R} → IsBegun image session.options session.cpu.rule session → seen.gives ≡ true → CanGive seen session.replies
+  unfolding ledgers.is_open ledgers.connection_of
+  starts_giving {session = session} begun still = record {
+    gives_still = still;
+    connected = λ conn is. absurd (let none : ledgers.is_open session.replies.connections conn ≡ false = ap (λ (ledger : Ledger). ledgers.is_open ledger.connections conn) begun.replies in let no : ⊥ = cc in no);
+  }
+
+  -- nothing lies before its first checkpoint
+  pub starts_trimmed : {rules : Rules} {image : Image} {session after : SessionState R} → IsBegun image session.options session.cpu.rule session
+      → KeepsRing rules image [] [] (origin image) (origin image ∷ []) after.cpu after.ring session.log session.replies → after ≡ record session { cpu = after.cpu; ring = after.ring } → IsTrimmed after
+  unfolding M.start M.start_machine
+  starts_trimmed {rules = rules} {image = image} {session = session} {after = after} begun keeps same =
+      let log : after.log ≡ session.log = ap (λ (s : SessionState R). s.log) same in
+      let replies : after.replies ≡ session.replies = ap (λ (s : SessionState R). s.replies) same in
+      let first : after.log.first ≡ 0 = ap (λ (l : logs.Log). l.first) (log ∙ begun.log) in
+      let recorded : after.recorded ≡ 0 = ap (λ (s : SessionState R). s.recorded) same ∙ begun.none_recorded in
+      let sends : after.replies.first ≡ 0 = ap (λ (l : Ledger). l.first) (replies ∙ begun.replies) in
+      start_trimmed
+      (subst (λ (l : logs.Log). KeepsRing rules image [] [] (origin image) (origin image ∷ []) after.cpu after.ring l after.replies) (sym log)
+      (subst (λ (l : Ledger). KeepsRing rules image [] [] (origin image) (origin image ∷ []) after.cpu after.ring session.log l) (sym replies) keeps))
+      (origin image) (ap (slice_get (origin image ∷ [])) (let none : length (origin image ∷ []) - 1 ≡ 0 = omega arith in none)) first recorded (omega (arith, sends))
+
+  pub starts_counted : {image : Image} {session after : SessionState R} → IsBegun image session.options session.cpu.rule session → after ≡ record session { cpu = after.cpu; ring = after.ring } → after.cpu.slots.live ≡ session.cpu.slots.live → IsCounted after
+  unfolding M.start M.start_machine
+  starts_counted begun same live = record {
+    taken = ap (λ (s : SessionState R). s.taken) same ∙ (begun.no_items ∙ sym (ap (λ (s : Standing). s.guest.machine.taken) (live ∙ begun.cpu.live_is)));
+    steps = ap (λ (s : SessionState R). s.steps) same ∙ (begun.no_steps ∙ sym (ap (λ (s : Standing). s.steps) (live ∙ begun.cpu.live_is)));
+  }
+
+  pub frame_then : {old mid new : SessionState R} → HasSameFrame old mid → HasSameFrame mid new → HasSameFrame old new
+  frame_then first second = record { options = second.options ∙ first.options; rule = second.rule ∙ first.rule }
+
+  pub between_under : {image : Image} {began : Since} {seen : Seen} {session : SessionState R} {first second : Rules} → first ≡ second → IsBetween first image began seen session → IsBetween second image began seen session
+  between_under {image = image} {began = began} {seen = seen} {session = session} {first = first} same = subst (λ (rules : Rules). IsBetween rules image began seen session) same

@@ -1,0 +1,163 @@
+-- Where the guest of a session ran from one of its events on.
+use Rattle.run_history.specs.declared.answer.Answer.TheVariants as answer
+use Rattle.guest_cpu.specs.declared.event.Event.TheVariants as step
+use Rattle.guest_cpu.specs.Running.{RunsBy}
+use Rattle.session_state.proofs.Lemmas.{rings_kept, answers_as, broken_off, run_asks, run_exits, run_fails}
+use Rattle.session_state.proofs.Terms.{AllocError, Bool, Err, List, Ok, Result, ap, arith, cond, inl, inr, ltb, refl, subst, sym, ℕ, ◌+◌, ◌<◌, ◌∙◌, ◌≡◌, ◌≤◌, IfOk, Seen, Choice, Heap, Env, Plain, Image, Cause, Path, env_at, limits_of, Event, CpuState, live_of, with_live, Standing, turn, runs_serve, runs_write, RunsWriting, items_in, Rules, Stop, rules_of, SessionState, env_of, keeping_of, IsBetween, IsBrokenOff, IsEnding, IsFailing, IsWaitingFor, Since, entries, ComesBetween, GoesFurther, HasRun, HasSameFrame, IsAdoptedLater, IsCounted, UnlessMemory}
+
+module _ {R : Type 0} where
+  -- how a guest runs in an environment, by the session that it is of
+  abbrev pub Ran : (R → Heap → ℕ → ℕ → Bool) → Env → SessionState R → CpuState R → Result Event AllocError → Type 0
+  Ran permits env session cpu result = RunsBy step.Emits (turn (limits_of session.options.budget (permits session.cpu.rule)) env) session.cpu.base (live_of session.cpu) result (live_of cpu)
+
+  -- the environment in force is that of the survivor's plan
+  env_is : {rules : Rules} {env : Env} {image : Image} {began : Since} {seen : Seen} {old : SessionState R} (b : IsBetween rules image began seen old) → env ≡ env_of old
+      → env_at b.going.story.survivor.plan b.going.story.survivor.now.state.machine.taken ≡ env
+  env_is {old = old} b force =
+      b.going.saved.in_force.in_force b.going.story.survivor.now.state.machine.taken (omega arith) ∙ (ap (λ n. cond (ltb n old.until) old.env Plain) (sym b.going.answers.taken) ∙ sym force)
+
+  -- its run goes on so
+  pub ran_on : (permits : R → Heap → ℕ → ℕ → Bool) {env : Env} {image : Image} {began : Since} {seen : Seen} {old inside : SessionState R} (cpu : CpuState R) {happened : Event} → env ≡ env_of old → inside ≡ old
+      → (b : IsBetween (rules_of old.options (permits old.cpu.rule)) image began seen old) → Ran permits env inside cpu (Ok happened)
+      → RunsWriting (limits_of old.options.budget (permits old.cpu.rule)) (items_in (rules_of old.options (permits old.cpu.rule)).bounds (entries b.going.story)) b.going.story.survivor.plan old.cpu.base b.going.story.survivor.now old.cpu.written (Ok happened) (live_of cpu)
+  ran_on permits {env = env} {old = old} cpu {happened = happened} force same b ran =
+      let first : Path = b.going.story.survivor.now in
+      runs_write (limits_of old.options.budget (permits old.cpu.rule)) (items_in (rules_of old.options (permits old.cpu.rule)).bounds (entries b.going.story)) b.going.story.survivor.plan env old.cpu.base first (live_of old.cpu) (live_of cpu)
+      (Ok happened) b.going.goes.lives (env_is b force) b.going.goes.guest (subst (λ (s : SessionState R). Ran permits env s cpu (Ok happened)) same ran)
+
+  -- it ran to this event
+  pub has_run : (permits : R → Heap → ℕ → ℕ → Bool) {env : Env} {image : Image} {began : Since} {seen : Seen} {old inside : SessionState R} {cpu : CpuState R} {found happened : Event} → env ≡ env_of old → inside ≡ old → found ≡ happened
+      → cpu ≡ with_live (live_of cpu) inside.cpu → IsBetween (rules_of old.options (permits old.cpu.rule)) image began seen old → Ran permits env inside cpu (Ok found)
+      → HasRun (rules_of old.options (permits old.cpu.rule)) image began seen happened (record inside { cpu = cpu })
+  has_run permits {env = env} {old = old} {inside = inside} {cpu = cpu} force same is kept b ran = record {
+    before = old;
+    between = b;
+    same = ap (λ (s : SessionState R). record s { cpu = cpu }) same;
+    cpu = kept ∙ ap (λ (s : SessionState R). with_live (live_of cpu) s.cpu) same;
+    runs = ran_on permits cpu force same b (subst (λ (e : Event). Ran permits env inside cpu (Ok e)) is ran);
+  }
+
+  -- its count of instructions didn't fall
+  pub ran_later : (permits : R → Heap → ℕ → ℕ → Bool) {env : Env} {image : Image} {began : Since} {seen : Seen} {old inside : SessionState R} (cpu : CpuState R) {happened : Event} → env ≡ env_of old → inside ≡ old
+      → IsBetween (rules_of old.options (permits old.cpu.rule)) image began seen old → Ran permits env inside cpu (Ok happened) → old.cpu.slots.live.steps ≤ cpu.slots.live.steps
+  ran_later permits {old = old} cpu force same b ran =
+      let runs = (ran_on permits cpu force same b ran).ran in
+      let from : old.cpu.slots.live.steps ≡ b.going.story.survivor.now.steps = ap (λ (s : Standing). s.steps) b.going.goes.guest in
+      let to : runs.now.steps ≡ cpu.slots.live.steps = ap (λ (s : Standing). s.steps) runs.stands in
+      let later : b.going.story.survivor.now.steps ≤ runs.now.steps = runs.goes.later in
+      omega (arith, from, to, later)
+
+  -- and the session answers for no more of them
+  pub ran_low : (permits : R → Heap → ℕ → ℕ → Bool) {env : Env} {image : Image} {began : Since} {seen : Seen} {old inside : SessionState R} (cpu : CpuState R) (result : Result Event AllocError) → env ≡ env_of old → inside ≡ old
+      → IsBetween (rules_of old.options (permits old.cpu.rule)) image began seen old → Ran permits env inside cpu result → inside.steps ≤ cpu.slots.live.steps
+  ran_low permits {env = env} {old = old} {inside = inside} cpu result force same b ran =
+      let first : Path = b.going.story.survivor.now in
+      let runs = runs_serve (limits_of old.options.budget (permits old.cpu.rule)) (items_in (rules_of old.options (permits old.cpu.rule)).bounds (entries b.going.story)) b.going.story.survivor.plan env old.cpu.base first (live_of old.cpu) (live_of cpu)
+      result b.going.goes.lives (env_is b force) b.going.goes.guest (subst (λ (s : SessionState R). Ran permits env s cpu result) same ran) in
+      let answers : inside.steps ≡ first.steps = ap (λ (s : SessionState R). s.steps) same ∙ b.going.answers.steps in
+      let to : runs.now.steps ≡ cpu.slots.live.steps = ap (λ (s : Standing). s.steps) runs.stands in
+      let later : first.steps ≤ runs.now.steps = runs.goes.later in
+      omega (arith, answers, to, later)
+
+  -- and grew by a send
+  pub emits_later : (permits : R → Heap → ℕ → ℕ → Bool) {env : Env} {image : Image} {began : Since} {seen : Seen} {old inside : SessionState R} (cpu : CpuState R) {conn : ℕ} {bytes : List ℕ} {found : Event} → env ≡ env_of old → inside ≡ old → found ≡ step.Emits conn bytes
+      → IsBetween (rules_of old.options (permits old.cpu.rule)) image began seen old → Ran permits env inside cpu (Ok found) → old.cpu.slots.live.steps < cpu.slots.live.steps
+  emits_later permits {env = env} {old = old} {inside = inside} cpu force same is b ran =
+      let runs = (ran_on permits cpu force same b (subst (λ (e : Event). Ran permits env inside cpu (Ok e)) is ran)).ran in
+      let from : old.cpu.slots.live.steps ≡ b.going.story.survivor.now.steps = ap (λ (s : Standing). s.steps) b.going.goes.guest in
+      let to : runs.now.steps ≡ cpu.slots.live.steps = ap (λ (s : Standing). s.steps) runs.stands in
+      let later : b.going.story.survivor.now.steps < runs.now.steps = runs.comes.6 in
+      omega (arith, from, to, later)
+
+  -- and by an answer of malloc
+  pub chooses_later : (permits : R → Heap → ℕ → ℕ → Bool) {env : Env} {image : Image} {began : Since} {seen : Seen} {old inside : SessionState R} (cpu : CpuState R) {choice : Choice} {found : Event} → env ≡ env_of old → inside ≡ old → found ≡ step.Chooses choice
+      → IsBetween (rules_of old.options (permits old.cpu.rule)) image began seen old → Ran permits env inside cpu (Ok found) → old.cpu.slots.live.steps < cpu.slots.live.steps
+  chooses_later permits {env = env} {old = old} {inside = inside} cpu force same is b ran =
+      let runs = (ran_on permits cpu force same b (subst (λ (e : Event). Ran permits env inside cpu (Ok e)) is ran)).ran in
+      let from : old.cpu.slots.live.steps ≡ b.going.story.survivor.now.steps = ap (λ (s : Standing). s.steps) b.going.goes.guest in
+      let to : runs.now.steps ≡ cpu.slots.live.steps = ap (λ (s : Standing). s.steps) runs.stands in
+      let later : b.going.story.survivor.now.steps < runs.now.steps = runs.comes.3 in
+      omega (arith, from, to, later)
+
+  -- its options and its access rule stay
+  pub ran_frame : {old inside after : SessionState R} {cpu : CpuState R} → inside ≡ old → cpu ≡ with_live (live_of cpu) inside.cpu → after.options ≡ inside.options → after.cpu ≡ cpu → HasSameFrame old after
+  ran_frame same kept options is = record {
+    options = options ∙ ap (λ (s : SessionState R). s.options) same;
+    rule = ap (λ (c : CpuState R). c.rule) is ∙ (ap (λ (c : CpuState R). c.rule) kept ∙ ap (λ (s : SessionState R). s.cpu.rule) same);
+  }
+
+  -- behind the event the session answers for its guest's run
+  abbrev pub counted_by : SessionState R → CpuState R → SessionState R
+  counted_by inside cpu = record inside { cpu = cpu; taken = cpu.slots.live.guest.machine.taken; steps = cpu.slots.live.steps }
+
+  pub asks_now : {rules : Rules} {image : Image} {began : Since} {seen : Seen} {old inside after : SessionState R} {cpu : CpuState R} → inside ≡ old → after ≡ counted_by inside cpu → HasRun rules image began seen step.Asks (record inside { cpu = cpu })
+      → IsWaitingFor rules image began seen after
+  asks_now {rules = rules} {image = image} {began = began} {seen = seen} same is h =
+      subst (λ (s : SessionState R). IsWaitingFor rules image began seen s) (sym is)
+      (run_asks h refl refl refl (record { taken = refl; steps = refl }))
+
+  pub exits_now : {rules : Rules} {image : Image} {began : Since} {seen : Seen} {code : ℕ} {old inside after : SessionState R} {cpu : CpuState R} → inside ≡ old → after ≡ counted_by inside cpu
+      → HasRun rules image began seen (step.Exits code) (record inside { cpu = cpu }) → IsEnding rules image began seen after (answer.Exited code)
+  exits_now {rules = rules} {image = image} {began = began} {seen = seen} {code = code} same is h =
+      subst (λ (s : SessionState R). IsEnding rules image began seen s (answer.Exited code)) (sym is)
+      (run_exits h refl refl refl (record { taken = refl; steps = refl }))
+
+  pub fails_now : {rules : Rules} {image : Image} {began : Since} {seen : Seen} {cause : Cause} {old inside after : SessionState R} {cpu : CpuState R} → inside ≡ old → after ≡ counted_by inside cpu
+      → HasRun rules image began seen (step.Failed cause) (record inside { cpu = cpu }) → IsFailing rules image began seen cause after
+  fails_now {rules = rules} {image = image} {began = began} {seen = seen} {cause = cause} same is h =
+      subst (λ (s : SessionState R). IsFailing rules image began seen cause s) (sym is)
+      (run_fails h refl refl refl (record { taken = refl; steps = refl }))
+
+  -- a run leaves how a session keeps its checkpoints
+  pub ran_keeping : {old inside : SessionState R} {cpu : CpuState R} → inside ≡ old → cpu ≡ with_live (live_of cpu) inside.cpu → keeping_of (record inside { cpu = cpu }) ≡ keeping_of old
+  ran_keeping {old = old} {cpu = cpu} same kept =
+      let whole : cpu ≡ with_live (live_of cpu) old.cpu = kept ∙ ap (λ (s : SessionState R). with_live (live_of cpu) s.cpu) same in
+      λ i. record { ring = (same i).ring.capacity; every = (same i).options.every; pages = (whole i).slots.pages; frames = (whole i).slots.frames }
+
+  -- memory ran out within the run: the session answers for the run before it
+  pub breaks_now : {rules : Rules} {image : Image} {began : Since} {seen : Seen} {old inside : SessionState R} {cpu : CpuState R} → inside ≡ old → keeping_of (record inside { cpu = cpu }) ≡ keeping_of old → IsBetween rules image began seen old
+      → IsBrokenOff rules image began seen (record inside { cpu = cpu }) answer.Memory
+  breaks_now {inside = inside} {cpu = cpu} same kept b =
+      broken_off b.going.told
+      (answers_as (ap (λ (s : SessionState R). s.recorded) same) (ap (λ (s : SessionState R). s.choices) same) (ap (λ (s : SessionState R). s.taken) same) (ap (λ (s : SessionState R). s.steps) same)
+      b.going.answers) tt (λ is. is) (rings_kept (record inside { cpu = cpu }) kept b.going.saved) (λ never. absurd (never tt)) (λ is. absurd is)
+
+  -- by other rules that are the same
+  pub comes_under : (image : Image) (began : Since) (seen : Seen) (session : SessionState R) (result : Result (Unit {0}) Stop) {first second : Rules} → first ≡ second
+      → ComesBetween first image began seen session result → ComesBetween second image began seen session result
+  comes_under image began seen session result same = subst (λ rules. ComesBetween rules image began seen session result) same
+
+  pub run_under : {image : Image} {began : Since} {seen : Seen} {happened : Event} {session : SessionState R} {first second : Rules} → first ≡ second
+      → HasRun first image began seen happened session → HasRun second image began seen happened session
+  run_under {image = image} {began = began} {seen = seen} {happened = happened} {session = session} same = subst (λ rules. HasRun rules image began seen happened session) same
+
+-- more than one that is no less
+pub later_ok : (result : Result (Unit {0}) Stop) {low mid : ℕ} (high : ℕ) → low ≤ mid → IfOk result (λ _. mid < high) → IfOk result (λ _. low < high)
+later_ok (Ok done) high less more = omega (arith, less, more)
+later_ok (Err why) high less more = tt
+
+-- the counts of an arm: as many instructions were counted as the guest did
+pub lost_none : (ran : ℕ) {lost began steps : ℕ} (first last before after live : ℕ) {to : ℕ} → lost + steps + (ran + first) ≡ began + before + (ran + last) → last + live ≡ after + to → after + before ≡ first + live → steps ≡ to → lost ≡ began
+lost_none ran first last before after live counts went run is = omega (arith, counts, went, run, is)
+
+pub lost_failed : (ran later lost began steps first last before after live : ℕ) → lost + steps + (later + first) ≡ began + before + (ran + last) → after + before ≡ first + live → lost + steps + (later + after) ≡ began + live + (ran + last)
+lost_failed ran later lost began steps first last before after live counts run = omega (arith, counts, run)
+
+module _ {R : Type 0} where
+  pub further_ok : (result : Result (Unit {0}) Stop) (old new : SessionState R) → new.until ≡ old.until → IfOk result (λ _. old.cpu.slots.live.steps < new.cpu.slots.live.steps) → IfOk result (λ _. GoesFurther old new)
+  further_ok (Ok done) old new same more = inl (same, more)
+  further_ok (Err why) old new same more = tt
+
+  pub further_adopted : (result : Result (Unit {0}) Stop) (old mid new : SessionState R) → mid.until ≡ old.until → mid.options ≡ old.options → IfOk result (λ _. IsAdoptedLater mid new) → IfOk result (λ _. GoesFurther old new)
+  further_adopted (Ok done) old mid new same options later =
+      let past = later.past in
+      let most = later.most in
+      inr (record { past = omega (arith, past, same); most = let items : mid.options.max_items ≡ old.options.max_items = ap (λ o. o.max_items) options in omega (arith, most, items) })
+  further_adopted (Err why) old mid new same options later = tt
+
+  -- its counts are those of its guest, unless memory ran out
+  pub steps_unless : {result : Result (Unit {0}) Stop} {session : SessionState R} → UnlessMemory result (IsCounted session) → UnlessMemory result (session.steps ≡ session.cpu.slots.live.steps)
+  steps_unless marked others = (marked others).steps
+
+  pub fails_under : {image : Image} {began : Since} {seen : Seen} {cause : Cause} {session : SessionState R} {first second : Rules} → first ≡ second → IsFailing first image began seen cause session → IsFailing second image began seen cause session
+  fails_under {image = image} {began = began} {seen = seen} {cause = cause} {session = session} {first = first} same = subst (λ (rules : Rules). IsFailing rules image began seen cause session) same

@@ -1,0 +1,116 @@
+-- What a session makes of an event that it heard.
+use Rattle.links.specs.declared.journal.Entry.TheVariants as entry
+use Rattle.session_state.proofs.Terms.{List, [], ap, append_assoc, arith, length, subst, sym, true, ℕ, ◌++◌, ◌+◌, ◌<◌, ◌∙◌, ◌∷◌, ◌≡◌, ◌≤◌, ◌⊎◌, Item, Entry, LinkEvent, Phases, Tells, events_in, Seen, Checkpoints, Image, AsksFor, Override, Path, CpuState, events_in-append, IsHeard, Bounds, heeded, items_in, received, KeepsItems, KeepsPhases, Rules, entries_of, opens, ring_more, AreBehind, Brings, KeepsRing, SessionState, keeping_of, AnswersFor, GoesWith, IsTold, IsWaitingFor, KeepsCheckpoints, Since, Story, entries, sends, then_story}
+use Rattle.session_state.proofs.standing.HeldLemmas.{requests_by, requests_more}
+use Rattle.session_state.proofs.standing.CheckpointLemmas.{in_force_by}
+use Rattle.session_state.proofs.guest.GuestLemmas.{answers_as}
+use Rattle.session_state.proofs.events.EventLemmas.{owes_nothing, told_event, opens_more}
+
+-- the entries of a story with more behind them
+pub more_entries : (story : Story) (more : List Entry) → entries story ++ more ≡ entries (then_story story more)
+more_entries story more = append_assoc (entries_of story.earlier) story.since more
+
+-- who was open to sends before more entries is so behind them
+pub opens_still : (bounds : Bounds) (before : List Entry) {after : List Entry} (more : List Entry) (conn : ℕ) → after ≡ before ++ more → heeded bounds (events_in before) ≡ events_in before → heeded bounds (events_in after) ≡ events_in after
+    → opens conn (heeded bounds (events_in before)) ≡ true → opens conn (heeded bounds (events_in after)) ≡ true
+opens_still bounds before {after = after} more conn is first second open_before =
+    let longer : events_in after ≡ events_in before ++ events_in more = ap events_in is ∙ events_in-append before more in
+    ap (opens conn) (second ∙ longer) ∙ opens_more conn (events_in before) (events_in more) (ap (opens conn) (sym first) ∙ open_before)
+
+module _ {R : Type 0} where
+  -- but for log, replies and the count of events, nothing of a session changed; and the log gave nothing up
+  pub record HasSameRun (old new : SessionState R) : Type 0 where
+    pub cpu : new.cpu ≡ old.cpu
+    pub recorded : new.recorded ≡ old.recorded
+    pub choices : new.choices ≡ old.choices
+    pub taken : new.taken ≡ old.taken
+    pub steps : new.steps ≡ old.steps
+    pub first : new.log.first ≡ old.log.first
+    pub ring : new.ring ≡ old.ring
+    pub env : new.env ≡ old.env
+    pub until : new.until ≡ old.until
+    pub options : new.options ≡ old.options
+
+  answers_then : {began : Since} {story : Story} {session : SessionState R} (more : List Entry) → AnswersFor began story session → AnswersFor began (then_story story more) session
+  answers_then more answers = record { low = answers.low; recorded = answers.recorded; choices = answers.choices; taken = answers.taken; steps = answers.steps }
+
+  pub answers_still : {began : Since} {story : Story} {old new : SessionState R} (more : List Entry) → HasSameRun old new → AnswersFor began story old → AnswersFor began (then_story story more) new
+  answers_still more same answers = answers_as same.recorded same.choices same.taken same.steps (answers_then more answers)
+
+  -- the guest, the items and the phases behind more entries
+  pub goes_then : {rules : Rules} {story : Story} {old new : SessionState R} {phases later : Phases} (more : List Entry) → HasSameRun old new → GoesWith rules story old phases → KeepsItems rules.bounds (entries (then_story story more)) new.log
+      → new.events ≡ length (events_in (entries (then_story story more))) → KeepsPhases (entries (then_story story more)) later → GoesWith rules (then_story story more) new later
+  goes_then {rules = rules} {story = story} more same goes items events knows = record {
+    lives = goes.lives;
+    guest = ap (λ cpu. cpu.slots.live) same.cpu ∙ goes.guest;
+    bounded = goes.bounded;
+    few = goes.few;
+    within = λ conn may. opens_still rules.bounds (entries story) more conn (sym (more_entries story more)) goes.items.all_heeded items.all_heeded (goes.within conn may);
+    items = items;
+    events = events;
+    phases_are = knows;
+  }
+
+  pub run_keeping : {old new : SessionState R} → HasSameRun old new → keeping_of new ≡ keeping_of old
+  run_keeping same = λ i. record { ring = (same.ring i).capacity; every = (same.options i).every; pages = (same.cpu i).slots.pages; frames = (same.cpu i).slots.frames }
+
+  -- the checkpoints and the environment behind more entries
+  pub saved_then : {rules : Rules} {image : Image} {story : Story} {old new : SessionState R} (more : List Entry) {items : List Item} → HasSameRun old new → new.replies.first ≡ old.replies.first
+      → Brings rules (entries story) (entries (then_story story more)) items → KeepsCheckpoints rules image story old → KeepsCheckpoints rules image (then_story story more) new
+  saved_then {rules = rules} {image = image} {story = story} {old = old} {new = new} more {items = items} same kept brings k =
+      let plan : List Override = story.survivor.plan in
+      let now : Path = story.survivor.now in
+      record {
+        paths = k.paths;
+        ring =
+            subst (λ (c : Checkpoints). KeepsRing rules image (entries (then_story story more)) plan now k.paths new.cpu c new.log new.replies) (sym same.ring)
+            (subst (λ (cpu : CpuState R). KeepsRing rules image (entries (then_story story more)) plan now k.paths cpu old.ring new.log new.replies) (sym same.cpu)
+            (ring_more rules image (entries story) (entries (then_story story more)) items plan now k.paths old.cpu old.ring old.log new.log old.replies new.replies brings same.first kept k.ring));
+        early = subst (λ n. AreBehind n k.paths) (sym same.recorded) k.early;
+        requests =
+            requests_by rules image story.earlier (entries (then_story story more)) story.recoveries story.survivor old new (ap (λ (cpu : CpuState R). cpu.slots.saved) same.cpu) (run_keeping same)
+            (requests_more items brings.items k.requests);
+        in_force = in_force_by same.env same.until k.in_force;
+        past = subst (λ n. (n < now.state.machine.taken + 4) ⊎ ((n ≡ now.state.machine.taken + 4) × AsksFor rules.limits [] now now.state.machine.taken)) (sym same.until) k.past;
+      }
+
+  -- what is known behind an event that was heard, but for the replies
+  pub record HasHeard (rules : Rules) (image : Image) (began : Since) (seen : Seen) (story : Story) (session : SessionState R) : Type 0 where
+    pub told : IsTold rules image began seen.told story
+    pub answers : AnswersFor began story session
+    pub goes : GoesWith rules story session seen.phases
+    pub asks : AsksFor rules.limits story.survivor.plan story.survivor.now story.survivor.now.state.machine.taken
+
+  pub has_heard : {rules : Rules} {image : Image} {began : Since} {before seen : Seen} {event : LinkEvent} {old new : SessionState R} (w : IsWaitingFor rules image began before old)
+      → received rules.bounds (entries w.hearing.story) ≤ w.hearing.story.survivor.now.state.machine.taken → HasSameRun old new → Tells before.told seen.told (entry.Took event ∷ [])
+      → IsHeard rules.bounds (entries w.hearing.story) (sends w.hearing.story) event new.log new.replies → KeepsPhases (entries w.hearing.story ++ entry.Took event ∷ []) seen.phases
+      → new.events ≡ length (events_in (entries w.hearing.story ++ entry.Took event ∷ [])) → HasHeard rules image began seen (then_story w.hearing.story (entry.Took event ∷ [])) new
+  has_heard {rules = rules} {seen = seen} {event = event} {new = new} w all same tells heard knows events =
+      let story : Story = w.hearing.story in
+      let is = more_entries story (entry.Took event ∷ []) in
+      let exact : received rules.bounds (entries story) ≡ story.survivor.now.state.machine.taken = let low = w.hearing.told.serving.carries.taken in omega (arith, low, all) in
+      let asks = w.hearing.asks in
+      record {
+        told =
+            told_event heard.more w.hearing.told (subst (AsksFor rules.limits story.survivor.plan story.survivor.now) (sym exact) asks) (owes_nothing rules story w.due w.hearing.passed.done) w.hearing.goes.items.all_heeded tells
+            heard.brings;
+        answers = answers_still (entry.Took event ∷ []) same w.hearing.answers;
+        goes =
+            goes_then (entry.Took event ∷ []) same w.hearing.goes (subst (λ es. KeepsItems rules.bounds es new.log) is heard.items) (events ∙ ap (λ es. length (events_in es)) is)
+            (subst (λ (es : List Entry). KeepsPhases es seen.phases) is knows);
+        asks = asks;
+      }
+
+  -- its checkpoints behind the event
+  pub saved_heard : {rules : Rules} {image : Image} {began : Since} {before : Seen} {event : LinkEvent} {old new : SessionState R} (w : IsWaitingFor rules image began before old) → HasSameRun old new → new.replies.first ≡ old.replies.first
+      → IsHeard rules.bounds (entries w.hearing.story) (sends w.hearing.story) event new.log new.replies → KeepsCheckpoints rules image (then_story w.hearing.story (entry.Took event ∷ [])) new
+  saved_heard {rules = rules} {before = before} {event = event} w same kept heard =
+      let story : Story = w.hearing.story in
+      let is = more_entries story (entry.Took event ∷ []) in
+      saved_then (entry.Took event ∷ []) same kept
+      (record {
+        items = ap (items_in rules.bounds) (sym is) ∙ heard.brings;
+        opened = λ conn known.
+            opens_still rules.bounds (entries story) (entry.Took event ∷ []) conn (sym is) w.hearing.goes.items.all_heeded
+            (subst (λ es. heeded rules.bounds (events_in es) ≡ events_in es) is heard.items.all_heeded) known;
+      }) w.hearing.saved
