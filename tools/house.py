@@ -7,8 +7,8 @@ tests; it is public if it is `pub`, one of a public trait, or one of a form of a
 function are the lines between its braces that have a word and aren't a comment. A definition's arguments are those of its type, and a
 record's its parameters.
 
-A file mentions the trunk's bytes if what it imports has `trunk` in its name, whatever stands there; files of trunk_wire and of tests aren't
-counted. Lines of `use` are those of specs/ and proofs/.
+A file mentions the trunk's bytes if what it imports has `trunk` in its name, whatever stands there, or comes from there by a prelude; files of
+trunk_wire and of tests, and preludes themselves, aren't counted. Lines of `use` are those of specs/ and proofs/.
 
 usage: house.py [--crates NAME,NAME,..] [--longest N]
 With --longest the N functions and definitions that have most are listed too.
@@ -32,6 +32,8 @@ CLAUSE = re.compile(r"^[ \t]*(?:requires|ensures)\b", re.M)
 COMMENT = re.compile(r"^[ \t]*//.*", re.M)
 USE = re.compile(r"^\s*(?:(?:pub|ghost|unfoldable)\s+)*use\s", re.M)
 OF_TRUNK = re.compile(r"\buse .*trunk", re.I)
+NAMES = re.compile(r"\buse Rattle\.([\w.]+)\.\{([^}]*)\}")
+PRELUDES = ("Terms.antt", "Lemmas.antt")  # as tools/preludes.py writes them
 DEFINITION = re.compile(r"^([ \t]*)((?:abbrev|unfoldable|pub|record|data)[ \t]+)+(?!use\b|mod\b)([^\s:({]+)[ \t]*(.*)", re.M)
 
 Function = collections.namedtuple("Function", "crate file name public arguments clauses lines")
@@ -59,6 +61,27 @@ def text_of(path):
 
 def is_test(path):
     return os.path.basename(path) == "tests.rt" or path.endswith("_tests.rt")
+
+
+def passed_on():
+    """The names that each prelude passes on of modules that have `trunk` in theirs, by the prelude's module."""
+    found = {}
+    for name in crates():
+        for folder in ("specs", "proofs"):
+            for prelude in PRELUDES:
+                path = os.path.join(TOP, "crates", name, folder, prelude)
+                if os.path.isfile(path):
+                    parts = [it.groups() for it in NAMES.finditer(text_of(path))]
+                    found[f"{name}.{folder}.{prelude.split('.')[0]}"] = {word for module, words in parts if "trunk" in module.lower() for word in words.split(", ")}
+    return found
+
+
+def mentions_trunk(path, text, of_preludes):
+    """Whether a file, which is no prelude, imports something of the trunk, by itself or by a prelude."""
+    if os.path.basename(path) in PRELUDES:
+        return False
+    direct = any(OF_TRUNK.search(line) for line in text.split("\n") if not any(f"Rattle.{it}." in line for it in of_preludes))
+    return direct or any(of_preludes.get(module, set()) & set(words.split(", ")) for module, words in NAMES.findall(text))
 
 
 # Functions.
@@ -233,9 +256,10 @@ class Count:
         self.names = names
         self.functions, self.definitions = [], []
         self.code = self.specs = self.proofs = self.uses = self.trunk = 0
+        of_preludes = passed_on()
         for crate, path in [(name, path) for name in names for path in files_below(os.path.join(TOP, "crates", name), (".rt", ".antt"))]:
             text = text_of(path)
-            if crate != "trunk_wire" and not crate.endswith("_tests") and OF_TRUNK.search(text):
+            if crate != "trunk_wire" and not crate.endswith("_tests") and mentions_trunk(path, text, of_preludes):
                 self.trunk += 1
             folder = os.path.relpath(path, os.path.join(TOP, "crates", crate)).split(os.sep)[0]
             lines = text.count("\n")

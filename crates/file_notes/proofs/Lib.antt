@@ -1,4 +1,5 @@
 pub mod Terms
+pub mod CallingLemmas
 pub mod WritingLemmas
 pub mod TextLemmas
 pub mod NotesLemmas

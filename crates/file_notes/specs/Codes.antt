@@ -2,9 +2,10 @@
 use Rattle.std.specs.Prelude.{◌≡◌, ◌⊎◌, ℕ, List, Option, refl}
 use Rattle.std.proofs.Common.{inl, inr}
 use base.Stored.{coded_unit}
+use Rattle.rx_io.specs.contracts.file_calls.FileCall as file_call
 use Rattle.block_book.specs.contracts.choice.Choice as choice
 use Rattle.session_notes.specs.contracts.episode.Episode as episode
-use Rattle.file_notes.specs.Terms.{Coded, code_by, coded_list, coded_option, coded_ℕ, coded×, coded⊎, Choice, Episode}
+use Rattle.file_notes.specs.Terms.{Coded, code_by, coded_list, coded_option, coded_ℕ, coded×, coded⊎, FileCall, Choice, Episode}
 use Rattle.file_notes.specs.Left.{Left, Nothing, InRecord, InReport}
 use Rattle.file_notes.specs.Past.{Had, Past}
 
@@ -35,5 +36,8 @@ of_parts-left_parts (InReport e count) = refl
 abbrev pub left_code : Coded Left
 left_code = code_by LeftParts (coded⊎ coded_unit (coded⊎ (coded× (coded_list choice.the_row.coded) coded_ℕ) (coded× episode.the_row.coded coded_ℕ))) left_parts of_parts of_parts-left_parts
 
+abbrev pub calls_code : Coded (Option (List FileCall))
+calls_code = coded_option (coded_list file_call.the_row.coded)
+
 abbrev pub past_code : Coded Past
-past_code = code_by (Option Had × (List Choice × (List Episode × Left))) (coded× (coded_option had_code) (coded× (coded_list choice.the_row.coded) (coded× (coded_list episode.the_row.coded) left_code))) (λ p. (p.had, (p.choices, (p.episodes, p.left)))) (λ p. record { had = p.0; choices = p.1.0; episodes = p.1.1.0; left = p.1.1.1 }) (λ _. refl)
+past_code = code_by (Option Had × (Option (List FileCall) × (List Choice × (List Episode × Left)))) (coded× (coded_option had_code) (coded× calls_code (coded× (coded_list choice.the_row.coded) (coded× (coded_list episode.the_row.coded) left_code)))) (λ p. (p.had, (p.calls, (p.choices, (p.episodes, p.left))))) (λ p. record { had = p.0; calls = p.1.0; choices = p.1.1.0; episodes = p.1.1.1.0; left = p.1.1.1.1 }) (λ _. refl)

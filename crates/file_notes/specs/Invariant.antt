@@ -1,7 +1,9 @@
 -- What holds of all notes. Callers are told it by `Stands`.
-use Rattle.std.specs.Prelude.{◌≡◌, ℕ, Bool, true, false, List, [], ◌++◌, length, Option, None, Some, unwrap_or, if◌then◌else◌}
+use Rattle.std.specs.Prelude.{◌≡◌, ℕ, Bool, true, false, List, [], ◌++◌, length, take, drop, All, Option, None, Some, unwrap_or, if◌then◌else◌}
 use Rattle.std.proofs.Props.{props}
-use Rattle.file_notes.specs.Terms.{Unit-prop, Contents, Choice, Episode, Form}
+use Rattle.rx_io.specs.contracts.file_calls.FileCall as file_call
+use Rattle.file_notes.specs.Terms.{Coded-set, Unit-prop, coded_list, FileCall, Contents, Choice, Episode, Form}
+use Rattle.file_notes.specs.Calling.{is_addition}
 use Rattle.file_notes.specs.Left.{Left, is_whole}
 use Rattle.file_notes.specs.Names.{Names, AreTwo, bytes_in}
 use Rattle.file_notes.specs.Past.{Had, Past}
@@ -32,3 +34,19 @@ Keeps-prop names form (Some had) (Some now) choices episodes left = Prim.hlevel 
 
 pub IsNotes-prop : (names : Names) (form : Form) (told : Option Contents) (past : Past) (number : ℕ) (broken : Bool) → IsProp (IsNotes names form told past number broken)
 IsNotes-prop names form told past number broken = let keeps : IsProp (Keeps names form past.had told past.choices past.episodes past.left) = Keeps-prop names form past.had told past.choices past.episodes past.left in Prim.hlevel (props, keeps)
+
+-- behind the calls that were made before stand some that add to the record or to the report
+pub record HasAdded (names : Names) (before now : List FileCall) : Type 0 where
+  pub same : take (length before) now ≡ before
+  pub each : All (λ call. is_addition names call ≡ true) (drop (length before) now)
+
+-- the same where the files told their calls before
+abbrev pub Called : Names → Option (List FileCall) → Option (List FileCall) → Type 0
+Called names None now = Unit {0}
+Called names (Some before) None = ⊥
+Called names (Some before) (Some now) = HasAdded names before now
+
+pub Called-prop : (names : Names) (before now : Option (List FileCall)) → IsProp (Called names before now)
+Called-prop names None now = Unit-prop
+Called-prop names (Some before) None = λ p q. absurd p
+Called-prop names (Some before) (Some now) = let same : IsProp (take (length before) now ≡ before) = Coded-set (coded_list file_call.the_row.coded) (take (length before) now) before in Prim.hlevel (props, same)

@@ -1,7 +1,6 @@
 -- What a call that failed leaves behind.
 use Rattle.std.specs.Prelude.{◌≡◌, ℕ, Bool, true, false, List, [], take, Result, Ok, Err}
-use Rattle.rx_io.specs.declared.fault.IoFault.TheVariants.{Memory}
-use Rattle.file_notes.specs.Terms.{IoFault, Choice, Episode, Form, episode_text, choice_lines}
+use Rattle.file_notes.specs.Terms.{IoFault, Memory, Choice, Episode, NoneFailed, OneEpisode, SomeChoices, Unnoted, Form, episode_text, choice_lines}
 
 -- Nothing where no call failed. Else so many first bytes, perhaps none or all, of the lines of some answers of malloc in the
 -- record, or of the text of an episode in the report
@@ -9,6 +8,12 @@ pub data Left : Type 0 where
   Nothing : Left
   InRecord : List Choice → ℕ → Left
   InReport : Episode → ℕ → Left
+
+-- a call that failed left a part of what it was handed
+abbrev pub unnoted_of : Left → Unnoted
+unnoted_of Nothing = NoneFailed
+unnoted_of (InRecord choices count) = SomeChoices choices
+unnoted_of (InReport e count) = OneEpisode e
 
 -- no call failed
 abbrev pub is_whole : Left → Bool

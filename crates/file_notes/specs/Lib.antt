@@ -1,6 +1,7 @@
 pub mod Terms
 pub mod Texts
 pub mod Names
+pub mod Calling
 pub mod Left
 pub mod Standing
 pub mod Past

@@ -1,11 +1,10 @@
 -- What notes in two files have.
 use Rattle.std.specs.Prelude.{ℕ, List, Option, Some}
-use Rattle.session_notes.specs.Noting.{Shown}
 use Rattle.rx_io.specs.declared.files.Files.{Ghosts}
-use Rattle.file_notes.specs.Terms.{Contents, Choice, Episode, Form}
+use Rattle.file_notes.specs.Terms.{FileCall, Contents, Choice, Episode, Shown, Form}
 use Rattle.file_notes.specs.declared.file_notes.FileNotes.{FileNotes}
 use Rattle.file_notes.specs.Names.{Names, names_in}
-use Rattle.file_notes.specs.Left.{Left, is_whole}
+use Rattle.file_notes.specs.Left.{Left, unnoted_of}
 use Rattle.file_notes.specs.Past.{before_of}
 use Rattle.file_notes.specs.Standing.{Stands}
 
@@ -33,19 +32,22 @@ module _ {F : Type 0} {g : Ghosts F} where
   -- what the notes show, by how their files count faults
   abbrev pub shown_of : (F → ℕ) → FileNotes F g → Shown
   shown_of faults notes = record {
-    told = record { choices = Some (choices_of notes); episodes = Some (episodes_of notes) };
+    told = record { choices = Some (choices_of notes); episodes = Some (episodes_of notes); unnoted = Some (unnoted_of (left_of notes)) };
     faults = faults notes.files;
-    works = is_whole (left_of notes);
   }
 
   -- what the files told when the notes were made
   abbrev pub told_before : FileNotes F g → Option Contents
   told_before notes = before_of (names_in notes.names) notes.past.was.had (g.told notes.files)
 
+  -- which calls on the files were told when the notes were made
+  abbrev pub calls_before : FileNotes F g → Option (List FileCall)
+  calls_before notes = notes.past.was.calls
+
   -- what stands in the files, where they told it from the start
   abbrev pub StandsIn : FileNotes F g → Type 0
   StandsIn notes = Stands (names_of notes) notes.form (told_before notes) (g.told notes.files) (choices_of notes) (episodes_of notes) (left_of notes)
 
-  -- what no call changes: which files they are, the names, the form, and what the files told when the notes were made
-  abbrev pub notes_fixed : FileNotes F g → g.Fixed × (Names × (Form × Option Contents))
-  notes_fixed notes = (g.fixed notes.files, (names_of notes, (notes.form, told_before notes)))
+  -- what no call changes: which files they are, the names, the form, and what the files told when the notes were made, contents and calls
+  abbrev pub notes_fixed : FileNotes F g → g.Fixed × (Names × (Form × (Option Contents × Option (List FileCall))))
+  notes_fixed notes = (g.fixed notes.files, (names_of notes, (notes.form, (told_before notes, calls_before notes))))

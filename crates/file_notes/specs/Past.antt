@@ -1,6 +1,6 @@
 -- What proofs remember of notes, beside what the code keeps. Callers are promised `before_of` alone.
 use Rattle.std.specs.Prelude.{ℕ, ◌-◌, List, [], ◌∷◌, ◌++◌, length, Option, None, Some, option_map, unwrap_or, bytes_eq, if◌then◌else◌}
-use Rattle.file_notes.specs.Terms.{Contents, Choice, Episode, Form, choice_lines}
+use Rattle.file_notes.specs.Terms.{FileCall, Contents, Choice, Episode, Form, choice_lines}
 use Rattle.file_notes.specs.Left.{Left, Nothing, InRecord, InReport}
 use Rattle.file_notes.specs.Names.{Names, bytes_in}
 use Rattle.file_notes.specs.Texts.{episode_texts}
@@ -10,17 +10,19 @@ pub record Had : Type 0 where
   pub record_bytes : Option (List ℕ)
   pub report_bytes : Option (List ℕ)
 
--- what the two files had before, if that was told, what was noted since, and what a call that failed left
+-- what the two files had before and which calls were made before, if that was told; what was noted since, and what a call that failed left
 pub record Past : Type 0 where
   pub had : Option Had
+  pub calls : Option (List FileCall)
   pub choices : List Choice
   pub episodes : List Episode
   pub left : Left
 
 -- nothing was noted yet
-abbrev pub begun : Option Contents → Names → Past
-begun told names = record {
+abbrev pub begun : Option Contents → Option (List FileCall) → Names → Past
+begun told calls names = record {
   had = option_map (λ (files : Contents). record { record_bytes = files names.record_name; report_bytes = files names.report_name }) told;
+  calls = calls;
   choices = [];
   episodes = [];
   left = Nothing;

@@ -1,7 +1,9 @@
 // Adding texts to files.
-ghost use Rattle.std.specs.Prelude.{◌≡◌, ◌+◌, ◌^◌, ◌<◌, IfOk};
+ghost use Rattle.std.specs.Prelude.{◌≡◌, ◌+◌, ◌^◌, ◌<◌, [], ◌∷◌, IfOk};
 ghost use Rattle.rx_io.specs.Faults.{HasCause};
 ghost use Rattle.rx_io.specs.Named.{Adds};
+ghost use Rattle.rx_io.specs.declared.file_calls.FileCall.TheVariants.{Added};
+ghost use Rattle.file_notes.specs.Calling.{CallsUpTo};
 ghost use Rattle.run_report.specs.Report.{episode_text};
 ghost use Rattle.schedule_file.specs.Lines.{choice_lines};
 
@@ -31,6 +33,7 @@ pub(crate) fn add_choices<F: Files>(
     list: &[Choice],
 ) -> Result<(), IoFault>
     ensures added { Adds (F.told files.old) (F.told files.new) name.now (choice_lines list.now) result }
+    ensures calls { CallsUpTo (F.calls files.old) (F.calls files.new) (Added name.now ∷ []) result }
     ensures fixed { F.fixed files.new ≡ F.fixed files.old }
     ensures cause { HasCause (F.faults files.old) (F.faults files.new) result }
 {
@@ -51,6 +54,7 @@ pub(crate) fn add_episode<F: Files>(
     e: &Episode,
 ) -> Result<(), IoFault>
     ensures added { Adds (F.told files.old) (F.told files.new) name.now (episode_text number e.now form) result }
+    ensures calls { CallsUpTo (F.calls files.old) (F.calls files.new) (Added name.now ∷ []) result }
     ensures number { IfOk result (λ done. number + 1 < 2 ^ 64) }
     ensures fixed { F.fixed files.new ≡ F.fixed files.old }
     ensures cause { HasCause (F.faults files.old) (F.faults files.new) result }

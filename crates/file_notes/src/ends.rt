@@ -5,6 +5,7 @@ ghost use Rattle.run_report.specs.Report.{head_text, end_text};
 ghost use Rattle.schedule_file.specs.Lines.{head_line, end_line};
 ghost use Rattle.schedule_file.specs.declared.recorded.TheConstants.{MAX_WINDOW, MAX_TAKEN};
 ghost use Rattle.file_notes.specs.Names.{AreTwo, names_in};
+ghost use Rattle.file_notes.specs.Calling.{CallsUpTo, starting, ending};
 ghost use Rattle.file_notes.specs.Writing.{StartsBoth, AddsBoth};
 
 use crate::file_names::FileNames;
@@ -48,6 +49,7 @@ pub fn start_files<F: Files>(
     requires least { 1 ≤ first.now.window }
     requires most { first.now.window ≤ MAX_WINDOW }
     ensures starts { StartsBoth (names_in names.now) (head_line first.now.window first.now.frame) (head_text form) (F.told files.old) (F.told files.new) result }
+    ensures calls { CallsUpTo (F.calls files.old) (F.calls files.new) (starting (names_in names.now)) result }
     ensures fixed { F.fixed files.new ≡ F.fixed files.old }
     ensures cause { HasCause (F.faults files.old) (F.faults files.new) result }
 {
@@ -76,6 +78,7 @@ pub fn end_files<F: Files>(
     requires steps { last.now.steps < 2 ^ 63 }
     requires taken { last.now.taken ≤ MAX_TAKEN }
     ensures ends { AddsBoth (names_in names.now) (end_line last.now.steps last.now.taken) (end_text last.now.status last.now.taken last.now.steps form) (F.told files.old) (F.told files.new) result }
+    ensures calls { CallsUpTo (F.calls files.old) (F.calls files.new) (ending (names_in names.now)) result }
     ensures fixed { F.fixed files.new ≡ F.fixed files.old }
     ensures cause { HasCause (F.faults files.old) (F.faults files.new) result }
 {

@@ -1,6 +1,6 @@
 // A session's notes in two files.
 ghost use Rattle.file_notes.specs.Names.{names_in};
-ghost use Rattle.file_notes.specs.Invariant.{IsNotes, IsNotes-prop};
+ghost use Rattle.file_notes.specs.Invariant.{Called, Called-prop, IsNotes, IsNotes-prop};
 
 use crate::adding::{add_choices, add_episode};
 use crate::file_names::FileNames;
@@ -22,13 +22,15 @@ pub struct FileNotes<'n, F: Files> {
     broken: bool,
     past: Past,
     ghost stands: { IsNotes (names_in names) form (F.told files) past.was number broken } by { IsNotes-prop (names_in names) form (F.told files) past.was number broken },
+    ghost called: { Called (names_in names) past.was.calls (F.calls files) } by { Called-prop (names_in names) past.was.calls (F.calls files) },
 }
 
 impl<'n, F: Files> FileNotes<'n, F> {
     ghost use Rattle.std.specs.Prelude.{◌≡◌, [], true};
     ghost use Rattle.file_notes.specs.Names.{AreTwo, names_in};
     ghost use Rattle.file_notes.specs.Left.{Nothing, is_whole};
-    ghost use Rattle.file_notes.specs.Notes.{files_of, names_of, form_of, choices_of, episodes_of, left_of, told_before, StandsIn};
+    ghost use Rattle.file_notes.specs.Notes.{files_of, names_of, form_of, choices_of, episodes_of, left_of, told_before, calls_before, StandsIn};
+    ghost use Rattle.file_notes.specs.Calling.{AddsAlone};
 
     /// Nothing is noted yet. It makes no call. The two names are different ones.
     pub fn make(alloc: Global, files: F, names: FileNames<'n>, form: Form) -> FileNotes<'n, F>
@@ -39,7 +41,7 @@ impl<'n, F: Files> FileNotes<'n, F> {
         ensures choices { choices_of result ≡ [] }
         ensures episodes { episodes_of result ≡ [] }
         ensures left { left_of result ≡ Nothing }
-        ensures before { told_before result ≡ F.told files }
+        ensures before { (told_before result ≡ F.told files) × (calls_before result ≡ F.calls files) }
     {
         let past = Past::of(&Fresh {
             files: &files,
@@ -63,18 +65,21 @@ impl<'n, F: Files> FileNotes<'n, F> {
         !self.broken
     }
 
-    /// Whether no call failed. For whoever proves something of the files, it says what stands in them.
+    /// Whether no call failed. For whoever proves something of the files, it says what stands in them, and
+    /// that since the notes were made each call on them added to one of the two.
     pub fn is_whole(&self) -> bool
         ensures whole { result ≡ is_whole (left_of self.now) }
         ensures stands { StandsIn self.now }
+        ensures adds { AddsAlone (names_of self.now) (calls_before self.now) (F.calls (files_of self.now)) }
     {
         self.is_open()
     }
 }
 
 impl<'n, F: Files> Notes for FileNotes<'n, F> {
-    ghost use Rattle.std.specs.Prelude.{◌≡◌, ◌<◌, length, Option};
+    ghost use Rattle.std.specs.Prelude.{◌≡◌, ◌<◌, length, List, Option};
     ghost use Rattle.rx_io.specs.Named.{Contents};
+    ghost use Rattle.rx_io.specs.declared.file_calls.FileCall.{FileCall};
     ghost use Rattle.session_notes.specs.Noting.{ChoicesShow, EpisodeShows};
     ghost use Rattle.run_report.specs.declared.form.Form.{Form};
     ghost use Rattle.file_notes.specs.Names.{Names};
@@ -83,7 +88,7 @@ impl<'n, F: Files> Notes for FileNotes<'n, F> {
 
     ghost shown = { shown_of F.faults };
 
-    ghost Fixed = { F.Fixed × (Names × (Form × Option Contents)) };
+    ghost Fixed = { F.Fixed × (Names × (Form × (Option Contents × Option (List FileCall)))) };
 
     ghost fixed = { notes_fixed };
 

@@ -44,7 +44,7 @@ pub(crate) struct Fresh<'a, 'n, F> {
 }
 
 impl<'a, 'n, F: Files> Remembers for Fresh<'a, 'n, F> {
-    ghost past = { λ fresh. begun (F.told fresh.files.now) (names_in fresh.names) };
+    ghost past = { λ fresh. begun (F.told fresh.files.now) (F.calls fresh.files.now) (names_in fresh.names) };
 }
 
 // Answers of malloc that were noted.

@@ -1,7 +1,9 @@
 // Writing texts into one file and into both.
-ghost use Rattle.std.specs.Prelude.{◌≡◌};
+ghost use Rattle.std.specs.Prelude.{◌≡◌, [], ◌∷◌};
 ghost use Rattle.rx_io.specs.Faults.{HasCause};
+ghost use Rattle.rx_io.specs.declared.file_calls.FileCall.TheVariants.{Added};
 ghost use Rattle.file_notes.specs.Names.{AreTwo, names_in};
+ghost use Rattle.file_notes.specs.Calling.{CallsUpTo, starts_of, starting, ending};
 ghost use Rattle.file_notes.specs.Writing.{Writes, StartsBoth, AddsBoth, nothing_kept, all_kept};
 
 use crate::file_names::FileNames;
@@ -11,6 +13,7 @@ use rx_io::{Files, IoFault};
 #[tactic(auto, using(crate::proofs::WritingLemmas::starts_one))]
 fn start_file<F: Files>(files: &mut F, name: &str, text: &[u8]) -> Result<(), IoFault>
     ensures writes { Writes nothing_kept (F.told files.old) (F.told files.new) name.now text.now result }
+    ensures calls { CallsUpTo (F.calls files.old) (F.calls files.new) (starts_of name.now) result }
     ensures fixed { F.fixed files.new ≡ F.fixed files.old }
     ensures cause { HasCause (F.faults files.old) (F.faults files.new) result }
 {
@@ -24,6 +27,7 @@ fn start_file<F: Files>(files: &mut F, name: &str, text: &[u8]) -> Result<(), Io
 #[tactic(auto, using(crate::proofs::WritingLemmas::adds_one))]
 fn add_to_file<F: Files>(files: &mut F, name: &str, text: &[u8]) -> Result<(), IoFault>
     ensures writes { Writes all_kept (F.told files.old) (F.told files.new) name.now text.now result }
+    ensures calls { CallsUpTo (F.calls files.old) (F.calls files.new) (Added name.now ∷ []) result }
     ensures fixed { F.fixed files.new ≡ F.fixed files.old }
     ensures cause { HasCause (F.faults files.old) (F.faults files.new) result }
 {
@@ -39,6 +43,7 @@ pub(crate) fn start_both<F: Files>(
 ) -> Result<(), IoFault>
     requires { AreTwo (names_in names.now) }
     ensures writes { StartsBoth (names_in names.now) of_record.now of_report.now (F.told files.old) (F.told files.new) result }
+    ensures calls { CallsUpTo (F.calls files.old) (F.calls files.new) (starting (names_in names.now)) result }
     ensures fixed { F.fixed files.new ≡ F.fixed files.old }
     ensures cause { HasCause (F.faults files.old) (F.faults files.new) result }
 {
@@ -57,6 +62,7 @@ pub(crate) fn add_both<F: Files>(
 ) -> Result<(), IoFault>
     requires { AreTwo (names_in names.now) }
     ensures writes { AddsBoth (names_in names.now) of_record.now of_report.now (F.told files.old) (F.told files.new) result }
+    ensures calls { CallsUpTo (F.calls files.old) (F.calls files.new) (ending (names_in names.now)) result }
     ensures fixed { F.fixed files.new ≡ F.fixed files.old }
     ensures cause { HasCause (F.faults files.old) (F.faults files.new) result }
 {

@@ -1,8 +1,6 @@
 -- What is heard of an event that was taken.
-use Rattle.links.specs.declared.journal.Entry.TheVariants as entry
-use Rattle.links.specs.declared.journal.LinkEvent.TheVariants as event
 use Rattle.session_history.specs.Heeding as unheeded
-use Rattle.link_gate.proofs.Terms.{List, None, Some, [], ap, append-nil, arith, false, inr, length, length-append, refl, subst, sym, ℕ, ◌++◌, ◌+◌, ◌<◌, ◌∙◌, ◌∷◌, ◌≡◌, ◌≤◌, none-some, same_Some, Err, Ok, Result, Send, Entry, LinkEvent, IsInOrder, Phases, events_in, phases_after, Seen, items_of, Fits, Log, logged, Ledger, IsHeard, IsUnheeded, closing_of, Bounds, Unheeded, heeded, items_in, refusal, KeepsItems, KeepsPhases, KeepsReplies, phase_after, closes, opens, HearFault, Heard, HearsBy, MayHear, Takes, IsNew, TakesIn, TakesOrEnds, entered}
+use Rattle.link_gate.proofs.Terms.{List, None, Some, [], ap, append-nil, arith, false, inr, length, length-append, refl, subst, sym, ℕ, ◌++◌, ◌+◌, ◌<◌, ◌∙◌, ◌∷◌, ◌≡◌, ◌≤◌, none-some, same_Some, Err, Ok, Result, Send, Entry, Took, LinkEvent, Closes, Ends, Opens, Piece, Settles, IsInOrder, Phases, events_in, phases_after, Seen, items_of, Fits, Log, logged, Ledger, IsHeard, IsUnheeded, closing_of, Bounds, Unheeded, heeded, items_in, refusal, KeepsItems, KeepsPhases, KeepsReplies, phase_after, closes, opens, HearFault, Heard, HearsBy, MayHear, Takes, IsNew, TakesIn, TakesOrEnds, entered}
 use Rattle.link_gate.specs.declared.heard.Heard.TheVariants as heard
 use Rattle.link_gate.specs.declared.heard.HearFault.TheVariants as fault
 use Rattle.link_gate.proofs.Phasing.{phases_behind, unopened_by, open_by}
@@ -21,59 +19,56 @@ pub stood_of : {log : Log} {ledger : Ledger} {seen : Seen} {events most : ℕ} (
 stood_of may = record { limit = may.limit; counted = may.counted; items = may.items; replies = may.replies; is_at = may.is_at }
 
 -- which connections were opened and closed, by the phases
-was_unopened : (bounds : Bounds) (entries : List Entry) (phases : Phases) (conn : ℕ) → heeded bounds (events_in entries) ≡ events_in entries → KeepsPhases entries phases → IsInOrder phases (event.Opens conn)
+was_unopened : (bounds : Bounds) (entries : List Entry) (phases : Phases) (conn : ℕ) → heeded bounds (events_in entries) ≡ events_in entries → KeepsPhases entries phases → IsInOrder phases (Opens conn)
     → (closes conn (heeded bounds (events_in entries)) ≡ false) × (opens conn (heeded bounds (events_in entries)) ≡ false)
 was_unopened bounds entries phases conn all knows order =
     let both = unopened_by (closes conn (events_in entries)) (opens conn (events_in entries)) (sym (knows conn) ∙ order.1) in
     (ap (closes conn) all ∙ both.0, ap (opens conn) all ∙ both.1)
 
-was_open : (bounds : Bounds) (entries : List Entry) (phases : Phases) (conn : ℕ) → heeded bounds (events_in entries) ≡ events_in entries → KeepsPhases entries phases → IsInOrder phases (event.Closes conn)
+was_open : (bounds : Bounds) (entries : List Entry) (phases : Phases) (conn : ℕ) → heeded bounds (events_in entries) ≡ events_in entries → KeepsPhases entries phases → IsInOrder phases (Closes conn)
     → closes conn (heeded bounds (events_in entries)) ≡ false
 was_open bounds entries phases conn all knows order =
     let both = open_by (closes conn (events_in entries)) (opens conn (events_in entries)) (sym (knows conn) ∙ order.1) in ap (closes conn) all ∙ both.0
 
 -- the ledger behind an event that is heeded
 replies_behind : (bounds : Bounds) (entries : List Entry) (sends : List Send) (event : LinkEvent) (ledger : Ledger) (phases : Phases) → heeded bounds (events_in entries) ≡ events_in entries
-    → heeded bounds (events_in (entries ++ entry.Took event ∷ [])) ≡ events_in entries ++ event ∷ [] → KeepsPhases entries phases → IsInOrder phases event
-    → KeepsReplies bounds entries None sends ledger → KeepsReplies bounds (entries ++ entry.Took event ∷ []) (closing_of event) sends (entered event ledger)
-replies_behind bounds entries sends (event.Opens conn) ledger phases all heeds knows order keeps =
+    → heeded bounds (events_in (entries ++ Took event ∷ [])) ≡ events_in entries ++ event ∷ [] → KeepsPhases entries phases → IsInOrder phases event
+    → KeepsReplies bounds entries None sends ledger → KeepsReplies bounds (entries ++ Took event ∷ []) (closing_of event) sends (entered event ledger)
+replies_behind bounds entries sends (Opens conn) ledger phases all heeds knows order keeps =
     let both = was_unopened bounds entries phases conn all knows order in keeps_opening bounds entries sends conn ledger all heeds both.1 both.0 keeps
-replies_behind bounds entries sends (event.Piece conn bytes) ledger phases all heeds knows order keeps = keeps_quiet bounds entries sends (event.Piece conn bytes) ledger all heeds (λ _. refl) (λ _. refl) keeps
-replies_behind bounds entries sends (event.Closes conn) ledger phases all heeds knows order keeps =
+replies_behind bounds entries sends (Piece conn bytes) ledger phases all heeds knows order keeps = keeps_quiet bounds entries sends (Piece conn bytes) ledger all heeds (λ _. refl) (λ _. refl) keeps
+replies_behind bounds entries sends (Closes conn) ledger phases all heeds knows order keeps =
     keeps_closing bounds entries sends conn ledger all heeds (was_open bounds entries phases conn all knows order) keeps
-replies_behind bounds entries sends event.Settles ledger phases all heeds knows order keeps = keeps_quiet bounds entries sends event.Settles ledger all heeds (λ _. refl) (λ _. refl) keeps
-replies_behind bounds entries sends event.Ends ledger phases all heeds knows order keeps = keeps_quiet bounds entries sends event.Ends ledger all heeds (λ _. refl) (λ _. refl) keeps
+replies_behind bounds entries sends Settles ledger phases all heeds knows order keeps = keeps_quiet bounds entries sends Settles ledger all heeds (λ _. refl) (λ _. refl) keeps
+replies_behind bounds entries sends Ends ledger phases all heeds knows order keeps = keeps_quiet bounds entries sends Ends ledger all heeds (λ _. refl) (λ _. refl) keeps
 
 -- what the event's log and ledger require
 pub event_is_new : (bounds : Bounds) (entries : List Entry) (sends : List Send) (event : LinkEvent) (ledger : Ledger) (phases : Phases) → heeded bounds (events_in entries) ≡ events_in entries → KeepsPhases entries phases → IsInOrder phases event
     → KeepsReplies bounds entries None sends ledger → IsNew event ledger
-event_is_new bounds entries sends (event.Opens conn) ledger phases all knows order keeps = is_unknown bounds entries sends None ledger conn keeps (was_unopened bounds entries phases conn all knows order).1
-event_is_new bounds entries sends (event.Piece conn bytes) ledger phases all knows order keeps = tt
-event_is_new bounds entries sends (event.Closes conn) ledger phases all knows order keeps = tt
-event_is_new bounds entries sends event.Settles ledger phases all knows order keeps = tt
-event_is_new bounds entries sends event.Ends ledger phases all knows order keeps = tt
+event_is_new bounds entries sends (Opens conn) ledger phases all knows order keeps = is_unknown bounds entries sends None ledger conn keeps (was_unopened bounds entries phases conn all knows order).1
+event_is_new bounds entries sends (Piece conn bytes) ledger phases all knows order keeps = tt
+event_is_new bounds entries sends (Closes conn) ledger phases all knows order keeps = tt
+event_is_new bounds entries sends Settles ledger phases all knows order keeps = tt
+event_is_new bounds entries sends Ends ledger phases all knows order keeps = tt
 
 -- the phases behind an event
-phases_with : (entries : List Entry) (event : LinkEvent) (phases now : Phases) → IsEvent event → KeepsPhases entries phases → IsInOrder phases event → ((conn : ℕ) → now conn ≡ phases_after event phases conn) → KeepsPhases (entries ++ entry.Took event ∷ []) now
+phases_with : (entries : List Entry) (event : LinkEvent) (phases now : Phases) → IsEvent event → KeepsPhases entries phases → IsInOrder phases event → ((conn : ℕ) → now conn ≡ phases_after event phases conn) → KeepsPhases (entries ++ Took event ∷ []) now
 phases_with entries event phases now one knows order enters conn =
     enters conn ∙ phases_behind phases (events_in entries) event knows order conn ∙ ap (phase_after conn) (sym (events_behind entries event one))
-
-count_with : (entries : List Entry) (event : LinkEvent) → IsEvent event → length (events_in (entries ++ entry.Took event ∷ [])) ≡ length (events_in entries) + 1
-count_with entries event one = ap length (events_behind entries event one) ∙ length-append (events_in entries) (event ∷ [])
 
 -- a close is the first of its connection
 first_close : (bounds : Bounds) (entries : List Entry) (phases : Phases) (event : LinkEvent) → heeded bounds (events_in entries) ≡ events_in entries → KeepsPhases entries phases → IsInOrder phases event
     → (conn : ℕ) → closing_of event ≡ Some conn → closes conn (heeded bounds (events_in entries)) ≡ false
-first_close bounds entries phases (event.Closes closed) all knows order conn is =
+first_close bounds entries phases (Closes closed) all knows order conn is =
     subst (λ c. closes c (heeded bounds (events_in entries)) ≡ false) (same_Some closed conn is) (was_open bounds entries phases closed all knows order)
-first_close bounds entries phases (event.Opens opened) all knows order conn is = absurd (none-some conn is)
-first_close bounds entries phases (event.Piece to bytes) all knows order conn is = absurd (none-some conn is)
-first_close bounds entries phases event.Settles all knows order conn is = absurd (none-some conn is)
-first_close bounds entries phases event.Ends all knows order conn is = absurd (none-some conn is)
+first_close bounds entries phases (Opens opened) all knows order conn is = absurd (none-some conn is)
+first_close bounds entries phases (Piece to bytes) all knows order conn is = absurd (none-some conn is)
+first_close bounds entries phases Settles all knows order conn is = absurd (none-some conn is)
+first_close bounds entries phases Ends all knows order conn is = absurd (none-some conn is)
 
 -- an event of the journal isn't Ends
-not_end : (found : LinkEvent) → IsEvent found → found ≡ event.Ends → ⊥
-not_end found one is = let never : [] ≡ event.Ends ∷ [] = subst IsEvent is one in absurd (cc)
+pub not_end : (found : LinkEvent) → IsEvent found → found ≡ Ends → ⊥
+not_end found one is = let never : [] ≡ Ends ∷ [] = subst IsEvent is one in absurd (cc)
 
 -- an event that is refused
 unheeded_with : (bounds : Bounds) (entries : List Entry) (sends : List Send) (event : LinkEvent) (cause : Unheeded) (ledger later : Ledger) (phases : Phases) → IsEvent event → heeded bounds (events_in entries) ≡ events_in entries → refusal bounds (events_in entries) event ≡ Some cause
@@ -85,7 +80,7 @@ unheeded_with bounds entries sends event cause ledger later phases one all refus
       no_end = not_end event one;
       first_close = first_close bounds entries phases event all knows order;
       brings_none = ap (items_of bounds.framing) still;
-      replies = subst (KeepsReplies bounds (entries ++ entry.Took event ∷ []) None sends) (sym same) (keeps_unheeded bounds entries sends event ledger still keeps);
+      replies = subst (KeepsReplies bounds (entries ++ Took event ∷ []) None sends) (sym same) (keeps_unheeded bounds entries sends event ledger still keeps);
     }
 
 -- an event that is heeded
@@ -97,7 +92,7 @@ heard_with bounds entries sends event log new ledger later phases before most on
       more = heeds.more;
       brings = heeds.brings;
       items = keeps_items bounds entries event log new one stood.items heeds.allowed is;
-      replies = subst (KeepsReplies bounds (entries ++ entry.Took event ∷ []) (closing_of event) sends) (sym same)
+      replies = subst (KeepsReplies bounds (entries ++ Took event ∷ []) (closing_of event) sends) (sym same)
           (replies_behind bounds entries sends event ledger phases stood.items.all_heeded (heeded_with bounds entries event one stood.items.all_heeded heeds.allowed) stood.is_at order stood.replies);
     }
 
@@ -111,7 +106,7 @@ hears_event bounds entries sends event log new ledger later seen shown before no
   takes,
   heard_with bounds entries sends event log new ledger later seen.phases before most one stood order did.1 did.2 did.3 did.5,
   phases_with entries event seen.phases shown.phases one stood.is_at order enters,
-  omega (arith, did.4, stood.counted, count_with entries event one),
+  omega (arith, did.4, stood.counted, (ap length (events_behind entries event one) ∙ length-append (events_in entries) (event ∷ []))),
 )
 hears_event bounds entries sends event log new ledger later seen shown before now most (Err (fault.Refused kind offset)) one stood order enters takes did = absurd did.0
 hears_event bounds entries sends event log new ledger later seen shown before now most (Err fault.ReadFault) one stood order enters takes did = absurd did.0
@@ -131,19 +126,19 @@ hears_event bounds entries sends event log new ledger later seen shown before no
 
 -- the end of the link
 hears_end : (bounds : Bounds) (entries : List Entry) (sends : List Send) (log new : Log) (ledger later : Ledger) (seen shown : Seen) (before now most : ℕ)
-    → Stood bounds entries sends log ledger seen.phases before most → ((conn : ℕ) → shown.phases conn ≡ seen.phases conn) → Takes seen.told shown.told event.Ends → new ≡ log → later ≡ ledger → now ≡ before
+    → Stood bounds entries sends log ledger seen.phases before most → ((conn : ℕ) → shown.phases conn ≡ seen.phases conn) → Takes seen.told shown.told Ends → new ≡ log → later ≡ ledger → now ≡ before
     → HearsBy bounds entries sends new later now seen shown (Ok heard.Ends)
 hears_end bounds entries sends log new ledger later seen shown before now most stood enters takes same_log same_ledger same_count =
-    let still : heeded bounds (events_in (entries ++ entry.Took event.Ends ∷ [])) ≡ heeded bounds (events_in entries) = ap (heeded bounds) (events_ended entries) in
-    let none : items_in bounds (entries ++ entry.Took event.Ends ∷ []) ≡ items_in bounds entries ++ [] = ap (items_of bounds.framing) still ∙ sym (append-nil (items_in bounds entries)) in (
-      event.Ends,
+    let still : heeded bounds (events_in (entries ++ Took Ends ∷ [])) ≡ heeded bounds (events_in entries) = ap (heeded bounds) (events_ended entries) in
+    let none : items_in bounds (entries ++ Took Ends ∷ []) ≡ items_in bounds entries ++ [] = ap (items_of bounds.framing) still ∙ sym (append-nil (items_in bounds entries)) in (
+      Ends,
       refl,
       takes,
       record {
         more = [];
         brings = none;
-        items = subst (KeepsItems bounds (entries ++ entry.Took event.Ends ∷ [])) (sym same_log) (items_ended bounds entries log stood.items);
-        replies = subst (KeepsReplies bounds (entries ++ entry.Took event.Ends ∷ []) None sends) (sym same_ledger) (keeps_unheeded bounds entries sends event.Ends ledger still stood.replies);
+        items = subst (KeepsItems bounds (entries ++ Took Ends ∷ [])) (sym same_log) (items_ended bounds entries log stood.items);
+        replies = subst (KeepsReplies bounds (entries ++ Took Ends ∷ []) None sends) (sym same_ledger) (keeps_unheeded bounds entries sends Ends ledger still stood.replies);
       },
       (λ conn. enters conn ∙ stood.is_at conn ∙ ap (phase_after conn) (sym (events_ended entries))),
       same_count ∙ stood.counted ∙ ap length (sym (events_ended entries)),
@@ -152,13 +147,13 @@ hears_end bounds entries sends log new ledger later seen shown before now most s
 pub hears_taken : (bounds : Bounds) (entries : List Entry) (sends : List Send) (event : LinkEvent) (log new : Log) (ledger later : Ledger) (seen shown : Seen) (before now most : ℕ) (result : Result Heard HearFault)
     → Stood bounds entries sends log ledger seen.phases before most → IsInOrder seen.phases event → ((conn : ℕ) → shown.phases conn ≡ phases_after event seen.phases conn) → Takes seen.told shown.told event → TakesOrEnds event log new ledger later before now most result
     → HearsBy bounds entries sends new later now seen shown result
-hears_taken bounds entries sends (event.Opens conn) log new ledger later seen shown before now most result stood order enters takes did =
-    hears_event bounds entries sends (event.Opens conn) log new ledger later seen shown before now most result refl stood order enters takes did
-hears_taken bounds entries sends (event.Piece conn bytes) log new ledger later seen shown before now most result stood order enters takes did =
-    hears_event bounds entries sends (event.Piece conn bytes) log new ledger later seen shown before now most result refl stood order enters takes did
-hears_taken bounds entries sends (event.Closes conn) log new ledger later seen shown before now most result stood order enters takes did =
-    hears_event bounds entries sends (event.Closes conn) log new ledger later seen shown before now most result refl stood order enters takes did
-hears_taken bounds entries sends event.Settles log new ledger later seen shown before now most result stood order enters takes did =
-    hears_event bounds entries sends event.Settles log new ledger later seen shown before now most result refl stood order enters takes did
-hears_taken bounds entries sends event.Ends log new ledger later seen shown before now most result stood order enters takes did =
+hears_taken bounds entries sends (Opens conn) log new ledger later seen shown before now most result stood order enters takes did =
+    hears_event bounds entries sends (Opens conn) log new ledger later seen shown before now most result refl stood order enters takes did
+hears_taken bounds entries sends (Piece conn bytes) log new ledger later seen shown before now most result stood order enters takes did =
+    hears_event bounds entries sends (Piece conn bytes) log new ledger later seen shown before now most result refl stood order enters takes did
+hears_taken bounds entries sends (Closes conn) log new ledger later seen shown before now most result stood order enters takes did =
+    hears_event bounds entries sends (Closes conn) log new ledger later seen shown before now most result refl stood order enters takes did
+hears_taken bounds entries sends Settles log new ledger later seen shown before now most result stood order enters takes did =
+    hears_event bounds entries sends Settles log new ledger later seen shown before now most result refl stood order enters takes did
+hears_taken bounds entries sends Ends log new ledger later seen shown before now most result stood order enters takes did =
     subst (HearsBy bounds entries sends new later now seen shown) (sym did.0) (hears_end bounds entries sends log new ledger later seen shown before now most stood enters takes did.1 did.2 did.3)

@@ -1,8 +1,6 @@
 -- What comes behind an event that was heard, by what the link's own answer says of it.
-use Rattle.std.specs.Prelude.{Option, Some, None}
-use Rattle.links.specs.declared.journal.LinkEvent.TheVariants as event
 use Rattle.links.specs.declared.journal.LinkFault.TheVariants as link
-use Rattle.link_gate.proofs.Terms.{Bool, [], false, inl, inr, refl, subst, sym, true, ℕ, ◌≡◌, Err, Ok, Result, LinkEvent, LinkFault, Coming, StaysTold, StillComes, Tells, Told, Log, Ledger, HearFault, Heard, ComesLast, ComesOn, IsShown, TakesBehind, IsFaultOf, TakesIn, TakesOrEnds}
+use Rattle.link_gate.proofs.Terms.{Bool, None, Option, Some, [], false, inl, inr, refl, subst, sym, true, ℕ, ◌≡◌, Err, Ok, Result, LinkEvent, Closes, Ends, Opens, Piece, Settles, LinkFault, Coming, StaysTold, StillComes, Tells, Told, Log, Ledger, HearFault, Heard, ComesLast, ComesOn, IsShown, TakesBehind, IsFaultOf, TakesIn, TakesOrEnds}
 use Rattle.link_gate.specs.declared.heard.Heard.TheVariants as heard
 use Rattle.link_gate.specs.declared.heard.HearFault.TheVariants as fault
 use Rattle.link_gate.proofs.Refusing.{IsEvent}
@@ -20,11 +18,11 @@ comes_on event (Some old) new (Err fault.Memory) told = tt
 
 -- an event isn't told as the end
 not_end : (event : LinkEvent) → IsEvent event → IsShown event heard.Ends → ⊥
-not_end (event.Opens conn) one is = let no : ⊥ = cc is in no
-not_end (event.Piece conn bytes) one is = let no : ⊥ = cc is in no
-not_end (event.Closes conn) one is = let no : ⊥ = cc is in no
-not_end event.Settles one is = let no : ⊥ = cc is in no
-not_end event.Ends one is = let no : ⊥ = cc one in no
+not_end (Opens conn) one is = let no : ⊥ = cc is in no
+not_end (Piece conn bytes) one is = let no : ⊥ = cc is in no
+not_end (Closes conn) one is = let no : ⊥ = cc is in no
+not_end Settles one is = let no : ⊥ = cc is in no
+not_end Ends one is = let no : ⊥ = cc one in no
 
 last_in : (event : LinkEvent) (log new : Log) (ledger later : Ledger) (before now most : ℕ) (coming : Option Coming) (result : Result Heard HearFault) → IsEvent event → TakesIn event log new ledger later before now most result → ComesLast coming result
 last_in event log new ledger later before now most coming (Ok heard.Items) one did = tt
@@ -39,11 +37,11 @@ last_in event log new ledger later before now most coming (Err fault.ReadFault) 
 last_in event log new ledger later before now most coming (Err fault.Memory) one did = tt
 
 pub comes_last : (event : LinkEvent) (log new : Log) (ledger later : Ledger) (before now most : ℕ) (coming : Option Coming) (result : Result Heard HearFault) → StillComes coming (Ok event) → TakesOrEnds event log new ledger later before now most result → ComesLast coming result
-comes_last (event.Opens conn) log new ledger later before now most coming result still did = last_in (event.Opens conn) log new ledger later before now most coming result refl did
-comes_last (event.Piece conn bytes) log new ledger later before now most coming result still did = last_in (event.Piece conn bytes) log new ledger later before now most coming result refl did
-comes_last (event.Closes conn) log new ledger later before now most coming result still did = last_in (event.Closes conn) log new ledger later before now most coming result refl did
-comes_last event.Settles log new ledger later before now most coming result still did = last_in event.Settles log new ledger later before now most coming result refl did
-comes_last event.Ends log new ledger later before now most coming result still did = subst (ComesLast coming) (sym did.0) still
+comes_last (Opens conn) log new ledger later before now most coming result still did = last_in (Opens conn) log new ledger later before now most coming result refl did
+comes_last (Piece conn bytes) log new ledger later before now most coming result still did = last_in (Piece conn bytes) log new ledger later before now most coming result refl did
+comes_last (Closes conn) log new ledger later before now most coming result still did = last_in (Closes conn) log new ledger later before now most coming result refl did
+comes_last Settles log new ledger later before now most coming result still did = last_in Settles log new ledger later before now most coming result refl did
+comes_last Ends log new ledger later before now most coming result still did = subst (ComesLast coming) (sym did.0) still
 
 -- behind a fault of the link
 pub fault_comes_on : (cause : LinkFault) (old new : Option Coming) (answer : HearFault) → IsFaultOf cause answer → StaysTold old new (Err cause) → ComesOn old new (Err answer)
@@ -70,11 +68,11 @@ takes_in event log new ledger later before now most old still takes (Err fault.R
 takes_in event log new ledger later before now most old still takes (Err fault.Memory) is did = inr is
 
 pub takes_behind : (event : LinkEvent) (log new : Log) (ledger later : Ledger) (before now most : ℕ) (old still : Told) (takes : Bool) (result : Result Heard HearFault) → takes ≡ true → TakesOrEnds event log new ledger later before now most result → TakesBehind old still takes result
-takes_behind (event.Opens conn) log new ledger later before now most old still takes result is did = takes_in (event.Opens conn) log new ledger later before now most old still takes result is did
-takes_behind (event.Piece conn bytes) log new ledger later before now most old still takes result is did = takes_in (event.Piece conn bytes) log new ledger later before now most old still takes result is did
-takes_behind (event.Closes conn) log new ledger later before now most old still takes result is did = takes_in (event.Closes conn) log new ledger later before now most old still takes result is did
-takes_behind event.Settles log new ledger later before now most old still takes result is did = takes_in event.Settles log new ledger later before now most old still takes result is did
-takes_behind event.Ends log new ledger later before now most old still takes result is did = subst (TakesBehind old still takes) (sym did.0) is
+takes_behind (Opens conn) log new ledger later before now most old still takes result is did = takes_in (Opens conn) log new ledger later before now most old still takes result is did
+takes_behind (Piece conn bytes) log new ledger later before now most old still takes result is did = takes_in (Piece conn bytes) log new ledger later before now most old still takes result is did
+takes_behind (Closes conn) log new ledger later before now most old still takes result is did = takes_in (Closes conn) log new ledger later before now most old still takes result is did
+takes_behind Settles log new ledger later before now most old still takes result is did = takes_in Settles log new ledger later before now most old still takes result is did
+takes_behind Ends log new ledger later before now most old still takes result is did = subst (TakesBehind old still takes) (sym did.0) is
 
 -- and behind a fault of the link
 pub fault_takes : (cause : LinkFault) (old still : Told) (takes : Bool) (answer : HearFault) → IsFaultOf cause answer → Tells old still [] → takes ≡ false → TakesBehind old still takes (Err answer)

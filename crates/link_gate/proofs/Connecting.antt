@@ -1,7 +1,6 @@
 -- Which connections are given to behind an event, and what hearing leaves as it was.
-use Rattle.links.specs.declared.journal.LinkEvent.TheVariants as event
 use Rattle.reply_ledger.specs.Ledger as ledgers
-use Rattle.link_gate.proofs.Terms.{Bool, List, ap, arith, false, if◌then◌else◌, inl, inr, length, not, refl, subst, sym, true, ℕ, ◌&&◌, ◌∙◌, ◌≡◌, ◌≤◌, ◌⊎◌, eqb-true, true≢false, Err, Ok, Result, ◌==◌, Send, Entry, LinkEvent, Closed, GivesAtClose, Open, Phase, Phases, events_in, phases_after, Log, is_open-push, stamped_to-push, Ledger, stamped_to, Bounds, heeded, closes, is_gone, opens, HearFault, Heard, HasSameReplies, Stays, IsNew, TakesIn, TakesOrEnds, entered}
+use Rattle.link_gate.proofs.Terms.{Bool, List, ap, arith, false, if◌then◌else◌, inl, inr, not, refl, subst, sym, true, ℕ, ◌&&◌, ◌∙◌, ◌≡◌, ◌≤◌, ◌⊎◌, eqb-true, true≢false, Err, Ok, Result, ◌==◌, Send, Entry, LinkEvent, Closes, Ends, Opens, Piece, Settles, Closed, GivesAtClose, Open, Phase, Phases, events_in, phases_after, Log, is_open-push, stamped_to-push, Ledger, stamped_to, Bounds, heeded, closes, is_gone, opens, HearFault, Heard, HasSameReplies, Stays, IsNew, TakesIn, TakesOrEnds, entered}
 use Rattle.link_gate.specs.declared.heard.HearFault.TheVariants as fault
 use Rattle.link_gate.proofs.Phasing.{phase_by}
 use Rattle.link_gate.proofs.Refusing.{few_heeded}
@@ -18,11 +17,11 @@ later_in event log new ledger later before now most (Err fault.ReadFault) did = 
 later_in event log new ledger later before now most (Err fault.Memory) did = inl did.4
 
 later_of : (event : LinkEvent) (log new : Log) (ledger later : Ledger) (before now most : ℕ) (result : Result Heard HearFault) → TakesOrEnds event log new ledger later before now most result → (later ≡ ledger) ⊎ (later ≡ entered event ledger)
-later_of (event.Opens conn) log new ledger later before now most result did = later_in (event.Opens conn) log new ledger later before now most result did
-later_of (event.Piece conn bytes) log new ledger later before now most result did = later_in (event.Piece conn bytes) log new ledger later before now most result did
-later_of (event.Closes conn) log new ledger later before now most result did = later_in (event.Closes conn) log new ledger later before now most result did
-later_of event.Settles log new ledger later before now most result did = later_in event.Settles log new ledger later before now most result did
-later_of event.Ends log new ledger later before now most result did = inl did.2
+later_of (Opens conn) log new ledger later before now most result did = later_in (Opens conn) log new ledger later before now most result did
+later_of (Piece conn bytes) log new ledger later before now most result did = later_in (Piece conn bytes) log new ledger later before now most result did
+later_of (Closes conn) log new ledger later before now most result did = later_in (Closes conn) log new ledger later before now most result did
+later_of Settles log new ledger later before now most result did = later_in Settles log new ledger later before now most result did
+later_of Ends log new ledger later before now most result did = inl did.2
 
 -- no more events than may be are counted
 counted_in : (event : LinkEvent) (log new : Log) (ledger later : Ledger) (before now most : ℕ) (result : Result Heard HearFault) → TakesIn event log new ledger later before now most result → before ≤ most → now ≤ most
@@ -35,16 +34,15 @@ counted_in event log new ledger later before now most (Err fault.ReadFault) did 
 counted_in event log new ledger later before now most (Err fault.Memory) did h = omega (arith, did.0, did.3)
 
 counted_of : (event : LinkEvent) (log new : Log) (ledger later : Ledger) (before now most : ℕ) (result : Result Heard HearFault) → TakesOrEnds event log new ledger later before now most result → before ≤ most → now ≤ most
-counted_of (event.Opens conn) log new ledger later before now most result did h = counted_in (event.Opens conn) log new ledger later before now most result did h
-counted_of (event.Piece conn bytes) log new ledger later before now most result did h = counted_in (event.Piece conn bytes) log new ledger later before now most result did h
-counted_of (event.Closes conn) log new ledger later before now most result did h = counted_in (event.Closes conn) log new ledger later before now most result did h
-counted_of event.Settles log new ledger later before now most result did h = counted_in event.Settles log new ledger later before now most result did h
-counted_of event.Ends log new ledger later before now most result did h = omega (arith, did.3, h)
+counted_of (Opens conn) log new ledger later before now most result did h = counted_in (Opens conn) log new ledger later before now most result did h
+counted_of (Piece conn bytes) log new ledger later before now most result did h = counted_in (Piece conn bytes) log new ledger later before now most result did h
+counted_of (Closes conn) log new ledger later before now most result did h = counted_in (Closes conn) log new ledger later before now most result did h
+counted_of Settles log new ledger later before now most result did h = counted_in Settles log new ledger later before now most result did h
+counted_of Ends log new ledger later before now most result did h = omega (arith, did.3, h)
 
 pub stood_below : (bounds : Bounds) (entries : List Entry) (sends : List Send) (log : Log) (ledger : Ledger) (phases : Phases) (before most : ℕ) → Stood bounds entries sends log ledger phases before most → before ≤ most
 stood_below bounds entries sends log ledger phases before most stood =
-    let few : length (events_in entries) ≤ bounds.max_events = few_heeded bounds (events_in entries) stood.items.all_heeded in
-    omega (arith, few, stood.limit, stood.counted)
+    omega (arith, few_heeded bounds (events_in entries) stood.items.all_heeded, stood.limit, stood.counted)
 
 pub counted_most : (bounds : Bounds) (entries : List Entry) (sends : List Send) (event : LinkEvent) (log new : Log) (ledger later : Ledger) (phases : Phases) (before now most : ℕ) (result : Result Heard HearFault) → Stood bounds entries sends log ledger phases before most
     → TakesOrEnds event log new ledger later before now most result → now ≤ most
@@ -53,18 +51,18 @@ counted_most bounds entries sends event log new ledger later phases before now m
 
 -- what was sent and passed stays
 entered_stamps : (event : LinkEvent) (ledger : Ledger) (conn : ℕ) → IsNew event ledger → stamped_to (entered event ledger).connections conn ≡ stamped_to ledger.connections conn
-entered_stamps (event.Opens place) ledger conn new = stamped_to-push ledger.connections place conn new
-entered_stamps (event.Piece to bytes) ledger conn new = refl
-entered_stamps (event.Closes place) ledger conn new = refl
-entered_stamps event.Settles ledger conn new = refl
-entered_stamps event.Ends ledger conn new = refl
+entered_stamps (Opens place) ledger conn new = stamped_to-push ledger.connections place conn new
+entered_stamps (Piece to bytes) ledger conn new = refl
+entered_stamps (Closes place) ledger conn new = refl
+entered_stamps Settles ledger conn new = refl
+entered_stamps Ends ledger conn new = refl
 
 entered_same : (event : LinkEvent) (ledger : Ledger) → ((entered event ledger).first ≡ ledger.first) × ((entered event ledger).kept ≡ ledger.kept) × ((entered event ledger).trial ≡ ledger.trial)
-entered_same (event.Opens place) ledger = (refl, refl, refl)
-entered_same (event.Piece to bytes) ledger = (refl, refl, refl)
-entered_same (event.Closes place) ledger = (refl, refl, refl)
-entered_same event.Settles ledger = (refl, refl, refl)
-entered_same event.Ends ledger = (refl, refl, refl)
+entered_same (Opens place) ledger = (refl, refl, refl)
+entered_same (Piece to bytes) ledger = (refl, refl, refl)
+entered_same (Closes place) ledger = (refl, refl, refl)
+entered_same Settles ledger = (refl, refl, refl)
+entered_same Ends ledger = (refl, refl, refl)
 
 pub same_replies : (event : LinkEvent) (log new : Log) (ledger later : Ledger) (before now most : ℕ) (result : Result Heard HearFault) → IsNew event ledger → TakesOrEnds event log new ledger later before now most result → HasSameReplies ledger later
 same_replies event log new ledger later before now most result fresh did = by (later_of event log new ledger later before now most result did)
@@ -91,27 +89,27 @@ open_by_event place conn true phase h = refl
 open_by_event place conn false phase h = h
 
 given_before : (event : LinkEvent) (phases after : Phases) (gives : ℕ → Bool) (conn : ℕ) → ((other : ℕ) → after other ≡ Open → gives other ≡ true) → GivesAtClose gives (Ok event) → ((other : ℕ) → after other ≡ phases_after event phases other) → phases conn ≡ Open → gives conn ≡ true
-given_before (event.Opens place) phases after gives conn law closing enters h = law conn (enters conn ∙ open_by_event place conn (conn == place) (phases conn) h)
-given_before (event.Piece to bytes) phases after gives conn law closing enters h = law conn (enters conn ∙ h)
-given_before (event.Closes place) phases after gives conn law closing enters h = by (conn == place) refl
+given_before (Opens place) phases after gives conn law closing enters h = law conn (enters conn ∙ open_by_event place conn (conn == place) (phases conn) h)
+given_before (Piece to bytes) phases after gives conn law closing enters h = law conn (enters conn ∙ h)
+given_before (Closes place) phases after gives conn law closing enters h = by (conn == place) refl
   where
     by : (b : Bool) → conn == place ≡ b → gives conn ≡ true
     by true p = ap gives (eqb-true conn place p) ∙ closing
     by false p = law conn (enters conn ∙ ap (λ (b : Bool). if b then Closed else phases conn) p ∙ h)
-given_before event.Settles phases after gives conn law closing enters h = law conn (enters conn ∙ h)
-given_before event.Ends phases after gives conn law closing enters h = law conn (enters conn ∙ h)
+given_before Settles phases after gives conn law closing enters h = law conn (enters conn ∙ h)
+given_before Ends phases after gives conn law closing enters h = law conn (enters conn ∙ h)
 
 given_entered : (event : LinkEvent) (ledger : Ledger) (phases after : Phases) (gives : ℕ → Bool) (conn : ℕ) → IsNew event ledger → ((other : ℕ) → after other ≡ Open → gives other ≡ true) → ((other : ℕ) → after other ≡ phases_after event phases other)
     → (ledgers.is_open ledger.connections conn ≡ true → gives conn ≡ true) → ledgers.is_open (entered event ledger).connections conn ≡ true → gives conn ≡ true
-given_entered (event.Opens place) ledger phases after gives conn fresh law enters was h = by (conn == place) refl
+given_entered (Opens place) ledger phases after gives conn fresh law enters was h = by (conn == place) refl
   where
     by : (b : Bool) → conn == place ≡ b → gives conn ≡ true
     by true p = law conn (enters conn ∙ ap (λ (b : Bool). if b then Open else phases conn) p)
     by false p = was (sym (is_open-push ledger.connections place conn fresh p) ∙ h)
-given_entered (event.Piece to bytes) ledger phases after gives conn fresh law enters was h = was h
-given_entered (event.Closes place) ledger phases after gives conn fresh law enters was h = was h
-given_entered event.Settles ledger phases after gives conn fresh law enters was h = was h
-given_entered event.Ends ledger phases after gives conn fresh law enters was h = was h
+given_entered (Piece to bytes) ledger phases after gives conn fresh law enters was h = was h
+given_entered (Closes place) ledger phases after gives conn fresh law enters was h = was h
+given_entered Settles ledger phases after gives conn fresh law enters was h = was h
+given_entered Ends ledger phases after gives conn fresh law enters was h = was h
 
 pub connected_behind : (bounds : Bounds) (entries : List Entry) (sends : List Send) (event : LinkEvent) (log new : Log) (ledger later : Ledger) (phases after : Phases) (gives : ℕ → Bool) (before now most : ℕ) (result : Result Heard HearFault)
     → Stood bounds entries sends log ledger phases before most → IsNew event ledger → ((other : ℕ) → after other ≡ Open → gives other ≡ true) → GivesAtClose gives (Ok event) → ((other : ℕ) → after other ≡ phases_after event phases other)
@@ -144,8 +142,8 @@ stays_in event log new ledger later before now most (Err fault.ReadFault) did = 
 stays_in event log new ledger later before now most (Err fault.Memory) did = did.4
 
 pub stays_of : (event : LinkEvent) (log new : Log) (ledger later : Ledger) (before now most : ℕ) (result : Result Heard HearFault) → TakesOrEnds event log new ledger later before now most result → Stays log new ledger later before now result
-stays_of (event.Opens conn) log new ledger later before now most result did = stays_in (event.Opens conn) log new ledger later before now most result did
-stays_of (event.Piece conn bytes) log new ledger later before now most result did = stays_in (event.Piece conn bytes) log new ledger later before now most result did
-stays_of (event.Closes conn) log new ledger later before now most result did = stays_in (event.Closes conn) log new ledger later before now most result did
-stays_of event.Settles log new ledger later before now most result did = stays_in event.Settles log new ledger later before now most result did
-stays_of event.Ends log new ledger later before now most result did = subst (Stays log new ledger later before now) (sym did.0) tt
+stays_of (Opens conn) log new ledger later before now most result did = stays_in (Opens conn) log new ledger later before now most result did
+stays_of (Piece conn bytes) log new ledger later before now most result did = stays_in (Piece conn bytes) log new ledger later before now most result did
+stays_of (Closes conn) log new ledger later before now most result did = stays_in (Closes conn) log new ledger later before now most result did
+stays_of Settles log new ledger later before now most result did = stays_in Settles log new ledger later before now most result did
+stays_of Ends log new ledger later before now most result did = subst (Stays log new ledger later before now) (sym did.0) tt

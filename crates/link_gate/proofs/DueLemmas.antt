@@ -1,9 +1,7 @@
 -- The part that a ledger finds first is a piece that is due.
-use Rattle.std.specs.Prelude.{◌⊎◌}
 use Rattle.reply_ledger.proofs.EntryLemmas.{sent_to-append}
-use Rattle.link_gate.proofs.Terms.{Bool, List, Option, [], ap, append-nil, append_assoc, arith, cond, drop, eqb, false, inl, inr, length, length-append, refl, subst, sym, take, true, ℕ, ◌++◌, ◌+◌, ◌-◌, ◌<◌, ◌∙◌, ◌∷◌, ◌≡◌, ◌≤◌, drop-append-add, drop-append_seam, take-append_seam, cases_lt, eqb-true, drop-append-le, length-take-le, take-append-drop, take-append-le, Prefix, Send, sent_to, Entry, IsFirst, come, first_length, not_left, sent_then, Ledger, is_left, unpassed, prefix_sent, prefix_trans, sent_to-more, passed_in-gave, AreFronts, Bounds, received, AreSendable, IsSendable, KeepsReplies, may_pass, GoesBefore, IsDuePiece, IsWholePiece, Rules, IsOwed, IsPassed, Moment, Stands, journal, passed_in}
+use Rattle.link_gate.proofs.Terms.{Bool, List, Option, [], ap, append-nil, append_assoc, arith, cond, drop, eqb, false, inl, inr, length, length-append, refl, subst, sym, take, true, ℕ, ◌++◌, ◌+◌, ◌-◌, ◌<◌, ◌∙◌, ◌∷◌, ◌≡◌, ◌≤◌, ◌⊎◌, drop-append-add, drop-append_seam, take-append_seam, cases_lt, eqb-true, drop-append-le, length-take-le, take-append-drop, take-append-le, Prefix, Send, sent_to, Entry, Gave, IsFirst, come, first_length, not_left, sent_then, prefix-le, Ledger, is_left, unpassed, prefix_sent, prefix_trans, sent_to-more, passed_in-gave, AreFronts, Bounds, received, AreSendable, IsSendable, KeepsReplies, may_pass, GoesBefore, IsDuePiece, IsWholePiece, Rules, IsOwed, IsPassed, Moment, Stands, journal, passed_in}
 use Rattle.link_gate.proofs.KeepLemmas.{passed_length}
-use Rattle.links.specs.declared.journal.Entry.TheVariants as entry
 
 -- of two fronts of a list the shorter is a front of the longer
 pub front_of : {X : Type 0} (xs ys whole : List X) → Prefix xs whole → Prefix ys whole → length xs ≤ length ys → Prefix xs ys
@@ -14,9 +12,6 @@ front_of {X = X} xs ys whole one other less = (
   where
     taken : (l rest all : List X) → l ++ rest ≡ all → take (length l) all ≡ l
     taken l rest all is = ap (take (length l)) (sym is) ∙ take-append_seam l rest
-
-pub prefix_le : {X : Type 0} (xs ys : List X) → Prefix xs ys → length xs ≤ length ys
-prefix_le xs ys h = omega (arith, ap length h.1, length-append xs h.0)
 
 -- a send that stands among sends is one that may be sent
 pub sendable_at : (sends x z : List Send) (y : Send) → sends ≡ x ++ y ∷ z → AreSendable sends → IsSendable y
@@ -40,7 +35,7 @@ passed_early bounds entries closing sends ledger send stands keeps fronts may ea
     let within : Prefix front gone =
     front_of front gone sends (stands_front sends send stands) (drop ledger.first sends, take-append-drop ledger.first sends)
     (omega (arith, early, length-append stands.earlier (send ∷ []), length-take-le ledger.first sends keeps.shows.counted)) in
-    let less = prefix_le (sent_to c front) (sent_to c gone) (prefix_sent c front gone within) in
+    let less = prefix-le (sent_to c front) (sent_to c gone) (prefix_sent c front gone within) in
     front_of (sent_to c front) (sent_to c (passed_in bounds entries)) (sent_to c sends) (prefix_sent c front sends (stands_front sends send stands)) (fronts c) (omega (arith, less, keeps.given_up c may))
 
 -- where a later one stands
@@ -66,12 +61,11 @@ passed_late : (bounds : Bounds) (entries : List Entry) (closing : Option ℕ) (s
     → may_pass bounds entries closing send.conn ≡ true → (is : IsKept sends ledger send stands) → is_left (unpassed ledger.connections is.front send) ≡ false → IsPassed bounds entries sends send stands
 passed_late bounds entries closing sends ledger send stands keeps fronts may is none =
     let c : ℕ = send.conn in
-    let some = (sendable_at sends stands.earlier stands.later send stands.split keeps.sendable).some in
     let moved = not_left ledger.connections is.front send none in
     let long : length (sent_to c (stands.earlier ++ send ∷ [])) ≡ length (sent_to c (take ledger.first sends)) + length (sent_to c is.front) + length send.bytes =
     ap (λ (l : List Send). length (sent_to c (l ++ send ∷ []))) is.earlier ∙ front_length c sends ledger.first is.front send refl in
     front_of (sent_to c (stands.earlier ++ send ∷ [])) (sent_to c (passed_in bounds entries)) (sent_to c sends) (prefix_sent c (stands.earlier ++ send ∷ []) sends (stands_front sends send stands)) (fronts c)
-    (omega (arith, some, moved, long, passed_length bounds entries closing sends ledger c keeps may))
+    (omega (arith, (sendable_at sends stands.earlier stands.later send stands.split keeps.sendable).some, moved, long, passed_length bounds entries closing sends ledger c keeps may))
 
 -- a send to a connection that may be passed to was passed, unless it is kept and something is left of it
 pub passed_unless_left : (bounds : Bounds) (entries : List Entry) (closing : Option ℕ) (sends : List Send) (ledger : Ledger) (send : Send) (stands : Stands sends send) → KeepsReplies bounds entries closing sends ledger → AreFronts (passed_in bounds entries) sends
@@ -167,18 +161,17 @@ front_due rules sends moment conn bytes front begins due = record {
 
 -- a front of a due piece leaves what was passed a front of what was sent
 pub fronts_then : (rules : Rules) (sends : List Send) (moment : Moment) (conn : ℕ) (bytes : List ℕ) (gone : Bool) → IsDuePiece rules sends moment conn bytes → AreFronts (passed_in rules.bounds (journal moment)) sends
-    → AreFronts (passed_in rules.bounds (journal moment ++ entry.Gave conn bytes gone ∷ [])) sends
+    → AreFronts (passed_in rules.bounds (journal moment ++ Gave conn bytes gone ∷ [])) sends
 fronts_then rules sends moment conn bytes gone due fronts q = of (eqb conn q) refl
   where
-    same : sent_to q (passed_in rules.bounds (journal moment ++ entry.Gave conn bytes gone ∷ [])) ≡ sent_to q (passed_in rules.bounds (journal moment)) ++ cond (eqb conn q) bytes []
+    same : sent_to q (passed_in rules.bounds (journal moment ++ Gave conn bytes gone ∷ [])) ≡ sent_to q (passed_in rules.bounds (journal moment)) ++ cond (eqb conn q) bytes []
     same = ap (sent_to q) (passed_in-gave rules.bounds (journal moment) conn bytes gone) ∙ sent_to-more q (passed_in rules.bounds (journal moment)) (record { conn = conn; bytes = bytes; taken = received rules.bounds (journal moment) })
 
-    of : (b : Bool) → eqb conn q ≡ b → Prefix (sent_to q (passed_in rules.bounds (journal moment ++ entry.Gave conn bytes gone ∷ []))) (sent_to q sends)
+    of : (b : Bool) → eqb conn q ≡ b → Prefix (sent_to q (passed_in rules.bounds (journal moment ++ Gave conn bytes gone ∷ []))) (sent_to q sends)
     of true is =
-        let place : conn ≡ q = eqb-true conn q is in
         let all : Prefix (sent_to q (passed_in rules.bounds (journal moment)) ++ bytes) (sent_to q sends) =
         prefix_trans (sent_to q (passed_in rules.bounds (journal moment)) ++ bytes) (sent_to q (due.stands.earlier ++ due.send ∷ [])) (sent_to q sends)
-        (subst (λ (c : ℕ). Prefix (sent_to c (passed_in rules.bounds (journal moment)) ++ bytes) (sent_to c (due.stands.earlier ++ due.send ∷ []))) place due.part)
+        (subst (λ (c : ℕ). Prefix (sent_to c (passed_in rules.bounds (journal moment)) ++ bytes) (sent_to c (due.stands.earlier ++ due.send ∷ []))) (eqb-true conn q is) due.part)
         (prefix_sent q (due.stands.earlier ++ due.send ∷ []) sends (stands_front sends due.send due.stands)) in
         (all.0, ap (λ (l : List ℕ). l ++ all.0) (same ∙ ap (λ (b : Bool). sent_to q (passed_in rules.bounds (journal moment)) ++ cond b bytes []) is) ∙ all.1)
     of false is =

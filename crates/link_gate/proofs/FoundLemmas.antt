@@ -1,9 +1,8 @@
 -- What the ledger's calls find, and what is given of it.
-use Rattle.std.proofs.Common.{Result, Ok, Err}
 use Rattle.reply_ledger.specs.Ledger.{IsInOrder}
 use Rattle.reply_ledger.specs.Ledger as ledgers
 use Rattle.session_history.specs.Giving.{Passes}
-use Rattle.link_gate.proofs.Terms.{Bool, List, None, Option, Some, ap, append_assoc, arith, false, length, not, refl, subst, sym, true, ℕ, ◌&&◌, ◌++◌, ◌<◌, ◌∙◌, ◌≡◌, true≢false, same_Some, option_map, Send, Entry, Given, LinkFault, Gives, Told, events_in, IsFirst, IsNext, IsRest, first_length, next_is, rest_is, IsOpened, Ledger, times_of, next_part, rest_part, shown_part, IsClosing, IsReady, PassesRest, then_entries, heeded, received, AreSendable, KeepsReplies, Rules, is_gone, opens, Moment, journal, PassFault, IsNoted}
+use Rattle.link_gate.proofs.Terms.{Bool, List, None, Option, Some, ap, append_assoc, arith, false, length, not, refl, subst, sym, true, ℕ, ◌&&◌, ◌++◌, ◌<◌, ◌∙◌, ◌≡◌, true≢false, same_Some, option_map, Err, Ok, Result, is_ok, Send, Entry, Given, LinkFault, Gives, TellsHanded, Told, events_in, Seen, IsFirst, IsNext, IsRest, first_length, next_is, rest_is, IsOpened, Ledger, times_of, next_part, rest_part, shown_part, IsClosing, IsReady, PassesRest, then_entries, heeded, received, AreSendable, KeepsReplies, Rules, is_gone, opens, Moment, journal, PassFault, IsNoted}
 use Rattle.link_gate.proofs.DueLemmas.{sendable_at}
 use Rattle.link_gate.proofs.GoingLemmas.{Going, IsPiece, Moved, moved, broke, going_then, going_broke}
 use Rattle.link_gate.proofs.ReadyLemmas.{may_rest, until_piece, until_then, rest_piece, rest_then}
@@ -56,16 +55,16 @@ until_moves rules sends moment until conn stamp ledger new_ledger bytes old mid 
     (until_then rules sends here until ledger new_ledger conn mid new going.here move)
 
 -- it was given in part, or not noted
-pub until_breaks : (rules : Rules) (sends : List Send) (moment : Moment) (until conn : ℕ) (ledger new_ledger : Ledger) (bytes : List ℕ) (old mid new : Told) (given : Result Given LinkFault) (stopped : PassFault) → UntilHere rules sends moment until ledger old mid
-    → IsNext ledger until conn bytes → Gives mid new conn bytes given → Passes rules sends moment until new_ledger old new (Err stopped)
-until_breaks rules sends moment until conn ledger new_ledger bytes old mid new given stopped going next gives =
+pub until_breaks : (rules : Rules) (sends : List Send) (moment : Moment) (until conn : ℕ) (ledger new_ledger : Ledger) (bytes : List ℕ) (old mid : Told) (new : Seen) (given : Result Given LinkFault) (stopped : PassFault) → UntilHere rules sends moment until ledger old mid
+    → IsNext ledger until conn bytes → new.gives ≡ is_ok given → TellsHanded new.told new.handed conn bytes → Gives mid new.told conn bytes given → Passes rules sends moment until new_ledger old new (Err stopped)
+until_breaks rules sends moment until conn ledger new_ledger bytes old mid new given stopped going next still handed gives =
     let here : Moment = then_entries moment going.more in
     let piece : IsPiece rules sends here None ledger conn bytes = until_piece rules sends here until ledger conn bytes going.here next in
     going_broke rules sends moment (λ m. IsReady rules sends m until ledger) (λ more. Unit {0}) (λ more. KeepsReplies rules.bounds (journal moment ++ more) None sends new_ledger × (next_part new_ledger until ≡ None)) old mid new stopped going
-    (broke rules sends here conn bytes mid new given stopped (λ more. Unit {0}) piece.whole gives)
+    (broke rules sends here conn bytes mid new given stopped (λ more. Unit {0}) piece.whole still handed gives)
 
 -- none is left
-pub until_ends : (rules : Rules) (sends : List Send) (moment : Moment) (until : ℕ) (ledger : Ledger) (old now : Told) → UntilHere rules sends moment until ledger old now → next_part ledger until ≡ None → Passes {E = PassFault} rules sends moment until ledger old now (Ok tt)
+pub until_ends : (rules : Rules) (sends : List Send) (moment : Moment) (until : ℕ) (ledger : Ledger) (old : Told) (now : Seen) → UntilHere rules sends moment until ledger old now.told → next_part ledger until ≡ None → Passes {E = PassFault} rules sends moment until ledger old now (Ok tt)
 until_ends rules sends moment until ledger old now going none =
     (going.more, going.due, going.tells, (subst (λ (es : List Entry). KeepsReplies rules.bounds es None sends ledger) (sym (append_assoc moment.start moment.since going.more)) going.here.keeps, none))
 
@@ -82,20 +81,20 @@ rest_moves rules sends moment conn stamp ledger new_ledger bytes old mid new giv
 abbrev pub IsRestDone : Rules → List Send → Moment → ℕ → Ledger → List Entry → Type 0
 IsRestDone rules sends moment conn ledger more = KeepsReplies rules.bounds (journal moment ++ more) (Some conn) sends ledger × (is_gone conn (journal moment ++ more) ≡ false → rest_part ledger conn ≡ None)
 
-pub rest_breaks : (rules : Rules) (sends : List Send) (moment : Moment) (conn : ℕ) (ledger new_ledger : Ledger) (bytes : List ℕ) (old mid new : Told) (given : Result Given LinkFault) (stopped : PassFault) → RestHere rules sends moment conn ledger old mid
-    → IsRest ledger conn bytes → ledgers.is_open ledger.connections conn ≡ true → Gives mid new conn bytes given → PassesRest rules sends moment conn new_ledger old new (Err stopped)
-rest_breaks rules sends moment conn ledger new_ledger bytes old mid new given stopped going rest opened gives =
+pub rest_breaks : (rules : Rules) (sends : List Send) (moment : Moment) (conn : ℕ) (ledger new_ledger : Ledger) (bytes : List ℕ) (old mid : Told) (new : Seen) (given : Result Given LinkFault) (stopped : PassFault) → RestHere rules sends moment conn ledger old mid
+    → IsRest ledger conn bytes → ledgers.is_open ledger.connections conn ≡ true → new.gives ≡ is_ok given → TellsHanded new.told new.handed conn bytes → Gives mid new.told conn bytes given → PassesRest rules sends moment conn new_ledger old new (Err stopped)
+rest_breaks rules sends moment conn ledger new_ledger bytes old mid new given stopped going rest opened still handed gives =
     let here : Moment = then_entries moment going.more in
     let piece : IsPiece rules sends here (Some conn) ledger conn bytes = rest_piece rules sends here conn ledger bytes going.here rest opened in
     going_broke rules sends moment (λ m. IsClosing rules sends m conn ledger) (λ more. Unit {0}) (IsRestDone rules sends moment conn new_ledger) old mid new stopped going
-    (broke rules sends here conn bytes mid new given stopped (λ more. Unit {0}) piece.whole gives)
+    (broke rules sends here conn bytes mid new given stopped (λ more. Unit {0}) piece.whole still handed gives)
 
-rest_done : (rules : Rules) (sends : List Send) (moment : Moment) (conn : ℕ) (ledger : Ledger) (old now : Told) → (going : RestHere rules sends moment conn ledger old now) → (is_gone conn (journal moment ++ going.more) ≡ false → rest_part ledger conn ≡ None)
+rest_done : (rules : Rules) (sends : List Send) (moment : Moment) (conn : ℕ) (ledger : Ledger) (old : Told) (now : Seen) → (going : RestHere rules sends moment conn ledger old now.told) → (is_gone conn (journal moment ++ going.more) ≡ false → rest_part ledger conn ≡ None)
     → PassesRest {E = PassFault} rules sends moment conn ledger old now (Ok tt)
 rest_done rules sends moment conn ledger old now going none =
     (going.more, going.due, going.tells, (subst (λ (es : List Entry). KeepsReplies rules.bounds es (Some conn) sends ledger) (sym (append_assoc moment.start moment.since going.more)) going.here.keeps, none))
 
-pub rest_ends : (rules : Rules) (sends : List Send) (moment : Moment) (conn : ℕ) (ledger : Ledger) (old now : Told) → RestHere rules sends moment conn ledger old now → rest_part ledger conn ≡ None → PassesRest {E = PassFault} rules sends moment conn ledger old now (Ok tt)
+pub rest_ends : (rules : Rules) (sends : List Send) (moment : Moment) (conn : ℕ) (ledger : Ledger) (old : Told) (now : Seen) → RestHere rules sends moment conn ledger old now.told → rest_part ledger conn ≡ None → PassesRest {E = PassFault} rules sends moment conn ledger old now (Ok tt)
 rest_ends rules sends moment conn ledger old now going none = rest_done rules sends moment conn ledger old now going (λ stays. none)
 
 -- a connection that was opened and isn't open in the ledger any more is gone
@@ -104,7 +103,7 @@ closed_gone true true opened shut stays = sym stays
 closed_gone true false opened shut stays = sym shut
 closed_gone false g opened shut stays = opened
 
-pub rest_gone : (rules : Rules) (sends : List Send) (moment : Moment) (conn : ℕ) (ledger : Ledger) (old now : Told) → RestHere rules sends moment conn ledger old now → IsOpened ledger conn → ledgers.is_open ledger.connections conn ≡ false
+pub rest_gone : (rules : Rules) (sends : List Send) (moment : Moment) (conn : ℕ) (ledger : Ledger) (old : Told) (now : Seen) → RestHere rules sends moment conn ledger old now.told → IsOpened ledger conn → ledgers.is_open ledger.connections conn ≡ false
     → PassesRest {E = PassFault} rules sends moment conn ledger old now (Ok tt)
 rest_gone rules sends moment conn ledger old now going known shut =
     let entries : List Entry = journal (then_entries moment going.more) in

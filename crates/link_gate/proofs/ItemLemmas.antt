@@ -1,14 +1,13 @@
 -- What is known of the items that a log keeps beside a journal.
 use Rattle.std.specs.List.{All, slice_get}
-use Rattle.std.proofs.lemmas.List.Elements.{All-append, All-map}
+use Rattle.std.proofs.lemmas.List.Elements.{All-append, All-map, All-nil, All-cons}
 use Rattle.rx_io.specs.declared.bytes.Item.{Item}
-use Rattle.links.specs.declared.journal.LinkEvent.TheVariants as event
 use Rattle.msg_frame.specs.declared.framing.TheConstants.{MAX_MESSAGE}
 use Rattle.msg_frame.specs.Feeding.{IsRest}
 use Rattle.msg_frame.proofs.Short.{Keeps, cut_keeps, no_rest}
 use Rattle.item_log.specs.Heard.{Heard}
 use Rattle.item_log.specs.Log.{received}
-use Rattle.link_gate.proofs.Terms.{Bool, List, None, Option, Some, [], ap, arith, false, get_or, inl, inr, length, map, refl, replicate, subst, suc, sym, true, zero, ℕ, ◌<◌, ◌^◌, ◌||◌, ◌∙◌, ◌∷◌, ◌≡◌, ◌≤◌, ◌⊎◌, cases_lt, cond_both, eq-eqb, eqb-true, true≢false, get_or-replicate, get_or-set_other, get_or-set_same, get_or_past, length-replicate, length-set, get_or_from_slice_get, slice_get_within, unwrap_or, slice_set, ◌==◌, Entry, LinkEvent, events_in, Framing, Parts, cut, CLOSED, CONNECTIONS, OPENED, shown_items, in_order, none_open, rest_of, bare_item, brought, first_items, hear, hear_parts, items_from, items_of, message_item, IsItemOf, Log, Bounds, heeded, items_in, KeepsItems, opens}
+use Rattle.link_gate.proofs.Terms.{Bool, List, None, Option, Some, [], ap, arith, false, get_or, inl, inr, length, map, refl, replicate, subst, sym, true, ℕ, ◌<◌, ◌^◌, ◌||◌, ◌∙◌, ◌∷◌, ◌≡◌, ◌≤◌, ◌⊎◌, cases_lt, cond_both, eq-eqb, eqb-true, or_right, true≢false, get_or-replicate, get_or-set_other, get_or-set_same, get_or_past, length-replicate, length-set, get_or_from_slice_get, slice_get_within, unwrap_or, slice_set, ◌==◌, Entry, LinkEvent, Closes, Ends, Opens, Piece, Settles, events_in, Framing, Parts, cut, CLOSED, CONNECTIONS, OPENED, shown_items, in_order, none_open, rest_of, bare_item, brought, first_items, hear, hear_parts, items_from, items_of, message_item, IsItemOf, Log, Bounds, heeded, items_in, KeepsItems, opens}
 use Rattle.link_gate.proofs.Phasing.{opens_by, opens-first}
 
 -- the item of a number is that of the journal
@@ -22,16 +21,6 @@ received_is bounds entries log keeps = (shown_items bounds.framing (events_in en
 -- what holds of each of some items holds of the one at a number
 pub item_at_number : (P : Item → Type 0) (items : List Item) (number : ℕ) (item : Item) → All P items → slice_get items number ≡ Some item → P item
 item_at_number P items number item all is = subst P (get_or_from_slice_get items number item item is) (all number item (slice_get_within items number item is))
-
-no_items : (P : Item → Type 0) → All P []
-no_items P k d h = absurd (omega arith)
-
-one_item : (P : Item → Type 0) (item : Item) → P item → All P (item ∷ [])
-one_item P item h = by
-  where
-    by : (k : ℕ) (d : Item) → k < length (item ∷ []) → P (get_or (item ∷ []) k d)
-    by zero d less = h
-    by (suc k) d less = absurd (omega arith)
 
 -- no item has more bytes than a message may have
 abbrev pub IsShortItem : Item → Type 0
@@ -73,23 +62,23 @@ parts_hold framing rests conn None all h = tt
 parts_hold framing rests conn (Some parts) all h = (All-map IsShortItem (message_item conn) parts.messages h.0, rest_set framing rests conn (Some parts.rest) all h.1)
 
 brought_holds : (framing : Framing) (rests : List (Option (List ℕ))) (event : LinkEvent) → AreRests framing rests → HoldsHeard framing (brought framing rests event)
-brought_holds framing rests (event.Opens conn) all = (one_item IsShortItem (bare_item OPENED conn) (omega arith), rest_set framing rests conn (Some []) all (no_rest framing))
-brought_holds framing rests (event.Piece conn piece) all =
+brought_holds framing rests (Opens conn) all = (All-cons IsShortItem (bare_item OPENED conn) [] (omega arith) (All-nil IsShortItem), rest_set framing rests conn (Some []) all (no_rest framing))
+brought_holds framing rests (Piece conn piece) all =
     parts_hold framing rests conn (cut framing (unwrap_or (rest_of rests conn) []) piece) all (cut_keeps framing (unwrap_or (rest_of rests conn) []) piece (all conn))
-brought_holds framing rests (event.Closes conn) all = (one_item IsShortItem (bare_item CLOSED conn) (omega arith), rest_set framing rests conn None all (no_rest framing))
-brought_holds framing rests event.Settles all = (no_items IsShortItem, all)
-brought_holds framing rests event.Ends all = (no_items IsShortItem, all)
+brought_holds framing rests (Closes conn) all = (All-cons IsShortItem (bare_item CLOSED conn) [] (omega arith) (All-nil IsShortItem), rest_set framing rests conn None all (no_rest framing))
+brought_holds framing rests Settles all = (All-nil IsShortItem, all)
+brought_holds framing rests Ends all = (All-nil IsShortItem, all)
 
 hear_holds : (framing : Framing) (rests : List (Option (List ℕ))) (event : LinkEvent) → AreRests framing rests → HoldsHeard framing (hear framing rests event)
 hear_holds framing rests event all = cond_both (in_order rests event) (brought framing rests event) None (HoldsHeard framing) (λ _. brought_holds framing rests event all) (λ _. tt)
 
 first_short : (framing : Framing) (found : Option Heard) (next : List (Option (List ℕ)) → List Item) → HoldsHeard framing found → ((rests : List (Option (List ℕ))) → AreRests framing rests → All IsShortItem (next rests)) → All IsShortItem (first_items found next)
-first_short framing None next h later = no_items IsShortItem
+first_short framing None next h later = All-nil IsShortItem
 first_short framing (Some found) next h later = All-append IsShortItem found.items (next found.rests) h.0 (later found.rests h.1)
 
 items_short : (framing : Framing) (rests : List (Option (List ℕ))) (events : List LinkEvent) → AreRests framing rests → All IsShortItem (items_from framing rests events)
 unfolding items_from
-items_short framing rests [] all = no_items IsShortItem
+items_short framing rests [] all = All-nil IsShortItem
 items_short framing rests (event ∷ events) all =
     first_short framing (hear framing rests event) (λ more. items_from framing more events) (hear_holds framing rests event all) (λ more h. items_short framing more events h)
 
@@ -103,12 +92,8 @@ item_fits framing events number item is = let short : length item.bytes ≤ MAX_
 abbrev IsOpenedBy : List LinkEvent → Item → Type 0
 IsOpenedBy events item = item.kind ≡ OPENED → opens item.conn events ≡ true
 
-either_opens : (b c : Bool) → c ≡ true → (b || c) ≡ true
-either_opens true c h = refl
-either_opens false c h = h
-
 opened_later : (event : LinkEvent) (events : List LinkEvent) (items : List Item) → All (IsOpenedBy events) items → All (IsOpenedBy (event ∷ events)) items
-opened_later event events items all = λ k d less kind. opens-first (get_or items k d).conn event events ∙ either_opens (opens_by (get_or items k d).conn event) (opens (get_or items k d).conn events) (all k d less kind)
+opened_later event events items all = λ k d less kind. opens-first (get_or items k d).conn event events ∙ or_right (opens_by (get_or items k d).conn event) (opens (get_or items k d).conn events) (all k d less kind)
 
 message_opens : (P : Item → Type 0) (conn : ℕ) (messages : List (List ℕ)) → ((bytes : List ℕ) → P (message_item conn bytes)) → All P (map (message_item conn) messages)
 message_opens P conn messages h = All-map P (message_item conn) messages (λ k d less. h (get_or messages k d))
@@ -118,24 +103,24 @@ ItemsAre P None = Unit {0}
 ItemsAre P (Some more) = All P more.items
 
 brought_opens : (framing : Framing) (rests : List (Option (List ℕ))) (event : LinkEvent) (events : List LinkEvent) → ItemsAre (IsOpenedBy (event ∷ events)) (brought framing rests event)
-brought_opens framing rests (event.Opens conn) events = one_item (IsOpenedBy (event.Opens conn ∷ events)) (bare_item OPENED conn) (λ _. ap (λ (b : Bool). b || opens conn events) (eq-eqb conn conn refl))
-brought_opens framing rests (event.Piece conn piece) events = by (cut framing (unwrap_or (rest_of rests conn) []) piece)
+brought_opens framing rests (Opens conn) events = All-cons (IsOpenedBy (Opens conn ∷ events)) (bare_item OPENED conn) [] (λ _. ap (λ (b : Bool). b || opens conn events) (eq-eqb conn conn refl)) (All-nil (IsOpenedBy (Opens conn ∷ events)))
+brought_opens framing rests (Piece conn piece) events = by (cut framing (unwrap_or (rest_of rests conn) []) piece)
   where
-    by : (parts : Option Parts) → ItemsAre (IsOpenedBy (event.Piece conn piece ∷ events)) (hear_parts rests conn parts)
+    by : (parts : Option Parts) → ItemsAre (IsOpenedBy (Piece conn piece ∷ events)) (hear_parts rests conn parts)
     by None = tt
-    by (Some parts) = message_opens (IsOpenedBy (event.Piece conn piece ∷ events)) conn parts.messages (λ bytes kind. absurd (omega (arith, kind)))
-brought_opens framing rests (event.Closes conn) events = one_item (IsOpenedBy (event.Closes conn ∷ events)) (bare_item CLOSED conn) (λ kind. absurd (omega (arith, kind)))
-brought_opens framing rests event.Settles events = no_items (IsOpenedBy (event.Settles ∷ events))
-brought_opens framing rests event.Ends events = no_items (IsOpenedBy (event.Ends ∷ events))
+    by (Some parts) = message_opens (IsOpenedBy (Piece conn piece ∷ events)) conn parts.messages (λ bytes kind. absurd (omega (arith, kind)))
+brought_opens framing rests (Closes conn) events = All-cons (IsOpenedBy (Closes conn ∷ events)) (bare_item CLOSED conn) [] (λ kind. absurd (omega (arith, kind))) (All-nil (IsOpenedBy (Closes conn ∷ events)))
+brought_opens framing rests Settles events = All-nil (IsOpenedBy (Settles ∷ events))
+brought_opens framing rests Ends events = All-nil (IsOpenedBy (Ends ∷ events))
 
 first_opens : (event : LinkEvent) (events : List LinkEvent) (found : Option Heard) (next : List (Option (List ℕ)) → List Item) → ItemsAre (IsOpenedBy (event ∷ events)) found → ((rests : List (Option (List ℕ))) → All (IsOpenedBy events) (next rests))
     → All (IsOpenedBy (event ∷ events)) (first_items found next)
-first_opens event events None next h later = no_items (IsOpenedBy (event ∷ events))
+first_opens event events None next h later = All-nil (IsOpenedBy (event ∷ events))
 first_opens event events (Some found) next h later = All-append (IsOpenedBy (event ∷ events)) found.items (next found.rests) h (opened_later event events (next found.rests) (later found.rests))
 
 items_open : (framing : Framing) (rests : List (Option (List ℕ))) (events : List LinkEvent) → All (IsOpenedBy events) (items_from framing rests events)
 unfolding items_from
-items_open framing rests [] = no_items (IsOpenedBy [])
+items_open framing rests [] = All-nil (IsOpenedBy [])
 items_open framing rests (event ∷ events) =
     first_opens event events (hear framing rests event) (λ more. items_from framing more events)
     (cond_both (in_order rests event) (brought framing rests event) None (ItemsAre (IsOpenedBy (event ∷ events))) (λ _. brought_opens framing rests event events) (λ _. tt))

@@ -1,24 +1,21 @@
 -- What a ledger knows of a journal with one more event.
-use Rattle.std.proofs.Common.{is_some}
-use Rattle.links.specs.declared.journal.Entry.TheVariants as entry
-use Rattle.links.specs.declared.journal.LinkEvent.TheVariants as event
 use Rattle.reply_ledger.specs.Ledger as ledgers
 use Rattle.reply_ledger.specs.Shows.{Shows}
 use Rattle.session_history.specs.Opened.{is_open}
-use Rattle.link_gate.proofs.Terms.{Bool, List, None, Option, Some, [], ap, arith, false, if◌then◌else◌, length, not, refl, subst, sym, take, true, ℕ, ◌&&◌, ◌++◌, ◌||◌, ◌∙◌, ◌∷◌, ◌≡◌, ◌≤◌, or-false, eq-eqb, eqb-true, true≢false, option_map_or, ◌==◌, Send, sent_to, Entry, LinkEvent, events_in, connection_of-push, is_open-push, shows-opens, earlier_at, Connection, Ledger, connection_of, new_connection, with_connection, passed_in-took, Bounds, heeded, KeepsReplies, may_pass, closes, is_gone, opens, passed_in}
+use Rattle.link_gate.proofs.Terms.{Bool, List, None, Option, Some, [], ap, arith, false, if◌then◌else◌, length, not, refl, subst, sym, take, true, ℕ, ◌&&◌, ◌++◌, ◌||◌, ◌∙◌, ◌∷◌, ◌≡◌, ◌≤◌, or-false, eq-eqb, eqb-true, true≢false, option_map_or, is_some, ◌==◌, Send, sent_to, Entry, Gave, Took, LinkEvent, Closes, Opens, events_in, connection_of-push, is_open-push, shows-opens, earlier_at, Connection, Ledger, connection_of, new_connection, with_connection, passed_in-took, Bounds, heeded, KeepsReplies, may_pass, closes, is_gone, opens, passed_in}
 use Rattle.link_gate.proofs.Phasing.{opens_by, closes_by, opens-last, closes-last, eqb_turns}
 
 -- an event finds no connection gone
-pub gone-took : (conn : ℕ) (entries : List Entry) (event : LinkEvent) → is_gone conn (entries ++ entry.Took event ∷ []) ≡ is_gone conn entries
+pub gone-took : (conn : ℕ) (entries : List Entry) (event : LinkEvent) → is_gone conn (entries ++ Took event ∷ []) ≡ is_gone conn entries
 gone-took conn [] event = refl
-gone-took conn (entry.Gave to bytes gone ∷ entries) event = ap (λ (b : Bool). ((to == conn) && gone) || b) (gone-took conn entries event)
-gone-took conn (entry.Took other ∷ entries) event = gone-took conn entries event
+gone-took conn (Gave to bytes gone ∷ entries) event = ap (λ (b : Bool). ((to == conn) && gone) || b) (gone-took conn entries event)
+gone-took conn (Took other ∷ entries) event = gone-took conn entries event
 
 -- where it opens none, a ledger stays as it is, and what may be passed
 keeps_still : (bounds : Bounds) (entries : List Entry) (closing : Option ℕ) (sends : List Send) (event : LinkEvent) (ledger : Ledger) →
-    ((conn : ℕ) → opens conn (heeded bounds (events_in (entries ++ entry.Took event ∷ []))) ≡ opens conn (heeded bounds (events_in entries))) →
-    ((conn : ℕ) → may_pass bounds (entries ++ entry.Took event ∷ []) closing conn ≡ may_pass bounds entries None conn) →
-    KeepsReplies bounds entries None sends ledger → KeepsReplies bounds (entries ++ entry.Took event ∷ []) closing sends ledger
+    ((conn : ℕ) → opens conn (heeded bounds (events_in (entries ++ Took event ∷ []))) ≡ opens conn (heeded bounds (events_in entries))) →
+    ((conn : ℕ) → may_pass bounds (entries ++ Took event ∷ []) closing conn ≡ may_pass bounds entries None conn) →
+    KeepsReplies bounds entries None sends ledger → KeepsReplies bounds (entries ++ Took event ∷ []) closing sends ledger
 keeps_still bounds entries closing sends event ledger same may keeps = record {
   shows = subst (Shows ledger sends) (sym (passed_in-took bounds entries event)) keeps.shows;
   opened = λ conn. keeps.opened conn ∙ sym (same conn);
@@ -33,29 +30,29 @@ abbrev open_of : Bool → Bool → Bool → Bool
 open_of opened closed gone = opened && not closed && not gone
 
 -- where the same events are heeded
-pub keeps_unheeded : (bounds : Bounds) (entries : List Entry) (sends : List Send) (event : LinkEvent) (ledger : Ledger) → heeded bounds (events_in (entries ++ entry.Took event ∷ [])) ≡ heeded bounds (events_in entries)
-    → KeepsReplies bounds entries None sends ledger → KeepsReplies bounds (entries ++ entry.Took event ∷ []) None sends ledger
+pub keeps_unheeded : (bounds : Bounds) (entries : List Entry) (sends : List Send) (event : LinkEvent) (ledger : Ledger) → heeded bounds (events_in (entries ++ Took event ∷ [])) ≡ heeded bounds (events_in entries)
+    → KeepsReplies bounds entries None sends ledger → KeepsReplies bounds (entries ++ Took event ∷ []) None sends ledger
 keeps_unheeded bounds entries sends event ledger same keeps =
     keeps_still bounds entries None sends event ledger (λ conn. ap (opens conn) same) (λ conn. (λ i. open_of (opens conn (same i)) (closes conn (same i)) (gone-took conn entries event i))) keeps
 
 -- what is open behind an event that is heeded
-pub open_behind : (bounds : Bounds) (entries : List Entry) (event : LinkEvent) (conn : ℕ) → heeded bounds (events_in entries) ≡ events_in entries → heeded bounds (events_in (entries ++ entry.Took event ∷ [])) ≡ events_in entries ++ event ∷ []
-    → is_open bounds (entries ++ entry.Took event ∷ []) conn ≡ open_of (opens conn (heeded bounds (events_in entries)) || opens_by conn event) (closes conn (heeded bounds (events_in entries)) || closes_by conn event) (is_gone conn entries)
+pub open_behind : (bounds : Bounds) (entries : List Entry) (event : LinkEvent) (conn : ℕ) → heeded bounds (events_in entries) ≡ events_in entries → heeded bounds (events_in (entries ++ Took event ∷ [])) ≡ events_in entries ++ event ∷ []
+    → is_open bounds (entries ++ Took event ∷ []) conn ≡ open_of (opens conn (heeded bounds (events_in entries)) || opens_by conn event) (closes conn (heeded bounds (events_in entries)) || closes_by conn event) (is_gone conn entries)
 open_behind bounds entries event conn all heeds = λ i. open_of (opens_behind i) (closes_behind i) (gone-took conn entries event i)
   where
-    opens_behind : opens conn (heeded bounds (events_in (entries ++ entry.Took event ∷ []))) ≡ (opens conn (heeded bounds (events_in entries)) || opens_by conn event)
+    opens_behind : opens conn (heeded bounds (events_in (entries ++ Took event ∷ []))) ≡ (opens conn (heeded bounds (events_in entries)) || opens_by conn event)
     opens_behind = ap (opens conn) heeds ∙ opens-last conn (events_in entries) event ∙ ap (λ (events : List LinkEvent). opens conn events || opens_by conn event) (sym all)
 
-    closes_behind : closes conn (heeded bounds (events_in (entries ++ entry.Took event ∷ []))) ≡ (closes conn (heeded bounds (events_in entries)) || closes_by conn event)
+    closes_behind : closes conn (heeded bounds (events_in (entries ++ Took event ∷ []))) ≡ (closes conn (heeded bounds (events_in entries)) || closes_by conn event)
     closes_behind = ap (closes conn) heeds ∙ closes-last conn (events_in entries) event ∙ ap (λ (events : List LinkEvent). closes conn events || closes_by conn event) (sym all)
 
-opened_behind : (bounds : Bounds) (entries : List Entry) (event : LinkEvent) (conn : ℕ) → heeded bounds (events_in entries) ≡ events_in entries → heeded bounds (events_in (entries ++ entry.Took event ∷ [])) ≡ events_in entries ++ event ∷ []
-    → opens conn (heeded bounds (events_in (entries ++ entry.Took event ∷ []))) ≡ (opens conn (heeded bounds (events_in entries)) || opens_by conn event)
+opened_behind : (bounds : Bounds) (entries : List Entry) (event : LinkEvent) (conn : ℕ) → heeded bounds (events_in entries) ≡ events_in entries → heeded bounds (events_in (entries ++ Took event ∷ [])) ≡ events_in entries ++ event ∷ []
+    → opens conn (heeded bounds (events_in (entries ++ Took event ∷ []))) ≡ (opens conn (heeded bounds (events_in entries)) || opens_by conn event)
 opened_behind bounds entries event conn all heeds = ap (opens conn) heeds ∙ opens-last conn (events_in entries) event ∙ ap (λ (events : List LinkEvent). opens conn events || opens_by conn event) (sym all)
 
 -- an event that neither opens nor closes
-pub keeps_quiet : (bounds : Bounds) (entries : List Entry) (sends : List Send) (event : LinkEvent) (ledger : Ledger) → heeded bounds (events_in entries) ≡ events_in entries → heeded bounds (events_in (entries ++ entry.Took event ∷ [])) ≡ events_in entries ++ event ∷ []
-    → ((conn : ℕ) → opens_by conn event ≡ false) → ((conn : ℕ) → closes_by conn event ≡ false) → KeepsReplies bounds entries None sends ledger → KeepsReplies bounds (entries ++ entry.Took event ∷ []) None sends ledger
+pub keeps_quiet : (bounds : Bounds) (entries : List Entry) (sends : List Send) (event : LinkEvent) (ledger : Ledger) → heeded bounds (events_in entries) ≡ events_in entries → heeded bounds (events_in (entries ++ Took event ∷ [])) ≡ events_in entries ++ event ∷ []
+    → ((conn : ℕ) → opens_by conn event ≡ false) → ((conn : ℕ) → closes_by conn event ≡ false) → KeepsReplies bounds entries None sends ledger → KeepsReplies bounds (entries ++ Took event ∷ []) None sends ledger
 keeps_quiet bounds entries sends event ledger all heeds opens_none closes_none keeps =
     keeps_still bounds entries None sends event ledger
     (λ conn. opened_behind bounds entries event conn all heeds ∙ ap (λ (b : Bool). opens conn (heeded bounds (events_in entries)) || b) (opens_none conn) ∙ or-false (opens conn (heeded bounds (events_in entries))))
@@ -76,18 +73,18 @@ closing_may false true gone false false stays same = refl
 closing_may false false gone false false stays same = refl
 
 pub keeps_closing : (bounds : Bounds) (entries : List Entry) (sends : List Send) (closed : ℕ) (ledger : Ledger) → heeded bounds (events_in entries) ≡ events_in entries
-    → heeded bounds (events_in (entries ++ entry.Took (event.Closes closed) ∷ [])) ≡ events_in entries ++ event.Closes closed ∷ [] → closes closed (heeded bounds (events_in entries)) ≡ false
-    → KeepsReplies bounds entries None sends ledger → KeepsReplies bounds (entries ++ entry.Took (event.Closes closed) ∷ []) (Some closed) sends ledger
+    → heeded bounds (events_in (entries ++ Took (Closes closed) ∷ [])) ≡ events_in entries ++ Closes closed ∷ [] → closes closed (heeded bounds (events_in entries)) ≡ false
+    → KeepsReplies bounds entries None sends ledger → KeepsReplies bounds (entries ++ Took (Closes closed) ∷ []) (Some closed) sends ledger
 keeps_closing bounds entries sends closed ledger all heeds stays keeps =
-    keeps_still bounds entries (Some closed) sends (event.Closes closed) ledger
-    (λ conn. opened_behind bounds entries (event.Closes closed) conn all heeds ∙ or-false (opens conn (heeded bounds (events_in entries))))
-    (λ conn. (λ i. if conn == closed then opened_behind bounds entries (event.Closes closed) conn all heeds i && not (gone-took conn entries (event.Closes closed) i) else open_behind bounds entries (event.Closes closed) conn all heeds i)
+    keeps_still bounds entries (Some closed) sends (Closes closed) ledger
+    (λ conn. opened_behind bounds entries (Closes closed) conn all heeds ∙ or-false (opens conn (heeded bounds (events_in entries))))
+    (λ conn. (λ i. if conn == closed then opened_behind bounds entries (Closes closed) conn all heeds i && not (gone-took conn entries (Closes closed) i) else open_behind bounds entries (Closes closed) conn all heeds i)
     ∙ closing_may (opens conn (heeded bounds (events_in entries))) (closes conn (heeded bounds (events_in entries))) (is_gone conn entries) (closed == conn) (conn == closed)
     (λ here. ap (λ (n : ℕ). closes n (heeded bounds (events_in entries))) (eqb-true conn closed here) ∙ stays) (eqb_turns closed conn))
     keeps
 
 -- an opening: its connection is new to the ledger
-known_none : (found : Option Connection) → is_some found ≡ false → found ≡ None
+pub known_none : {X : Type 0} (found : Option X) → is_some found ≡ false → found ≡ None
 known_none None h = refl
 known_none (Some found) h = absurd (true≢false h)
 
@@ -139,9 +136,9 @@ opening_given_up ledger sends pieces place conn opened closed gone true p none s
 opening_given_up ledger sends pieces place conn opened closed gone false p none shows was passes = was ((λ i. open_of (sym (or-false opened) i) (sym (or-false closed) i) gone) ∙ passes)
 
 pub keeps_opening : (bounds : Bounds) (entries : List Entry) (sends : List Send) (place : ℕ) (ledger : Ledger) → heeded bounds (events_in entries) ≡ events_in entries
-    → heeded bounds (events_in (entries ++ entry.Took (event.Opens place) ∷ [])) ≡ events_in entries ++ event.Opens place ∷ []
+    → heeded bounds (events_in (entries ++ Took (Opens place) ∷ [])) ≡ events_in entries ++ Opens place ∷ []
     → opens place (heeded bounds (events_in entries)) ≡ false → closes place (heeded bounds (events_in entries)) ≡ false
-    → KeepsReplies bounds entries None sends ledger → KeepsReplies bounds (entries ++ entry.Took (event.Opens place) ∷ []) None sends (with_connection ledger place)
+    → KeepsReplies bounds entries None sends ledger → KeepsReplies bounds (entries ++ Took (Opens place) ∷ []) None sends (with_connection ledger place)
 keeps_opening bounds entries sends place ledger all heeds fresh stays keeps = record {
   shows = subst (Shows (with_connection ledger place) sends) (sym (passed_in-took bounds entries opening)) (shows-opens ledger sends (passed_in bounds entries) place none keeps.shows);
   opened = λ conn. opened_known ledger.connections place conn (conn == place) refl none ∙ (λ i. keeps.opened conn i || eqb_turns conn place i) ∙ sym (opened_behind bounds entries opening conn all heeds);
@@ -155,7 +152,7 @@ keeps_opening bounds entries sends place ledger all heeds fresh stays keeps = re
 }
   where
     opening : LinkEvent
-    opening = event.Opens place
+    opening = Opens place
 
     was_opened : ℕ → Bool
     was_opened conn = opens conn (heeded bounds (events_in entries))

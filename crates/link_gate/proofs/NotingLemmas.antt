@@ -1,8 +1,7 @@
 -- What noting a piece makes of a ledger, by the answer of its link.
-use Rattle.std.proofs.Common.{Result, Ok, Err}
 use Rattle.links.specs.declared.journal.LinkFault.TheVariants as cause
 use Rattle.rx_io.proofs.Composing.{rose_later}
-use Rattle.link_gate.proofs.Terms.{Bool, List, [], ap, arith, cond, drop, eqb, false, length, length-drop, not, refl, subst, sym, true, ℕ, ◌&&◌, ◌++◌, ◌+◌, ◌<◌, ◌∙◌, ◌∷◌, ◌≡◌, ◌≤◌, length-take-le, is_ok, is_some, sent_to, Given, All, Gone, LinkFault, Counts, HasGiveCause, GiveShows, Seen, but_given, is_open-changed, stamped_to-changed, stamped_to-passed, come, is_open-gone, room, room_gone, room_passed, room_passed_some, length-stamped, stamps_of-append, IsOpened, Ledger, NotBefore, Passed, connection_of, gone_connection, is_open, passed_connection, stamped, stamped_to, stamps_of, with_change, with_passed, PassFault, AreStampedBy, HasPassCause, HasSameSends, PassShows, IsNoted}
+use Rattle.link_gate.proofs.Terms.{Bool, List, [], ap, arith, cond, drop, eqb, false, length, length-drop, not, refl, subst, sym, true, ℕ, ◌++◌, ◌+◌, ◌<◌, ◌∙◌, ◌∷◌, ◌≡◌, ◌≤◌, and_parts, length-take-le, Err, Ok, Result, is_ok, is_some, sent_to, Given, All, Gone, LinkFault, Counts, HasGiveCause, GiveShows, Seen, but_given, is_open-changed, stamped_to-changed, stamped_to-passed, come, is_open-gone, room, room_gone, room_passed, room_passed_some, length-stamped, stamps_of-append, IsOpened, Ledger, NotBefore, Passed, connection_of, gone_connection, is_open, passed_connection, stamped, stamped_to, stamps_of, with_change, with_passed, PassFault, AreStampedBy, HasPassCause, HasSameSends, PassShows, IsNoted}
 use Rattle.link_gate.specs.declared.pass_fault.PassFault.TheVariants as fault
 use Rattle.link_gate.proofs.KeepLemmas.{known-changed, next_of}
 
@@ -34,11 +33,6 @@ noted_sends stamp conn count old new (Err why) (Ok done) noted = absurd noted
 noted_sends stamp conn count old new (Ok given) (Err stopped) noted = same_sends old new noted.0
 noted_sends stamp conn count old new (Err why) (Err stopped) noted = same_sends old new noted.0
 
--- it opens no connection
-and_first : (a b : Bool) → (a && b) ≡ true → a ≡ true
-and_first true b h = refl
-and_first false b h = h
-
 open_passed : (old : Ledger) (conn count stamp q : ℕ) → is_open (with_passed old conn count stamp).connections q ≡ is_open old.connections q
 open_passed old conn count stamp q = is_open-changed conn (passed_connection (stamped stamp (next_of old conn count))) (λ c. refl) (λ c. refl) old.connections q
 
@@ -46,7 +40,7 @@ pub noted_open : (stamp conn count : ℕ) (old new : Ledger) (given : Result Giv
 noted_open stamp conn count old new (Ok All) (Ok done) q noted opened = sym (ap (λ (l : Ledger). is_open l.connections q) noted ∙ open_passed old conn count stamp q) ∙ opened
 noted_open stamp conn count old new (Ok (Gone front)) (Ok done) q noted opened =
     sym (open_passed old conn front stamp q)
-    ∙ and_first (is_open (with_passed old conn front stamp).connections q) (not (eqb conn q)) (sym (ap (λ (l : Ledger). is_open l.connections q) noted ∙ is_open-gone conn (with_passed old conn front stamp).connections q) ∙ opened)
+    ∙ (and_parts (is_open (with_passed old conn front stamp).connections q) (not (eqb conn q)) (sym (ap (λ (l : Ledger). is_open l.connections q) noted ∙ is_open-gone conn (with_passed old conn front stamp).connections q) ∙ opened)).0
 noted_open stamp conn count old new (Err why) (Ok done) q noted opened = absurd noted
 noted_open stamp conn count old new (Ok given) (Err stopped) q noted opened = ap (λ (l : Ledger). is_open l.connections q) (sym noted.0) ∙ opened
 noted_open stamp conn count old new (Err why) (Err stopped) q noted opened = ap (λ (l : Ledger). is_open l.connections q) (sym noted.0) ∙ opened
@@ -57,7 +51,7 @@ unfolding stamped stamps_of
 all_stamped stamp [] = tt
 all_stamped stamp (byte ∷ bytes) = (omega arith, all_stamped stamp bytes)
 
-all_both : (stamp : ℕ) (xs ys : List ℕ) → NotBefore stamp xs → NotBefore stamp ys → NotBefore stamp (xs ++ ys)
+pub all_both : (stamp : ℕ) (xs ys : List ℕ) → NotBefore stamp xs → NotBefore stamp ys → NotBefore stamp (xs ++ ys)
 all_both stamp [] ys one other = other
 all_both stamp (x ∷ xs) ys one other = (one.0, all_both stamp xs ys one.1 other)
 
@@ -94,10 +88,8 @@ left_passed old conn count stamp opened some fits =
 left_gone : (old : Ledger) (conn count stamp : ℕ) → is_open old.connections conn ≡ true → left (with_change (with_passed old conn count stamp) conn gone_connection) < left old
 unfolding left
 left_gone old conn count stamp opened =
-    let bytes : List ℕ = next_of old conn count in
-    let stays = room_passed old.kept conn (stamped stamp bytes) old.connections in
     let falls = room_gone old.kept conn (with_passed old conn count stamp).connections (open_passed old conn count stamp conn ∙ opened) in
-    omega (arith, stays, falls)
+    omega (arith, room_passed old.kept conn (stamped stamp (next_of old conn count)) old.connections, falls)
 
 pub noted_less : (stamp conn count : ℕ) (old new : Ledger) (given : Result Given LinkFault) (done : Unit {0}) → is_open old.connections conn ≡ true → 0 < count → come old.connections conn + count ≤ length (sent_to conn old.kept) → IsNoted stamp conn count old new given (Ok done) → left new < left old
 noted_less stamp conn count old new (Ok All) done opened some fits noted = subst (λ (l : Ledger). left l < left old) (sym noted) (left_passed old conn count stamp opened some fits)
@@ -112,9 +104,6 @@ pub record HasNoCause (before now : Counts) : Type 0 where
 
 no_cause : (counts : Counts) → HasNoCause counts counts
 no_cause counts = record { later = omega arith; gones = omega arith; takes = refl }
-
-no_cause_then : (before mid now : Counts) (given : Result Given LinkFault) → HasNoCause before mid → HasGiveCause mid now given → HasNoCause before now
-no_cause_then before mid now given one other = record { later = omega (arith, one.later, other.later); gones = omega (arith, one.gones, other.later_gone); takes = other.takes ∙ one.takes }
 
 cause_done : (before now : Counts) → HasNoCause before now → HasPassCause {T = Unit {0}} before now (Ok tt)
 cause_done before now none = record { later = none.later; write_fault = (λ h. absurd (let no : ⊥ = cc in no)); gones = none.gones; takes = none.takes }
@@ -152,20 +141,21 @@ given_none gives = record { cause = no_cause _; gives = gives; rest = refl }
 
 pub given_then : {old mid new : Seen} {conn : ℕ} {bytes : List ℕ} {given : Result Given LinkFault} → HasGiven old mid → GiveShows mid new conn bytes given → is_ok given ≡ true → HasGiven old new
 given_then {old = old} {new = new} {given = given} one other well = record {
-  cause = no_cause_then _ _ _ given one.cause other.cause;
+  cause = record { later = omega (arith, one.cause.later, other.cause.later); gones = omega (arith, one.cause.gones, other.cause.later_gone); takes = other.cause.takes ∙ one.cause.takes };
   gives = other.gives ∙ well;
   rest = other.rest ∙ ap (λ (seen : Seen). but_given seen new) one.rest;
 }
 
 -- so it is where all was passed, and behind a piece that failed or wasn't noted
 pub given_done : {old new : Seen} → HasGiven old new → PassShows {T = Unit {0}} old new (Ok tt)
-given_done has = record { cause = cause_done _ _ has.cause; gives = has.gives; rest = has.rest }
+given_done has = record { cause = cause_done _ _ has.cause; gives = has.gives; stops = λ is. absurd (let no : ⊥ = cc in no); rest = has.rest }
 
 pub given_stopped : {old mid new : Seen} {conn : ℕ} {bytes : List ℕ} (stamp count : ℕ) (ledger later : Ledger) (given : Result Given LinkFault) (stopped : PassFault) → HasGiven old mid → GiveShows mid new conn bytes given
     → IsNoted stamp conn count ledger later given (Err stopped) → PassShows {T = Unit {0}} old new (Err stopped)
 given_stopped {new = new} {conn = conn} stamp count ledger later given stopped one other noted = record {
   cause = cause_stopped _ _ _ stamp conn count ledger later given stopped one.cause other.cause noted;
   gives = tt;
+  stops = λ is. other.gives ∙ ap (λ (answered : Result Given LinkFault). is_ok answered) (write_is stamp conn count ledger later given stopped noted (let e : stopped ≡ fault.WriteFault = cc (is) in e));
   rest = other.rest ∙ ap (λ (seen : Seen). but_given seen new) one.rest;
 }
 

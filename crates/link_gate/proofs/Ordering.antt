@@ -1,9 +1,7 @@
 -- An event that is in order for a link is in order for the log of its events.
-use Rattle.std.proofs.Common.{is_some}
-use Rattle.links.specs.declared.journal.LinkEvent.TheVariants as event
 use Rattle.item_log.specs.Connections.{is_open}
 use Rattle.item_log.specs.Heard.{Heard}
-use Rattle.link_gate.proofs.Terms.{Bool, List, None, Option, Some, [], ap, arith, cond, false, if◌then◌else◌, length, not, refl, sym, true, ℕ, ◌&&◌, ◌++◌, ◌<◌, ◌||◌, ◌∙◌, ◌∷◌, ◌≡◌, or_assoc, eq-eqb, eqb-true, lt-ltb, or_parts, true≢false, get_or-replicate, get_or-set_other, get_or-set_same, length-replicate, length-set, unwrap_or, slice_set, ◌==◌, LinkEvent, IsInOrder, Phases, Framing, Parts, cut, CONNECTIONS, in_order, none_open, rest_of, behind_items, brought, hear, hear_parts, heard_from, then_hear, Log, Shows, phase_after, closes, opens}
+use Rattle.link_gate.proofs.Terms.{Bool, List, None, Option, Some, [], ap, arith, cond, false, if◌then◌else◌, length, not, refl, sym, true, ℕ, ◌&&◌, ◌++◌, ◌<◌, ◌||◌, ◌∙◌, ◌∷◌, ◌≡◌, or_assoc, eq-eqb, eqb-true, lt-ltb, or_parts, true≢false, get_or-replicate, get_or-set_other, get_or-set_same, length-set, same_Some, unwrap_or, is_some, slice_set, ◌==◌, LinkEvent, Closes, Ends, Opens, Piece, Settles, IsInOrder, Phases, Framing, Parts, cut, CONNECTIONS, none_places, in_order, none_open, rest_of, behind_items, brought, hear, hear_parts, heard_from, then_hear, Log, Shows, phase_after, closes, opens}
 use Rattle.link_gate.proofs.Phasing.{opens_by, closes_by, opens-first, closes-first, unopened_by, open_by}
 
 -- what was heard was in order
@@ -11,11 +9,8 @@ pub heard_some : (b : Bool) (found : Option Heard) (more : Heard) → cond b fou
 heard_some true found more h = (refl, h)
 heard_some false found more h = absurd (let no : ⊥ = cc in no)
 
-pub given_by : (one all : Heard) → Some one ≡ Some all → one ≡ all
-given_by one all is = ap (λ (found : Option Heard). unwrap_or found all) is
-
 pub rests_by : (one all : Heard) → Some one ≡ Some all → one.rests ≡ all.rests
-rests_by one all is = ap (λ (h : Heard). h.rests) (given_by one all is)
+rests_by one all is = ap (λ (h : Heard). h.rests) (same_Some one all is)
 
 -- one place of a list is set
 set_open : (rests : List (Option (List ℕ))) (place : ℕ) (rest : Option (List ℕ)) (conn : ℕ) (b : Bool) → place == conn ≡ b → conn < length rests → is_open (slice_set rests place rest) conn ≡ (if b then is_some rest else is_open rests conn)
@@ -47,9 +42,6 @@ none_more : (x : Bool) → x ≡ (x || false)
 none_more true = refl
 none_more false = refl
 
-closed_heard : (rests : List (Option (List ℕ))) (place conn : ℕ) → place == conn ≡ false → conn < length rests → is_open (slice_set rests place None) conn ≡ (is_open rests conn || false)
-closed_heard rests place conn p h = set_open rests place None conn false p h ∙ none_more (is_open rests conn)
-
 parts_heard : (rests : List (Option (List ℕ))) (place conn : ℕ) (parts : Option Parts) (more : Heard) → conn < length rests → is_open rests place ≡ true → hear_parts rests place parts ≡ Some more → is_open more.rests conn ≡ (is_open rests conn || false)
 parts_heard rests place conn None more h was is = absurd (let no : ⊥ = cc in no)
 parts_heard rests place conn (Some parts) more h was is =
@@ -57,24 +49,24 @@ parts_heard rests place conn (Some parts) more h was is =
 
 open_heard : (framing : Framing) (rests : List (Option (List ℕ))) (event : LinkEvent) (more : Heard) (conn : ℕ) → conn < length rests → in_order rests event ≡ true → brought framing rests event ≡ Some more → closes_by conn event ≡ false
     → is_open more.rests conn ≡ (is_open rests conn || opens_by conn event)
-open_heard framing rests (event.Opens opened) more conn h order is stays =
+open_heard framing rests (Opens opened) more conn h order is stays =
     ap (λ (now : List (Option (List ℕ))). is_open now conn) (sym (rests_by _ more is)) ∙ opened_heard rests opened conn (opened == conn) refl h
-open_heard framing rests (event.Piece to piece) more conn h order is stays = parts_heard rests to conn (cut framing (unwrap_or (rest_of rests to) []) piece) more h order is
-open_heard framing rests (event.Closes closed) more conn h order is stays =
-    ap (λ (now : List (Option (List ℕ))). is_open now conn) (sym (rests_by _ more is)) ∙ closed_heard rests closed conn stays h
-open_heard framing rests event.Settles more conn h order is stays = ap (λ (now : List (Option (List ℕ))). is_open now conn) (sym (rests_by _ more is)) ∙ none_more (is_open rests conn)
-open_heard framing rests event.Ends more conn h order is stays = ap (λ (now : List (Option (List ℕ))). is_open now conn) (sym (rests_by _ more is)) ∙ none_more (is_open rests conn)
+open_heard framing rests (Piece to piece) more conn h order is stays = parts_heard rests to conn (cut framing (unwrap_or (rest_of rests to) []) piece) more h order is
+open_heard framing rests (Closes closed) more conn h order is stays =
+    ap (λ (now : List (Option (List ℕ))). is_open now conn) (sym (rests_by _ more is)) ∙ (set_open rests closed None conn false stays h ∙ none_more (is_open rests conn))
+open_heard framing rests Settles more conn h order is stays = ap (λ (now : List (Option (List ℕ))). is_open now conn) (sym (rests_by _ more is)) ∙ none_more (is_open rests conn)
+open_heard framing rests Ends more conn h order is stays = ap (λ (now : List (Option (List ℕ))). is_open now conn) (sym (rests_by _ more is)) ∙ none_more (is_open rests conn)
 
 places_heard : (framing : Framing) (rests : List (Option (List ℕ))) (event : LinkEvent) (more : Heard) → brought framing rests event ≡ Some more → length more.rests ≡ length rests
-places_heard framing rests (event.Opens opened) more is = ap length (sym (rests_by _ more is)) ∙ length-set rests opened (Some [])
-places_heard framing rests (event.Piece to piece) more is = by (cut framing (unwrap_or (rest_of rests to) []) piece) is
+places_heard framing rests (Opens opened) more is = ap length (sym (rests_by _ more is)) ∙ length-set rests opened (Some [])
+places_heard framing rests (Piece to piece) more is = by (cut framing (unwrap_or (rest_of rests to) []) piece) is
   where
     by : (parts : Option Parts) → hear_parts rests to parts ≡ Some more → length more.rests ≡ length rests
     by None so = absurd (let no : ⊥ = cc in no)
     by (Some parts) so = ap length (sym (rests_by _ more so)) ∙ length-set rests to (Some parts.rest)
-places_heard framing rests (event.Closes closed) more is = ap length (sym (rests_by _ more is)) ∙ length-set rests closed None
-places_heard framing rests event.Settles more is = ap length (sym (rests_by _ more is))
-places_heard framing rests event.Ends more is = ap length (sym (rests_by _ more is))
+places_heard framing rests (Closes closed) more is = ap length (sym (rests_by _ more is)) ∙ length-set rests closed None
+places_heard framing rests Settles more is = ap length (sym (rests_by _ more is))
+places_heard framing rests Ends more is = ap length (sym (rests_by _ more is))
 
 -- the first of some events, and what those behind it bring
 pub record FirstHeard (first : Heard) (next : Option Heard) (all : Heard) : Type 0 where
@@ -86,7 +78,7 @@ pub record FirstHeard (first : Heard) (next : Option Heard) (all : Heard) : Type
 first_heard : (first : Heard) (next : Option Heard) (all : Heard) → behind_items first.items next ≡ Some all → FirstHeard first next all
 first_heard first None all is = absurd (let no : ⊥ = cc in no)
 first_heard first (Some later) all is =
-    let same : record { items = first.items ++ later.items; rests = later.rests } ≡ all = given_by _ all is in
+    let same : record { items = first.items ++ later.items; rests = later.rests } ≡ all = same_Some _ all is in
     record { later = later; is = refl; items = ap (λ (h : Heard). h.items) (sym same); rests = ap (λ (h : Heard). h.rests) (sym same) }
 
 -- each event of some that were heard was in order
@@ -114,9 +106,8 @@ open_from framing rests [] all conn h is stays = ap (λ (now : List (Option (Lis
 open_from framing rests (event ∷ events) all conn h is stays =
     let step = step_heard framing rests event events all is in
     let parts = or_parts (closes_by conn event) (closes conn events) (sym (closes-first conn event events) ∙ stays) in
-    let places : length step.first.rests ≡ length rests = places_heard framing rests event step.first step.brings in
     ap (λ (now : List (Option (List ℕ))). is_open now conn) step.behind.rests
-    ∙ open_from framing step.first.rests events step.behind.later conn (omega (arith, h, places)) step.behind.is parts.1
+    ∙ open_from framing step.first.rests events step.behind.later conn (omega (arith, h, places_heard framing rests event step.first step.brings)) step.behind.is parts.1
     ∙ ap (λ (b : Bool). b || opens conn events) (open_heard framing rests event step.first conn h step.order step.brings parts.0)
     ∙ or_assoc (is_open rests conn) (opens_by conn event) (opens conn events)
     ∙ ap (λ (b : Bool). is_open rests conn || b) (sym (opens-first conn event events))
@@ -125,26 +116,22 @@ none_open_at : (conn : ℕ) → conn < CONNECTIONS → is_open none_open conn �
 unfolding none_open
 none_open_at conn h = ap is_some (get_or-replicate {A = Option (List ℕ)} CONNECTIONS conn None None h)
 
-none_open_places : length none_open ≡ CONNECTIONS
-unfolding none_open
-none_open_places = length-replicate {A = Option (List ℕ)} CONNECTIONS None
-
 -- a log knows a connection as open where its events open it and don't close it
 pub open_shown : (framing : Framing) (events : List LinkEvent) (log : Log) (conn : ℕ) → Shows framing events log → conn < CONNECTIONS → closes conn events ≡ false → is_open log.rests conn ≡ opens conn events
 open_shown framing events log conn shows low stays =
-    open_from framing none_open events (record { items = shows.items; rests = log.rests }) conn (omega (arith, low, none_open_places)) shows.is_heard stays
+    open_from framing none_open events (record { items = shows.items; rests = log.rests }) conn (omega (arith, low, none_places)) shows.is_heard stays
     ∙ ap (λ (b : Bool). b || opens conn events) (none_open_at conn low)
 
 -- so an event that is in order for the link is in order for the log
 pub in_order_shown : (framing : Framing) (events : List LinkEvent) (log : Log) (phases : Phases) (event : LinkEvent) → Shows framing events log → ((conn : ℕ) → phases conn ≡ phase_after conn events) → IsInOrder phases event → in_order log.rests event ≡ true
-in_order_shown framing events log phases (event.Opens opened) shows knows order =
+in_order_shown framing events log phases (Opens opened) shows knows order =
     let fresh = unopened_by (closes opened events) (opens opened events) (sym (knows opened) ∙ order.1) in
     (λ i. lt-ltb opened CONNECTIONS order.0 i && not ((open_shown framing events log opened shows order.0 fresh.0 ∙ fresh.1) i))
-in_order_shown framing events log phases (event.Piece to piece) shows knows order =
+in_order_shown framing events log phases (Piece to piece) shows knows order =
     let now = open_by (closes to events) (opens to events) (sym (knows to) ∙ order.1) in
     open_shown framing events log to shows order.0 now.0 ∙ now.1
-in_order_shown framing events log phases (event.Closes closed) shows knows order =
+in_order_shown framing events log phases (Closes closed) shows knows order =
     let now = open_by (closes closed events) (opens closed events) (sym (knows closed) ∙ order.1) in
     open_shown framing events log closed shows order.0 now.0 ∙ now.1
-in_order_shown framing events log phases event.Settles shows knows order = refl
-in_order_shown framing events log phases event.Ends shows knows order = refl
+in_order_shown framing events log phases Settles shows knows order = refl
+in_order_shown framing events log phases Ends shows knows order = refl

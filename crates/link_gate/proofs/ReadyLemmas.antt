@@ -1,8 +1,7 @@
 -- The next part of a ledger that is ready is a piece that is due, and the ledger is ready behind it.
-use Rattle.links.specs.declared.journal.Entry.TheVariants as entry
 use Rattle.reply_ledger.specs.Ledger as ledgers
 use Rattle.session_history.specs.Opened.{is_open}
-use Rattle.link_gate.proofs.Terms.{Bool, List, None, Option, Some, [], ap, append_assoc, arith, cond, false, inl, inr, length, length-append, not, refl, sym, take, true, ℕ, ◌&&◌, ◌++◌, ◌<◌, ◌∙◌, ◌∷◌, ◌≡◌, and_from, and_parts, eq-eqb, eqb-true, true≢false, Send, Entry, Told, events_in, IsFirst, IsNext, IsRest, first_next, Ledger, IsClosing, IsReady, Bounds, heeded, may_pass, GoesBefore, Rules, is_close_of, is_closed_by, is_closing, then_entry, closes, is_gone, opens, IsOwed, IsPassed, Latest, Moment, Stands, journal, latest}
+use Rattle.link_gate.proofs.Terms.{Bool, List, None, Option, Some, [], ap, append_assoc, arith, cond, false, inl, inr, length, length-append, not, refl, sym, take, true, ℕ, ◌&&◌, ◌++◌, ◌<◌, ◌∙◌, ◌∷◌, ◌≡◌, and_from, and_parts, eq-eqb, eqb-true, true≢false, Send, Entry, Gave, Told, events_in, IsFirst, IsNext, IsRest, first_next, Ledger, IsClosing, IsReady, Bounds, heeded, may_pass, GoesBefore, Rules, is_close_of, is_closed_by, is_closing, then_entry, closes, is_gone, opens, IsOwed, IsPassed, Latest, Moment, Stands, journal, latest}
 use Rattle.link_gate.proofs.MomentLemmas.{latest-gave, journal-then, not_gone, open_not_gone, open_before, closes-gave, is_closing-gave, owed_then, owed_before, owed_open, passed_then}
 use Rattle.link_gate.proofs.DueLemmas.{front_of, IsKept, passed_unless_left, first_stands, first_due}
 use Rattle.link_gate.proofs.GoingLemmas.{IsPiece, Moved}
@@ -55,9 +54,9 @@ until_piece rules sends moment until ledger conn bytes ready next =
 
 -- behind it the ledger is ready again
 pub until_then : (rules : Rules) (sends : List Send) (moment : Moment) (until : ℕ) (ledger new_ledger : Ledger) (conn : ℕ) (old new : Told) → IsReady rules sends moment until ledger → (moved : Moved rules sends moment None conn old new new_ledger)
-    → IsReady rules sends (then_entry moment (entry.Gave conn moved.bytes moved.gone)) until new_ledger
+    → IsReady rules sends (then_entry moment (Gave conn moved.bytes moved.gone)) until new_ledger
 until_then rules sends moment until ledger new_ledger conn old new ready moved =
-    let e : Entry = entry.Gave conn moved.bytes moved.gone in
+    let e : Entry = Gave conn moved.bytes moved.gone in
     record {
       keeps = moved.keeps;
       fronts = moved.fronts;
@@ -116,9 +115,9 @@ rest_piece rules sends moment conn ledger bytes closing rest opened =
     }
 
 pub rest_then : (rules : Rules) (sends : List Send) (moment : Moment) (conn : ℕ) (ledger new_ledger : Ledger) (old new : Told) → IsClosing rules sends moment conn ledger → (moved : Moved rules sends moment (Some conn) conn old new new_ledger)
-    → IsClosing rules sends (then_entry moment (entry.Gave conn moved.bytes moved.gone)) conn new_ledger
+    → IsClosing rules sends (then_entry moment (Gave conn moved.bytes moved.gone)) conn new_ledger
 rest_then rules sends moment conn ledger new_ledger old new closing moved =
-    let e : Entry = entry.Gave conn moved.bytes moved.gone in
+    let e : Entry = Gave conn moved.bytes moved.gone in
     record {
       keeps = moved.keeps;
       fronts = moved.fronts;

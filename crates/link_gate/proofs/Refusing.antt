@@ -1,14 +1,10 @@
 -- Which events are refused, and what they bring.
-use Rattle.std.proofs.Common.{option_map}
-use Rattle.links.specs.declared.journal.Entry.TheVariants as entry
-use Rattle.links.specs.declared.journal.LinkEvent.TheVariants as event
+use Rattle.links.proofs.Journaled.{events_in-append}
 use Rattle.item_log.specs.Heard.{Heard}
-use Rattle.item_log.specs.Log.{received}
-use Rattle.item_log.proofs.Hearing.{one_more_event}
-use Rattle.link_gate.proofs.Terms.{Bool, List, None, Option, Some, [], ap, append-nil, arith, cond, drop, false, if◌then◌else◌, length, length-append, refl, subst, sym, true, ◌++◌, ◌+◌, ◌<◌, ◌∙◌, ◌∷◌, ◌≡◌, ◌≤◌, le-leb, le-ltb, leb-false, lt-leb, lt-ltb, true≢false, unwrap_or, is_none, nat_le, nat_lt, Entry, LinkEvent, events_in, Framing, logs_show, shown_items, behind_items, hear, heard, items_by, items_of, Fits, Log, Passes, Shows, logged, with_heard, events_in-append, one_more_heeded, refused_unheeded, IsHeeded, Bounds, LimitEvents, LimitItems, TooLong, Unheeded, heeded, heeded_behind, items_in, refusal, KeepsItems}
+use Rattle.link_gate.proofs.Terms.{Bool, List, None, Option, Some, [], ap, append-nil, arith, cond, drop, false, if◌then◌else◌, length, length-append, refl, subst, sym, true, ◌++◌, ◌+◌, ◌<◌, ◌∙◌, ◌∷◌, ◌≡◌, ◌≤◌, le-leb, le-ltb, leb-false, lt-leb, lt-ltb, true≢false, option_map, unwrap_or, is_none, nat_le, nat_lt, Entry, Took, LinkEvent, Ends, events_in, Framing, one_more_event, logs_show, shown_items, behind_items, hear, heard, items_by, items_of, Fits, Log, Passes, Shows, logged, with_heard, one_more_heeded, refused_unheeded, IsHeeded, Bounds, LimitEvents, LimitItems, TooLong, Unheeded, heeded, heeded_behind, items_in, refusal, KeepsItems}
 
 -- by three tests
-abbrev refused_by : Bool → Bool → Bool → Option Unheeded
+abbrev pub refused_by : Bool → Bool → Bool → Option Unheeded
 refused_by many long full = if many then Some LimitEvents else if long then Some TooLong else if full then Some LimitItems else None
 
 refusal_by : (bounds : Bounds) (before : List LinkEvent) (event : LinkEvent) (many long full : Bool) → nat_le bounds.max_events (length before) ≡ many → is_none (heard bounds.framing (before ++ event ∷ [])) ≡ long →
@@ -39,10 +35,10 @@ few_heeded bounds events all = let h : 0 + length events ≤ bounds.max_events =
 
 -- an entry that is one more event, and what stands in a journal with it
 abbrev pub IsEvent : LinkEvent → Type 0
-IsEvent event = events_in (entry.Took event ∷ []) ≡ event ∷ []
+IsEvent event = events_in (Took event ∷ []) ≡ event ∷ []
 
-pub events_behind : (entries : List Entry) (event : LinkEvent) → IsEvent event → events_in (entries ++ entry.Took event ∷ []) ≡ events_in entries ++ event ∷ []
-events_behind entries event one = events_in-append entries (entry.Took event ∷ []) ∙ ap (λ more. events_in entries ++ more) one
+pub events_behind : (entries : List Entry) (event : LinkEvent) → IsEvent event → events_in (entries ++ Took event ∷ []) ≡ events_in entries ++ event ∷ []
+events_behind entries event one = events_in-append entries (Took event ∷ []) ∙ ap (λ more. events_in entries ++ more) one
 
 -- what a log heard of its events
 abbrev whole : (framing : Framing) (events : List LinkEvent) (log : Log) → Shows framing events log → Heard
@@ -92,9 +88,8 @@ limit_items bounds events event log shows most few = by (logged log event) refl
     by None is passes = absurd passes
     by (Some new) is passes =
         let later = logged_shows bounds.framing events event log new shows is in
-        let count : received new ≡ length (items_of bounds.framing (events ++ event ∷ [])) = (shown_items bounds.framing (events ++ event ∷ []) new later).0 in
         refusal_by bounds events event false false true (lt-leb bounds.max_events (length events) few) (ap is_none later.is_heard)
-        (lt-ltb bounds.max_items (length (items_of bounds.framing (events ++ event ∷ []))) (omega (arith, passes, count, most)))
+        (lt-ltb bounds.max_items (length (items_of bounds.framing (events ++ event ∷ []))) (omega (arith, passes, (shown_items bounds.framing (events ++ event ∷ []) new later).0, most)))
 
 pub not_refused : (bounds : Bounds) (events : List LinkEvent) (event : LinkEvent) (log : Log) → Shows bounds.framing events log → log.max_items ≡ bounds.max_items → length events < bounds.max_events → Fits log.max_items (logged log event)
     → refusal bounds events event ≡ None
@@ -104,13 +99,12 @@ not_refused bounds events event log shows most few = by (logged log event) refl
     by None is fits = absurd fits
     by (Some new) is fits =
         let later = logged_shows bounds.framing events event log new shows is in
-        let count : received new ≡ length (items_of bounds.framing (events ++ event ∷ [])) = (shown_items bounds.framing (events ++ event ∷ []) new later).0 in
         refusal_by bounds events event false false false (lt-leb bounds.max_events (length events) few) (ap is_none later.is_heard)
-        (le-ltb bounds.max_items (length (items_of bounds.framing (events ++ event ∷ []))) (omega (arith, fits, count, most)))
+        (le-ltb bounds.max_items (length (items_of bounds.framing (events ++ event ∷ []))) (omega (arith, fits, (shown_items bounds.framing (events ++ event ∷ []) new later).0, most)))
 
 -- an event that is heeded brings its items, and the log shows it
-brings_more : (bounds : Bounds) (entries : List Entry) (event : LinkEvent) (log : Log) → IsEvent event → KeepsItems bounds entries log → refusal bounds (events_in entries) event ≡ None
-    → items_in bounds (entries ++ entry.Took event ∷ []) ≡ items_in bounds entries ++ items_by (hear bounds.framing log.rests event)
+pub brings_more : (bounds : Bounds) (entries : List Entry) (event : LinkEvent) (log : Log) → IsEvent event → KeepsItems bounds entries log → refusal bounds (events_in entries) event ≡ None
+    → items_in bounds (entries ++ Took event ∷ []) ≡ items_in bounds entries ++ items_by (hear bounds.framing log.rests event)
 brings_more bounds entries event log one keeps fine =
     ap (λ events. items_of bounds.framing (heeded bounds events)) (events_behind entries event one)
     ∙ ap (items_of bounds.framing) (one_more_heeded bounds (events_in entries) event keeps.all_heeded fine)
@@ -123,10 +117,10 @@ is_heeded bounds entries event log one keeps few fits =
     record { allowed = fine; more = items_by (hear bounds.framing log.rests event); brings = brings_more bounds entries event log one keeps fine }
 
 pub heeded_with : (bounds : Bounds) (entries : List Entry) (event : LinkEvent) → IsEvent event → heeded bounds (events_in entries) ≡ events_in entries → refusal bounds (events_in entries) event ≡ None
-    → heeded bounds (events_in (entries ++ entry.Took event ∷ [])) ≡ events_in entries ++ event ∷ []
+    → heeded bounds (events_in (entries ++ Took event ∷ [])) ≡ events_in entries ++ event ∷ []
 heeded_with bounds entries event one all fine = ap (heeded bounds) (events_behind entries event one) ∙ one_more_heeded bounds (events_in entries) event all fine
 
-pub keeps_items : (bounds : Bounds) (entries : List Entry) (event : LinkEvent) (log new : Log) → IsEvent event → KeepsItems bounds entries log → refusal bounds (events_in entries) event ≡ None → logged log event ≡ Some new → KeepsItems bounds (entries ++ entry.Took event ∷ []) new
+pub keeps_items : (bounds : Bounds) (entries : List Entry) (event : LinkEvent) (log new : Log) → IsEvent event → KeepsItems bounds entries log → refusal bounds (events_in entries) event ≡ None → logged log event ≡ Some new → KeepsItems bounds (entries ++ Took event ∷ []) new
 keeps_items bounds entries event log new one keeps fine is = record {
   all_heeded = heeded_with bounds entries event one keeps.all_heeded fine ∙ sym (events_behind entries event one);
   shows = subst (λ events. Shows bounds.framing events new) (sym (events_behind entries event one)) (logged_shows bounds.framing (events_in entries) event log new keeps.shows is);
@@ -135,15 +129,15 @@ keeps_items bounds entries event log new one keeps fine is = record {
 
 -- an event that is refused isn't heeded, and brings none
 pub heeded_without : (bounds : Bounds) (entries : List Entry) (event : LinkEvent) (cause : Unheeded) → IsEvent event → heeded bounds (events_in entries) ≡ events_in entries → refusal bounds (events_in entries) event ≡ Some cause
-    → heeded bounds (events_in (entries ++ entry.Took event ∷ [])) ≡ heeded bounds (events_in entries)
+    → heeded bounds (events_in (entries ++ Took event ∷ [])) ≡ heeded bounds (events_in entries)
 heeded_without bounds entries event cause one all refused =
     ap (heeded bounds) (events_behind entries event one) ∙ refused_unheeded bounds (events_in entries) event all (ap is_none refused) ∙ sym all
 
 -- the end of a link is no event
-pub events_ended : (entries : List Entry) → events_in (entries ++ entry.Took event.Ends ∷ []) ≡ events_in entries
-events_ended entries = events_in-append entries (entry.Took event.Ends ∷ []) ∙ append-nil (events_in entries)
+pub events_ended : (entries : List Entry) → events_in (entries ++ Took Ends ∷ []) ≡ events_in entries
+events_ended entries = events_in-append entries (Took Ends ∷ []) ∙ append-nil (events_in entries)
 
-pub items_ended : (bounds : Bounds) (entries : List Entry) (log : Log) → KeepsItems bounds entries log → KeepsItems bounds (entries ++ entry.Took event.Ends ∷ []) log
+pub items_ended : (bounds : Bounds) (entries : List Entry) (log : Log) → KeepsItems bounds entries log → KeepsItems bounds (entries ++ Took Ends ∷ []) log
 items_ended bounds entries log keeps = record {
   all_heeded = ap (heeded bounds) (events_ended entries) ∙ keeps.all_heeded ∙ sym (events_ended entries);
   shows = subst (λ events. Shows bounds.framing events log) (sym (events_ended entries)) keeps.shows;

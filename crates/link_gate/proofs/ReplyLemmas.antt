@@ -1,11 +1,10 @@
 -- What the ledger of a session says of what was passed, and what a close and a send make of it. Who passes replies by it cites these.
-use Rattle.links.specs.declared.journal.Entry.TheVariants as entry
 use Rattle.reply_ledger.specs.Ledger as ledgers
 use Rattle.session_history.specs.Opened.{is_open}
-use Rattle.link_gate.proofs.Terms.{Bool, List, None, Option, Some, [], ap, append-nil, append_assoc, arith, cond, eqb, false, length, not, refl, subst, sym, true, ℕ, ◌&&◌, ◌++◌, ◌∙◌, ◌∷◌, ◌≡◌, ◌≤◌, eq-eqb, eqb-true, ne_eqb, true≢false, take-append-le, option_map, option_map_or, is_some, Send, sent_to, Entry, events_in, connection_of-changed, next_none, rest_none, shows-marked, shows-sent, Connection, IsOpened, Ledger, changed, closed_connection, connection_of, with_change, with_send, next_part, rest_part, prefix_sent, AreDuePieces, AreFronts, then_entries, Bounds, heeded, AreSendable, IsSendable, KeepsReplies, may_pass, IsDuePiece, IsWholePiece, Rules, then_entry, closes, is_gone, opens, IsPassed, Moment, Stands, journal, passed_in}
+use Rattle.link_gate.proofs.Terms.{Bool, List, None, Option, Some, [], ap, append-nil, append_assoc, arith, cond, eqb, false, length, not, refl, subst, sym, true, ℕ, ◌&&◌, ◌++◌, ◌∙◌, ◌∷◌, ◌≡◌, ◌≤◌, and_right, eq-eqb, eqb-true, ne_eqb, true≢false, take-append-le, option_map, option_map_or, is_some, Send, sent_to, Entry, Gave, Took, events_in, connection_of-changed, next_none, rest_none, shows-marked, shows-sent, prefix-le, Connection, IsOpened, Ledger, changed, closed_connection, connection_of, with_change, with_send, next_part, rest_part, prefix_sent, AreDuePieces, AreFronts, then_entries, Bounds, heeded, AreSendable, IsSendable, KeepsReplies, may_pass, IsDuePiece, Rules, then_entry, closes, is_gone, opens, IsPassed, Moment, Stands, journal, passed_in}
 use Rattle.link_gate.proofs.MomentLemmas.{journal-then}
 use Rattle.link_gate.proofs.KeepLemmas.{known-changed}
-use Rattle.link_gate.proofs.DueLemmas.{front_of, prefix_le, stands_front, passed_unless_left, fronts_then}
+use Rattle.link_gate.proofs.DueLemmas.{front_of, stands_front, passed_unless_left, fronts_then}
 use Rattle.link_gate.proofs.ReadyLemmas.{may_rest}
 
 -- where no part is next, each send to an open connection that was made with so many items taken was passed
@@ -36,7 +35,7 @@ no_rest bounds entries sends ledger conn keeps fronts stays none send stands to 
         let front : List Send = stands.earlier ++ send ∷ [] in
         let begins = prefix_sent send.conn front sends (stands_front sends send stands) in
         let nothing : length (sent_to send.conn sends) ≡ 0 = ap (λ (c : ℕ). length (sent_to c sends)) to ∙ ap length (sent_nothing bounds entries (Some conn) sends ledger conn keeps is) in
-        front_of (sent_to send.conn front) (sent_to send.conn (passed_in bounds entries)) (sent_to send.conn sends) begins (fronts send.conn) (omega (arith, nothing, prefix_le (sent_to send.conn front) (sent_to send.conn sends) begins))
+        front_of (sent_to send.conn front) (sent_to send.conn (passed_in bounds entries)) (sent_to send.conn sends) begins (fronts send.conn) (omega (arith, nothing, prefix-le (sent_to send.conn front) (sent_to send.conn sends) begins))
 
 -- which connections are open when one is closed
 is_open-closed : (conn : ℕ) (C : List Connection) (q : ℕ) → ledgers.is_open (changed conn closed_connection C) q ≡ (ledgers.is_open C q && not (eqb conn q))
@@ -58,10 +57,6 @@ is_open-closed conn C q =
     by false None = refl
     by false (Some c) = same (not c.closed && not c.gone)
 
-and_none : (a : Bool) → (a && false) ≡ false
-and_none true = refl
-and_none false = refl
-
 and_all : (a : Bool) → (a && true) ≡ a
 and_all true = refl
 and_all false = refl
@@ -78,12 +73,11 @@ closed_may bounds entries conn q closed = of (eqb conn q) refl
     of : (b : Bool) → eqb conn q ≡ b → (may_pass bounds entries (Some conn) q && not (eqb conn q)) ≡ is_open bounds entries q
     of true is =
         let same : conn ≡ q = eqb-true conn q is in
-        ap (λ (b : Bool). may_pass bounds entries (Some conn) q && not b) is ∙ and_none (may_pass bounds entries (Some conn) q)
+        ap (λ (b : Bool). may_pass bounds entries (Some conn) q && not b) is ∙ and_right (may_pass bounds entries (Some conn) q) false refl
         ∙ shut (opens q (heeded bounds (events_in entries))) (closes q (heeded bounds (events_in entries))) (is_gone q entries) (subst (λ (c : ℕ). closes c (heeded bounds (events_in entries)) ≡ true) same closed)
     of false is =
-        let other : eqb q conn ≡ false = ne_eqb q conn (λ same. true≢false (sym (eq-eqb conn q (sym same)) ∙ is)) in
         ap (λ (b : Bool). may_pass bounds entries (Some conn) q && not b) is ∙ and_all (may_pass bounds entries (Some conn) q)
-        ∙ ap (λ (b : Bool). cond b (opens q (heeded bounds (events_in entries)) && not (is_gone q entries)) (is_open bounds entries q)) other
+        ∙ ap (λ (b : Bool). cond b (opens q (heeded bounds (events_in entries)) && not (is_gone q entries)) (is_open bounds entries q)) (ne_eqb q conn (λ same. true≢false (sym (eq-eqb conn q (sym same)) ∙ is)))
 
 pub closed_keeps : (bounds : Bounds) (entries : List Entry) (sends : List Send) (ledger : Ledger) (conn : ℕ) → KeepsReplies bounds entries (Some conn) sends ledger → closes conn (heeded bounds (events_in entries)) ≡ true
     → KeepsReplies bounds entries None sends (with_change ledger conn closed_connection)
@@ -101,7 +95,7 @@ closed_keeps bounds entries sends ledger conn keeps closed = record {
     and_left false b h = h
 
 -- one more send to an opened connection
-sendable_then : (sends : List Send) (send : Send) → AreSendable sends → IsSendable send → AreSendable (sends ++ send ∷ [])
+pub sendable_then : (sends : List Send) (send : Send) → AreSendable sends → IsSendable send → AreSendable (sends ++ send ∷ [])
 sendable_then [] send are one = (one, tt)
 sendable_then (first ∷ sends) send are one = (are.0, sendable_then sends send are.1 one)
 
@@ -117,17 +111,16 @@ sent_keeps bounds entries closing sends ledger send keeps known sendable = recor
 }
 
 fronts_behind : (rules : Rules) (sends : List Send) (moment : Moment) (conn : ℕ) (bytes : List ℕ) (gone : Bool) (more : List Entry) → IsDuePiece rules sends moment conn bytes → AreFronts (passed_in rules.bounds (journal moment)) sends
-    → (AreFronts (passed_in rules.bounds (journal (then_entry moment (entry.Gave conn bytes gone)))) sends → AreFronts (passed_in rules.bounds (journal (then_entries (then_entry moment (entry.Gave conn bytes gone)) more))) sends)
-    → AreFronts (passed_in rules.bounds (journal (then_entries moment (entry.Gave conn bytes gone ∷ more)))) sends
+    → (AreFronts (passed_in rules.bounds (journal (then_entry moment (Gave conn bytes gone)))) sends → AreFronts (passed_in rules.bounds (journal (then_entries (then_entry moment (Gave conn bytes gone)) more))) sends)
+    → AreFronts (passed_in rules.bounds (journal (then_entries moment (Gave conn bytes gone ∷ more)))) sends
 fronts_behind rules sends moment conn bytes gone more due fronts then =
-    subst (λ (since : List Entry). AreFronts (passed_in rules.bounds (moment.start ++ since)) sends) (append_assoc moment.since (entry.Gave conn bytes gone ∷ []) more)
-    (then (subst (λ (es : List Entry). AreFronts (passed_in rules.bounds es) sends) (sym (journal-then moment (entry.Gave conn bytes gone))) (fronts_then rules sends moment conn bytes gone due fronts)))
+    subst (λ (since : List Entry). AreFronts (passed_in rules.bounds (moment.start ++ since)) sends) (append_assoc moment.since (Gave conn bytes gone ∷ []) more)
+    (then (subst (λ (es : List Entry). AreFronts (passed_in rules.bounds es) sends) (sym (journal-then moment (Gave conn bytes gone))) (fronts_then rules sends moment conn bytes gone due fronts)))
 
 -- behind pieces that were due what was passed is a front of what was sent, as before
 pub fronts_stay : (rules : Rules) (sends : List Send) (moment : Moment) (more : List Entry) → AreDuePieces rules sends moment more → AreFronts (passed_in rules.bounds (journal moment)) sends → AreFronts (passed_in rules.bounds (journal (then_entries moment more))) sends
 fronts_stay rules sends moment [] due fronts = subst (λ (since : List Entry). AreFronts (passed_in rules.bounds (moment.start ++ since)) sends) (sym (append-nil moment.since)) fronts
-fronts_stay rules sends moment (entry.Took event ∷ more) due fronts = absurd due
-fronts_stay rules sends moment (entry.Gave conn bytes true ∷ more) due fronts = fronts_behind rules sends moment conn bytes true more due.0 fronts (λ now. fronts_stay rules sends (then_entry moment (entry.Gave conn bytes true)) more due.1 now)
-fronts_stay rules sends moment (entry.Gave conn bytes false ∷ more) due fronts =
-    let whole : IsWholePiece rules sends moment conn bytes = due.0 in
-    fronts_behind rules sends moment conn bytes false more whole.due fronts (λ now. fronts_stay rules sends (then_entry moment (entry.Gave conn bytes false)) more due.1 now)
+fronts_stay rules sends moment (Took event ∷ more) due fronts = absurd due
+fronts_stay rules sends moment (Gave conn bytes true ∷ more) due fronts = fronts_behind rules sends moment conn bytes true more due.0 fronts (λ now. fronts_stay rules sends (then_entry moment (Gave conn bytes true)) more due.1 now)
+fronts_stay rules sends moment (Gave conn bytes false ∷ more) due fronts =
+    fronts_behind rules sends moment conn bytes false more due.0.due fronts (λ now. fronts_stay rules sends (then_entry moment (Gave conn bytes false)) more due.1 now)

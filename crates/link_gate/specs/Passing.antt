@@ -1,5 +1,5 @@
 -- What passing replies to a link asks for, and what becomes of the link and of the ledger.
-use Rattle.std.specs.Prelude.{◌≡◌, ℕ, ◌≤◌, true, None, Result, IfOk, IsErrOf}
+use Rattle.std.specs.Prelude.{◌≡◌, ℕ, ◌≤◌, true, false, None, Result, IfOk, IsErrOf}
 use Rattle.link_gate.specs.Terms.{Rose, Counts, Seen, but_given, Ledger, NotBefore, is_open, stamped_to, stamps_of, AreSendable, PassFault}
 use Rattle.link_gate.specs.declared.pass_fault.PassFault.TheVariants as fault
 
@@ -26,10 +26,11 @@ pub record HasPassCause {T : Type 0} (before now : Counts) (result : Result T Pa
   pub gones : before.gones ≤ now.gones
   pub takes : now.takes ≡ before.takes
 
--- of a link nothing changes but what giving changes, and it gives still where all was passed
+-- of a link nothing changes but what giving changes; it gives still where all was passed, and no more at a fault of writing
 pub record PassShows {T : Type 0} (old new : Seen) (result : Result T PassFault) : Type 0 where
   pub cause : HasPassCause old.counts new.counts result
   pub gives : IfOk result (λ _. new.gives ≡ true)
+  pub stops : IsErrOf result fault.WriteFault → new.gives ≡ false
   pub rest : new ≡ but_given old new
 
 -- passing changes nothing that was sent

@@ -4,11 +4,13 @@ pub use Rattle.rx_io.specs.Faults.{Rose}
 pub use Rattle.rx_io.specs.Prefix.{Prefix}
 pub use Rattle.rx_io.specs.Sends.{Send, sent_to}
 pub use Rattle.links.specs.declared.journal.Entry.{Entry}
+pub use Rattle.links.specs.declared.journal.Entry.TheVariants.{Gave, Took}
 pub use Rattle.links.specs.declared.journal.Given.{Given}
 pub use Rattle.links.specs.declared.journal.Given.TheVariants.{All, Gone}
 pub use Rattle.links.specs.declared.journal.LinkEvent.{LinkEvent}
+pub use Rattle.links.specs.declared.journal.LinkEvent.TheVariants.{Closes, Ends, Opens, Piece, Settles}
 pub use Rattle.links.specs.declared.journal.LinkFault.{LinkFault}
-pub use Rattle.links.specs.Links.{Closed, Comes, Coming, Counts, Cuts, Gives, GivesAtClose, Grew, HasGiveCause, IsInOrder, Open, Phase, Phases, Refuses, StaysTold, StillComes, Tells, Told, Unopened, cut_entries, events_in, phases_after, pieces_in}
+pub use Rattle.links.specs.Links.{Closed, Comes, Coming, Counts, Cuts, Gives, GivesAtClose, HasGiveCause, IsInOrder, Open, Phase, Phases, Refuses, StaysTold, StillComes, Tells, TellsHanded, Told, Unopened, cut_entries, events_in, phases_after}
 pub use Rattle.links.specs.Seen.{GiveShows, Seen, but_given}
 pub use Rattle.msg_frame.specs.declared.framing.Framing.{Framing}
 pub use Rattle.msg_frame.specs.Messages.{Parts}
@@ -25,7 +27,7 @@ unfoldable pub use Rattle.reply_ledger.specs.Ledger.{changed, connection_of, is_
 pub use Rattle.reply_ledger.specs.Parts.{is_left, shown_part}
 unfoldable pub use Rattle.reply_ledger.specs.Parts.{next_part, rest_part, unpassed}
 unfoldable pub use Rattle.reply_ledger.specs.Shows.{stamped_of}
-pub use Rattle.session_history.specs.Giving.{AreDuePieces, AreFronts, IsClosing, IsReady, PassesBy, PassesRest, then_entries}
+pub use Rattle.session_history.specs.Giving.{AreDuePieces, AreFronts, HasHanded, IsClosing, IsReady, PassesBy, PassesRest, then_entries}
 pub use Rattle.session_history.specs.Hearing.{IsHeard, IsHeeded, IsUnheeded, closing_of}
 pub use Rattle.session_history.specs.Heeding.{Bounds, LimitEvents, LimitItems, TooLong, Unheeded, heeded, items_in, received, refusal}
 unfoldable pub use Rattle.session_history.specs.Heeding.{heeded_behind}

@@ -28,7 +28,7 @@ pub fn pass_until<K: Link>(
 ) -> Result<(), PassFault>
     requires { MayPass stamp (K.seen link.old) replies.old }
     ensures passes { (rules : Rules) (sends : List Send) (moment : Moment) → received rules.bounds (journal moment) ≡ stamp → IsReady rules sends moment until replies.old
-        → Passes rules sends moment until replies.new (K.seen link.old).told (K.seen link.new).told result }
+        → Passes rules sends moment until replies.new (K.seen link.old).told (K.seen link.new) result }
     ensures keeps { KeepsPassing stamp (K.seen link.old) (K.seen link.new) replies.old replies.new result }
     ensures went { K.Went link.old link.new }
 {
@@ -58,7 +58,7 @@ pub fn pass_rest<K: Link>(
     requires may { MayPass stamp (K.seen link.old) replies.old }
     requires opened { IsOpened replies.old conn }
     ensures passes { (rules : Rules) (sends : List Send) (moment : Moment) → received rules.bounds (journal moment) ≡ stamp → IsClosing rules sends moment conn replies.old
-        → PassesRest rules sends moment conn replies.new (K.seen link.old).told (K.seen link.new).told result }
+        → PassesRest rules sends moment conn replies.new (K.seen link.old).told (K.seen link.new) result }
     ensures keeps { KeepsPassing stamp (K.seen link.old) (K.seen link.new) replies.old replies.new result }
     ensures opened { IsOpened replies.new conn }
     ensures went { K.Went link.old link.new }

@@ -1,7 +1,8 @@
 // One happy path per form, and what no clause says: that calls succeed, what std does, and interrupted calls.
 use rx_io::{
-    Files, IoFault, ListenEntry, Listener, LoadFault, MemoryFiles, MemorySink, MemorySource, Sink,
-    Source, StdFiles, StdSink, StdSource, TameFiles, TameListener, TameSink, TameSource,
+    FileCall, Files, IoFault, ListenEntry, Listener, LoadFault, MemoryFiles, MemorySink,
+    MemorySource, Sink, Source, StdFiles, StdSink, StdSource, TameFiles, TameListener, TameSink,
+    TameSource,
 };
 use std::alloc::{Allocator, Global};
 use std::io::{BufRead, ErrorKind, Input, Lines, Read};
@@ -108,6 +109,15 @@ fn use_files<F: Files + Drop>(
     Ok(())
 }
 
+// A call's number in the order of the enum, and its file's name.
+fn told(call: &FileCall) -> (u8, &[u8]) {
+    match call {
+        FileCall::Loaded(name) => (0, name.as_slice()),
+        FileCall::Started(name) => (1, name.as_slice()),
+        FileCall::Added(name) => (2, name.as_slice()),
+    }
+}
+
 #[test]
 fn memory_holds_files(rt: HostRuntime) -> Result<(), Fail> {
     let alloc = rt.alloc();
@@ -131,6 +141,11 @@ fn memory_holds_files(rt: HostRuntime) -> Result<(), Fail> {
     assert_eq!(rt; files.add("a", b"z"), Ok(()));
     assert_eq!(rt; files.bytes_of("a").ok_or("no file")?, b"xyz".as_slice());
     assert_eq!(rt; files.bytes_of("b").ok_or("no file")?.len(), 0);
+    // They tell their calls by name.
+    assert_eq!(rt; files.calls().len(), 3);
+    assert_eq!(rt; files.calls().get(0).map(told), Some((0, b"b".as_slice())));
+    assert_eq!(rt; files.calls().get(1).map(told), Some((1, b"b".as_slice())));
+    assert_eq!(rt; files.calls().get(2).map(told), Some((2, b"a".as_slice())));
     Ok(())
 }
 

@@ -1,7 +1,7 @@
 -- Sessions over a trunk: where all is well no other answer comes, and at an end the frames of all sends were written.
-use Rattle.std.specs.Prelude.{◌==◌}
 use Rattle.links.specs.declared.journal.Entry.TheVariants as entry
-use Rattle.run_history.specs.declared.answer.Answer.TheVariants as answer
+use Rattle.session_history.specs.declared.ends.SessionEnd.TheVariants as session_end
+use Rattle.session_history.specs.declared.ends.Stop.TheVariants as stop
 use Rattle.session_history.specs.Heeding as unheeded
 use Rattle.session_history.specs.Opened.{is_gone}
 use Rattle.session_history.specs.Giving.{AreGiven}
@@ -9,7 +9,7 @@ use Rattle.session_history.specs.Ends.{EndsBy}
 use Rattle.session_history.proofs.Endings.{events_in-given, received_at_end, given_broken}
 use Rattle.session_history.proofs.Turns.{links_open_once}
 use Rattle.session_history.proofs.Sent.{sent_is_passed}
-use Rattle.over_trunk.proofs.Terms.{Bool, List, None, Option, Some, [], ap, append-nil, append_assoc, arith, false, inl, inr, length, length-append, refl, subst, sym, true, ℕ, ◌++◌, ◌<◌, ◌∙◌, ◌∷◌, ◌≡◌, none-some, Appends, AllByRecursion, IfSome, ◌&&◌, ◌||◌, IsDrained, Stream, Took, Prefix, Entry, LinkEvent, Coming, Phases, Piece, events_in, phases_after, pieces_in, IsSent, framed_sent, IsRefused, AreFramesOf, frames, AreInOrder, phases_behind, fresh, Image, Answer, at_its_end, came_to, events_in-append, Session, journal_of, AreInTurn, IsComplete, HasComeTo, IsEnd, IsEnded, IsLastRefused, before_end, Unheeded, Rules, entries_of, StopsTrunk, TookRefused, WritesWhole, WritesSends}
+use Rattle.over_trunk.proofs.Terms.{Bool, List, None, Option, Some, [], ap, append-nil, append_assoc, arith, false, inl, inr, length, length-append, refl, subst, sym, true, ℕ, ◌++◌, ◌<◌, ◌==◌, ◌∙◌, ◌∷◌, ◌≡◌, none-some, Appends, AllByRecursion, IfSome, ◌&&◌, ◌||◌, IsDrained, Stream, Took, Prefix, Entry, LinkEvent, events_in-append, Coming, Phases, Piece, events_in, phases_after, pieces_in, IsSent, framed_sent, IsRefused, AreFramesOf, frames, AreInOrder, phases_behind, fresh, Image, SessionEnd, Stop, at_its_end, came_to, Session, journal_of, AreInTurn, IsComplete, AtEnd, HasComeTo, IsEnded, IsLastRefused, before_end, Unheeded, Rules, entries_of, StopsTrunk, TookRefused, WritesWhole, WritesSends}
 use Rattle.over_trunk.specs.EndLaws.{AreAllHeeded, NoOtherEnd, SendsAreWritten}
 use Rattle.over_trunk.proofs.FrameFronts.{none_behind, whole_reading, next_frame}
 use Rattle.over_trunk.proofs.HeededFronts.{event_counts, heeded_next}
@@ -46,11 +46,11 @@ none_gone conn (entry.Gave to bytes gone ∷ entries) all =
     off false = refl
 
 -- the frames of all sends were written, by what was passed
-written : {rules : Rules} {image : Image} {coming : Option Coming} {session : Session} {end : Answer} (sink later : Option (List ℕ)) → IsEnded rules image coming session end → IsEnd end → AreInOrder fresh (events_in (journal_of session))
+written : {rules : Rules} {image : Image} {coming : Option Coming} {session : Session} {end : SessionEnd} (sink later : Option (List ℕ)) → IsEnded rules image coming session (stop.Ends end) → AreInOrder fresh (events_in (journal_of session))
     → session.earlier ≡ [] → rules.hold ≡ 0 → WritesWhole sink later (pieces_in (journal_of session)) → WritesSends sink later session.survivor.now.state.sends
-written None later is at_end order first holds_nothing whole = tt
-written {rules = rules} {image = image} {session = session} {end = end} (Some before) later is at_end order first holds_nothing whole =
-    let ends = at_its_end rules session end at_end is.ends in
+written None later is order first holds_nothing whole = tt
+written {rules = rules} {image = image} {session = session} {end = end} (Some before) later is order first holds_nothing whole =
+    let ends = at_its_end rules session end is.ends in
     let passed = sent_is_passed rules image session (record {
       account = is.account;
       first = first;
@@ -63,12 +63,17 @@ written {rules = rules} {image = image} {session = session} {end = end} (Some be
     }) in
     subst (λ (pieces : List Piece). Appends (Some before) later (frames pieces)) passed whole.wrote
 
+written_at : {rules : Rules} {image : Image} {coming : Option Coming} {session : Session} (why : Stop) (sink later : Option (List ℕ)) → IsEnded rules image coming session why → AreInOrder fresh (events_in (journal_of session))
+    → AtEnd why (λ end. WritesWhole sink later (pieces_in (journal_of session))) → AtEnd why (λ end. session.earlier ≡ [] → rules.hold ≡ 0 → WritesSends sink later session.survivor.now.state.sends)
+written_at (stop.Ends end) sink later is order whole = λ first holds_nothing. written sink later is order first holds_nothing whole
+written_at (stop.Breaks fault) sink later is order whole = tt
+
 pub sends_are_written : SendsAreWritten
-sends_are_written rules keeping image input input_later output output_later outcome noted_before noted_now counted served at_end first holds_nothing =
-    written output output_later served.is.is.ended at_end served.bytes.took.order first holds_nothing (served.bytes.wrote_whole at_end)
+sends_are_written rules keeping image input input_later output output_later outcome noted_before noted_now counted served =
+    written_at outcome.stop output output_later served.is.is.ended served.bytes.took.order served.bytes.wrote_whole
 
 -- Of a session whose source has the frames of events that it heeds, each of them: the events that it took are the first of these.
-module _ {rules : Rules} {image : Image} {coming : Option Coming} {session : Session} {end : Answer} (is : IsEnded rules image coming session end) (input : Stream) (input_later : Option Stream)
+module _ {rules : Rules} {image : Image} {coming : Option Coming} {session : Session} {why : Stop} (is : IsEnded rules image coming session why) (input : Stream) (input_later : Option Stream)
     (well : AreAllHeeded rules.bounds input.left) (order : AreInOrder fresh (events_in (journal_of session))) where
   front_of : (whole tail : List ℕ) → AreFramesOf (events_in (journal_of session)) whole → Took (Some input) input_later (whole ++ tail) → Prefix (events_in (journal_of session)) well.events
   front_of whole tail are took =
@@ -78,9 +83,8 @@ module _ {rules : Rules} {image : Image} {coming : Option Coming} {session : Ses
   -- none of them is refused
   refused_not : Prefix (events_in (journal_of session)) well.events → (cause : Unheeded) → IsLastRefused rules.bounds (before_end session) cause → ⊥
   refused_not front cause last =
-      let given = given_broken rules session.survivor.now.state.sends _ session.broken is.account.broken in
       let events : events_in (journal_of session) ≡ events_in last.before ++ last.event ∷ [] =
-      events_at_end session is.pieces given ∙ ap events_in last.last ∙ events_in-append last.before (entry.Took last.event ∷ [])
+      events_at_end session is.pieces (given_broken rules session.survivor.now.state.sends _ session.broken is.account.broken) ∙ ap events_in last.last ∙ events_in-append last.before (entry.Took last.event ∷ [])
       ∙ ap (λ (es : List LinkEvent). events_in last.before ++ es) (event_counts last.event last.no_end) in
       let whole : well.events ≡ events_in last.before ++ last.event ∷ front.0 =
       sym front.1 ∙ ap (λ (es : List LinkEvent). es ++ front.0) events ∙ append_assoc (events_in last.before) (last.event ∷ []) front.0 in
@@ -102,39 +106,34 @@ module _ {rules : Rules} {image : Image} {coming : Option Coming} {session : Ses
       by_rest : (rest : List LinkEvent) → events_in (journal_of session) ++ rest ≡ well.events → ⊥
       by_rest [] same =
           let all : AreFramesOf (events_in (journal_of session)) input.left = subst (λ (es : List LinkEvent). AreFramesOf es input.left) (sym same ∙ append-nil (events_in (journal_of session))) well.are in
-          let none = none_behind fresh (events_in (journal_of session)) took.whole (took.tail ++ behind.0) input.left order took.are all (sym parts) in
           let some = some_refused (phases_behind (events_in (journal_of session)) fresh) (IsDrained input_later) kind took.tail took.refused in
-          omega (arith, ap length none, length-append took.tail behind.0, some)
+          omega (arith, ap length (none_behind fresh (events_in (journal_of session)) took.whole (took.tail ++ behind.0) input.left order took.are all (sym parts)), length-append took.tail behind.0, some)
       by_rest (next ∷ rest) same =
           let whole = next_frame fresh well.events (events_in (journal_of session)) rest next input.left [] took.whole (took.tail ++ behind.0) well.order order well.are took.are (sym same) (append-nil input.left ∙ parts) in
           whole_not (phases_behind (events_in (journal_of session)) fresh) (IsDrained input_later) kind took.tail behind.0 next took.refused behind.2 whole
 
   -- so no other answer comes
-  answers_so : Prefix (events_in (journal_of session)) well.events → IfSome session.came (StopsTrunk (Some input) input_later (events_in (journal_of session))) → (answered : Answer) → EndsBy rules session answered → IsComplete rules session answered
-  answers_so front stops answer.Finished ends =
-      let to : HasComeTo rules coming session answer.Finished = came_to is.comes ends.came in
+  answers_so : Prefix (events_in (journal_of session)) well.events → IfSome session.came (StopsTrunk (Some input) input_later (events_in (journal_of session))) → (stopped : Stop) → EndsBy rules session stopped → IsComplete rules session stopped
+  answers_so front stops (stop.Ends session_end.Finished) ends =
+      let to : HasComeTo rules coming session session_end.Finished = came_to is.comes ends.came in
       to.stands.0.taken ∙ ap length (sym (received_at_end rules.bounds session is.pieces (given_broken rules session.survivor.now.state.sends _ session.broken is.account.broken)))
-  answers_so front stops (answer.Exited code) ends = tt
-  answers_so front stops (answer.GaveUp point cause) ends = tt
-  answers_so front stops (answer.InputRefused kind offset) ends =
-      taken_not kind offset (subst (λ (came : Option Answer). IfSome came (StopsTrunk (Some input) input_later (events_in (journal_of session)))) ends.came stops)
-  answers_so front stops (answer.MessageTooLong conn) ends =
-      let to : HasComeTo rules coming session (answer.MessageTooLong conn) = came_to is.comes ends.came in
+  answers_so front stops (stop.Ends (session_end.Exited code)) ends = tt
+  answers_so front stops (stop.Ends (session_end.GaveUp point cause)) ends = tt
+  answers_so front stops (stop.Ends (session_end.InputRefused kind offset)) ends =
+      taken_not kind offset (subst (λ (came : Option SessionEnd). IfSome came (StopsTrunk (Some input) input_later (events_in (journal_of session)))) ends.came stops)
+  answers_so front stops (stop.Ends (session_end.MessageTooLong conn)) ends =
+      let to : HasComeTo rules coming session (session_end.MessageTooLong conn) = came_to is.comes ends.came in
       refused_not front unheeded.TooLong to.stands.1.refused
-  answers_so front stops answer.LimitItems ends =
-      let to : HasComeTo rules coming session answer.LimitItems = came_to is.comes ends.came in
+  answers_so front stops (stop.Ends session_end.LimitItems) ends =
+      let to : HasComeTo rules coming session session_end.LimitItems = came_to is.comes ends.came in
       refused_not front unheeded.LimitItems to.stands.1
-  answers_so front stops answer.LimitEvents ends =
-      let to : HasComeTo rules coming session answer.LimitEvents = came_to is.comes ends.came in
+  answers_so front stops (stop.Ends session_end.LimitEvents) ends =
+      let to : HasComeTo rules coming session session_end.LimitEvents = came_to is.comes ends.came in
       refused_not front unheeded.LimitEvents to.stands.1
-  answers_so front stops answer.ReadFault ends = tt
-  answers_so front stops answer.WriteFault ends = tt
-  answers_so front stops answer.FileFault ends = tt
-  answers_so front stops answer.Memory ends = tt
-  answers_so front stops _ ends = let to : HasComeTo rules coming session _ = came_to is.comes ends.came in absurd to.is_end
+  answers_so front stops (stop.Breaks fault) ends = tt
 
 pub no_other_end : NoOtherEnd
 no_other_end rules keeping image input input_later output output_later outcome noted_before noted_now counted served well =
     let is = served.is.is.ended in
     let took = served.bytes.took in
-    answers_so is input input_later well took.order (front_of is input input_later well took.order took.whole took.tail took.are took.took) served.bytes.stops outcome.end is.ends
+    answers_so is input input_later well took.order (front_of is input input_later well took.order took.whole took.tail took.are took.took) served.bytes.stops outcome.stop is.ends

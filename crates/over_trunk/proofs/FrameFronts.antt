@@ -35,8 +35,7 @@ two_readings phases (first ∷ list) (other ∷ others) bytes more front_bytes r
     let stream : one ++ (behind ++ more) ≡ two ++ (after ++ rest) =
     sym (ap (λ l. l ++ more) whole ∙ append_assoc one behind more) ∙ same ∙ ap (λ l. l ++ rest) other_whole ∙ append_assoc two after rest in
     let both = one_frame phases first other one two (behind ++ more) (after ++ rest) order.0 other_order.0 is other_is stream in
-    let later : AreInOrder (phases_after first phases) others = subst (λ e. AreInOrder (phases_after e phases) others) (sym both.0) other_order.1 in
-    elim (two_readings (phases_after first phases) list others behind more after rest order.1 later are others_are both.1) [
+    elim (two_readings (phases_after first phases) list others behind more after rest order.1 (subst (λ e. AreInOrder (phases_after e phases) others) (sym both.0) other_order.1) are others_are both.1) [
       | inl found ↦ inl (longer first other list others both.0 found)
       | inr found ↦ inr (longer other first others list (sym both.0) found)
     ]
@@ -46,12 +45,9 @@ pub whole_reading : (phases : Phases) (list others : List LinkEvent) (bytes more
     → bytes ++ more ≡ all → Prefix list others
 whole_reading phases [] others bytes more all order other_order are others_are same = (others, refl)
 whole_reading phases (first ∷ list) [] bytes more all order other_order (one, behind, whole, is, are) none same =
-    let count : length (bytes ++ more) ≡ 0 = ap length (same ∙ none) in
-    let parts : length bytes ≡ length (one ++ behind) = ap length whole in
-    absurd (omega (arith, count, parts, length-append bytes more, length-append one behind, frame_length first one is))
+    absurd (omega (arith, ap length (same ∙ none), ap length whole, length-append bytes more, length-append one behind, frame_length first one is))
 whole_reading phases (first ∷ list) (other ∷ others) bytes more all order other_order (one, behind, whole, is, are) (two, after, other_whole, other_is, others_are) same =
-    let stream : one ++ (behind ++ more) ≡ two ++ after = sym (ap (λ l. l ++ more) whole ∙ append_assoc one behind more) ∙ same ∙ other_whole in
-    let both = one_frame phases first other one two (behind ++ more) after order.0 other_order.0 is other_is stream in
+    let both = one_frame phases first other one two (behind ++ more) after order.0 other_order.0 is other_is (sym (ap (λ l. l ++ more) whole ∙ append_assoc one behind more) ∙ same ∙ other_whole) in
     let later : AreInOrder (phases_after first phases) others = subst (λ e. AreInOrder (phases_after e phases) others) (sym both.0) other_order.1 in
     longer first other list others both.0 (whole_reading (phases_after first phases) list others behind more after order.1 later are others_are both.1)
 
@@ -68,13 +64,11 @@ next_frame phases (first ∷ list) (other ∷ others) rest next bytes more front
     let stream : one ++ (behind ++ more) ≡ two ++ (after ++ left) =
     sym (ap (λ l. l ++ more) whole ∙ append_assoc one behind more) ∙ same ∙ ap (λ l. l ++ left) other_whole ∙ append_assoc two after left in
     let both = one_frame phases first other one two (behind ++ more) (after ++ left) order.0 other_order.0 is other_is stream in
-    let later : AreInOrder (phases_after other phases) list = subst (λ e. AreInOrder (phases_after e phases) list) both.0 order.1 in
-    next_frame (phases_after other phases) list others rest next behind more after left later other_order.1 are others_are (ap (drop 1) longer_is) both.1
+    next_frame (phases_after other phases) list others rest next behind more after left (subst (λ e. AreInOrder (phases_after e phases) list) both.0 order.1) other_order.1 are others_are (ap (drop 1) longer_is) both.1
 
 -- frames of the same events are the same bytes, so nothing stands behind the one where the other is all
 pub none_behind : (phases : Phases) (list : List LinkEvent) (bytes more all : List ℕ) → AreInOrder phases list → AreFramesOf list bytes → AreFramesOf list all → bytes ++ more ≡ all → more ≡ []
 none_behind phases [] bytes more all order are all_are same = ap (λ l. l ++ more) (sym are) ∙ same ∙ all_are
 none_behind phases (first ∷ list) bytes more all order (one, behind, whole, is, are) (two, after, other_whole, other_is, others_are) same =
-    let stream : one ++ (behind ++ more) ≡ two ++ after = sym (ap (λ l. l ++ more) whole ∙ append_assoc one behind more) ∙ same ∙ other_whole in
-    let both = one_frame phases first first one two (behind ++ more) after order.0 order.0 is other_is stream in
+    let both = one_frame phases first first one two (behind ++ more) after order.0 order.0 is other_is (sym (ap (λ l. l ++ more) whole ∙ append_assoc one behind more) ∙ same ∙ other_whole) in
     none_behind (phases_after first phases) list behind more after order.1 are others_are both.1

@@ -1,22 +1,14 @@
 -- First parts of lists, and of the events that a session heeds.
-use Rattle.std.specs.Prelude.{nat_lt, if◌then◌else◌}
+use Rattle.std.proofs.lemmas.Bool.{le-ltb, leb-false, lt-leb, ltb-false}
 use Rattle.links.specs.declared.journal.Entry.TheVariants as entry
 use Rattle.links.specs.declared.journal.LinkEvent.TheVariants as event
 use Rattle.links.specs.declared.journal.LinkEvent.TheVariants.{Ends}
-use Rattle.over_trunk.proofs.Terms.{Bool, List, None, Option, Some, [], ap, append-nil, append_assoc, arith, cond, drop, false, inl, inr, length, length-append, refl, sym, true, ◌++◌, ◌<◌, ◌∙◌, ◌∷◌, ◌≡◌, ◌≢◌, ◌≤◌, ◌⊎◌, drop-append_seam, le-ltb, leb-false, lt-leb, ltb-false, none-some, is_none, nat_le, Prefix, LinkEvent, events_in, heard, items_of, Bounds, LimitEvents, LimitItems, TooLong, Unheeded, heeded_behind, refusal, two_fronts, IsWithin}
-
-no_element : {X : Type 0} (xs : List X) → length xs ≡ 0 → xs ≡ []
-no_element [] none = refl
-no_element (x ∷ xs) none = absurd (omega (arith, none))
+use Rattle.over_trunk.proofs.Terms.{Bool, List, None, Option, Some, [], ap, append-nil, append_assoc, arith, cond, drop, false, if◌then◌else◌, inl, inr, length, length-append, nat_lt, refl, sym, true, ◌++◌, ◌<◌, ◌∙◌, ◌∷◌, ◌≡◌, ◌≢◌, ◌≤◌, ◌⊎◌, drop-append_seam, nil_from_length, none-some, is_none, nat_le, Prefix, LinkEvent, events_in, heard, items_of, Bounds, LimitEvents, LimitItems, TooLong, Unheeded, heeded_behind, refusal, two_fronts, IsWithin}
 
 pub both_ways : {X : Type 0} (xs ys : List X) → Prefix xs ys → Prefix ys xs → ys ≡ xs
 both_ways xs ys front back =
     let count : length xs ≡ length ys = omega (arith, ap length front.1, ap length back.1, length-append xs front.0, length-append ys back.0) in
-    let none = no_element front.0 (omega (arith, count, ap length front.1, length-append xs front.0)) in
-    sym (sym (append-nil xs) ∙ ap (λ l. xs ++ l) (sym none) ∙ front.1)
-
-pub front_on : {X : Type 0} (xs ys zs : List X) → Prefix xs ys → Prefix ys zs → Prefix xs zs
-front_on xs ys zs first second = (first.0 ++ second.0, sym (append_assoc xs first.0 second.0) ∙ ap (λ l. l ++ second.0) first.1 ∙ second.1)
+    sym (sym (append-nil xs) ∙ ap (λ l. xs ++ l) (sym (nil_from_length front.0 (omega (arith, count, ap length front.1, length-append xs front.0)))) ∙ front.1)
 
 pub two_of_one : {X : Type 0} (xs ys all : List X) → Prefix xs all → Prefix ys all → Prefix xs ys ⊎ Prefix ys xs
 two_of_one xs ys all first second =
@@ -74,13 +66,11 @@ no_cause false false false none = (refl, refl, refl)
 pub wider : (bounds other : Bounds) (before : List LinkEvent) (one : LinkEvent) → other.framing ≡ bounds.framing → IsWithin bounds other → refusal bounds before one ≡ None → refusal other before one ≡ None
 wider bounds other before one framing within none =
     let causes = no_cause _ _ _ none in
-    let few : length before < bounds.max_events = leb-false bounds.max_events (length before) causes.0 in
-    let late : nat_le other.max_events (length before) ≡ false = lt-leb other.max_events (length before) (omega (arith, few, within.events)) in
+    let late : nat_le other.max_events (length before) ≡ false = lt-leb other.max_events (length before) (omega (arith, leb-false bounds.max_events (length before) causes.0, within.events)) in
     let long : is_none (heard other.framing (before ++ one ∷ [])) ≡ false = ap (λ f. is_none (heard f (before ++ one ∷ []))) framing ∙ causes.1 in
-    let least : length (items_of bounds.framing (before ++ one ∷ [])) ≤ bounds.max_items = ltb-false bounds.max_items (length (items_of bounds.framing (before ++ one ∷ []))) causes.2 in
     let count : length (items_of other.framing (before ++ one ∷ [])) ≡ length (items_of bounds.framing (before ++ one ∷ [])) = ap (λ f. length (items_of f (before ++ one ∷ []))) framing in
     let many : nat_lt other.max_items (length (items_of other.framing (before ++ one ∷ []))) ≡ false =
-    le-ltb other.max_items (length (items_of other.framing (before ++ one ∷ []))) (omega (arith, least, count, within.items)) in
+    le-ltb other.max_items (length (items_of other.framing (before ++ one ∷ []))) (omega (arith, ltb-false bounds.max_items (length (items_of bounds.framing (before ++ one ∷ []))) causes.2, count, within.items)) in
     ap (λ (b : Bool). first_cause b (is_none (heard other.framing (before ++ one ∷ []))) (nat_lt other.max_items (length (items_of other.framing (before ++ one ∷ []))))) late
     ∙ ap (λ (b : Bool). first_cause false b (nat_lt other.max_items (length (items_of other.framing (before ++ one ∷ []))))) long
     ∙ ap (λ (b : Bool). first_cause false false b) many

@@ -1,5 +1,4 @@
 pub mod Terms
-pub mod Shown
 pub mod ReadLemmas
 pub mod WriteLemmas
 pub mod PayloadLemmas

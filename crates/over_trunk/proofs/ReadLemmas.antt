@@ -1,8 +1,8 @@
 -- What a trunk's session took, by what its link told.
-use Rattle.std.proofs.Common.{IfSome}
 use Rattle.trunk_wire.proofs.ProgressLemmas.{put_bytes-append, put_bytes-part}
 use Rattle.trunk_wire.proofs.TellingLemmas.{last_bytes-append}
-use Rattle.over_trunk.proofs.Terms.{Bool, List, None, Option, Some, [], ap, append-nil, append_assoc, arith, false, if◌then◌else◌, inl, inr, length, length-append, refl, sym, true, ℕ, ◌++◌, ◌+◌, ◌-◌, ◌<◌, ◌^◌, ◌∙◌, ◌∷◌, ◌≡◌, ◌≢◌, fun_ext, drop-length, IsDrained, Stream, Took, LinkEvent, Grew, Phases, Refuses, phases_after, Refusal, events_steady, frame-accepted, put_bytes-frame, IsRefused, count_after, AreFramesOf, AreInOrder, IsTail, phases_behind, event_at, front, last_bytes, put_bytes, event_reader, events, fresh, whole_event, is_in_step, told_coming, told_events, IsBehind}
+use Rattle.trunk_wire.proofs.GiveLemmas.{no_bytes}
+use Rattle.over_trunk.proofs.Terms.{Bool, List, None, Option, Some, [], ap, append-nil, append_assoc, arith, false, if◌then◌else◌, inl, inr, length, length-append, refl, sym, true, ℕ, ◌++◌, ◌+◌, ◌-◌, ◌<◌, ◌^◌, ◌∙◌, ◌∷◌, ◌≡◌, ◌≢◌, fun_ext, IsDrained, Stream, Took, LinkEvent, Grew, Phases, Refuses, phases_after, Refusal, events_steady, frame-accepted, put_bytes-frame, Countable, not_whole, count_after, AreFramesOf, AreInOrder, IsTail, phases_behind, event_at, front, last_bytes, put_bytes, event_reader, events, fresh, whole_event, is_in_step, told_coming, told_events, IsBehind}
 
 -- the frames of events in order bring these events, and their phases
 read_frames : (phases : Phases) (before list : List LinkEvent) (bytes : List ℕ) → AreInOrder phases list → AreFramesOf list bytes
@@ -25,25 +25,15 @@ events_behind list whole tail order are none =
     ∙ ap (λ progress. put_bytes event_reader progress tail) (read_frames fresh [] list whole order are)
     ∙ put_bytes-part event_reader events_steady list (phases_behind list fresh) [] tail none)
 
-no_bytes : (bytes : List ℕ) → last_bytes 0 bytes ≡ []
-no_bytes bytes = let all : length bytes - 0 ≡ length bytes = omega arith in rw all (drop-length bytes)
-
 -- the last bytes are those that a count from nothing counted
 pub last_all : (count : ℕ) (before bytes : List ℕ) → length bytes < 2 ^ 64 - 1 → count ≡ count_after 0 (length bytes) → last_bytes count (before ++ bytes) ≡ bytes
 last_all count before bytes few is = last_bytes-append 0 count before bytes (omega arith) (omega (arith, is)) ∙ ap (λ l. l ++ bytes) (no_bytes before)
-
-not_whole : (phases : Phases) (drained : Type 0) (kind : ℕ) (bytes : List ℕ) → IsRefused phases drained kind bytes → whole_event (front phases bytes) ≡ None
-not_whole phases drained kind bytes (inl bad) = ap whole_event bad.0
-not_whole phases drained kind bytes (inr cut) = ap whole_event cut.1
 
 -- a tail is no whole frame
 pub tail_none : (phases : Phases) (drained : Type 0) (at : ℕ) (takes : Bool) (refused : Option Refusal) (tail : List ℕ) → IsTail phases drained at takes refused tail → whole_event (front phases tail) ≡ None
 tail_none phases drained at true refused tail is = ap (λ l. whole_event (front phases l)) is
 tail_none phases drained at false None tail is = ap whole_event is
 tail_none phases drained at false (Some refusal) tail is = not_whole phases drained refusal.kind tail is.1
-
-abbrev pub Countable : Option Stream → Type 0
-Countable source = IfSome source (λ stream. length stream.taken + length stream.left < 2 ^ 64 - 1)
 
 -- what was taken is short enough to be counted
 pub few_taken : (old new : Stream) (bytes : List ℕ) → Took (Some old) (Some new) bytes → Countable (Some new) → length bytes < 2 ^ 64 - 1
@@ -73,12 +63,9 @@ pub stands_behind : (list : List LinkEvent) (old : Stream) (new : Option Stream)
     → IsTail (phases_behind list fresh) (IsDrained new) (count_after 0 (length whole)) takes refused tail → IsBehind (phases_behind list fresh) (length whole) new tail (told_coming new took phases takes refused)
 stands_behind list old None took phases takes refused whole tail few read count same is = absurd read
 stands_behind list old (Some new) took phases true refused whole tail few read count same is =
-    let small = few_taken old new (whole ++ tail) read few in
-    let here : took ≡ length whole = omega (arith, small, count, ap length is, length-append whole tail) in
-    let phases_are : phases ≡ phases_behind list fresh = fun_ext same in
-    inl (is, ap (λ n. Some (event_at phases n new.left)) here ∙ ap (λ at. Some (event_at at (length whole) new.left)) phases_are)
+    let here : took ≡ length whole = omega (arith, few_taken old new (whole ++ tail) read few, count, ap length is, length-append whole tail) in
+    inl (is, ap (λ n. Some (event_at phases n new.left)) here ∙ ap (λ at. Some (event_at at (length whole) new.left)) (fun_ext same))
 stands_behind list old (Some new) took phases false None whole tail few read count same is = inr (inl (is, refl))
 stands_behind list old (Some new) took phases false (Some refusal) whole tail few read count same is =
-    let small = few_taken old new (whole ++ tail) read few in
-    let here : refusal.offset ≡ length whole = omega (arith, small, is.0, length-append whole tail) in
+    let here : refusal.offset ≡ length whole = omega (arith, few_taken old new (whole ++ tail) read few, is.0, length-append whole tail) in
     inr (inr (refusal.kind, is.1, ap (λ n. Some (Refuses refusal.kind n)) here))

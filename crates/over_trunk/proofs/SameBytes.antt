@@ -1,9 +1,8 @@
 -- A session's record is replayed over the bytes that the session had.
 use Rattle.run_history.specs.declared.answer.Answer.TheVariants as answer
 use Rattle.session_history.specs.Heeding as unheeded
-use Rattle.over_trunk.proofs.Terms.{List, None, Option, Some, [], ap, append-nil, append_assoc, inl, inr, subst, sym, ℕ, ◌++◌, ◌∙◌, ◌∷◌, ◌≡◌, ◌⊎◌, IsDrained, Stream, Took, Prefix, Entry, LinkEvent, Coming, Phases, events_in, front-bad, IsRefused, AreFramesOf, AreInOrder, phases_behind, Bad, Part, Whole, front, fresh, Image, Answer, State, IsAccount, Session, journal_of, Rules, Recorded, heeded_first, HasSession, AreAsked, EndsBy, IsAsking, IsReplay, Replay, bounds_of, TookRefused, TookWhole, IsAsRecorded, IsWithin, SameBytesAreReplayed, IsRecordedRun, TakesReplay, WritesReplay, WritesSends}
+use Rattle.over_trunk.proofs.Terms.{List, None, Option, Some, [], ap, append-nil, append_assoc, inl, inr, subst, sym, ℕ, ◌++◌, ◌∙◌, ◌∷◌, ◌≡◌, ◌⊎◌, IsDrained, Stream, Took, Prefix, Entry, LinkEvent, Coming, Phases, events_in, front-bad, IsRefused, AreFramesOf, AreInOrder, phases_behind, Bad, Part, Whole, front, fresh, Image, Answer, prefix_trans, State, heeded_front, IsAccount, Session, journal_of, Rules, Recorded, HasSession, AreAsked, EndsBy, IsAsking, IsReplay, Replay, bounds_of, TookRefused, TookWhole, IsAsRecorded, IsWithin, SameBytesAreReplayed, IsRecordedRun, TakesReplay, WritesReplay, WritesSends}
 use Rattle.over_trunk.proofs.FrameFronts.{two_readings, whole_reading, next_frame}
-use Rattle.over_trunk.proofs.HeededFronts.{front_on}
 use Rattle.over_trunk.proofs.SameRun.{brought_not, refused_not, mismatch_not, same_end}
 
 -- what a source had, where bytes were taken from it
@@ -38,16 +37,16 @@ module _ (rules : Rules) (image : Image) (session : Session) (recording : Record
   -- a replay that asks for an event isn't refused its frame
   taken_not : (kind offset : ℕ) → IsAsking image recording entries replay → TookRefused (Some again) again_later (events_in entries) kind offset → ⊥
   taken_not kind offset asks took =
-      let first = heeded_first rules.bounds [] (events_in (journal_of session)) in
+      let first = heeded_front rules.bounds [] (events_in (journal_of session)) in
       elim near [
-        | inl short ↦ brought_not rules image session recording entries account has asked (inl short) entries (record { replay = replay; asks = asks }) (front_on _ _ _ first short)
+        | inl short ↦ brought_not rules image session recording entries account has asked (inl short) entries (record { replay = replay; asks = asks }) (prefix_trans _ _ _ first short)
         | inr longer ↦ by_rest longer.0 longer.1
       ]
     where
       by_rest : (rest : List LinkEvent) → events_in entries ++ rest ≡ events_in (journal_of session) → ⊥
       by_rest [] same =
           brought_not rules image session recording entries account has asked near entries (record { replay = replay; asks = asks })
-          (front_on _ _ _ (heeded_first rules.bounds [] (events_in (journal_of session))) ([], append-nil (events_in (journal_of session)) ∙ sym same ∙ append-nil (events_in entries)))
+          (prefix_trans _ _ _ (heeded_front rules.bounds [] (events_in (journal_of session))) ([], append-nil (events_in (journal_of session)) ∙ sym same ∙ append-nil (events_in entries)))
       by_rest (next ∷ rest) same =
           let behind = left_is again again_later (took.whole ++ took.tail) took.took in
           let parts : bytes ++ more ≡ took.whole ++ (took.tail ++ behind.0) = sym left ∙ behind.1 ∙ append_assoc took.whole took.tail behind.0 in
@@ -60,9 +59,9 @@ module _ (rules : Rules) (image : Image) (session : Session) (recording : Record
   answers_so answer.WriteFault ends takes = tt
   answers_so answer.Memory ends takes = tt
   answers_so (answer.InputRefused kind offset) ends takes = taken_not kind offset ends.0 takes
-  answers_so (answer.MessageTooLong conn) ends takes = refused_not rules image session recording entries account has asked near within unheeded.TooLong ends.0.refused
-  answers_so answer.LimitItems ends takes = refused_not rules image session recording entries account has asked near within unheeded.LimitItems ends.0
-  answers_so answer.LimitEvents ends takes = refused_not rules image session recording entries account has asked near within unheeded.LimitEvents ends.0
+  answers_so (answer.MessageTooLong conn) ends takes = refused_not rules image session recording entries account has asked near within unheeded.TooLong ends.1.refused
+  answers_so answer.LimitItems ends takes = refused_not rules image session recording entries account has asked near within unheeded.LimitItems ends.1
+  answers_so answer.LimitEvents ends takes = refused_not rules image session recording entries account has asked near within unheeded.LimitEvents ends.1
   answers_so (answer.Mismatch step) ends takes =
       mismatch_not rules image session recording entries account has asked near replay coming step is ends (λ ended. all_read takes.0 (takes.1 ended))
   answers_so _ ends takes = absurd ends

@@ -1,5 +1,4 @@
 -- A session's run, and a replay of its record over the first of its events.
-use Rattle.std.proofs.lemmas.Bool.{true≢false}
 use Rattle.rx_io.specs.declared.bytes.Item.{Item}
 use Rattle.links.specs.declared.journal.Entry.TheVariants as entry
 use Rattle.run_history.specs.declared.answer.Answer.TheVariants as answer
@@ -8,8 +7,8 @@ use Rattle.replay.specs.Replaying.{WasAsked}
 use Rattle.replay.proofs.RecordLemmas.{begins, goes_on, starved_not}
 use Rattle.replay.proofs.RoomLemmas.{session_leaves_record}
 use Rattle.replay.proofs.SessionLemmas.{session_is_replayed}
-use Rattle.over_trunk.proofs.Terms.{List, None, Option, Some, [], ap, append-nil, append_assoc, arith, inl, inr, length, refl, subst, sym, true, ℕ, ◌++◌, ◌∙◌, ◌∷◌, ◌≡◌, ◌≤◌, ◌⊎◌, none-some, same_Some, Prefix, Entry, LinkEvent, Coming, HasEnded, Unopened, events_in, Seen, no_faults, Choice, items_of, Image, State, start, run, events_in-append, IsAccount, Session, journal_of, IsLastRefused, Unheeded, heeded, items_in, Rules, Recorded, heeded_first, items_grow, two_fronts, BringsFirst, HadOneStream, HasSession, IsRecordOf, AreAsked, EndsBy, HasReplayed, IsReplay, Replay, bounds_of, IsWithin, IsRecordedRun}
-use Rattle.over_trunk.proofs.HeededFronts.{both_ways, front_on, two_of_one, same_next, event_counts, heeded_next, wider}
+use Rattle.over_trunk.proofs.Terms.{List, None, Option, Some, [], ap, append-nil, append_assoc, arith, inl, inr, length, refl, subst, sym, true, true≢false, ℕ, ◌++◌, ◌∙◌, ◌∷◌, ◌≡◌, ◌≤◌, ◌⊎◌, none-some, same_Some, Prefix, Entry, LinkEvent, events_in-append, Coming, HasEnded, Unopened, events_in, Seen, no_faults, Choice, items_of, Image, prefix_trans, State, start, run, heeded_front, IsAccount, Session, journal_of, IsLastRefused, Unheeded, heeded, items_in, Rules, Recorded, items_grow, two_fronts, BringsFirst, HadOneStream, HasSession, IsRecordOf, AreAsked, EndsBy, HasReplayed, IsReplay, Replay, bounds_of, IsWithin, IsRecordedRun}
+use Rattle.over_trunk.proofs.HeededFronts.{both_ways, two_of_one, same_next, event_counts, heeded_next, wider}
 
 -- a run is one on more items too
 on_more : (items others : List Item) (choices : List Choice) (first last : State) (steps : ℕ) → Prefix items others → run items choices first steps ≡ Some last → run others choices first steps ≡ Some last
@@ -46,9 +45,9 @@ module _ (rules : Rules) (image : Image) (session : Session) (recording : Record
       let all : Prefix (items_in rules.bounds (journal_of session)) these =
       subst (λ (events : List LinkEvent). Prefix (items_in rules.bounds (journal_of session)) (items_of recording.frame events)) (sym was.asks.heeds) items in
       let there = on_more (items_in rules.bounds (journal_of session)) these recording.choices (start image) session.survivor.now.state recording.steps all of_run.ran.ran in
-      let on = goes_on here there was.asks.shorter in
-      let none : length these ≤ was.replay.state.machine.taken = omega (arith, was.asks.taken) in
-      starved_not these recording.choices was.replay.state was.asks.asks none on.goes
+      let on = goes_on here there was.asks.waits.shorter in
+      let none : length these ≤ was.replay.state.machine.taken = omega (arith, was.asks.waits.taken) in
+      starved_not these recording.choices was.replay.state was.asks.waits.asks none on.goes
 
   -- so the session heeded what comes next there
   next_heeded : (before : List Entry) (next : LinkEvent) (rest all : List LinkEvent) → WasAsked image recording before → Prefix (heeded rules.bounds (events_in (journal_of session))) all
@@ -59,8 +58,7 @@ module _ (rules : Rules) (image : Image) (session : Session) (recording : Record
         | inr found ↦
             let whole : events_in before ++ found.0 ∷ (found.1 ++ front.0) ≡ events_in before ++ next ∷ rest =
             sym (append_assoc (events_in before) (found.0 ∷ found.1) front.0) ∙ ap (λ l. l ++ front.0) (sym found.2) ∙ front.1 ∙ same in
-            let next_is : found.0 ≡ next = same_next (events_in before) (found.1 ++ front.0) rest found.0 next whole in
-            (found.1, found.2 ∙ ap (λ e. events_in before ++ e ∷ found.1) next_is)
+            (found.1, found.2 ∙ ap (λ e. events_in before ++ e ∷ found.1) (same_next (events_in before) (found.1 ++ front.0) rest found.0 next whole))
       ]
 
   -- no event that the replay took is refused
@@ -69,10 +67,10 @@ module _ (rules : Rules) (image : Image) (session : Session) (recording : Record
       let was = asked last.before [] last.event last.last in
       let events : events_in entries ≡ events_in last.before ++ last.event ∷ [] =
       ap events_in last.last ∙ events_in-append last.before (entry.Took last.event ∷ []) ∙ ap (λ (es : List LinkEvent). events_in last.before ++ es) (event_counts last.event last.no_end) in
-      let first = heeded_first rules.bounds [] (events_in (journal_of session)) in
+      let first = heeded_front rules.bounds [] (events_in (journal_of session)) in
       let found : (more : List LinkEvent) × (heeded rules.bounds (events_in (journal_of session)) ≡ events_in last.before ++ last.event ∷ more) =
       elim near [
-        | inl front ↦ next_heeded last.before last.event [] (events_in entries) was (front_on _ _ _ first front) events
+        | inl front ↦ next_heeded last.before last.event [] (events_in entries) was (prefix_trans _ _ _ first front) events
         | inr front ↦
             next_heeded last.before last.event front.0 (events_in (journal_of session)) was first
             (sym front.1 ∙ ap (λ (es : List LinkEvent). es ++ front.0) events ∙ append_assoc (events_in last.before) (last.event ∷ []) front.0)
@@ -99,13 +97,13 @@ module _ (rules : Rules) (image : Image) (session : Session) (recording : Record
   -- the items of both are the first ones of one list
   items_near : Prefix (items_in (bounds_of recording) entries) (items_in rules.bounds (journal_of session)) ⊎ Prefix (items_in rules.bounds (journal_of session)) (items_in (bounds_of recording) entries)
   items_near =
-      let here = heeded_first (bounds_of recording) [] (events_in entries) in
-      let there = heeded_first rules.bounds [] (events_in (journal_of session)) in
+      let here = heeded_front (bounds_of recording) [] (events_in entries) in
+      let there = heeded_front rules.bounds [] (events_in (journal_of session)) in
       let heeds : Prefix (heeded (bounds_of recording) (events_in entries)) (heeded rules.bounds (events_in (journal_of session)))
       ⊎ Prefix (heeded rules.bounds (events_in (journal_of session))) (heeded (bounds_of recording) (events_in entries)) =
       elim near [
-        | inl front ↦ two_of_one _ _ (events_in entries) here (front_on _ (events_in (journal_of session)) (events_in entries) there front)
-        | inr front ↦ two_of_one _ _ (events_in (journal_of session)) (front_on _ (events_in entries) (events_in (journal_of session)) here front) there
+        | inl front ↦ two_of_one _ _ (events_in entries) here (prefix_trans _ (events_in (journal_of session)) (events_in entries) there front)
+        | inr front ↦ two_of_one _ _ (events_in (journal_of session)) (prefix_trans _ (events_in entries) (events_in (journal_of session)) here front) there
       ] in
       elim heeds [
         | inl front ↦ inl (subst (λ framing. Prefix (items_in (bounds_of recording) entries) (items_of framing (heeded rules.bounds (events_in (journal_of session))))) has.frame (items_grow recording.frame _ front))

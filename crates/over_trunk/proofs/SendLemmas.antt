@@ -1,7 +1,6 @@
 -- The pieces of a trunk are the sends of its run.
-use Rattle.std.specs.Prelude.{◌==◌}
 use Rattle.replay.specs.Giving as giving
-use Rattle.over_trunk.proofs.Terms.{Bool, List, None, Option, Some, [], ap, false, refl, subst, sym, true, true≢false, ℕ, ◌++◌, ◌∙◌, ◌∷◌, ◌≡◌, map-append, Appends, AllByRecursion, ◌&&◌, ◌||◌, Send, Piece, IsSent, framed_sent, frames, AreGiven, found_gone, piece_of, WritesWhole, WritesSends, sent_pieces}
+use Rattle.over_trunk.proofs.Terms.{Bool, List, None, Option, Some, [], ap, false, refl, subst, sym, true, true≢false, ℕ, ◌++◌, ◌==◌, ◌∙◌, ◌∷◌, ◌≡◌, map-append, Appends, AllByRecursion, ◌&&◌, ◌||◌, Send, Piece, IsSent, framed_sent, frames, AreGiven, found_gone, piece_of, WritesWhole, WritesSends, sent_pieces}
 
 front_sent : (xs ys : List Piece) → AllByRecursion IsSent (xs ++ ys) → AllByRecursion IsSent xs × AllByRecursion IsSent ys
 front_sent [] ys all = (tt, all)

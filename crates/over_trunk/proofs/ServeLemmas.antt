@@ -1,12 +1,14 @@
 -- What a session over a trunk leaves, by what it leaves over a link.
+use Rattle.session_history.specs.declared.ends.SessionBreak.TheVariants as session_break
+use Rattle.session_history.specs.declared.ends.SessionEnd.TheVariants as session_end
+use Rattle.session_history.specs.declared.ends.Stop.TheVariants as stop
+use Rattle.over_trunk.proofs.Terms.{All, Bool, List, None, Option, Some, [], ap, false, inl, inr, length, option_map, refl, subst, sym, true, ℕ, ◌++◌, ◌∙◌, ◌≡◌, fun_ext, same_Some, Appends, IfSome, IsSome, is_some, IsDrained, Stream, Took, Entry, LinkEvent, Coming, Grew, Handed, IsFresh, Piece, Told, events_in, pieces_in, Seen, Countable, count_after, frames, AreInOrder, GivesOn, Intake, IsCut, IsFramed, IsTail, Output, TakesOn, TookFrames, WroteFrames, phases_behind, fresh, told_coming, told_events, told_nothing, told_pieces, trunk_told, Image, Answer, SessionBreak, SessionEnd, Stop, end_then, Session, after_ending, journal_of, AtBreak, HandedLast, HasComeTo, StaysKnown, TakesAtEnd, WasAsked, answer_of, before_end, HasHanded, Bounds, Rules, Noted, Keeping, stands_of, HandledAt, HasLeft, keeping_of, HasRecovered, Outcome, Telling, BreaksAt, LinkAnswers, UnlessNoteFault, outcome_of, SessionState, BreaksTrunk, Carries, StopsTrunk, TakesNoPart, TakesTrunk, TookTrunk, WritesTrunk, WritesWhole, HeadsAt, HeadsDue, HeadsTrunk, IsRecordedUpTo, IsTrunkFault, ServesTrunk}
+use Rattle.over_trunk.proofs.WriteLemmas.{wrote_headed, Short, wrote_trunk, wrote_frames}
 use Rattle.run_history.specs.declared.answer.Answer.TheVariants as answer
-use Rattle.session_history.specs.Ends.{EndsBy}
 use Rattle.recovery.proofs.Handled.{has_ring}
-use Rattle.over_trunk.proofs.Terms.{Bool, List, None, Option, Some, [], ap, false, inl, inr, length, option_map, refl, subst, true, ℕ, ◌++◌, ◌+◌, ◌∙◌, ◌≡◌, fun_ext, Appends, IfSome, IsSome, IsDrained, Stream, Took, Entry, LinkEvent, Coming, Grew, IsFresh, Piece, Told, events_in, pieces_in, Seen, count_after, frames, AreInOrder, GivesOn, Intake, IsTail, Output, TakesOn, TookFrames, WroteFrames, phases_behind, fresh, told_coming, told_events, told_nothing, told_pieces, trunk_told, Image, Answer, came_to, Session, journal_of, HasComeTo, IsEnd, IsEnded, StaysKnown, TakesAtEnd, WasAsked, before_end, Bounds, Rules, Noted, HasHandled, Keeping, stands_of, HandledAt, HasLeft, keeping_of, HasRecovered, Outcome, Telling, BreaksAt, LinkAnswers, UnlessNoteFault, outcome_of, SessionState, BreaksTrunk, Carries, StopsTrunk, TakesNoPart, TakesTrunk, TookTrunk, WritesTrunk, WritesWhole, IsOfSession, IsRecordedUpTo, IsTrunkFault, ServesTrunk}
-use Rattle.over_trunk.proofs.ReadLemmas.{Countable, tail_none, tail_asked, events_told, stands_behind}
+use Rattle.over_trunk.proofs.ReadLemmas.{tail_none, tail_asked, events_told, stands_behind}
 use Rattle.over_trunk.proofs.StopLemmas.{HasTaken, stops_at, took_no_part}
 use Rattle.over_trunk.proofs.PayloadLemmas.{carried}
-use Rattle.over_trunk.proofs.WriteLemmas.{Short, wrote_trunk, wrote_frames}
 
 -- what a link comes to
 abbrev pub upcoming : Intake → Option Coming
@@ -59,7 +61,7 @@ known_still old before next told takes known =
     by_takes false is known = let no : ⊥ = cc in absurd no
 
 -- at an end that the session came to, by what is known of the link there
-stops_trunk : {rules : Rules} {session : Session} (old new : Intake) (list : List LinkEvent) (end : Answer) → IsFresh old.phases → old.took ≡ 0 → old.takes ≡ true → Countable new.told → TookFrames old new
+stops_trunk : {rules : Rules} {session : Session} (old new : Intake) (list : List LinkEvent) (end : SessionEnd) → IsFresh old.phases → old.took ≡ 0 → old.takes ≡ true → Countable new.told → TookFrames old new
     → Grew (option_map (λ _. []) old.told) (told_events new.told new.took new.phases new.takes) list → TakesAtEnd new.takes end → StaysKnown (upcoming old) (upcoming new)
     → HasComeTo rules (upcoming new) session end → StopsTrunk old.told new.told list end
 stops_trunk old new list end is_fresh none takes few went grew still known come = by_told old.told refl grew
@@ -70,7 +72,7 @@ stops_trunk old new list end is_fresh none takes few went grew still known come 
         stops_at new before list end few (has_taken old new before list told is_fresh none few went grew) still (known_still old before (upcoming new) told takes known) come
 
 -- if it came to one
-stops_if : (rules : Rules) (session : Session) (came : Option Answer) (old new : Intake) (list : List LinkEvent) → IsFresh old.phases → old.took ≡ 0 → old.takes ≡ true → Countable new.told → TookFrames old new
+stops_if : (rules : Rules) (session : Session) (came : Option SessionEnd) (old new : Intake) (list : List LinkEvent) → IsFresh old.phases → old.took ≡ 0 → old.takes ≡ true → Countable new.told → TookFrames old new
     → Grew (option_map (λ _. []) old.told) (told_events new.told new.took new.phases new.takes) list → IfSome came (λ end. TakesAtEnd new.takes end × StaysKnown (upcoming old) (upcoming new))
     → IfSome came (HasComeTo rules (upcoming new) session) → IfSome came (StopsTrunk old.told new.told list)
 stops_if rules session None old new list is_fresh none takes few went grew known come = tt
@@ -89,7 +91,7 @@ writes_trunk old new list none few went grew = by_told old.told refl grew
     by_told : (before : Option (List ℕ)) → old.told ≡ before → Grew (option_map (λ _. []) before) (told_pieces new.told new.wrote new.gives) list → WritesTrunk before new.told list
     by_told None told grew = tt
     by_told (Some before) told grew =
-        wrote_trunk before new.told new.wrote new.gives list went.pieces went.tail few (wrote_told old new before (frames went.pieces ++ went.tail) told went.writes.wrote)
+        wrote_trunk before new.told new.wrote new.gives new.handed list went.pieces went.tail few (wrote_told old new before (frames went.pieces ++ went.tail) told went.writes.wrote)
         (wrote_count old new (frames went.pieces ++ went.tail) none went.writes.count) went.framed went.cut grew
 
 pub writes_whole : (old new : Output) (list : List Piece) → old.wrote ≡ 0 → Short new.told → WroteFrames old new → new.gives ≡ true → Grew (option_map (λ _. []) old.told) (told_pieces new.told new.wrote new.gives) list → WritesWhole old.told new.told list
@@ -98,7 +100,7 @@ writes_whole old new list none few went still grew = by_told old.told refl grew
     by_told : (before : Option (List ℕ)) → old.told ≡ before → Grew (option_map (λ _. []) before) (told_pieces new.told new.wrote new.gives) list → WritesWhole before new.told list
     by_told None told grew = tt
     by_told (Some before) told grew =
-        wrote_frames before new.told new.wrote new.gives list went.pieces went.tail few (wrote_told old new before (frames went.pieces ++ went.tail) told went.writes.wrote)
+        wrote_frames before new.told new.wrote new.gives new.handed list went.pieces went.tail few (wrote_told old new before (frames went.pieces ++ went.tail) told went.writes.wrote)
         (wrote_count old new (frames went.pieces ++ went.tail) none went.writes.count) went.framed went.cut still grew
 
 carries : (bounds : Bounds) (old new : Output) (entries : List Entry) → old.wrote ≡ 0 → Short new.told → WroteFrames old new → Grew (option_map (λ _. []) old.told) (told_pieces new.told new.wrote new.gives) (pieces_in entries)
@@ -111,6 +113,58 @@ carries bounds old new entries none few went grew = by_told old.told refl grew
         carried bounds before new.told new.wrote new.gives entries (frames went.pieces ++ went.tail) few (wrote_told old new before (frames went.pieces ++ went.tail) told went.writes.wrote)
         (wrote_count old new (frames went.pieces ++ went.tail) none went.writes.count) grew
 
+-- what is known of a piece that was handed, where the pieces are told
+known_handed : (told : Option (List Piece)) (list : List Piece) {P : Type 0} → Grew (Some []) told list → IfSome told (λ pieces. P) → P
+known_handed None list grew known = absurd grew
+known_handed (Some pieces) list grew known = known
+
+-- the cut frame is headed as that of a piece that was due
+headed : {rules : Rules} {session : Session} (before : List ℕ) (new : Output) (seen : Seen) → Short new.told → (went : List Piece) (tail : List ℕ) → Appends (Some before) new.told (frames went ++ tail)
+    → new.wrote ≡ count_after 0 (length (frames went ++ tail)) → All IsFramed went → IsCut false new.handed tail → Grew (Some []) (told_pieces new.told new.wrote false) (pieces_in (journal_of session))
+    → (has : HasHanded rules session.survivor.now.state.sends (after_ending session (is_some session.came)) session.broken seen) → new.handed ≡ Some (record { conn = has.conn; length = length has.bytes })
+    → HeadsDue rules session (Some before) new.told
+headed {session = session} before new seen few went tail gained count framed cut grew has handed =
+    let list = pieces_in (journal_of session) in
+    let trunk = wrote_headed before new.told new.wrote new.handed list went tail few gained count framed cut grew in
+    let same = same_Some (record { conn = trunk.0.cut.conn; length = length trunk.0.cut.bytes }) (record { conn = has.conn; length = length has.bytes }) (sym trunk.1 ∙ handed) in
+    record {
+      wrote = trunk.0;
+      conn = has.conn;
+      bytes = has.bytes;
+      whole = has.whole;
+      front = has.front;
+      first = has.first;
+      broken_is = has.broken_is;
+      conn_is = ap (λ (piece : Handed). piece.conn) same;
+      length_is = ap (λ (piece : Handed). piece.length) same;
+    }
+
+-- where it gives no more
+heads_trunk : (rules : Rules) (session : Session) (old new : Output) (seen : Seen) → old.wrote ≡ 0 → Short new.told → WroteFrames old new → seen.gives ≡ new.gives → seen.handed ≡ new.handed → seen.told.pieces ≡ told_pieces new.told new.wrote new.gives
+    → Grew (option_map (λ _. []) old.told) (told_pieces new.told new.wrote new.gives) (pieces_in (journal_of session)) → (seen.gives ≡ false) × HasHanded rules session.survivor.now.state.sends (after_ending session (is_some session.came)) session.broken seen → HeadsTrunk rules session old.told new.told
+heads_trunk rules session old new seen none few went gives same told grew (off, has) = by_told old.told refl grew
+  where
+    no_more : new.gives ≡ false
+    no_more = sym gives ∙ off
+
+    by_told : (before : Option (List ℕ)) → old.told ≡ before → Grew (option_map (λ _. []) before) (told_pieces new.told new.wrote new.gives) (pieces_in (journal_of session)) → HeadsTrunk rules session before new.told
+    by_told None told_is grew = tt
+    by_told (Some before) told_is grew =
+        let handed : new.handed ≡ Some (record { conn = has.conn; length = length has.bytes }) =
+        sym same ∙ known_handed (told_pieces new.told new.wrote new.gives) (pieces_in (journal_of session)) grew (subst (λ (pieces : Option (List Piece)). IfSome pieces (λ list. seen.handed ≡ Some (record { conn = has.conn; length = length has.bytes }))) told has.handed) in
+        headed before new seen few went.pieces went.tail (wrote_told old new before (frames went.pieces ++ went.tail) told_is went.writes.wrote)
+        (wrote_count old new (frames went.pieces ++ went.tail) none went.writes.count) went.framed (subst (λ b. IsCut b new.handed went.tail) no_more went.cut)
+        (subst (λ b. Grew (Some []) (told_pieces new.told new.wrote b) (pieces_in (journal_of session))) no_more grew) has handed
+
+-- at a fault of writing, and at want of memory
+heads_at : (rules : Rules) (session : Session) (old new : Output) (seen : Seen) (why : Stop) → old.wrote ≡ 0 → Short new.told → WroteFrames old new → seen.gives ≡ new.gives → seen.handed ≡ new.handed → seen.told.pieces ≡ told_pieces new.told new.wrote new.gives
+    → Grew (option_map (λ _. []) old.told) (told_pieces new.told new.wrote new.gives) (pieces_in (journal_of session)) → AtBreak why (HandedLast rules session seen) → AtBreak why (HeadsAt rules session old.told new.told)
+heads_at rules session old new seen (stop.Breaks session_break.WriteFault) none few went gives same told grew last = heads_trunk rules session old new seen none few went gives same told grew last
+heads_at rules session old new seen (stop.Breaks session_break.Memory) none few went gives same told grew last = λ some. heads_trunk rules session old new seen none few went gives same told grew (last some)
+heads_at rules session old new seen (stop.Ends end) none few went gives same told grew last = tt
+heads_at rules session old new seen (stop.Breaks session_break.ReadFault) none few went gives same told grew last = tt
+heads_at rules session old new seen (stop.Breaks session_break.FileFault) none few went gives same told grew last = tt
+
 -- where a session was broken off, a frame was on one side at most
 takes_no_part : (old new : Intake) (list : List LinkEvent) → IsFresh old.phases → old.took ≡ 0 → old.takes ≡ true → Countable new.told → TookFrames old new
     → Grew (option_map (λ _. []) old.told) (told_events new.told new.took new.phases new.takes) list → StaysKnown (upcoming old) (upcoming new) → TakesNoPart old.told new.told list
@@ -121,14 +175,15 @@ takes_no_part old new list is_fresh none takes few went grew known = by_told old
     by_told (Some before) told grew =
         took_no_part new before list few (has_taken old new before list told is_fresh none few went grew) (known_still old before (upcoming new) told takes known)
 
-breaks_trunk : (old new : Intake) (out later : Output) (events : List LinkEvent) (pieces : List Piece) (end : Answer) → (StaysKnown (upcoming old) (upcoming new) → TakesNoPart old.told new.told events)
-    → (later.gives ≡ true → WritesWhole out.told later.told pieces) → BreaksAt (upcoming old) (upcoming new) later.gives end → BreaksTrunk old.told new.told out.told later.told events pieces end
-breaks_trunk old new out later events pieces answer.WriteFault no_part whole once = no_part once
-breaks_trunk old new out later events pieces answer.ReadFault no_part whole once = whole once
-breaks_trunk old new out later events pieces answer.FileFault no_part whole once = (no_part once.0, whole once.1)
-breaks_trunk old new out later events pieces answer.Memory no_part whole (inl known) = inl (no_part known)
-breaks_trunk old new out later events pieces answer.Memory no_part whole (inr gives) = inr (whole gives)
-breaks_trunk old new out later events pieces _ no_part whole once = tt
+breaks_trunk : (old new : Intake) (out later : Output) (events : List LinkEvent) (pieces : List Piece) (why : Stop) → (StaysKnown (upcoming old) (upcoming new) → TakesNoPart old.told new.told events)
+    → (later.gives ≡ true → WritesWhole out.told later.told pieces) → AtBreak why (BreaksAt (upcoming old) (upcoming new) later.gives) → BreaksTrunk old.told new.told out.told later.told events pieces (answer_of why)
+breaks_trunk old new out later events pieces (stop.Breaks session_break.WriteFault) no_part whole once = no_part once
+breaks_trunk old new out later events pieces (stop.Breaks session_break.ReadFault) no_part whole once = whole once
+breaks_trunk old new out later events pieces (stop.Breaks session_break.FileFault) no_part whole once = (no_part once.0, whole once.1)
+breaks_trunk old new out later events pieces (stop.Breaks session_break.Memory) no_part whole (inl known) = inl (no_part known)
+breaks_trunk old new out later events pieces (stop.Breaks session_break.Memory) no_part whole (inr gives) = inr (whole gives)
+breaks_trunk old new out later events pieces (stop.Ends session_end.Finished) no_part whole once = tt
+breaks_trunk old new out later events pieces (stop.Ends _) no_part whole once = tt
 
 -- what a link shows that has taken so much and given so much
 abbrev pub shows_by : Intake → Output → Seen → Seen
@@ -136,6 +191,7 @@ shows_by new later rest = record rest {
   told = trunk_told (told_events new.told new.took new.phases new.takes) (told_pieces later.told later.wrote later.gives);
   phases = new.phases;
   coming = upcoming new;
+  handed = later.handed;
   takes = new.takes;
   gives = later.gives;
 }
@@ -156,9 +212,9 @@ pub record WentTrunk (old new : Intake) (out later : Output) : Type 0 where
   pub taken : TakesOn old.takes old new
   pub given : GivesOn out.gives out later
 
-recorded_up_to : {R : Type 0} {rules : Rules} {image : Image} {keeping : Keeping} {telling : Telling} {session : SessionState R} (end : Answer) → keeping_of session ≡ keeping → HasLeft rules image telling session end → (IsEnd end → ⊥)
-    → IsRecordedUpTo rules image keeping telling (outcome_of end session)
-recorded_up_to {rules = rules} {image = image} {keeping = keeping} {telling = telling} {session = session} end same left no_end =
+recorded_up_to : {R : Type 0} {rules : Rules} {image : Image} {keeping : Keeping} {telling : Telling} {session : SessionState R} (fault : SessionBreak) → keeping_of session ≡ keeping → HasLeft rules image telling session (stop.Breaks fault)
+    → IsRecordedUpTo rules image keeping telling (outcome_of (stop.Breaks fault) session)
+recorded_up_to {rules = rules} {image = image} {keeping = keeping} {telling = telling} {session = session} fault same left =
     let h = left.holds in
     let account : Session = telling.account in
     record {
@@ -168,24 +224,25 @@ recorded_up_to {rules = rules} {image = image} {keeping = keeping} {telling = te
       stands = stands_of session.cpu.slots.saved;
       ringed = has_ring session.cpu.slots.saved h.paths h.as_many h.saved;
       handled =
-          subst (λ (k : Keeping). HandledAt end (HasHandled rules image k account.earlier (before_end account) telling.recoveries account.survivor account.survivor.now.state.machine.taken (stands_of session.cpu.slots.saved))
-          (HasHandled rules image k account.earlier (before_end account) telling.recoveries account.survivor (account.survivor.now.state.machine.taken + 1) (stands_of session.cpu.slots.saved))) same left.requests;
+          subst (λ (k : Keeping). HandledAt (stop.Breaks fault) rules image k account.earlier (before_end account) telling.recoveries account.survivor (stands_of session.cpu.slots.saved)) same left.requests;
       oldest = left.oldest;
       oldest_is = left.oldest_is;
-      recorded = left.recorded no_end;
+      recorded = left.recorded;
     }
 
 -- what is recorded where the link failed, by what the session left
-pub left_recorded : {R : Type 0} {rules : Rules} {image : Image} {keeping : Keeping} {telling : Telling} (session : SessionState R) (end : Answer) → keeping_of session ≡ keeping → UnlessNoteFault end (HasLeft rules image telling session end) → IsTrunkFault end
-    → IsRecordedUpTo rules image keeping telling (outcome_of end session)
-left_recorded session answer.ReadFault same left is = recorded_up_to answer.ReadFault same left (λ no. no)
-left_recorded session answer.WriteFault same left is = recorded_up_to answer.WriteFault same left (λ no. no)
-left_recorded session _ same left is = absurd is
+pub left_recorded : {R : Type 0} (rules : Rules) (image : Image) {keeping : Keeping} (telling : Telling) (session : SessionState R) (why : Stop) → keeping_of session ≡ keeping → UnlessNoteFault why (HasLeft rules image telling session why)
+    → AtBreak why (λ fault. IsTrunkFault fault → IsRecordedUpTo rules image keeping telling (outcome_of why session))
+left_recorded rules image telling session (stop.Ends end) same left = tt
+left_recorded rules image telling session (stop.Breaks session_break.ReadFault) same left = λ is. recorded_up_to session_break.ReadFault same left
+left_recorded rules image telling session (stop.Breaks session_break.WriteFault) same left = λ is. recorded_up_to session_break.WriteFault same left
+left_recorded rules image telling session (stop.Breaks session_break.FileFault) same left = λ is. absurd is
+left_recorded rules image telling session (stop.Breaks session_break.Memory) same left = λ is. absurd is
 
 -- a session over a link that was made
 pub serves : (rules : Rules) (keeping : Keeping) (image : Image) {old new : Intake} {out later : Output} (before rest : Seen) {outcome : Outcome} {noted_before noted_now : Noted} {counted : ℕ}
-    → StartsTrunk (shows_by old out before).told old out → WentTrunk old new out later → LinkAnswers (shows_by old out before) (shows_by new later rest) outcome.end
-    → (recovered : HasRecovered rules image keeping (shows_by old out before) (shows_by new later rest) outcome noted_before noted_now counted) → (IsTrunkFault outcome.end → IsRecordedUpTo rules image keeping recovered.telling outcome)
+    → StartsTrunk (shows_by old out before).told old out → WentTrunk old new out later → LinkAnswers (shows_by old out before) (shows_by new later rest) outcome.stop
+    → (recovered : HasRecovered rules image keeping (shows_by old out before) (shows_by new later rest) outcome noted_before noted_now counted) → AtBreak outcome.stop (λ fault. IsTrunkFault fault → IsRecordedUpTo rules image keeping recovered.telling outcome)
     → ServesTrunk rules keeping image old.told new.told out.told later.told outcome noted_before noted_now counted
 serves rules keeping image {old = old} {new = new} {out = out} {later = later} before rest {outcome = outcome} starts went answers recovered recorded =
     let session : Session = recovered.telling.account in
@@ -203,28 +260,11 @@ serves rules keeping image {old = old} {new = new} {out = out} {later = later} b
         took = takes_trunk old new list (WasAsked rules session) recovered.shows.asked starts.phases starts.took went.countable took events;
         stops = stops_if rules session session.came old new list starts.phases starts.took starts.takes went.countable took events recovered.shows.at_end recovered.is.is.ended.comes;
         wrote = writes_trunk out later given starts.wrote went.short wrote pieces;
-        wrote_whole = λ is. writes_whole out later given starts.wrote went.short wrote (answers.gives is) pieces;
-        breaks = breaks_trunk old new out later list given outcome.end
+        wrote_whole = end_then outcome.stop (λ still. writes_whole out later given starts.wrote went.short wrote still pieces) answers.gives;
+        breaks = breaks_trunk old new out later list given outcome.stop
             (takes_no_part old new list starts.phases starts.took starts.takes went.countable took events)
             (λ is. writes_whole out later given starts.wrote went.short wrote is pieces) answers.once;
+        heads = heads_at rules session out later (shows_by new later rest) outcome.stop starts.wrote went.short wrote refl refl refl pieces recovered.handed;
         carried = carries rules.bounds out later (journal_of session) starts.wrote went.short wrote pieces;
       };
     }
-
--- no other answer has an account
-pub of_session : {rules : Rules} {image : Image} {coming : Option Coming} {session : Session} {end : Answer} → IsEnded rules image coming session end → IsOfSession end
-of_session {rules = rules} {coming = coming} {session = session} {end = end} is = of end is.ends
-  where
-    of : (end : Answer) → EndsBy rules session end → IsOfSession end
-    of answer.ReadFault ends = tt
-    of answer.WriteFault ends = tt
-    of answer.FileFault ends = tt
-    of answer.Memory ends = tt
-    of (answer.GaveUp point cause) ends = tt
-    of answer.Finished ends = tt
-    of (answer.Exited code) ends = tt
-    of (answer.InputRefused kind offset) ends = tt
-    of (answer.MessageTooLong conn) ends = tt
-    of answer.LimitItems ends = tt
-    of answer.LimitEvents ends = tt
-    of _ ends = absurd (let to : HasComeTo rules coming session _ = came_to is.comes ends.came in to.is_end)

@@ -1,11 +1,10 @@
 -- What a trunk's session had taken where it came to its end.
-use Rattle.std.proofs.Common.{IfSome}
 use Rattle.links.specs.declared.journal.LinkEvent.TheVariants as event
-use Rattle.run_history.specs.declared.answer.Answer.TheVariants as answer
+use Rattle.session_history.specs.declared.ends.SessionEnd.TheVariants as session_end
 use Rattle.trunk_wire.specs.declared.header.Header.{Header}
 use Rattle.trunk_wire.specs.declared.header.TheConstants.{OPEN, BYTES, CLOSE}
-use Rattle.over_trunk.proofs.Terms.{Bool, List, None, Option, Some, [], ap, append-nil, arith, false, if◌then◌else◌, inl, inr, length, length-append, nat_lt, refl, subst, sym, take, true, ℕ, ◌++◌, ◌==◌, ◌∙◌, ◌∷◌, ◌≡◌, IsSome, IsDrained, Stream, Took, LinkEvent, Comes, Phases, Refuses, Refusal, IsRefused, count_after, AreFramesOf, header_of, AreInOrder, Intake, IsTail, phases_behind, Part, Whole, coming_of, event_at, event_of, front, front_accepted, front_by, header_refusal, fresh, told_coming, Answer, Session, HasComeTo, TakesAtEnd, Rules, StopsAt, TookNoPart, TookRefused, TookWhole}
-use Rattle.over_trunk.proofs.ReadLemmas.{Countable, few_taken}
+use Rattle.over_trunk.proofs.Terms.{Bool, List, None, Option, Some, [], ap, append-nil, arith, false, if◌then◌else◌, inl, inr, length, length-append, nat_lt, refl, subst, sym, take, true, ℕ, ◌++◌, ◌==◌, ◌∙◌, ◌∷◌, ◌≡◌, IfSome, IsSome, IsDrained, Stream, Took, LinkEvent, Comes, Phases, Refuses, Refusal, Countable, IsRefused, count_after, AreFramesOf, header_of, AreInOrder, Intake, IsTail, phases_behind, Part, Whole, coming_of, event_at, event_of, front, front_accepted, front_by, header_refusal, fresh, told_coming, SessionEnd, Session, HasComeTo, TakesAtEnd, Rules, StopsAt, TookNoPart, TookRefused, TookWhole}
+use Rattle.over_trunk.proofs.ReadLemmas.{few_taken}
 
 -- a frame is no end
 no_end : (first second third : Bool) (conn : ℕ) (bytes : List ℕ) → (if first then event.Opens conn else if second then event.Piece conn bytes else if third then event.Closes conn else event.Settles) ≡ event.Ends → ⊥
@@ -82,8 +81,7 @@ took_whole new before list taken takes =
 count_whole : (before : Stream) (told : Option Stream) (whole tail : List ℕ) → Countable told → Took (Some before) told (whole ++ tail) → count_after 0 (length whole) ≡ length whole
 count_whole before None whole tail few took = absurd took
 count_whole before (Some new) whole tail few took =
-    let small = few_taken before new (whole ++ tail) took few in
-    omega (arith, small, length-append whole tail)
+    omega (arith, few_taken before new (whole ++ tail) took few, length-append whole tail)
 
 pub took_refused : (new : Intake) (before : Stream) (list : List LinkEvent) (kind offset : ℕ) → Countable new.told → HasTaken new before list → new.takes ≡ false
     → IsSome (told_coming new.told new.took new.phases new.takes new.refused) → IfSome (told_coming new.told new.took new.phases new.takes new.refused) (λ next. next ≡ Refuses kind offset)
@@ -101,12 +99,12 @@ took_refused new before list kind offset few taken takes known next =
     }
 
 -- so it stopped, at an end that the session came to
-pub stops_at : {rules : Rules} {session : Session} (new : Intake) (before : Stream) (list : List LinkEvent) (end : Answer) → Countable new.told → HasTaken new before list → TakesAtEnd new.takes end
+pub stops_at : {rules : Rules} {session : Session} (new : Intake) (before : Stream) (list : List LinkEvent) (end : SessionEnd) → Countable new.told → HasTaken new before list → TakesAtEnd new.takes end
     → IsSome (told_coming new.told new.took new.phases new.takes new.refused) → HasComeTo rules (told_coming new.told new.took new.phases new.takes new.refused) session end → StopsAt (Some before) new.told list end
-stops_at new before list answer.Finished few taken takes known come =
-    (took_whole new before list taken (takes tt), drained new.told new.took new.phases new.takes new.refused (takes tt) come.stands.2)
-stops_at new before list (answer.InputRefused kind offset) few taken takes known come = took_refused new before list kind offset few taken takes known come.stands.2
-stops_at new before list _ few taken takes known come = λ is. took_whole new before list taken (takes is)
+stops_at new before list session_end.Finished few taken takes known come =
+    (took_whole new before list taken takes, drained new.told new.took new.phases new.takes new.refused takes come.stands.2)
+stops_at new before list (session_end.InputRefused kind offset) few taken takes known come = took_refused new before list kind offset few taken takes known come.stands.2
+stops_at new before list _ few taken takes known come = took_whole new before list taken takes
 
 refusal_of : (told : Option Stream) (took : ℕ) (phases : Phases) (takes : Bool) (refused : Option Refusal) → takes ≡ false → IsSome (told_coming told took phases takes refused)
     → (refusal : Refusal) × IfSome (told_coming told took phases takes refused) (λ next. next ≡ Refuses refusal.kind refusal.offset)

@@ -1,14 +1,24 @@
 -- What a replay over a trunk leaves, by what it leaves over a link.
 use Rattle.run_history.specs.declared.answer.Answer.TheVariants as answer
 use Rattle.session_state.specs.Serving.{StaysKnown}
-use Rattle.over_trunk.proofs.Terms.{List, None, Option, Some, [], arith, inl, inr, option_map, refl, subst, sym, take, true, ℕ, ◌+◌, ◌∙◌, ◌≡◌, take_all, IsSome, Stream, Entry, Coming, Counts, Grew, Handed, IsFresh, Told, events_in, pieces_in, Seen, Choice, GivesOn, Intake, Output, TakesOn, TookFrames, WroteFrames, told_events, told_nothing, told_pieces, Image, Answer, Run, items_in, Recorded, EndsBy, HasReplayedBy, IsAsking, IsReplay, LeavesLink, Replay, bounds_of, BreaksTrunk, TakesNoPart, WritesWhole, IsRecordedRun, ReplaysTrunk, TakesReplay, TookReplay, WritesFront, WritesReplay}
-use Rattle.over_trunk.proofs.Shown.{shown}
-use Rattle.over_trunk.proofs.ReadLemmas.{Countable}
+use Rattle.over_trunk.proofs.Terms.{List, None, Option, Some, [], arith, inl, inr, option_map, refl, subst, sym, take, true, ℕ, ◌+◌, ◌∙◌, ◌≡◌, take_all, IsSome, Stream, Entry, gives_below_4096, Coming, Counts, Grew, Handed, IsFresh, Told, events_in, pieces_in, Seen, Choice, Countable, GivesOn, Intake, Output, TakesOn, TookFrames, WroteFrames, told_coming, told_events, told_nothing, told_pieces, trunk_told, Image, Answer, Run, items_in, Recorded, EndsBy, HasReplayedBy, IsAsking, IsReplay, LeavesLink, Replay, bounds_of, BreaksTrunk, TakesNoPart, WritesWhole, IsRecordedRun, ReplaysTrunk, TakesReplay, TookReplay, WritesFront, WritesReplay}
 use Rattle.over_trunk.proofs.WriteLemmas.{Short}
 use Rattle.over_trunk.proofs.StopLemmas.{HasTaken, took_whole, took_refused, drained}
 use Rattle.over_trunk.proofs.ServeLemmas.{upcoming, has_taken, known_still, takes_trunk, writes_trunk, writes_whole}
 use Rattle.over_trunk.proofs.FrontLemmas.{front_by}
 use Rattle.over_trunk.proofs.SendLemmas.{sends_written}
+
+abbrev pub shown : Intake → Output → Option Handed → Counts → Seen
+shown intake output handed counts = record {
+  told = trunk_told (told_events intake.told intake.took intake.phases intake.takes) (told_pieces output.told output.wrote output.gives);
+  phases = intake.phases;
+  coming = told_coming intake.told intake.took intake.phases intake.takes intake.refused;
+  handed = handed;
+  gives_to = gives_below_4096;
+  takes = intake.takes;
+  gives = output.gives;
+  counts = counts;
+}
 
 stays_known : (before now : Option Coming) → (IsSome before → IsSome now) → StaysKnown before now
 stays_known None now known = tt
@@ -18,8 +28,7 @@ module _ (image : Image) (recording : Recorded) (entries : List Entry) (replay :
   -- at Finished the run is the record's
   whole_run : (coming : Option Coming) (end : Answer) → IsReplay image recording entries replay → EndsBy image recording entries coming replay end → IsRecordedRun image recording entries replay end
   whole_run coming answer.Finished is ends =
-      let used = ends.1 in
-      let choices : take replay.used recording.choices ≡ recording.choices = take_all replay.used recording.choices (omega (arith, used)) in (
+      let choices : take replay.used recording.choices ≡ recording.choices = take_all replay.used recording.choices (omega (arith, ends.1)) in (
         subst (λ n. Run image (items_in (bounds_of recording) entries) recording.choices n replay.state) ends.0
             (subst (λ (cs : List Choice). Run image (items_in (bounds_of recording) entries) cs replay.steps replay.state) choices is.ran),
         ends.2,
@@ -32,9 +41,9 @@ module _ (image : Image) (recording : Recorded) (entries : List Entry) (replay :
   writes_by coming sink later before now answer.Finished ends leaves front whole = sends_written sink later replay.state.sends (pieces_in entries) ends.3 (whole leaves.1)
   writes_by coming sink later before now (answer.Mismatch step) ends leaves front whole = sends_written sink later replay.state.sends (pieces_in entries) ends.2 (whole leaves.1)
   writes_by coming sink later before now (answer.InputRefused kind offset) ends leaves front whole = sends_written sink later replay.state.sends (pieces_in entries) ends.0.given (whole leaves.1)
-  writes_by coming sink later before now (answer.MessageTooLong conn) ends leaves front whole = sends_written sink later replay.state.sends (pieces_in entries) ends.1 (whole leaves.1)
-  writes_by coming sink later before now answer.LimitItems ends leaves front whole = sends_written sink later replay.state.sends (pieces_in entries) ends.1 (whole leaves.1)
-  writes_by coming sink later before now answer.LimitEvents ends leaves front whole = sends_written sink later replay.state.sends (pieces_in entries) ends.1 (whole leaves.1)
+  writes_by coming sink later before now (answer.MessageTooLong conn) ends leaves front whole = sends_written sink later replay.state.sends (pieces_in entries) ends.2 (whole leaves.1)
+  writes_by coming sink later before now answer.LimitItems ends leaves front whole = sends_written sink later replay.state.sends (pieces_in entries) ends.2 (whole leaves.1)
+  writes_by coming sink later before now answer.LimitEvents ends leaves front whole = sends_written sink later replay.state.sends (pieces_in entries) ends.2 (whole leaves.1)
   writes_by coming sink later before now answer.ReadFault ends leaves front whole = sends_written sink later replay.state.sends (pieces_in entries) ends.given (whole leaves)
   writes_by coming sink later before now answer.WriteFault ends leaves front whole = front
   writes_by coming sink later before now answer.Memory ends leaves front whole = front
@@ -91,7 +100,6 @@ replays image recording old new out later handed handed_later counts counts_late
     let wrote : WroteFrames out later = subst (λ b. GivesOn b out later) gives given_on in
     let events = subst (λ (told : Told). Grew told.events (told_events new.told new.took new.phases new.takes) (events_in replayed.entries)) start replayed.tells.events in
     let pieces = subst (λ (told : Told). Grew told.pieces (told_pieces later.told later.wrote later.gives) (pieces_in replayed.entries)) start replayed.tells.pieces in
-    let part = writes_trunk out later (pieces_in replayed.entries) nothing short wrote pieces in
     let whole : later.gives ≡ true → WritesWhole out.told later.told (pieces_in replayed.entries) = λ is. writes_whole out later (pieces_in replayed.entries) nothing short wrote is pieces in
     let front = front_by out.told later.told replayed.replay.state.sends (pieces_in replayed.entries) later.gives has.given has.last whole in
     record {
@@ -105,7 +113,7 @@ replays image recording old new out later handed handed_later counts counts_late
       all_counted = let all = replayed.counted in omega (arith, all, count);
       took = takes_trunk old new (events_in replayed.entries) (IsAsking image recording replayed.entries replayed.replay) replayed.failed is_fresh none few went events;
       takes = takes_replay image recording replayed.entries replayed.replay old new is_fresh none few went events out later handed handed_later counts counts_later end takes leaves replayed.ends;
-      wrote = part;
+      wrote = writes_trunk out later (pieces_in replayed.entries) nothing short wrote pieces;
       writes = writes_by image recording replayed.entries replayed.replay (upcoming new) out.told later.told (shown old out handed counts) (shown new later handed_later counts_later) end replayed.ends leaves front whole;
       breaks = breaks_by image recording replayed.entries replayed.replay old new is_fresh none few went events (upcoming new) (shown old out handed counts) (shown new later handed_later counts_later) out.told later.told end refl replayed.ends leaves whole;
     }

@@ -1,6 +1,6 @@
 -- What holds of each session over a trunk whose source tells its bytes.
 use Rattle.std.specs.Prelude.{◌≡◌, ℕ, List, [], Option, Some}
-use Rattle.over_trunk.specs.Terms.{Stream, LinkEvent, AreFramesOf, AreInOrder, fresh, Image, IsComplete, IsEnd, Bounds, heeded, Rules, Noted, Keeping, Outcome}
+use Rattle.over_trunk.specs.Terms.{Stream, LinkEvent, AreFramesOf, AreInOrder, fresh, Image, IsComplete, AtEnd, Bounds, heeded, Rules, Noted, Keeping, Outcome}
 use Rattle.over_trunk.specs.Replaying.{WritesSends}
 use Rattle.over_trunk.specs.Serving.{ServesTrunk}
 
@@ -17,7 +17,7 @@ abbrev pub NoOtherEnd : Type 0
 NoOtherEnd =
     (rules : Rules) (keeping : Keeping) (image : Image) (input : Stream) (input_later : Option Stream) (output output_later : Option (List ℕ)) (outcome : Outcome) (noted_before noted_now : Noted) (counted : ℕ)
     (served : ServesTrunk rules keeping image (Some input) input_later output output_later outcome noted_before noted_now counted) →
-    AreAllHeeded rules.bounds input.left → IsComplete rules served.telling.account outcome.end
+    AreAllHeeded rules.bounds input.left → IsComplete rules served.telling.account outcome.stop
 
 -- A session that holds nothing back and came to an end without a recovery wrote the frames of its run's sends, in order, each whole, and no byte
 -- more.
@@ -25,4 +25,4 @@ abbrev pub SendsAreWritten : Type 0
 SendsAreWritten =
     (rules : Rules) (keeping : Keeping) (image : Image) (input : Stream) (input_later : Option Stream) (output output_later : Option (List ℕ)) (outcome : Outcome) (noted_before noted_now : Noted) (counted : ℕ)
     (served : ServesTrunk rules keeping image (Some input) input_later output output_later outcome noted_before noted_now counted) →
-    IsEnd outcome.end → served.telling.account.earlier ≡ [] → rules.hold ≡ 0 → WritesSends output output_later served.telling.account.survivor.now.state.sends
+    AtEnd outcome.stop (λ end. served.telling.account.earlier ≡ [] → rules.hold ≡ 0 → WritesSends output output_later served.telling.account.survivor.now.state.sends)

@@ -1,33 +1,51 @@
 -- What a session leaves that served a trunk.
-use Rattle.std.specs.Prelude.{◌≡◌, ℕ, ◌+◌, ◌-◌, List, length, Option, Some, IfSome, slice_get}
-use Rattle.run_history.specs.declared.answer.Answer.TheVariants as answer
+use Rattle.std.specs.Prelude.{◌≡◌, ℕ, ◌-◌, List, length, Option, Some, IfSome, slice_get, None, is_some, [], ◌≢◌}
+use Rattle.session_history.specs.declared.ends.SessionBreak.TheVariants as session_break
 use Rattle.run_history.specs.Served.{Path}
 use Rattle.trials.specs.Chains.{AreChained, AreCheckpoints}
-use Rattle.over_trunk.specs.Terms.{Stream, Coming, Counts, events_in, pieces_in, Image, Answer, Session, journal_of, IsEnd, WasAsked, before_end, items_in, Rules, Noted, HasHandled, HasRing, Keeping, Stand, HandledAt, IsOutcome, Outcome, Telling}
-use Rattle.over_trunk.specs.Trunk.{TakesTrunk, StopsTrunk, WritesTrunk, WritesWhole, BreaksTrunk, Carries}
-
--- an answer of a session: one of its ends, a fault of reading, of writing or of its notes, or want of memory
-abbrev pub IsOfSession : Answer → Type 0
-IsOfSession answer.ReadFault = Unit {0}
-IsOfSession answer.WriteFault = Unit {0}
-IsOfSession answer.FileFault = Unit {0}
-IsOfSession answer.Memory = Unit {0}
-IsOfSession end = IsEnd end
+use Rattle.over_trunk.specs.Terms.{Stream, Prefix, Coming, Counts, cut_entries, events_in, pieces_in, Image, Answer, SessionBreak, Stop, Session, after_ending, journal_of, AtBreak, AtEnd, WasAsked, answer_of, before_end, items_in, IsWholePiece, Rules, Noted, Shown, HasRing, Keeping, Stand, HandledAt, keeping_for, IsOutcome, Outcome, Telling, NotesAnswer, outcome_of, IsBegun, SessionState}
+use Rattle.over_trunk.specs.Trunk.{TakesTrunk, StopsTrunk, WritesTrunk, WritesWhole, BreaksTrunk, Carries, WroteTrunk}
 
 -- how often a source and a sink have failed, as a link over both counts it
 abbrev pub trunk_counts : ℕ → ℕ → Counts
 trunk_counts source sink = record { takes = source; gives = sink; gones = 0 }
 
+-- The frame that is cut is headed as that of all that was left of one send that was due, behind all that had been passed. What broke off in the account
+-- are some first bytes of that, perhaps none.
+pub record HeadsDue (rules : Rules) (session : Session) (sink sink_later : Option (List ℕ)) : Type 0 where
+  pub wrote : WroteTrunk sink sink_later (pieces_in (journal_of session))
+  pub conn : ℕ
+  pub bytes : List ℕ
+  pub whole : IsWholePiece rules session.survivor.now.state.sends (after_ending session (is_some session.came)) conn bytes
+  pub front : List ℕ
+  pub first : Prefix front bytes
+  pub broken_is : session.broken ≡ cut_entries conn front
+  pub conn_is : wrote.cut.conn ≡ conn
+  pub length_is : length wrote.cut.bytes ≡ length bytes
+
+-- where the sink tells its bytes
+abbrev pub HeadsTrunk : Rules → Session → Option (List ℕ) → Option (List ℕ) → Type 0
+HeadsTrunk rules session None new = Unit {0}
+HeadsTrunk rules session (Some old) new = HeadsDue rules session (Some old) new
+
+-- so it is at a fault of writing, and at want of memory where a piece broke off
+abbrev pub HeadsAt : Rules → Session → Option (List ℕ) → Option (List ℕ) → SessionBreak → Type 0
+HeadsAt rules session sink sink_later session_break.ReadFault = Unit {0}
+HeadsAt rules session sink sink_later session_break.WriteFault = HeadsTrunk rules session sink sink_later
+HeadsAt rules session sink sink_later session_break.FileFault = Unit {0}
+HeadsAt rules session sink sink_later session_break.Memory = session.broken ≢ [] → HeadsTrunk rules session sink sink_later
+
 -- The bytes of a session over a trunk, by its account. Those that the source lost are the frames of the account's events; a part of a frame behind
 -- them was asked for; and where the session came to an end, no more was taken than that end says, whatever was answered then. Those that the
 -- sink gained are the frames of its pieces, of which a last one may be cut, but not at an end; and for each connection they carry what the
--- account says was passed to it. A frame was broken off on one side at most.
-pub record GoesOverTrunk (rules : Rules) (source source_later : Option Stream) (sink sink_later : Option (List ℕ)) (coming : Option Coming) (session : Session) (end : Answer) : Type 0 where
+-- account says was passed to it. The cut frame's header is that of a send that was due. A frame was broken off on one side at most.
+pub record GoesOverTrunk (rules : Rules) (source source_later : Option Stream) (sink sink_later : Option (List ℕ)) (coming : Option Coming) (session : Session) (why : Stop) : Type 0 where
   pub took : TakesTrunk source source_later (events_in (journal_of session)) coming (WasAsked rules session)
   pub stops : IfSome session.came (StopsTrunk source source_later (events_in (journal_of session)))
   pub wrote : WritesTrunk sink sink_later (pieces_in (journal_of session))
-  pub wrote_whole : IsEnd end → WritesWhole sink sink_later (pieces_in (journal_of session))
-  pub breaks : BreaksTrunk source source_later sink sink_later (events_in (journal_of session)) (pieces_in (journal_of session)) end
+  pub wrote_whole : AtEnd why (λ end. WritesWhole sink sink_later (pieces_in (journal_of session)))
+  pub breaks : BreaksTrunk source source_later sink sink_later (events_in (journal_of session)) (pieces_in (journal_of session)) (answer_of why)
+  pub heads : AtBreak why (HeadsAt rules session sink sink_later)
   pub carried : Carries rules.bounds sink sink_later (journal_of session)
 
 -- How much is recorded of a session whose source or sink failed. These checkpoints of its survivor's run stand, those that its requests left; and of the
@@ -38,17 +56,17 @@ pub record IsRecordedUpTo (rules : Rules) (image : Image) (keeping : Keeping) (t
   pub checkpoints : AreCheckpoints rules.limits image ring
   pub stands : List Stand
   pub ringed : HasRing stands ring
-  pub handled : HandledAt outcome.end (HasHandled rules image keeping telling.account.earlier (before_end telling.account) telling.recoveries telling.account.survivor telling.account.survivor.now.state.machine.taken stands)
-      (HasHandled rules image keeping telling.account.earlier (before_end telling.account) telling.recoveries telling.account.survivor (telling.account.survivor.now.state.machine.taken + 1) stands)
+  pub handled : HandledAt outcome.stop rules image keeping telling.account.earlier (before_end telling.account) telling.recoveries telling.account.survivor stands
   pub oldest : Path
   pub oldest_is : slice_get ring (length ring - 1) ≡ Some oldest
   pub recorded : outcome.recorded ≡ length oldest.choices
 
 -- a fault of the source or of the sink
-abbrev pub IsTrunkFault : Answer → Type 0
-IsTrunkFault answer.ReadFault = Unit {0}
-IsTrunkFault answer.WriteFault = Unit {0}
-IsTrunkFault _ = ⊥
+abbrev pub IsTrunkFault : SessionBreak → Type 0
+IsTrunkFault session_break.ReadFault = Unit {0}
+IsTrunkFault session_break.WriteFault = Unit {0}
+IsTrunkFault session_break.FileFault = ⊥
+IsTrunkFault session_break.Memory = ⊥
 
 -- What a session leaves that served a trunk over a source and a sink: its outcome, by one telling of it; how much is recorded, where one of both
 -- failed; and beside it the trunk's bytes.
@@ -56,5 +74,12 @@ pub record ServesTrunk (rules : Rules) (keeping : Keeping) (image : Image) (sour
   pub coming : Option Coming
   pub telling : Telling
   pub is : IsOutcome rules image keeping coming telling outcome noted_before noted_now counted
-  pub recorded : IsTrunkFault outcome.end → IsRecordedUpTo rules image keeping telling outcome
-  pub bytes : GoesOverTrunk rules source source_later sink sink_later coming telling.account outcome.end
+  pub recorded : AtBreak outcome.stop (λ fault. IsTrunkFault fault → IsRecordedUpTo rules image keeping telling outcome)
+  pub bytes : GoesOverTrunk rules source source_later sink sink_later coming telling.account outcome.stop
+
+-- A session that was begun has served a trunk, and answers so: why it stopped; what it leaves; and what its notes show.
+pub record HasServedTrunk {R : Type 0} (rules : Rules) (source source_later : Option Stream) (sink sink_later : Option (List ℕ)) (shown now : Shown) (counted : ℕ) (old new : SessionState R) (answered : Answer) : Type 0 where
+  pub why : Stop
+  pub is : answered ≡ answer_of why
+  pub served : (image : Image) → IsBegun image old.options old.cpu.rule old → ServesTrunk rules (keeping_for old.options) image source source_later sink sink_later (outcome_of why new) shown.told now.told counted
+  pub notes : NotesAnswer shown now why

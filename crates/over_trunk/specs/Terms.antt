@@ -25,20 +25,24 @@ pub use Rattle.run_history.specs.declared.answer.Answer.{Answer}
 pub use Rattle.run_history.specs.Machine.{State}
 unfoldable pub use Rattle.run_history.specs.Machine.{start}
 pub use Rattle.run_history.specs.Run.{Run, run}
-pub use Rattle.session_history.specs.Account.{IsAccount, Session, journal_of}
+pub use Rattle.session_history.specs.declared.ends.SessionBreak.{SessionBreak}
+pub use Rattle.session_history.specs.declared.ends.SessionEnd.{SessionEnd}
+pub use Rattle.session_history.specs.declared.ends.Stop.{Stop}
+pub use Rattle.session_history.specs.Account.{IsAccount, Session, after_ending, journal_of}
 pub use Rattle.session_history.specs.AccountLaws.{AreInTurn, IsComplete}
-pub use Rattle.session_history.specs.Answering.{HasAnswerCause}
-pub use Rattle.session_history.specs.Ends.{HasComeTo, IsEnd, IsEnded, IsLastRefused, StaysKnown, TakesAtEnd, WasAsked, before_end}
+pub use Rattle.session_history.specs.Ends.{AtBreak, AtEnd, HandedLast, HasComeTo, IsEnded, IsLastRefused, StaysKnown, TakesAtEnd, WasAsked, answer_of, before_end}
+pub use Rattle.session_history.specs.Giving.{HasHanded}
 pub use Rattle.session_history.specs.Heeding.{Bounds, LimitEvents, LimitItems, TooLong, Unheeded, heeded, items_in, refusal}
 unfoldable pub use Rattle.session_history.specs.Heeding.{heeded_behind}
-pub use Rattle.session_history.specs.Lawful.{Rules, entries_of}
+pub use Rattle.session_history.specs.Lawful.{IsWholePiece, Rules, entries_of}
 pub use Rattle.session_history.specs.Passing.{passed_behind, passed_in}
-pub use Rattle.session_notes.specs.Noting.{Noted}
-pub use Rattle.recovery.specs.Handling.{HasHandled, HasRing, Keeping, Stand, stands_of}
+pub use Rattle.session_notes.specs.Noting.{Noted, Shown}
+pub use Rattle.recovery.specs.Handling.{HasRing, Keeping, Stand, stands_of}
 pub use Rattle.schedule_file.specs.declared.recorded.Recorded.{Recorded}
 pub use Rattle.session_state.specs.Leaving.{HandledAt, HasLeft, keeping_of}
+pub use Rattle.session_state.specs.Options.{keeping_for}
 pub use Rattle.session_state.specs.Recovered.{HasRecovered, IsOutcome, Outcome, Telling}
-pub use Rattle.session_state.specs.Serving.{BreaksAt, LinkAnswers, UnlessNoteFault, outcome_of, rules_by}
+pub use Rattle.session_state.specs.Serving.{BreaksAt, LinkAnswers, NotesAnswer, UnlessNoteFault, outcome_of, rules_by}
 pub use Rattle.session_state.specs.Sessions.{IsBegun, SessionState}
 pub use Rattle.replay.specs.Giving.{AreGiven, BreaksOff, found_gone, piece_of}
 pub use Rattle.replay.specs.Laws.{BringsFirst, HadOneStream, HasSession, IsRecordOf}

@@ -1,7 +1,8 @@
 -- What a session that served a trunk took from the source and wrote to the sink.
 use Rattle.std.specs.Prelude.{◌≡◌, ◌≢◌, ◌⊎◌, ℕ, List, [], ◌++◌, All, length, drop, Option, None, Some, IfSome}
 use Rattle.run_history.specs.declared.answer.Answer.TheVariants as answer
-use Rattle.over_trunk.specs.Terms.{Appends, IsDrained, Stream, Took, Prefix, sent_to, Entry, LinkEvent, Coming, Phases, Piece, Refuses, cut_entries, pieces_in, IsRefused, AreFramesOf, frames, piece_frame, AreInOrder, IsFramed, phases_behind, Part, event_at, front, fresh, payload, Answer, IsEnd, Bounds, passed_in}
+use Rattle.session_history.specs.declared.ends.SessionEnd.TheVariants as session_end
+use Rattle.over_trunk.specs.Terms.{Appends, IsDrained, Stream, Took, Prefix, sent_to, Entry, LinkEvent, Coming, Phases, Piece, Refuses, cut_entries, pieces_in, IsRefused, AreFramesOf, frames, piece_frame, AreInOrder, IsFramed, phases_behind, Part, event_at, front, fresh, payload, Answer, SessionEnd, Bounds, passed_in}
 
 -- What was taken behind whole frames, so many bytes of them, and what comes there. Nothing was taken, and what comes is the grammar's
 -- at what is left. Or a part of a frame was, and nothing is told of what comes. Or what is refused was, and its refusal comes.
@@ -41,13 +42,13 @@ pub record TookRefused (old new : Option Stream) (events : List LinkEvent) (kind
 
 -- What was taken where a session came to an end: the frames of its events. At Finished no byte is left; at InputRefused what is
 -- refused was taken too. At each other end not one byte more was.
-abbrev pub StopsAt : Option Stream → Option Stream → List LinkEvent → Answer → Type 0
-StopsAt old new events answer.Finished = TookWhole old new events × IsDrained new
-StopsAt old new events (answer.InputRefused kind offset) = TookRefused old new events kind offset
-StopsAt old new events end = IsEnd end → TookWhole old new events
+abbrev pub StopsAt : Option Stream → Option Stream → List LinkEvent → SessionEnd → Type 0
+StopsAt old new events session_end.Finished = TookWhole old new events × IsDrained new
+StopsAt old new events (session_end.InputRefused kind offset) = TookRefused old new events kind offset
+StopsAt old new events end = TookWhole old new events
 
 -- where the source tells its bytes
-abbrev pub StopsTrunk : Option Stream → Option Stream → List LinkEvent → Answer → Type 0
+abbrev pub StopsTrunk : Option Stream → Option Stream → List LinkEvent → SessionEnd → Type 0
 StopsTrunk None new events end = Unit {0}
 StopsTrunk (Some old) new events end = StopsAt (Some old) new events end
 

@@ -1,11 +1,8 @@
 // A session over a trunk of many connections.
 ghost use Rattle.std.specs.Prelude.{◌≡◌, ◌+◌, ◌-◌, ◌≤◌};
-ghost use Rattle.elf_image.specs.declared.image.Image.{Image};
-ghost use Rattle.session_state.specs.Options.{keeping_for};
-ghost use Rattle.session_state.specs.Serving.{IsReadyToServe, NotesAnswer, outcome_of, rules_by};
+ghost use Rattle.session_state.specs.Serving.{IsReadyToServe, rules_by};
 ghost use Rattle.session_history.specs.Answering.{HasAnswerCause};
-ghost use Rattle.session_state.specs.Sessions.{IsBegun};
-ghost use Rattle.over_trunk.specs.Serving.{IsOfSession, ServesTrunk, trunk_counts};
+ghost use Rattle.over_trunk.specs.Serving.{HasServedTrunk, trunk_counts};
 
 use guest_space::AccessRule;
 use run_history::Answer;
@@ -29,11 +26,8 @@ pub fn serve_trunk<R: AccessRule, S: Source, K: Sink, N: Notes, L: Ledger>(
     steps: &mut Steps<L>,
 ) -> Answer
     requires begun { IsReadyToServe session.old }
-    ensures served { (image : Image) → IsBegun image session.old.options session.old.cpu.rule session.old
-        → ServesTrunk (rules_by R.rule session.old) (keeping_for session.old.options) image (S.told input.old) (S.told input.new) (K.told output.old) (K.told output.new) (outcome_of result session.new) (N.shown notes.old).told (N.shown notes.new).told (steps.new - steps.old) }
-    ensures only { IsOfSession result }
+    ensures served { HasServedTrunk (rules_by R.rule session.old) (S.told input.old) (S.told input.new) (K.told output.old) (K.told output.new) (N.shown notes.old) (N.shown notes.new) (steps.new - steps.old) session.old session.new result }
     ensures cause { HasAnswerCause (trunk_counts (S.faults input.old) (K.faults output.old)) (trunk_counts (S.faults input.new) (K.faults output.new)) result }
-    ensures notes { NotesAnswer (N.shown notes.old) (N.shown notes.new) result }
     ensures outside { (S.fixed input.new ≡ S.fixed input.old) × (K.fixed output.new ≡ K.fixed output.old) × (N.fixed notes.new ≡ N.fixed notes.old) }
     ensures counted_at_least { steps.old + session.new.steps ≤ steps.new }
 {

@@ -16,7 +16,7 @@
 ghost use Rattle.std.specs.Prelude.{◌≡◌, ◌<◌};
 
 use example_guests::source_of;
-use rx_io::{MemoryFiles, MemorySink, MemorySource, Sink, Source, Steps, TameListener};
+use rx_io::{Files, MemoryFiles, MemorySink, MemorySource, Sink, Source, Steps, TameListener};
 use rx_serve::{End, run_rx};
 use std::alloc::{AllocError, Global};
 use std::marker::Brand;
@@ -116,10 +116,10 @@ fn bytes_of(alloc: Global, value: &str) -> Result<Vec<u8>, Fail> {
 
 /// Runs a command over these files and streams with a counter of its own. It is generic over its ledger, and is handed the
 /// blank of which the counter is made.
-pub fn run_over<L: Ledger, S: Source, K: Sink>(
+pub fn run_over<L: Ledger, F: Files, S: Source, K: Sink>(
     alloc: Global,
     line: &str,
-    files: &mut MemoryFiles,
+    files: &mut F,
     source: &mut S,
     sink: &mut K,
     blank: Blank,
@@ -193,7 +193,7 @@ fn run_counted<L: Ledger>(played: &Played<'_>, blank: Blank) -> Result<Outcome, 
     let mut files = files_of(alloc, played.program, played.row)?;
     let mut source = source_in(alloc, played.row)?;
     let mut sink = sink_in(alloc, played.row)?;
-    let end = run_over::<L, _, _>(alloc, words, &mut files, &mut source, &mut sink, blank)?;
+    let end = run_over::<L, _, _, _>(alloc, words, &mut files, &mut source, &mut sink, blank)?;
     Ok(Outcome {
         end,
         files,

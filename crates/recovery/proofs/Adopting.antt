@@ -1,18 +1,10 @@
 -- A trial that was made, and one that is adopted.
 use Rattle.reply_ledger.specs.Trials as ledgers
 use Rattle.session_notes.specs.declared.episode.Tried.TheVariants as tried
-use Rattle.recovery.proofs.Terms.{Bool, List, None, Option, Some, [], ap, arith, drop, false, length, refl, subst, sym, take, true, ℕ, ◌&&◌, ◌++◌, ◌+◌, ◌-◌, ◌∙◌, ◌∷◌, ◌≡◌, ◌≤◌, true≢false, length-map, take-append-le, none-some, same_Some, slice_get-map, slice_get_within, IsSome, IsSomeAnd, MatchBool, is_some, option_map, slice_get, Item, Send, sent_to, Choice, Env, Checkpoint, checkpoint_of, checkpoints_of, from_newest, Saved, Log, shown_passed, shows-adopted, Ledger, connection_of, Shows, adopted, agree, trial_sends, sent_to-append, Limits, Override, Path, CpuState, standing_of, Standing, received, KeepsReplies, Covers, Tried, Try, survives, served_grows, steps_later, Trial, chance_at, ComesTo, IsUnharmed, plan_of_trial, Adopted, FailedAt, Failure, items_of, pieces_of, taken_in, HasTried, IsAdopted, KeepsLedger, KeepsSaved, StandsOn, adopted_of, IsMade}
-use Rattle.recovery.proofs.Joining.{Beside, agree-append, now_is, now_covers}
+use Rattle.recovery.proofs.Terms.{List, None, Option, Some, [], ap, arith, drop, false, length, refl, subst, sym, take, true, ℕ, ◌++◌, ◌+◌, ◌-◌, ◌∙◌, ◌∷◌, ◌≡◌, ◌≤◌, MatchBool-at_true, and_parts, length-map, take-append-le, none-some, same_Some, slice_get-map, slice_get_within, IsSome, IsSomeAnd, is_some, option_map, slice_get, Send, sent_to, Choice, Env, Checkpoint, checkpoint_of, checkpoints_of, from_newest, Saved, Log, shown_passed, shows-adopted, agree-append, Ledger, connection_of, Shows, adopted, agree, trial_sends, sent_to-append, Path, CpuState, standing_of, Standing, served_grows, received, KeepsReplies, Tried, Try, survives, steps_later, Trial, chance_at, plan_of_trial, Adopted, FailedAt, Failure, items_of, pieces_of, taken_in, HasTried, IsAdopted, KeepsLedger, KeepsSaved, StandsOn, adopted_of, IsMade}
+use Rattle.recovery.proofs.Joining.{Beside, now_is, now_covers}
 use Rattle.recovery.proofs.Starting.{from_at, failed_still, same_front}
-
--- what survives is unharmed, and emits all that was passed
-survives_covers : (limits : Limits) (items : List Item) (plan : List Override) (checkpoint : Path) {pieces : List Send} {point : ℕ} (path : Path) (result : Tried) → survives result ≡ true → ComesTo limits items plan checkpoint pieces point path result
-    → IsUnharmed pieces point path.state × Covers pieces path.state
-survives_covers limits items plan checkpoint path tried.Asks is comes = (comes.0, comes.2)
-survives_covers limits items plan checkpoint path (tried.Exits code) is comes = (comes.0, comes.2)
-survives_covers limits items plan checkpoint path (tried.Failed cause) is comes = absurd (let no : ⊥ = cc in no)
-survives_covers limits items plan checkpoint path tried.Contradicts is comes = absurd (let no : ⊥ = cc in no)
-survives_covers limits items plan checkpoint path tried.Behind is comes = absurd (let no : ⊥ = cc in no)
+use Rattle.trials.proofs.Recovered.{survives_so}
 
 -- what is adopted has survived
 pub adopted_survives : (index : ℕ) (env : Env) (result : Tried) {adopted : Adopted} → adopted_of index env result ≡ Some adopted → survives result ≡ true
@@ -47,16 +39,8 @@ tells_of (tried.Failed cause) {adopted = adopted} is = absurd (none-some adopted
 tells_of tried.Contradicts {adopted = adopted} is = absurd (none-some adopted is)
 tells_of tried.Behind {adopted = adopted} is = absurd (none-some adopted is)
 
-of_true : {b : Bool} (P Q : Type 0) → b ≡ true → MatchBool b P Q → P
-of_true P Q is h = subst (λ (c : Bool). MatchBool c P Q) is h
-
--- what agrees as a whole agrees behind a front
-and_second : (a : Bool) {b : Bool} → a && b ≡ true → b ≡ true
-and_second true h = h
-and_second false h = absurd (true≢false (sym h))
-
 rest_agrees : (early rest passed : List ℕ) → agree (early ++ rest) passed ≡ true → agree rest (drop (length early) passed) ≡ true
-rest_agrees early rest passed h = and_second (agree early passed) (sym (agree-append early rest passed) ∙ h)
+rest_agrees early rest passed h = (and_parts (agree early passed) _ (sym (agree-append early rest passed) ∙ h)).1
 
 -- the ledger beside a trial agrees where the trial does
 pub now_agrees : {high : ℕ} {ledger : Ledger} {sends now pieces : List Send} → Beside high ledger sends now pieces → ((conn : ℕ) → agree (sent_to conn now) (sent_to conn pieces) ≡ true) → ledgers.Agrees ledger
@@ -76,8 +60,7 @@ counted_by : (o : Option (Saved Standing)) (checkpoint : Path) {live : Standing}
 counted_by None checkpoint path before is counted stands later = absurd counted
 counted_by (Some one) checkpoint {live = live} path before is counted stands later =
     let from : one.state.steps ≡ checkpoint.steps = ap (λ (s : Standing). s.steps) (same_Some one.state (standing_of checkpoint) is) in
-    let to : live.steps ≡ path.steps = ap (λ (s : Standing). s.steps) stands in
-    omega (arith, from, to, counted, later)
+    omega (arith, from, ap (λ (s : Standing). s.steps) stands, counted, later)
 
 -- the number of items that the ring has for a checkpoint
 taken_by : (o : Option (Saved Standing)) (checkpoint : Path) {result : ℕ} → option_map (λ one. one.state) o ≡ Some (standing_of checkpoint) → IsSomeAnd (option_map (checkpoint_of taken_in) o) (λ one. result ≡ one.taken) → result ≡ checkpoint.state.machine.taken
@@ -105,11 +88,10 @@ module _ {R : Type 0} where
       → IsMade failure point (record { checkpoint = checkpoint; env = env }) (trial_of failure point checkpoint env cpu choices ledger result h) noted tries before after
   is_made {failure = failure} {point = point} {checkpoint = checkpoint} {env = env} {old = old} {result = result} index taken {before = before} {noted = noted} failed found same at counted pushed h =
       let here : option_map (λ one. one.state) (from_newest old.slots.saved index) ≡ Some (standing_of checkpoint) = failed.has.saved index (slice_get_within failure.ring index checkpoint found) ∙ ap (λ (o : Option Path). option_map standing_of o) found in
-      let number : taken ≡ checkpoint.state.machine.taken = taken_in_ring old.slots.saved index checkpoint same here at in
       record {
         chance_is = refl;
         right = h.trial;
-        tries_are = pushed ∙ ap (λ n. noted ++ record { checkpoint = n; env = env; tried = result } ∷ []) number;
+        tries_are = pushed ∙ ap (λ n. noted ++ record { checkpoint = n; env = env; tried = result } ∷ []) (taken_in_ring old.slots.saved index checkpoint same here at);
         counted = counted_by (from_newest old.slots.saved index) checkpoint h.path before here counted h.stands (steps_later failure.rules.limits (items_of failure) (plan_of_trial failure.plan checkpoint.state.machine.taken env point) checkpoint h.path h.trial.from);
       }
 
@@ -127,7 +109,7 @@ module _ {R : Type 0} where
         ordered = now.has.ordered;
         front = ap (take ledger.first) grows.sends
             ∙ (take-append-le ledger.first checkpoint.state.sends grows.more f.kept.sends ∙ same_front ledger.first checkpoint.state.sends failure.failed.state.sends f.grows.more f.kept.sends f.grows.sends);
-        sent = of_true (ledger.trial ≡ Some (drop ledger.first h.path.state.sends)) (ledger.trial ≡ None) is h.sent;
+        sent = MatchBool-at_true (ledger.trial ≡ Some (drop ledger.first h.path.state.sends)) (ledger.trial ≡ None) is h.sent;
       }
 
   -- what the ledger asks before it adopts the trial
@@ -136,11 +118,10 @@ module _ {R : Type 0} where
       → IsSome ledger.trial × ledgers.Agrees ledger × ledgers.Covers ledger
   adopt_asks {failure = failure} {point = point} {checkpoint = checkpoint} {env = env} {ledger = ledger} {result = result} index failed found saved same is h =
       let b = beside_tried index failed found saved same is h in
-      let high = received failure.rules.bounds failure.entries in
-      let good = survives_covers failure.rules.limits (items_of failure) (plan_of_trial failure.plan checkpoint.state.machine.taken env point) checkpoint h.path result is h.trial.comes in (
+      let good = survives_so failure.rules.limits (items_of failure) (plan_of_trial failure.plan checkpoint.state.machine.taken env point) checkpoint _ _ h.path result is h.trial.comes in (
         ap is_some b.sent,
         now_agrees b good.0.agrees,
-        now_covers high ledger failure.failed.state.sends h.path.state.sends (pieces_of failure) b good.1,
+        now_covers (received failure.rules.bounds failure.entries) ledger failure.failed.state.sends h.path.state.sends (pieces_of failure) b good.1,
       )
 
   -- the ledger of an adopted trial has its sends
@@ -148,11 +129,9 @@ module _ {R : Type 0} where
       → slice_get failure.ring index ≡ Some checkpoint → KeepsSaved old cpu → KeepsLedger before_ledger ledger → survives result ≡ true → (h : HasTried failure point checkpoint env cpu choices ledger result)
       → KeepsReplies failure.rules.bounds failure.entries None h.path.state.sends (adopted ledger)
   adopt_replies {failure = failure} {point = point} {old = old} {cpu = cpu} {log = log} {before_ledger = before_ledger} {ledger = ledger} index failed found saved same is h =
-      let now = failed_still point failure old cpu log before_ledger ledger saved same failed in
       let b = beside_tried index failed found saved same is h in
-      let high = received failure.rules.bounds failure.entries in
-      let k = now.has.replies in
-      let whole = now_is high ledger failure.failed.state.sends h.path.state.sends (pieces_of failure) b in
+      let k = (failed_still point failure old cpu log before_ledger ledger saved same failed).has.replies in
+      let whole = now_is (received failure.rules.bounds failure.entries) ledger failure.failed.state.sends h.path.state.sends (pieces_of failure) b in
       let shut : (conn : ℕ) → connection_of ledger.connections conn ≡ None → sent_to conn (trial_sends ledger) ≡ [] = λ conn none.
       none_behind (sent_to conn (take ledger.first failure.failed.state.sends))
       (sym (sent_to-append conn (take ledger.first failure.failed.state.sends) (trial_sends ledger)) ∙ (ap (sent_to conn) whole ∙ h.goes.opened conn (sym (k.opened conn) ∙ ap is_some none))) in

@@ -1,5 +1,6 @@
 -- What holds of all checkpoints of a ring, as the session goes on.
-use Rattle.recovery.proofs.Terms.{Bool, List, None, Option, Some, [], drop, false, length, refl, subst, suc, sym, take, true, zero, ℕ, ◌++◌, ◌∙◌, ◌∷◌, ◌≡◌, ◌≤◌, both_ways, is_some, Item, Entry, events_in, Log, Ledger, connection_of, Image, may_send, Limits, Override, Path, Served, origin, IsBounded, served_on, served_with, heeded, KeepsReplies, Rules, opens, Carries, chained_from, AreChained, AreCheckpoints, AreKept, CanGoOn, Brings}
+use Rattle.link_gate.proofs.Knowing.{known_none}
+use Rattle.recovery.proofs.Terms.{Bool, List, None, [], drop, false, length, refl, subst, suc, sym, take, true, zero, ℕ, ◌++◌, ◌∙◌, ◌∷◌, ◌≡◌, ◌≤◌, both_ways, Item, Entry, events_in, Log, Ledger, connection_of, Image, may_send, Limits, Override, Path, Served, origin, IsBounded, served_on, served_with, heeded, KeepsReplies, Rules, opens, Carries, chained_from, AreChained, AreCheckpoints, AreKept, CanGoOn, Brings}
 
 -- the latest run goes on
 pub chained_on : (limits : Limits) (items : List Item) (plan : List Override) (image : Image) (now next : Path) (ring : List Path) → Served limits items plan now next → AreChained limits items plan image now ring → AreChained limits items plan image next ring
@@ -64,17 +65,13 @@ kept_with rules before after more log log' ledger ledger' (newest ∷ older) bri
   kept_with rules before after more log log' ledger ledger' older brings same still are.1,
 )
 
-none_of : {X : Type 0} (o : Option X) → is_some o ≡ false → o ≡ None
-none_of None is = refl
-none_of (Some x) is = cc
-
 -- The survivor of a session that serves can go on.
 pub survivor_goes : (rules : Rules) (image : Image) (entries : List Entry) (plan : List Override) (now : Path) (ledger : Ledger) → Carries rules image entries plan now → KeepsReplies rules.bounds entries None now.state.sends ledger
     → (now.state.ended ≡ None → IsBounded rules.limits.budget now) → ((conn : ℕ) → may_send now.state.machine conn ≡ true → opens conn (heeded rules.bounds (events_in entries)) ≡ true) → CanGoOn rules entries now
 survivor_goes rules image entries plan now ledger carries replies bounded within = record {
   bounded = bounded;
   within = within;
-  opened = λ conn none. replies.shows.opened conn (none_of (connection_of ledger.connections conn) (replies.opened conn ∙ none));
+  opened = λ conn none. replies.shows.opened conn (known_none (connection_of ledger.connections conn) (replies.opened conn ∙ none));
   timed = carries.timed;
   sendable = replies.sendable;
 }

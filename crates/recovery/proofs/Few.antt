@@ -1,38 +1,34 @@
--- No more items are received than may be.
-use Rattle.msg_frame.specs.declared.framing.Framing.{Framing}
-use Rattle.item_log.specs.Heard.{heard, items_from, items_of}
-use Rattle.recovery.proofs.Terms.{Bool, List, None, Option, Some, [], ap, append-nil, append_assoc, arith, cond, drop, false, if◌then◌else◌, length, refl, subst, sym, true, ℕ, ◌++◌, ◌∷◌, ◌≡◌, ◌≤◌, ltb-false, true≢false, is_none, nat_le, nat_lt, LinkEvent, Bounds, LimitEvents, LimitItems, TooLong, Unheeded, heeded, heeded_behind, refusal}
+-- A session receives no more items than its bounds allow.
+use Rattle.links.specs.declared.journal.LinkEvent.{LinkEvent}
+use Rattle.item_log.specs.Heard.{heard, heard_from, items_from, items_of}
+use Rattle.recovery.proofs.Terms.{Bool, List, None, Some, [], append-nil, append_assoc, arith, cond, false, leb, length, ltb, refl, subst, sym, true, ◌++◌, ◌∷◌, ◌≡◌, ◌≤◌, ltb-false, is_none, Entry, events_in, Bounds, LimitEvents, LimitItems, TooLong, heeded_behind, received, refusal}
 
--- by three tests
-abbrev refused_by : Bool → Bool → Bool → Option Unheeded
-refused_by many long full = if many then Some LimitEvents else if long then Some TooLong else if full then Some LimitItems else None
+not_full : (many long full : Bool) → is_none (cond many (Some LimitEvents) (cond long (Some TooLong) (cond full (Some LimitItems) None))) ≡ true → full ≡ false
+not_full true long full h = cc
+not_full false true full h = cc
+not_full false false true h = cc
+not_full false false false h = refl
 
--- an event that isn't refused brings no item too many
-fits_by : (bounds : Bounds) (number : ℕ) (many long full : Bool) → nat_lt bounds.max_items number ≡ full → is_none (refused_by many long full) ≡ true → number ≤ bounds.max_items
-fits_by bounds number true long full is fine = absurd (true≢false (sym fine))
-fits_by bounds number false true full is fine = absurd (true≢false (sym fine))
-fits_by bounds number false false true is fine = absurd (true≢false (sym fine))
-fits_by bounds number false false false is fine = ltb-false bounds.max_items number is
-
--- of events that are all heeded there are no more items than may be
-behind_items : (bounds : Bounds) (before events : List LinkEvent) → heeded_behind bounds before events ≡ events → length (items_of bounds.framing before) ≤ bounds.max_items → length (items_of bounds.framing (before ++ events)) ≤ bounds.max_items
+-- events are heeded behind others that bring no more items than are allowed
+few_behind : (bounds : Bounds) (before events : List LinkEvent) → length (items_of bounds.framing before) ≤ bounds.max_items → length (items_of bounds.framing (before ++ heeded_behind bounds before events)) ≤ bounds.max_items
 unfolding heeded_behind
-behind_items bounds before [] all h = subst (λ es. length (items_of bounds.framing es) ≤ bounds.max_items) (sym (append-nil before)) h
-behind_items bounds before (event ∷ events) all h = by (is_none (refusal bounds before event)) refl (behind_items bounds (before ++ event ∷ []) events) all
+few_behind bounds before [] few = subst (λ es. length (items_of bounds.framing es) ≤ bounds.max_items) (sym (append-nil before)) few
+few_behind bounds before (event ∷ events) few =
+    of (is_none (refusal bounds before event)) refl (few_behind bounds (before ++ event ∷ []) events)
   where
-    by : (fine : Bool) → is_none (refusal bounds before event) ≡ fine
-        → (heeded_behind bounds (before ++ event ∷ []) events ≡ events → length (items_of bounds.framing (before ++ event ∷ [])) ≤ bounds.max_items → length (items_of bounds.framing ((before ++ event ∷ []) ++ events)) ≤ bounds.max_items)
-        → cond fine (event ∷ heeded_behind bounds (before ++ event ∷ []) events) [] ≡ event ∷ events
-        → length (items_of bounds.framing (before ++ event ∷ events)) ≤ bounds.max_items
-    by false f ih so = absurd (let no : ⊥ = cc in no)
-    by true f ih so =
-        subst (λ es. length (items_of bounds.framing es) ≤ bounds.max_items) (append_assoc before (event ∷ []) events)
-        (ih (ap (drop 1) so) (fits_by bounds (length (items_of bounds.framing (before ++ event ∷ []))) (nat_le bounds.max_events (length before)) (is_none (heard bounds.framing (before ++ event ∷ [])))
-        (nat_lt bounds.max_items (length (items_of bounds.framing (before ++ event ∷ [])))) refl f))
+    of : (b : Bool) → is_none (refusal bounds before event) ≡ b
+        → (length (items_of bounds.framing (before ++ event ∷ [])) ≤ bounds.max_items → length (items_of bounds.framing ((before ++ event ∷ []) ++ heeded_behind bounds (before ++ event ∷ []) events)) ≤ bounds.max_items)
+        → length (items_of bounds.framing (before ++ cond b (event ∷ heeded_behind bounds (before ++ event ∷ []) events) [])) ≤ bounds.max_items
+    of true fine more =
+        let room : length (items_of bounds.framing (before ++ event ∷ [])) ≤ bounds.max_items =
+        ltb-false bounds.max_items (length (items_of bounds.framing (before ++ event ∷ [])))
+        (not_full (leb bounds.max_events (length before)) (is_none (heard bounds.framing (before ++ event ∷ []))) (ltb bounds.max_items (length (items_of bounds.framing (before ++ event ∷ [])))) fine) in
+        subst (λ es. length (items_of bounds.framing es) ≤ bounds.max_items) (append_assoc before (event ∷ []) (heeded_behind bounds (before ++ event ∷ []) events)) (more room)
+    of false bad more = subst (λ es. length (items_of bounds.framing es) ≤ bounds.max_items) (sym (append-nil before)) few
 
-no_items : (framing : Framing) → length (items_of framing []) ≤ 0
-unfolding items_from
-no_items framing = omega arith
+none_yet : (bounds : Bounds) → length (items_of bounds.framing []) ≡ 0
+unfolding heard_from items_from
+none_yet bounds = refl
 
-pub few_items : (bounds : Bounds) (events : List LinkEvent) → heeded bounds events ≡ events → length (items_of bounds.framing events) ≤ bounds.max_items
-few_items bounds events all = behind_items bounds [] events all (omega (arith, no_items bounds.framing))
+pub few_items : (bounds : Bounds) (entries : List Entry) → received bounds entries ≤ bounds.max_items
+few_items bounds entries = few_behind bounds [] (events_in entries) (let none = none_yet bounds in omega (arith, none))

@@ -1,6 +1,5 @@
 -- The environment that is in force.
-use Rattle.run_history.specs.Machine as M
-use Rattle.recovery.proofs.Terms.{Bool, List, Some, [], ap, arith, cond, eqb, false, inl, inr, ltb, refl, subst, sym, true, ℕ, ◌+◌, ◌<◌, ◌∙◌, ◌≡◌, ◌≤◌, ◌⊎◌, cond_both, eqb-false, le-ltb, slice_get, Item, Entry, Env, Plain, Checkpoints, Log, Ledger, Image, Cause, Fails, Wants, AsksFor, FailsBy, Limits, Override, Path, Served, env_at, origin, CpuState, items_in, Rules, asks_under_all, chained_at, past_request, IsCheckpoint, plan_of_trial, IsInForce, KeepsRing}
+use Rattle.recovery.proofs.Terms.{Bool, List, Some, [], ap, arith, cond, eqb, false, inl, inr, ltb, refl, subst, true, ℕ, ◌+◌, ◌<◌, ◌≡◌, ◌≤◌, ◌⊎◌, cond_both, eqb-false, le-ltb, slice_get, Item, Entry, Env, Plain, Checkpoints, Log, Ledger, Image, Cause, AsksFor, FailsBy, Limits, Override, Path, Served, env_at, CpuState, items_in, Rules, asks_under_all, chained_at, past_request, start_taken, apart_asks_fails, IsCheckpoint, plan_of_trial, IsInForce, KeepsRing}
 use Rattle.recovery.proofs.Starting.{checkpoint_at}
 
 plain_both : (b : Bool) → Plain ≡ cond b Plain Plain
@@ -29,15 +28,6 @@ in_force_adopted plan checkpoint env point from = record {
       ap (λ (b : Bool). cond b (env_at plan count) (cond (ltb count (point + 4)) env Plain)) (le-ltb count (cond (eqb checkpoint 0) 0 (checkpoint + 1)) (behind checkpoint point count from later));
 }
 
--- at the start no item was taken
-pub start_taken : (image : Image) (checkpoint : Path) → checkpoint ≡ origin image → checkpoint.state.machine.taken ≡ 0
-unfolding M.start M.start_machine
-start_taken image checkpoint is = ap (λ (p : Path). p.state.machine.taken) is
-
--- a run that fails doesn't stand at its request
-asks_or_fails : (limits : Limits) (plan : List Override) (path : Path) (cause : Cause) (item : ℕ) → AsksFor limits plan path item → FailsBy limits plan path cause → ⊥
-asks_or_fails limits plan path cause item asks fails = let never : Wants ≡ Fails cause = sym asks.asks ∙ fails.fails in absurd (cc)
-
 -- A checkpoint from which a run fails is the start, or has taken fewer items.
 pub before_point : (limits : Limits) (items : List Item) (image : Image) (plan : List Override) (checkpoint failed : Path) (cause : Cause) → IsCheckpoint limits image checkpoint → Served limits items plan checkpoint failed → FailsBy limits plan failed cause
     → (checkpoint.state.machine.taken ≡ 0) ⊎ (checkpoint.state.machine.taken < failed.state.machine.taken)
@@ -45,7 +35,7 @@ before_point limits items image plan checkpoint failed cause (inl is) served fai
 before_point limits items image plan checkpoint failed cause (inr asks) served fails =
     elim (past_request limits items plan checkpoint failed asks.1 served) [
       | inl same ↦
-          absurd (asks_or_fails limits plan failed cause checkpoint.state.machine.taken
+          absurd (apart_asks_fails limits plan failed checkpoint.state.machine.taken cause
           (asks_under_all limits [] plan failed checkpoint.state.machine.taken (subst (λ (p : Path). AsksFor limits [] p checkpoint.state.machine.taken) same asks.1)) fails)
       | inr past ↦ inr past
     ]

@@ -4,9 +4,10 @@ use Rattle.item_log.specs.Log.{received}
 use Rattle.item_log.specs.Log as logs
 use Rattle.reply_ledger.specs.Trimming as ledgers
 use Rattle.run_history.proofs.Repeats.{repeated_keeps}
-use Rattle.recovery.proofs.Terms.{IfSome, List, None, Option, Some, [], ap, arith, length, length-append, length-drop, max, min, refl, subst, suc, sym, ℕ, ◌+◌, ◌-◌, ◌<◌, ◌∙◌, ◌∷◌, ◌≡◌, ◌≤◌, none-some, same_Some, slice_get, Item, Entry, Env, Checkpoints, from_newest, Saved, Log, ShowsStill, Ledger, settled, Image, IsUsed, map_some, served_follows, serves_to, start, start_machine, Limits, Override, Path, Served, env_at, listed, origin, planned_next, served_next, Marks, CpuState, standing_of, Standing, marks_of, items_in, KeepsItems, KeepsReplies, Rules, chained_at, next_grows, AreChained, AreKept, AreBehind, KeepsRing}
+use Rattle.recovery.proofs.Terms.{IfSome, List, None, Option, Some, [], ap, arith, length, length-append, length-drop, max, min, subst, suc, sym, ℕ, ◌+◌, ◌-◌, ◌<◌, ◌∙◌, ◌∷◌, ◌≡◌, ◌≤◌, none-some, same_Some, slice_get, Item, Entry, Env, Checkpoints, from_newest, Saved, Log, ShowsStill, Ledger, settled, Image, map_some, served_follows, serves_to, Limits, Override, Path, Served, env_at, listed, origin, planned_next, served_next, Marks, CpuState, standing_of, Standing, marks_of, next_grows, items_in, KeepsItems, KeepsReplies, Rules, chained_at, AreChained, AreKept, AreBehind, KeepsRing}
 use Rattle.recovery.specs.Forgetting.{CanForget, Forgets}
 use Rattle.recovery.proofs.TrimLemmas.{keeps_without}
+use Rattle.recovery.proofs.Survived.{start_used}
 
 -- a run has come no further than another
 pub record IsBefore (first second : Path) : Type 0 where
@@ -28,9 +29,8 @@ before_next : (limits : Limits) (items : List Item) (env : Env) (first second : 
 before_next limits items env first second goes =
     let grows = next_grows limits items env first second goes in
     let parts = serves_to limits items env first second goes in
-    let chosen : length second.choices ≡ length first.choices + length (listed parts.given.chosen) = ap length parts.choices ∙ length-append first.choices (listed parts.given.chosen) in
     let sent : length second.state.sends ≡ length first.state.sends + length grows.more = ap length grows.sends ∙ length-append first.state.sends grows.more in
-    record { taken = grows.taken; choices = omega (arith, chosen); sends = omega (arith, sent) }
+    record { taken = grows.taken; choices = omega (arith, ap length parts.choices ∙ length-append first.choices (listed parts.given.chosen)); sends = omega (arith, sent) }
 
 -- a run has come no further than one that goes on from it
 before_served : (limits : Limits) (items : List Item) (plan : List Override) (first second : Path) → Served limits items plan first second → IsBefore first second
@@ -57,10 +57,6 @@ after_oldest limits items plan image later (newest ∷ (next ∷ older)) oldest 
 behind_after : (oldest : Path) (ring : List Path) → AreAfter oldest ring → AreBehind (length oldest.choices) ring
 behind_after oldest [] are = tt
 behind_after oldest (newest ∷ older) are = (are.0.choices, behind_after oldest older are.1)
-
-start_used : (image : Image) → IsUsed (origin image)
-unfolding start start_machine
-start_used image = refl
 
 -- The oldest checkpoint used all of its answers of malloc.
 pub oldest_used : (limits : Limits) (items : List Item) (plan : List Override) (image : Image) (later : Path) (ring : List Path) (oldest : Path) → AreChained limits items plan image later ring → slice_get ring (length ring - 1) ≡ Some oldest
@@ -156,13 +152,12 @@ module _ {R : Type 0} where
       let taken : marks.taken ≡ h.oldest.state.machine.taken = ap (λ (m : Marks). m.taken) here ∙ ap (λ (s : Standing). s.guest.machine.taken) h.stands in
       let sent : marks.sends ≡ length h.oldest.state.sends = ap (λ (m : Marks). m.sends) here ∙ ap (λ (s : Standing). s.sends) h.stands in
       let first : log'.first ≡ max log.first marks.taken = ap (λ (l : Log). l.first) cut in
-      let first_send : ledger'.first ≡ ledger.first + min (marks.sends - ledger.first) (settled ledger) = ap (λ (l : Ledger). l.first) less in
       record {
         ring = record {
           some = k.some;
           chained = k.chained;
           are = k.are;
-          kept = kept_still rules entries h.oldest log log' ledger ledger' ring (omega (arith, first, taken)) (omega (arith, first_send, sent)) after.1 k.kept;
+          kept = kept_still rules entries h.oldest log log' ledger ledger' ring (omega (arith, first, taken)) (omega (arith, ap (λ (l : Ledger). l.first) less, sent)) after.1 k.kept;
           as_many = k.as_many;
           saved = k.saved;
           standing = k.standing;

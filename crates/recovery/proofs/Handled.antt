@@ -1,15 +1,12 @@
 -- Which checkpoints stand: one lemma for each event.
-use Rattle.std.proofs.Common.{map}
-use Rattle.std.specs.Prelude.{◌&&◌}
 use Rattle.std.specs.Option.{option_map}
-use Rattle.recovery.proofs.Terms.{Bool, IfSome, List, None, Option, Some, [], ap, append_assoc, arith, cond, drop, false, length, refl, subst, suc, sym, take, true, zero, ℕ, ◌++◌, ◌+◌, ◌-◌, ◌<◌, ◌∙◌, ◌∷◌, ◌≡◌, lt-leb, length-map, map-append, same_Some, IsSomeAnd, nat_le, replicate, slice_get, sum, Item, Entry, Checkpoint, Checkpoints, checkpoint_of, checkpoints_of, from_newest, has_room, kept, line, saved_in_ring, without_newer, Saved, Slots, with_whole_oldest, count_true, Log, Ledger, Image, base, AsksFor, Override, Path, Served, origin, CpuState, standing_of, Standing, writes_more, Writes, served_on, served_same, served_with, items_in, Chapter, Rules, Survivor, entries_of, chained_at, Recovery, Trial, survivor_in, taken_in, KeepsRing, is_due, is_due_after, AreRinged, AreWritten, HasHandled, HasRing, HasWritten, IsRinged, Keeping, Stand, first_stands, handle, handled, is_far, keeping_by, may_stand, stand_of, stands_of, stay, whole_oldest}
+use Rattle.recovery.proofs.Terms.{Bool, IfSome, List, None, Option, Some, [], ap, append_assoc, arith, cond, drop, false, length, refl, subst, suc, sym, take, true, zero, ℕ, ◌&&◌, ◌++◌, ◌+◌, ◌-◌, ◌<◌, ◌∙◌, ◌∷◌, ◌≡◌, lt-leb, length-map, map-append, same_Some, IsSomeAnd, map, nat_le, replicate, slice_get, sum, Item, Entry, Checkpoint, Checkpoints, checkpoint_of, checkpoints_of, from_newest, has_room, kept, line, saved_in_ring, without_newer, Saved, Slots, with_whole_oldest, count_true, Log, Ledger, Image, base, AsksFor, Override, Path, Served, origin, CpuState, standing_of, Standing, writes_more, Writes, served_on, served_same, served_with, items_in, Chapter, Rules, Survivor, entries_of, chained_at, Recovery, Trial, survivor_in, taken_in, KeepsRing, is_due, is_due_after, AreRinged, AreWritten, HasHandled, HasRing, HasWritten, IsRinged, Keeping, Stand, first_stands, handle, handled, is_far, keeping_by, may_stand, stand_of, stands_of, stay, whole_oldest}
 use Rattle.recovery.proofs.Mirrors.{from_map}
 
 -- as slots they have room exactly where they may stand
 room_is : (capacity every : ℕ) (slots : Slots Standing) (list : List (Saved Standing)) → has_room capacity slots.pages slots.frames (map (λ (one : Saved Standing). one.pages) list) ≡ may_stand (keeping_by capacity every slots) (stands_of list)
 room_is capacity every slots list =
-    let many : length (map (λ (one : Saved Standing). one.pages) list) ≡ length (stands_of list) = length-map list (λ (one : Saved Standing). one.pages) ∙ sym (length-map list stand_of) in
-    λ i. nat_le (many i) capacity && nat_le (slots.pages + sum (drop 1 (numbers list i)) + slots.pages) slots.frames
+    λ i. nat_le ((length-map list (λ (one : Saved Standing). one.pages) ∙ sym (length-map list stand_of)) i) capacity && nat_le (slots.pages + sum (drop 1 (numbers list i)) + slots.pages) slots.frames
   where
     numbers : (list : List (Saved Standing)) → map (λ (one : Saved Standing). one.pages) list ≡ map (λ (one : Stand). one.written) (stands_of list)
     numbers [] = refl
@@ -233,9 +230,8 @@ module _ {R : Type 0} where
       → IfSome (from_newest (stands_of cpu.slots.saved) 0) (λ newest. HasWritten rules image entries survivor cpu.slots.pages newest.taken requests count)
   written_now rules image entries survivor [] cpu checkpoints log ledger requests count k asks is = let some = k.some in absurd (omega (arith, some))
   written_now rules image entries survivor (newest ∷ older) cpu checkpoints log ledger requests count k asks is =
-      let some = k.some in
       let stands = has_ring cpu.slots.saved (newest ∷ older) k.as_many k.saved in
-      written_of rules image entries survivor cpu.slots.pages newest.state.machine.taken requests count (from_newest (stands_of cpu.slots.saved) 0) (stands.each 0 some)
+      written_of rules image entries survivor cpu.slots.pages newest.state.machine.taken requests count (from_newest (stands_of cpu.slots.saved) 0) (stands.each 0 k.some)
       (record {
         checkpoint = newest;
         is_checkpoint = k.are.0;

@@ -1,6 +1,6 @@
 -- What the ledger of a trial says of what was passed is said of its run.
 use Rattle.reply_ledger.specs.Trials as ledgers
-use Rattle.recovery.proofs.Terms.{Bool, List, Option, Some, [], ap, append-nil, arith, cond, drop, eqb, false, length, length-append, refl, subst, sym, take, true, ℕ, ◌&&◌, ◌++◌, ◌+◌, ◌∙◌, ◌∷◌, ◌≡◌, ◌≤◌, eq-eqb, eqb-true, true≢false, drop-drop, drop_all, take-append-drop, AllByRecursion, IsTrue, unwrap_or, ◌==◌, Prefix, Send, sent_to, covers-shows, covers_before-shows, shown_passed, shows-covers, shows-covers_before, IsInOrder, Ledger, Passed, stamped, stamps_of, Shows, pieces_until, stamped_of, agree, trial_sends, sent_to-append, sent_to-more, AreBetween, AreInOrder, until, agrees_next}
+use Rattle.recovery.proofs.Terms.{Bool, List, Option, Some, [], ap, append-nil, arith, cond, drop, eqb, false, length, length-append, refl, subst, sym, take, true, ℕ, ◌&&◌, ◌++◌, ◌+◌, ◌∙◌, ◌∷◌, ◌≡◌, ◌≤◌, eq-eqb, eqb-true, true≢false, drop-drop, take-append-drop, AllByRecursion, IsTrue, unwrap_or, ◌==◌, Prefix, Send, sent_to, covers-shows, covers_before-shows, shown_passed, shows-covers, shows-covers_before, agree-append, IsInOrder, Ledger, Passed, stamped, stamps_of, Shows, pieces_until, stamped_of, agree, trial_sends, sent_to-append, sent_to-more, AreBetween, AreInOrder, until, agrees_next}
 
 -- stamps stand in order
 all_after : (low : ℕ) (stamp : ℕ) (bytes : List ℕ) (rest : List Passed) → low ≤ stamp → AllByRecursion (λ y. low ≤ y) (stamps_of rest) → AllByRecursion (λ y. low ≤ y) (stamps_of (stamped stamp bytes ++ rest))
@@ -39,12 +39,9 @@ pub record Beside (high : ℕ) (ledger : Ledger) (sends now pieces : List Send) 
   pub front : take ledger.first now ≡ take ledger.first sends
   pub sent : ledger.trial ≡ Some (drop ledger.first now)
 
-pub trial_is : (high : ℕ) (ledger : Ledger) (sends now pieces : List Send) → Beside high ledger sends now pieces → trial_sends ledger ≡ drop ledger.first now
-trial_is high ledger sends now pieces b = ap (λ (o : Option (List Send)). unwrap_or o []) b.sent
-
 pub now_is : (high : ℕ) (ledger : Ledger) (sends now pieces : List Send) → Beside high ledger sends now pieces → take ledger.first sends ++ trial_sends ledger ≡ now
 now_is high ledger sends now pieces b =
-    ap (λ (all : List Send). take ledger.first sends ++ all) (trial_is high ledger sends now pieces b) ∙ ap (λ (all : List Send). all ++ drop ledger.first now) (sym b.front) ∙ take-append-drop ledger.first now
+    ap (λ (all : List Send). take ledger.first sends ++ all) (ap (λ (o : Option (List Send)). unwrap_or o []) b.sent) ∙ ap (λ (all : List Send). all ++ drop ledger.first now) (sym b.front) ∙ take-append-drop ledger.first now
 
 pub covers_now : (high : ℕ) (ledger : Ledger) (sends now pieces : List Send) → Beside high ledger sends now pieces → ledgers.Covers ledger → (conn : ℕ) → Prefix (sent_to conn pieces) (sent_to conn now)
 covers_now high ledger sends now pieces b covers conn =
@@ -69,21 +66,6 @@ now_covers_before high item ledger sends now pieces b covers =
     covers_before-shows ledger sends pieces item b.shows (λ q. stamped_in_order high q pieces b.ordered)
     (λ conn. subst (λ (all : List Send). Prefix (sent_to conn all) (sent_to conn (take ledger.first sends ++ trial_sends ledger))) (sym (until_is item pieces))
     (subst (λ (all : List Send). Prefix (sent_to conn (until item pieces)) (sent_to conn all)) (sym (now_is high ledger sends now pieces b)) (covers conn)))
-
--- agreeing, by parts
-and_assoc : (a b c : Bool) → ((a && b) && c) ≡ (a && (b && c))
-and_assoc true b c = refl
-and_assoc false b c = refl
-
-pub agree-append : (xs ys ps : List ℕ) → agree (xs ++ ys) ps ≡ (agree xs ps && agree ys (drop (length xs) ps))
-unfolding agree
-agree-append [] ys ps = refl
-agree-append (x ∷ xs) ys [] = sym (none ys (length (x ∷ xs)))
-  where
-    none : (ys : List ℕ) (n : ℕ) → agree ys (drop n []) ≡ true
-    none [] n = refl
-    none (y ∷ ys) n = ap (agree (y ∷ ys)) (drop_all {X = ℕ} n [] (omega arith))
-agree-append (x ∷ xs) ys (p ∷ ps) = ap (λ (b : Bool). (x == p) && b) (agree-append xs ys ps) ∙ sym (and_assoc (x == p) (agree xs ps) (agree ys (drop (length xs) ps)))
 
 -- what comes next of a trial is compared with what was passed behind its run
 pub next_agrees : (high : ℕ) (ledger : Ledger) (sends now pieces : List Send) (send : Send) → Beside high ledger sends now pieces

@@ -12,7 +12,6 @@ pub mod Adopting
 pub mod WalkLemmas
 pub mod Mirrors
 pub mod Chains
-pub mod Flags
 pub mod RingLemmas
 pub mod Forces
 pub mod Survived

@@ -1,8 +1,7 @@
 -- Two lists of which one is the other from its end: saved slots from the oldest on, and checkpoints from the newest on.
-use Rattle.std.proofs.Common.{map}
 use Rattle.std.specs.Option.{option_map}
 use Rattle.ckpt_ring.proofs.SlotLemmas.{from_newest_push}
-use Rattle.recovery.proofs.Terms.{List, Some, [], ap, arith, drop, length, length-append, length-drop, refl, suc, sym, take, zero, ℕ, ◌++◌, ◌+◌, ◌-◌, ◌<◌, ◌∙◌, ◌∷◌, ◌≡◌, length-map, length-take-le, slice_get-map, slice_get, slice_get-append_left, slice_get-drop, slice_get-take, from_newest}
+use Rattle.recovery.proofs.Terms.{List, Some, [], ap, arith, drop, length, length-append, length-drop, refl, suc, sym, take, zero, ℕ, ◌++◌, ◌+◌, ◌-◌, ◌<◌, ◌∙◌, ◌∷◌, ◌≡◌, length-map, length-take-le, slice_get-map, map, slice_get, slice_get-append_left, slice_get-drop, slice_get-take, from_newest}
 
 module _ {X S : Type 0} where
   -- what is read of the newest ones
@@ -21,10 +20,9 @@ module _ {X Y S : Type 0} where
     each : (index : ℕ) → index < length (y ∷ ys) → option_map f (from_newest (xs ++ x ∷ []) index) ≡ option_map g (slice_get (y ∷ ys) index)
     each zero less = ap (option_map f) (from_newest_push xs x) ∙ ap (λ s. Some s) same
     each (suc index) less =
-        let many : length xs ≡ length ys = m.many in
         let low : index < length ys = omega (arith, less) in
         let place : length (xs ++ x ∷ []) - suc index - 1 ≡ length xs - index - 1 = simp length-append (omega arith) in
-        ap (λ n. option_map f (slice_get (xs ++ x ∷ []) n)) place ∙ (ap (option_map f) (slice_get-append_left xs (x ∷ []) (length xs - index - 1) (omega (arith, many, low))) ∙ m.each index low)
+        ap (λ n. option_map f (slice_get (xs ++ x ∷ []) n)) place ∙ (ap (option_map f) (slice_get-append_left xs (x ∷ []) (length xs - index - 1) (omega (arith, m.many, low))) ∙ m.each index low)
 
   -- without the first of the one and the last of the other
   pub mirrors_later : (f : X → S) (g : Y → S) (xs : List X) (ys : List Y) (count : ℕ) → Mirrors f g xs ys → Mirrors f g (drop count xs) (take (length xs - count) ys)

@@ -1,5 +1,5 @@
 -- What a recovery makes of a failure, from what its walk left.
-use Rattle.recovery.proofs.Terms.{List, Option, Some, [], ap, arith, drop, length, refl, subst, sym, take, ℕ, ◌++◌, ◌+◌, ◌-◌, ◌<◌, ◌∙◌, ◌≡◌, ◌≤◌, slice_get_within, Choice, Checkpoints, without_newer, Saved, Slots, Log, Ledger, AsksFor, Path, Served, CpuState, standing_of, Standing, Episode, Try, chained_at, steps_later, IsRecovery, episode_of, Trial, WalksOver, table, plan_of_trial, Adopted, FailureSite, Failure, items_of, pieces_of, HasWalked, KeepsSaved, StandsOn, steps_of, HasSameBytes, IsEpisode, IsInForce, Adopts, HasAdoptedRun, HasToRecover, KeepsSlots, recovery_of, keeping_by}
+use Rattle.recovery.proofs.Terms.{List, Option, Some, [], ap, arith, drop, length, refl, subst, sym, take, ℕ, ◌++◌, ◌+◌, ◌-◌, ◌<◌, ◌∙◌, ◌≡◌, ◌≤◌, slice_get_within, Choice, Checkpoints, without_newer, Saved, Slots, Log, Ledger, AsksFor, Path, Served, CpuState, standing_of, Standing, Episode, Try, chained_at, steps_later, IsRecovery, episode_of, Trial, WalksOver, table, plan_of_trial, Adopted, FailureSite, Failure, items_of, pieces_of, HasWalked, KeepsSaved, StandsOn, HasSameBytes, IsEpisode, IsInForce, Adopts, HasAdoptedRun, HasToRecover, KeepsSlots, recovery_of, keeping_by}
 use Rattle.recovery.proofs.RingLemmas.{as_many_stand, ring_beside, ring_adopts}
 use Rattle.recovery.proofs.Forces.{in_force_from}
 use Rattle.recovery.proofs.Survived.{HasSurvived, adopted_asks, OwnAnswers, own_answers}
@@ -26,9 +26,7 @@ module _ {R : Type 0} {site : FailureSite} {failure : Failure} {old : CpuState R
   pub episode_tells : (begun : Path) (episode : Episode) {cpu : CpuState R} {own : List Choice} {later : Ledger} {before after : ℕ} {adopted : Option Adopted} → IsEpisode site episode
       → (w : HasWalked failure site.point cpu own ledger later before after episode.tries adopted) → episode ≡ episode_of (recovery_of failure begun site.cause w.trials)
   episode_tells begun episode is w =
-      let at : episode.point ≡ failure.failed.state.machine.taken = is.point_is ∙ sym has.failed.point_is in
-      let counter : episode.pc ≡ failure.failed.state.machine.pc = is.pc_is ∙ sym has.pc_is in
-      λ i. record { point = at i; cause = is.cause_is i; pc = counter i; tries = w.tries_are i }
+      λ i. record { point = (is.point_is ∙ sym has.failed.point_is) i; cause = is.cause_is i; pc = (is.pc_is ∙ sym has.pc_is) i; tries = w.tries_are i }
 
   -- the answers of malloc of the trial that survived
   own_of : {trials : List Trial} {adopted : Adopted} {cpu : CpuState R} {own : List Choice} {later : Ledger} (s : HasSurvived failure site.point trials adopted cpu own later) → OwnAnswers recorded failure.failed s.trial.path own
@@ -39,17 +37,13 @@ module _ {R : Type 0} {site : FailureSite} {failure : Failure} {old : CpuState R
   can_adopt {adopted = adopted} {cpu = cpu} {own = own} s =
       let answers = own_of s in
       let there : cpu.slots.live.guest.machine.allocations ≡ s.trial.path.state.machine.allocations = ap (λ (one : Standing). one.guest.machine.allocations) s.adopts.stands in
-      let chose : length choices ≡ length (drop recorded failure.failed.choices) = ap length has.chose in
-      let few : recorded + length own ≤ s.trial.path.state.machine.allocations = answers.few in
-      let first : s.trial.path.state.machine.allocations ≤ recorded + length (drop recorded failure.failed.choices) + length own = answers.first in
-      let low : adopted.index < length failure.ring = slice_get_within failure.ring adopted.index s.trial.chance.checkpoint s.from in
       let many : length checkpoints.standing ≡ length failure.ring =
       as_many_stand failure.rules failure.image failure.entries failure.plan failure.failed failure.ring old checkpoints log ledger has.ring in
       record {
-        within = omega (arith, low, many);
+        within = omega (arith, slice_get_within failure.ring adopted.index s.trial.chance.checkpoint s.from, many);
         base = s.adopts.stands_on;
-        few = omega (arith, there, few);
-        first = omega (arith, there, chose, first);
+        few = omega (arith, there, answers.few);
+        first = omega (arith, there, ap length has.chose, answers.first);
       }
 
   -- the session goes on as the trial
@@ -65,8 +59,6 @@ module _ {R : Type 0} {site : FailureSite} {failure : Failure} {old : CpuState R
       let answers = own_of s in
       let there : cpu.slots.live ≡ standing_of trial.path = s.adopts.stands in
       let chain = chained_at failure.rules.limits (items_of failure) failure.plan failure.image failure.failed failure.ring adopted.index checkpoint has.failed.has.chained s.from in
-      let low : checkpoint.steps ≤ failure.failed.steps = steps_later failure.rules.limits (items_of failure) failure.plan checkpoint failure.failed chain.0 in
-      let least : trial.path.steps - checkpoint.steps ≤ steps_of trials = s.least in
       record {
         env_is = s.env_is;
         code_is = what.0;
@@ -89,16 +81,15 @@ module _ {R : Type 0} {site : FailureSite} {failure : Failure} {old : CpuState R
             (in_force_from failure.rules failure.image failure.entries failure.plan failure.failed failure.ring old checkpoints log ledger trial.chance.env site.cause adopted.index checkpoint has.ring has.fails s.from);
         replies = s.adopts.replies;
         goes = s.adopts.goes;
-        enough = omega (arith, low, least);
+        enough = omega (arith, steps_later failure.rules.limits (items_of failure) failure.plan checkpoint failure.failed chain.0, s.least);
       }
 
   -- behind an adoption the slots stand up to its own
   pub adopted_slots : {trials : List Trial} {adopted : Adopted} {walked new : CpuState R} {dropped : Checkpoints} {own joined : List Choice} {later : Ledger} → KeepsSaved old walked → HasSurvived failure site.point trials adopted walked own later
       → Adopts adopted.index recorded own walked new checkpoints dropped choices joined → KeepsSlots (Some adopted) old new
   adopted_slots {adopted = adopted} {walked = walked} keeps s adopts =
-      let low : adopted.index < length failure.ring = slice_get_within failure.ring adopted.index s.trial.chance.checkpoint s.from in
       let many : length old.slots.saved ≡ length failure.ring = has.ring.as_many in (
-        omega (arith, low, many),
+        omega (arith, slice_get_within failure.ring adopted.index s.trial.chance.checkpoint s.from, many),
         ap (λ (slots : Slots Standing). slots.saved) adopts.slots ∙ ap (λ (all : List (Saved Standing)). without_newer adopted.index all) keeps.saved,
       )
 

@@ -1,12 +1,38 @@
 -- The ring of a session's checkpoints, one lemma for each event of a session.
-use Rattle.std.proofs.Common.{map}
-use Rattle.std.specs.Prelude.{◌^◌, Bool}
 use Rattle.run_history.specs.Machine as M
 use Rattle.ckpt_ring.proofs.KeptLemmas.{longest_end_drops}
-use Rattle.recovery.proofs.Terms.{IfSome, List, None, Option, Some, [], ap, append-nil, arith, drop, false, inl, inr, length, length-drop, refl, subst, suc, sym, take, true, zero, ℕ, ◌++◌, ◌+◌, ◌-◌, ◌<◌, ◌∙◌, ◌∷◌, ◌≡◌, ◌≤◌, both_ways, le-leb, lt-leb, length-map, length-take-le, none-some, slice_get_within, IsSomeAnd, replicate, slice_get, slice_get-drop, Item, Entry, Env, Checkpoint, Checkpoints, checkpoint_of, checkpoints_of, has_room, kept, saved_in_ring, Saved, Slots, newest_slot, with_whole_oldest, without_newer_slots, count_true, Log, Ledger, Image, base, no_connections_may, may_send, AsksFor, Limits, Override, Path, Served, origin, CpuState, with_live, standing_of, Live, Standing, runs_start, Writes, served_same, items_in, KeepsItems, KeepsReplies, Rules, Carries, asks_under_all, chained_adopt, AreChained, AreCheckpoints, plan_of_trial, AreKept, CanGoOn, HasFailed, IsKept, taken_in, KeepsSaved, Brings, IsRingOf, KeepsRing, is_due_after}
+use Rattle.recovery.proofs.Terms.{Bool, IfSome, List, None, Option, Some, [], ap, append-nil, arith, drop, false, inl, inr, length, length-drop, refl, subst, suc, sym, take, true, zero, ℕ, ◌++◌, ◌+◌, ◌-◌, ◌<◌, ◌^◌, ◌∙◌, ◌∷◌, ◌≡◌, ◌≤◌, both_ways, le-leb, lt-leb, length-map, length-take-le, none-some, slice_get_within, IsSomeAnd, map, replicate, slice_get, slice_get-drop, Item, Entry, Env, Checkpoint, Checkpoints, checkpoint_of, checkpoints_of, has_room, kept, saved_in_ring, Saved, Slots, newest_slot, with_whole_oldest, without_newer_slots, count_true, Log, Ledger, Image, base, no_connections_may, may_send, AsksFor, Limits, Override, Path, Served, origin, CpuState, with_live, standing_of, Live, Standing, runs_start, writes_more, writes_none, writes_on, Writes, served_same, items_in, KeepsItems, KeepsReplies, Rules, Carries, asks_under_all, chained_adopt, AreChained, AreCheckpoints, plan_of_trial, AreKept, CanGoOn, HasFailed, IsKept, taken_in, KeepsSaved, Brings, KeepsRing, is_due_after}
 use Rattle.recovery.proofs.Mirrors.{Mirrors, mirrors_none, mirrors_push, mirrors_later, mirrors_earlier, mirrors_as}
-use Rattle.recovery.proofs.Flags.{WroteSince, flags_clear, wrote_none, wrote_on, wrote_more}
 use Rattle.recovery.proofs.Chains.{chained_on, chained_with, chained_take, are_take, kept_take, kept_drop, kept_with}
+
+-- where none is true, all flags are false
+none_true : (flags : List Bool) → count_true flags ≡ 0 → flags ≡ replicate (length flags) false
+none_true [] none = refl
+none_true (true ∷ flags) none = absurd (omega (arith, none))
+none_true (false ∷ flags) none = ap (λ (rest : List Bool). false ∷ rest) (none_true flags (omega (arith, none)))
+
+pub flags_clear : (flags : List Bool) (pages written : ℕ) → length flags ≡ pages → count_true flags ≡ written → written ≡ 0 → flags ≡ replicate pages false
+flags_clear flags pages written many count none = none_true flags (count ∙ none) ∙ ap (λ n. replicate n false) many
+
+-- since the newest of some checkpoints the run wrote these pages
+abbrev pub WroteSince : Limits → List Item → ℕ → ℕ → List Path → Path → List Bool → Type 0
+WroteSince limits items base pages ring now flags = IfSome (slice_get ring 0) (λ newest. Writes limits items base newest (replicate pages false) now flags)
+
+-- none, where it is the newest itself
+pub wrote_none : (limits : Limits) (items : List Item) (base pages count : ℕ) (now : Path) (ring : List Path) (flags : List Bool) → flags ≡ replicate pages false → WroteSince limits items base pages (take count (now ∷ ring)) now flags
+wrote_none limits items base pages zero now ring flags clear = tt
+wrote_none limits items base pages (suc count) now ring flags clear = subst (λ (after : List Bool). Writes limits items base now (replicate pages false) now after) (sym clear) (writes_none limits items base now (replicate pages false))
+
+-- and those that it writes as it goes on
+pub wrote_on : (limits : Limits) (items : List Item) (base pages : ℕ) (ring : List Path) (now : Path) (flags : List Bool) (next : Path) (later : List Bool) → Writes limits items base now flags next later
+    → WroteSince limits items base pages ring now flags → WroteSince limits items base pages ring next later
+wrote_on limits items base pages [] now flags next later wrote since = tt
+wrote_on limits items base pages (newest ∷ older) now flags next later wrote since = writes_on limits items base newest (replicate pages false) now flags next later since wrote
+
+-- with more items too
+pub wrote_more : (limits : Limits) (items more : List Item) (base pages : ℕ) (ring : List Path) (now : Path) (flags : List Bool) → WroteSince limits items base pages ring now flags → WroteSince limits (items ++ more) base pages ring now flags
+wrote_more limits items more base pages [] now flags since = tt
+wrote_more limits items more base pages (newest ∷ older) now flags since = writes_more limits items more base newest (replicate pages false) now flags since
 
 -- the state of a saved slot
 abbrev state_of : Saved Standing → Standing
@@ -78,17 +104,15 @@ module _ {R : Type 0} where
       let there : AreSaved new.slots.saved (take (length new.slots.saved) (now ∷ ring)) =
       saved_then capacity slot old.slots new.slots.saved now ring m live (ap (λ (slots : Slots Standing). slots.saved) saves) in
       let some : 0 < length new.slots.saved = some_saved new.slots.saved slot (sym stands_on ∙ ap (λ (slots : Slots Standing). slots.base) saves) in
-      let many : length new.slots.saved ≡ length (take (length new.slots.saved) (now ∷ ring)) = there.many in
-      let count : new.slots.count ≡ old.slots.count = ap (λ (slots : Slots Standing). slots.count) saves in
       record {
-        some = omega (arith, some, many);
+        some = omega (arith, some, there.many);
         chained = chained_take rules.limits (items_in rules.bounds entries) plan image now (now ∷ ring) (length new.slots.saved) chained;
         are = are_take rules.limits image (now ∷ ring) (length new.slots.saved) are;
         kept = kept_take rules entries log ledger (now ∷ ring) (length new.slots.saved) kept;
         as_many = there.many;
         saved = there.each;
         standing = standing;
-        capacity = omega (arith, few, count);
+        capacity = omega (arith, few, ap (λ (slots : Slots Standing). slots.count) saves);
         base = stands_on;
         window = window;
         wrote =
@@ -132,12 +156,6 @@ module _ {R : Type 0} where
       → KeepsRing rules image entries plan now ring cpu checkpoints log ledger → length checkpoints.standing ≡ length ring
   as_many_stand rules image entries plan now ring cpu checkpoints log ledger k =
       ap length k.standing ∙ (length-map {A = Saved Standing} {B = Checkpoint} cpu.slots.saved (checkpoint_of taken_in) ∙ k.as_many)
-
-  -- what the ring and the slots have in common
-  pub is_ring_of : (rules : Rules) (image : Image) (entries : List Entry) (plan : List Override) (now : Path) (ring : List Path) (cpu : CpuState R) (checkpoints : Checkpoints) (log : Log) (ledger : Ledger)
-      → KeepsRing rules image entries plan now ring cpu checkpoints log ledger → IsRingOf cpu checkpoints
-  is_ring_of rules image entries plan now ring cpu checkpoints log ledger k =
-      record { some = omega (arith, as_many_stand rules image entries plan now ring cpu checkpoints log ledger k, k.some); standing = k.standing; capacity = k.capacity; base = k.base }
 
   -- The survivor's run goes on, and writes pages: of the guest the live state changes alone.
   pub ring_on : (rules : Rules) (image : Image) (entries : List Entry) (plan : List Override) (now next : Path) (ring : List Path) (old new : CpuState R) (live : Live) (checkpoints : Checkpoints) (log : Log) (ledger : Ledger)
@@ -223,8 +241,6 @@ module _ {R : Type 0} where
       → KeepsRing rules image entries (plan_of_trial plan checkpoint.state.machine.taken env point) path (drop index ring) new dropped log ledger
   ring_adopts rules image entries plan failed path ring old tried new checkpoints dropped log ledger env point index checkpoint k found served keeps cut capacity standing stands_on window flags wrote =
       let chain = chained_adopt rules.limits (items_in rules.bounds entries) plan image env point failed path ring index checkpoint k.chained k.are found served in
-      let left : length (drop index ring) ≡ length ring - index = length-drop index ring in
-      let within : index < length ring = slice_get_within ring index checkpoint found in
       let saved : new.slots.saved ≡ take (length old.slots.saved - index) old.slots.saved =
       ap (λ (slots : Slots Standing). slots.saved) cut ∙ ap (λ (all : List (Saved Standing)). take (length all - index) all) keeps.saved in
       let count : new.slots.count ≡ old.slots.count = ap (λ (slots : Slots Standing). slots.count) cut ∙ keeps.count in
@@ -233,7 +249,7 @@ module _ {R : Type 0} where
       let m : AreSaved new.slots.saved (drop index ring) =
       subst (λ (all : List (Saved Standing)). AreSaved all (drop index ring)) (sym saved) (mirrors_earlier state_of standing_of old.slots.saved ring index (saved_of rules image entries plan failed ring old checkpoints log ledger k)) in
       record {
-        some = omega (arith, left, within);
+        some = omega (arith, length-drop index ring, slice_get_within ring index checkpoint found);
         chained = chain.0;
         are = chain.1;
         kept = kept_drop rules entries log ledger ring index k.kept;

@@ -1,5 +1,4 @@
 -- The guest of a trial runs to its next event: what that makes of the trial.
-use Rattle.std.proofs.Common.{replicate}
 use Rattle.std.proofs.lemmas.Nat.{mul-le}
 use Rattle.item_log.specs.Heard as heard
 use Rattle.guest_cpu.specs.declared.event.Event.TheVariants as event
@@ -10,7 +9,7 @@ use Rattle.guest_runs.proofs.OneMore.{one_more}
 use Rattle.guest_runs.proofs.TurnEvents.{Means, turn_means}
 use Rattle.guest_runs.proofs.TurnWrites.{WritesAs, turn_writes}
 use Rattle.guest_runs.proofs.QuietRuns.{goes_one, goes_on, ComesWriting, comes_writing}
-use Rattle.recovery.proofs.Terms.{AllocError, Bool, List, None, Option, Some, [], ap, arith, drop, false, length, refl, subst, sym, take, true, ℕ, ◌*◌, ◌++◌, ◌+◌, ◌-◌, ◌<◌, ◌^◌, ◌∙◌, ◌∷◌, ◌≡◌, ◌≤◌, Ok, Result, slice_get, unwrap_or, Item, Send, sent_to, LinkEvent, events_in, Choice, Heap, Env, Log, Ledger, agree, served_next_more, may_send, Machine, State, Limits, Override, Path, env_at, planned_next, served_next, limits_of, Event, CpuState, live_of, with_live, Adds, standing_of, Live, Standing, Turn, live_after, turn, with_range, runs_write, writes_on, writes_then, GoesOn, IsSilent, RunsWriting, Writes, writes, served_on, Bounds, received, KeepsItems, env_within, everywhere, IsUnharmed, CanGoOn, Failure, IsUnder, items_of, pieces_of, IsTrying, KeepsBase, KeepsSaved}
+use Rattle.recovery.proofs.Terms.{AllocError, Bool, List, None, Option, Some, [], ap, arith, drop, false, length, refl, subst, sym, take, true, ℕ, ◌*◌, ◌++◌, ◌+◌, ◌-◌, ◌<◌, ◌^◌, ◌∙◌, ◌∷◌, ◌≡◌, ◌≤◌, Ok, Result, replicate, slice_get, unwrap_or, Item, Send, sent_to, Choice, Heap, Env, Log, Ledger, agree, served_next_more, may_send, Machine, State, Limits, Override, Path, env_at, planned_next, served_next, limits_of, Event, CpuState, live_of, with_live, Adds, standing_of, Live, Standing, Turn, live_after, turn, with_range, runs_write, writes_on, writes_then, GoesOn, IsSilent, RunsWriting, Writes, writes, served_on, env_within, everywhere, IsUnharmed, CanGoOn, Failure, IsUnder, items_of, pieces_of, IsTrying, KeepsBase, KeepsSaved}
 use Rattle.recovery.proofs.Few.{few_items}
 use Rattle.recovery.proofs.Starting.{failed_still}
 
@@ -18,18 +17,9 @@ use Rattle.recovery.proofs.Starting.{failed_still}
 pub force_is : (env : Env) (point taken : ℕ) → taken ≤ point → env_at (everywhere env point) taken ≡ env
 force_is env point taken early = env_within [] 0 (point + 4) env taken (omega arith) (omega (arith, early))
 
--- what was received of a journal with a log is no more than may be
-pub received_few : (bounds : Bounds) (entries : List Rattle.links.specs.declared.journal.Entry.Entry) (log : Log) → KeepsItems bounds entries log → received bounds entries ≤ bounds.max_items
-received_few bounds entries log keeps =
-    subst (λ (events : List LinkEvent). length (heard.items_of bounds.framing events) ≤ bounds.max_items) (sym keeps.all_heeded) (few_items bounds (events_in entries) keeps.all_heeded)
-
-mul_low : (a b c d : ℕ) → a ≤ c → b ≤ d → a * b ≤ c * d
-mul_low a b c d few low = mul-le a b c d few low
-
 room : (steps at taken since budget : ℕ) → at ≡ steps → steps ≤ taken * (budget + 1) + since → since ≤ budget → taken ≤ 2 ^ 20 → budget ≤ 2 ^ 24 → at + budget < 2 ^ 64 - 1
 room steps at taken since budget same bounded last few budgeted =
-    let low : taken * (budget + 1) ≤ 2 ^ 20 * (2 ^ 24 + 1) = mul_low taken (budget + 1) (2 ^ 20) (2 ^ 24 + 1) few (omega (arith, budgeted)) in
-    omega (arith, same, bounded, last, budgeted, low)
+    omega (arith, same, bounded, last, budgeted, mul-le taken (budget + 1) (2 ^ 20) (2 ^ 24 + 1) few (omega (arith, budgeted)))
 
 -- the second state sent as much, and took as many items
 pub unharmed_still : (pieces : List Send) (point : ℕ) (s t : State) → t.sends ≡ s.sends → t.machine.taken ≡ s.machine.taken → IsUnharmed pieces point s → IsUnharmed pieces point t
@@ -64,9 +54,8 @@ module _ {R : Type 0} where
   trying_room failure point checkpoint env cpu choices log ledger t =
       let bounded = t.goes.bounded t.lives in
       let f = t.failed.has in
-      let few = received_few failure.rules.bounds failure.entries log f.items in
       room t.path.steps cpu.slots.live.steps t.path.state.machine.taken t.path.state.machine.since failure.rules.limits.budget (ap (λ (s : Standing). s.steps) t.stands) bounded.steps bounded.since
-      (omega (arith, t.unharmed.early, t.failed.point_is, f.taken, few, f.few_items)) t.failed.few_steps
+      (omega (arith, t.unharmed.early, t.failed.point_is, f.taken, few_items failure.rules.bounds failure.entries, f.few_items)) t.failed.few_steps
 
   -- how the guest of a trial runs
   abbrev pub Ran : ℕ → (Heap → ℕ → ℕ → Bool) → Env → CpuState R → CpuState R → Result Event AllocError → Type 0

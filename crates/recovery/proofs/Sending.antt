@@ -1,5 +1,4 @@
 -- A trial sends bytes, or takes an item.
-use Rattle.std.proofs.lemmas.List.Elements.{filter-append}
 use Rattle.item_log.specs.Log as logs
 use Rattle.reply_ledger.specs.Trials as ledgers
 use Rattle.run_history.specs.Run.{does}
@@ -7,28 +6,25 @@ use Rattle.guest_cpu.specs.Receiving.{received_range, taken_standing, live_with_
 use Rattle.guest_runs.proofs.TakeLemmas.{takes_write, asks_wants}
 use Rattle.session_notes.specs.declared.episode.Tried.TheVariants as tried
 use Rattle.session_history.specs.Passing.{CoversBefore}
-use Rattle.session_history.proofs.Passing.{all_until}
+use Rattle.session_history.proofs.Passing.{all_until, until_grown}
 use Rattle.link_gate.proofs.ItemLemmas.{item_is, item_fits, opened_items, received_is}
 use Rattle.recovery.proofs.Terms.{Bool, List, None, Option, Some, [], ap, append-nil, arith, cond, drop, eqb, false, inl, inr, length, length-append, refl, subst, suc, sym, take, true, zero, ℕ, ◌++◌, ◌+◌, ◌-◌, ◌<◌, ◌^◌, ◌∙◌, ◌∷◌, ◌≡◌, ◌≤◌, ◌⊎◌, eqb-true, true≢false, drop-append-le, take-append-le, IsSome, is_some, slice_get, unwrap_or, Item, Prefix, Send, sent_to, events_in, Choice, Env, IsItemOf, Log, IsOpened, Ledger, NotBefore, connection_of, times_of, agree, discarded, trial_sends, with_trial_send, OpenWithin, within_after, prefix_sent, prefix_trans, sent_to-more, may_send, State, Wants, Path, CpuState, live_of, Live, Standing, with_range, TakesOn, TakesWriting, Writes, Grows, between_append, between_wider, served_on, heeded, received, AreSendable, IsSendable, opens, AreBetween, IsFeasible, until, everywhere, IsContradicted, CanGoOn, Failure, items_of, pieces_of, HasCome, IsAsking, IsTrying, agrees_next, KeepsSaved}
 use Rattle.recovery.proofs.Joining.{next_agrees, agree_more, differs_more, covers_before_now}
 use Rattle.recovery.proofs.Starting.{failed_still}
 use Rattle.recovery.proofs.Running.{SendsOn, unharmed_still, may_send_by, trying_room, wrote_on}
 use Rattle.recovery.proofs.Coming.{beside, comes_at}
+use Rattle.link_gate.proofs.ReplyLemmas.{sendable_then}
 
 -- no send was made with more items taken than there are
-times_low : (low high : ℕ) (all : List Send) → AreBetween low high all → NotBefore high (times_of all)
+pub times_low : (low high : ℕ) (all : List Send) → AreBetween low high all → NotBefore high (times_of all)
 unfolding times_of
 times_low low high [] between = tt
 times_low low high (send ∷ all) between = (between.1, times_low low high all between.2)
 
-between_behind : (n low high : ℕ) (all : List Send) → AreBetween low high all → AreBetween low high (drop n all)
+pub between_behind : (n low high : ℕ) (all : List Send) → AreBetween low high all → AreBetween low high (drop n all)
 between_behind zero low high all between = between
 between_behind (suc n) low high [] between = between
 between_behind (suc n) low high (send ∷ all) between = between_behind n low high all between.2
-
-sendable_then : (sends : List Send) (send : Send) → AreSendable sends → IsSendable send → AreSendable (sends ++ send ∷ [])
-sendable_then [] send are is = (is, tt)
-sendable_then (first ∷ sends) send are is = (are.0, sendable_then sends send are.1 is)
 
 -- a connection to which nothing was sent, and a send to one that was opened
 opened_then : (conn : ℕ) (sends : List Send) (send : Send) (shut : Bool) → (send.conn ≡ conn → ⊥) → sent_to conn sends ≡ [] → sent_to conn (sends ++ send ∷ []) ≡ []
@@ -41,10 +37,6 @@ opened_then conn sends send shut other none = of (eqb send.conn conn) refl
 -- the sends of a run with one more
 grows_send : (s t : State) (send : Send) → t.sends ≡ s.sends ++ send ∷ [] → t.machine.taken ≡ s.machine.taken → send.taken ≡ s.machine.taken → Grows s t
 grows_send s t send sends taken at = record { more = send ∷ []; sends = sends; taken = omega (arith, taken); between = (omega (arith, at), omega (arith, at, taken), tt) }
-
--- the sends made in time of a run that went on begin with those of the run
-until_grown : (item : ℕ) (s t : State) → Grows s t → Prefix (until item s.sends) (until item t.sends)
-until_grown item s t grows = (until item grows.more, sym (ap (until item) grows.sends ∙ filter-append _ s.sends grows.more))
 
 -- a state that grew and took no item stays feasible
 feasible_still : (pieces : List Send) (s t : State) → Grows s t → t.machine.taken ≡ s.machine.taken → IsFeasible pieces s → IsFeasible pieces t
@@ -61,7 +53,7 @@ feasible_taken pieces s t sends taken timed covers feasible item low conn = of (
         subst (λ (all : List Send). Prefix (sent_to conn (until item pieces)) (sent_to conn all)) (sym (ap (until item) sends ∙ all_until item 0 s.machine.taken s.sends at timed))
         (subst (λ n. Prefix (sent_to conn (until n pieces)) (sent_to conn s.sends)) (sym same) (covers conn))
 
-is_known : {X : Type 0} (found : Option X) → is_some found ≡ true → IsSome found
+pub is_known : {X : Type 0} (found : Option X) → is_some found ≡ true → IsSome found
 is_known found is = is
 
 module _ {R : Type 0} where
@@ -105,7 +97,6 @@ module _ {R : Type 0} where
   sends_same failure point checkpoint env old new choices log ledger after conn bytes taken t s saved is noted same agrees =
       let send : Send = record { conn = conn; bytes = bytes; taken = t.path.state.machine.taken } in
       let first : after.first ≡ ledger.first = ap (λ (l : Ledger). l.first) noted in
-      let grows = grows_send t.path.state s.now.state send s.sends s.goes.taken refl in
       let next = sym (next_agrees (received failure.rules.bounds failure.entries) ledger failure.failed.state.sends t.path.state.sends (pieces_of failure) send (beside failure point checkpoint env old choices log ledger t)) ∙ same in
       record {
         failed = failed_still point failure old new log ledger after saved (ap discarded noted) t.failed;
@@ -114,7 +105,7 @@ module _ {R : Type 0} where
         served = served_on failure.rules.limits (items_of failure) (everywhere env point) checkpoint t.path s.now t.served s.goes.served;
         unharmed = record {
           agrees = λ q. subst (λ (all : List Send). agree (sent_to q all) (sent_to q (pieces_of failure)) ≡ true) (sym s.sends) (agree_more t.path.state.sends (pieces_of failure) send next t.unharmed.agrees q);
-          feasible = feasible_still (pieces_of failure) t.path.state s.now.state grows s.goes.taken t.unharmed.feasible;
+          feasible = feasible_still (pieces_of failure) t.path.state s.now.state (grows_send t.path.state s.now.state send s.sends s.goes.taken refl) s.goes.taken t.unharmed.feasible;
           early = omega (arith, t.unharmed.early, s.goes.taken);
         };
         lives = s.lives;
@@ -166,8 +157,7 @@ module _ {R : Type 0} where
       → taken ≡ a.trying.path.state.machine.taken → (taken ≡ point → ⊥) → (log.first ≤ taken) × (taken < logs.received log)
   takes_kept failure point checkpoint env cpu choices log ledger taken a is other =
       let h = a.trying.failed.has in
-      let count : logs.received log ≡ received failure.rules.bounds failure.entries = received_is failure.rules.bounds failure.entries log h.items in
-      (omega (arith, is, a.trying.items), omega (arith, is, other, a.trying.unharmed.early, count, h.taken, a.trying.failed.point_is))
+      (omega (arith, is, a.trying.items), omega (arith, is, other, a.trying.unharmed.early, received_is failure.rules.bounds failure.entries log h.items, h.taken, a.trying.failed.point_is))
 
   pub takes_short : (failure : Failure) (point : ℕ) (checkpoint : Path) (env : Env) (cpu : CpuState R) (choices : List Choice) (log : Log) (ledger : Ledger) (taken : ℕ) (item : Item) (a : IsAsking failure point checkpoint env cpu choices log ledger)
       → IsItemOf log taken item → length item.bytes < 2 ^ 32
@@ -181,8 +171,7 @@ module _ {R : Type 0} where
       let t = a.trying in
       let first : Path = t.path in
       let found : slice_get (items_of failure) taken ≡ Some item = item_is failure.rules.bounds failure.entries log taken item t.failed.has.items of_events in
-      let range = received_range item first.state.machine in
-      let both : TakesWriting failure.rules.limits (items_of failure) (everywhere env point) old.base first old.written item (with_range old.base range old.written) =
+      let both : TakesWriting failure.rules.limits (items_of failure) (everywhere env point) old.base first old.written item (with_range old.base (received_range item first.state.machine) old.written) =
       takes_write failure.rules.limits (items_of failure) (everywhere env point) old.base first old.written item a.asks (ap (slice_get (items_of failure)) (sym is) ∙ found) in
       let takes : TakesOn failure.rules.limits (items_of failure) (everywhere env point) first item = both.took in
       let flags : new.written ≡ with_range old.base (received_range item first.state.machine) old.written =

@@ -1,8 +1,7 @@
 -- Where a trial begins.
-use Rattle.std.proofs.Common.{replicate}
 use Rattle.reply_ledger.specs.Trials as ledgers
 use Rattle.trials.proofs.Agreeing.{checkpoint_unharmed}
-use Rattle.recovery.proofs.Terms.{Bool, List, None, Option, Some, [], ap, append-nil, arith, drop, false, length, length-append, length-drop, refl, subst, suc, sym, take, true, zero, ℕ, ◌++◌, ◌+◌, ◌-◌, ◌<◌, ◌∙◌, ◌∷◌, ◌≡◌, ◌≤◌, take-append_seam, drop-append-le, length-map, take-append-le, none-some, same_Some, slice_get_within, IsSomeAnd, option_map, slice_get, Send, Entry, Env, Checkpoint, checkpoint_of, checkpoints_of, from_newest, Saved, Slots, restored, count_true, Log, Ledger, begun, discarded, Image, Limits, Path, Served, CpuState, standing_of, Standing, writes_none, Writes, Grows, served_same, Bounds, KeepsReplies, Rules, chained_at, served_grows, AreCheckpoints, IsCheckpoint, everywhere, IsUnharmed, AreKept, FailedAt, Failure, IsKept, items_of, pieces_of, taken_in, IsTrying, KeepsLedger, KeepsSaved}
+use Rattle.recovery.proofs.Terms.{Bool, List, None, Option, Some, [], ap, append-nil, arith, drop, false, length, length-append, length-drop, refl, subst, suc, sym, take, true, zero, ℕ, ◌++◌, ◌+◌, ◌-◌, ◌<◌, ◌∙◌, ◌∷◌, ◌≡◌, ◌≤◌, take-append_seam, drop-append-le, length-map, take-append-le, none-some, same_Some, slice_get_within, IsSomeAnd, option_map, replicate, slice_get, Send, Entry, Env, Checkpoint, checkpoint_of, checkpoints_of, from_newest, Saved, Slots, restored, count_true, Log, Ledger, begun, discarded, Image, Limits, Path, Served, CpuState, standing_of, Standing, writes_none, Writes, served_grows, Grows, served_same, Bounds, KeepsReplies, Rules, chained_at, AreCheckpoints, IsCheckpoint, everywhere, IsUnharmed, AreKept, FailedAt, Failure, IsKept, items_of, pieces_of, taken_in, IsTrying, KeepsLedger, KeepsSaved}
 
 -- what holds of each checkpoint holds of the one at an index
 pub kept_at : (rules : Rules) (entries : List Entry) (log : Log) (ledger : Ledger) (ring : List Path) (index : ℕ) (checkpoint : Path) → AreKept rules entries log ledger ring → slice_get ring index ≡ Some checkpoint → IsKept rules entries log ledger checkpoint
@@ -73,9 +72,8 @@ same_front first checkpoint failed more le split = sym (ap (take first) split �
 -- the sends of a trial that begins are those of its checkpoint
 sent_begun : (first : ℕ) (checkpoint more kept : List Send) → first ≤ length checkpoint → kept ≡ drop first (checkpoint ++ more) → take (length checkpoint - first) kept ≡ drop first checkpoint
 sent_begun first checkpoint more kept le is =
-    let count : length (drop first checkpoint) ≡ length checkpoint - first = length-drop first checkpoint in
     ap (take (length checkpoint - first)) (is ∙ drop-append-le first checkpoint more le)
-    ∙ (ap (λ n. take n (drop first checkpoint ++ more)) (sym count) ∙ take-append_seam (drop first checkpoint) more)
+    ∙ (ap (λ n. take n (drop first checkpoint ++ more)) (sym (length-drop first checkpoint)) ∙ take-append_seam (drop first checkpoint) more)
 
 -- the checkpoint at an index, and the run that failed
 pub record From (point : ℕ) (failure : Failure) (log : Log) (ledger : Ledger) (checkpoint : Path) : Type 0 where
@@ -103,10 +101,8 @@ module _ {R : Type 0} where
       → (ledger.first ≤ length checkpoint.state.sends) × (length checkpoint.state.sends ≤ ledger.first + length ledger.kept)
   sends_kept point failure cpu log ledger index checkpoint h found =
       let f = from_at point failure cpu log ledger index checkpoint h found in
-      let counted : ledger.first ≤ length failure.failed.state.sends = h.has.replies.shows.counted in
-      let kept : length ledger.kept ≡ length failure.failed.state.sends - ledger.first = ap length h.has.replies.shows.kept ∙ length-drop ledger.first failure.failed.state.sends in
       let more : length failure.failed.state.sends ≡ length checkpoint.state.sends + length f.grows.more = ap length f.grows.sends ∙ length-append checkpoint.state.sends f.grows.more in
-      (f.kept.sends, omega (arith, counted, kept, more))
+      (f.kept.sends, omega (arith, h.has.replies.shows.counted, ap length h.has.replies.shows.kept ∙ length-drop ledger.first failure.failed.state.sends, more))
 
   -- a trial stands at its checkpoint, since which it wrote nothing
   pub begins : (point : ℕ) (failure : Failure) (old new : CpuState R) (log : Log) (ledger after : Ledger) (index : ℕ) (checkpoint : Path) (env : Env) → FailedAt point failure old log ledger → slice_get failure.ring index ≡ Some checkpoint

@@ -1,7 +1,7 @@
 -- What a walk leaves: none of its trials survived, or the last one is adopted.
 use Rattle.session_notes.specs.declared.episode.Tried.TheVariants as tried
 use Rattle.trials.proofs.Walked.{walk_adopts}
-use Rattle.recovery.proofs.Terms.{List, None, Option, Some, [], ap, arith, drop, length, length-append, length-drop, refl, subst, suc, sym, take, zero, ℕ, ◌++◌, ◌+◌, ◌-◌, ◌∙◌, ◌∷◌, ◌≡◌, ◌≤◌, take-append_seam, none-some, same_Some, option_map, slice_get, Item, Send, Choice, Env, Ledger, discarded, Image, IsUsed, served_follows, start, start_machine, AsksFor, Limits, Override, Path, Served, origin, CpuState, Tried, Try, asks_under_all, chained_at, AreChained, Chance, IsRight, Trial, chance_at, survivor_in, ComesTo, Adopted, Failure, items_of, pieces_of, HasWalked, IsAdopted, LeavesBy, adopted_of, steps_of, AreBehind}
+use Rattle.recovery.proofs.Terms.{List, None, Option, Some, [], ap, arith, drop, length, length-append, length-drop, refl, subst, suc, sym, take, zero, ℕ, ◌++◌, ◌+◌, ◌-◌, ◌∙◌, ◌∷◌, ◌≡◌, ◌≤◌, take-append_seam, take-append-le, none-some, same_Some, option_map, slice_get, Item, Send, Choice, Env, Ledger, discarded, Image, IsUsed, served_follows, start, start_machine, AsksFor, Limits, Override, Path, Served, origin, CpuState, Tried, Try, asks_under_all, chained_at, AreChained, Chance, IsRight, Trial, chance_at, survivor_in, ComesTo, Adopted, Failure, items_of, pieces_of, HasWalked, IsAdopted, LeavesBy, adopted_of, steps_of, AreBehind}
 use Rattle.recovery.proofs.WalkLemmas.{steps_of-more}
 
 -- the chance at an index is one at its checkpoint
@@ -13,12 +13,6 @@ chance_from ring index {env = env} {chance = chance} is = by (slice_get ring ind
     by (Some checkpoint) is =
         let same = same_Some (record { checkpoint = checkpoint; env = env }) chance is in
         (ap (λ (one : Chance). Some one.checkpoint) same, ap (λ (one : Chance). one.env) same)
-
--- the last of some trials did no more instructions than all of them
-steps_last : (failing : List Trial) (trial : Trial) {trials : List Trial} → trials ≡ failing ++ trial ∷ [] → trial.path.steps - trial.chance.checkpoint.steps ≤ steps_of trials
-steps_last failing trial {trials = trials} is =
-    let all : steps_of trials ≡ steps_of failing + (trial.path.steps - trial.chance.checkpoint.steps) = ap steps_of is ∙ steps_of-more failing trial in
-    omega (arith, all)
 
 module _ {R : Type 0} where
   -- the trial that was adopted, and what its walk says of it
@@ -44,7 +38,7 @@ module _ {R : Type 0} where
         from = chance.0;
         env_is = chance.1;
         right = it.right;
-        least = steps_last it.failing leaves.0 it.last;
+        least = omega (arith, ap steps_of it.last ∙ steps_of-more it.failing leaves.0);
       }
 
   -- or none survived
@@ -56,17 +50,15 @@ module _ {R : Type 0} where
 pub adopted_asks : {limits : Limits} (items : List Item) (plan : List Override) (checkpoint : Path) (pieces : List Send) {point : ℕ} {path : Path} (index : ℕ) (env : Env) (result : Tried) {adopted : Adopted} → adopted_of index env result ≡ Some adopted
     → ComesTo limits items plan checkpoint pieces point path result → (adopted.code ≡ path.state.ended) × (path.state.ended ≡ None → AsksFor limits [] path point)
 adopted_asks {limits = limits} items plan checkpoint pieces {point = point} {path = path} index env tried.Asks {adopted = adopted} is comes =
-    let same = same_Some (record { index = index; env = env; code = None }) adopted is in
-    (sym (ap (λ (a : Adopted). a.code) same) ∙ sym comes.1.lives, λ lives. asks_under_all limits plan [] path point comes.1)
+    (sym (ap (λ (a : Adopted). a.code) (same_Some (record { index = index; env = env; code = None }) adopted is)) ∙ sym comes.1.lives, λ lives. asks_under_all limits plan [] path point comes.1)
 adopted_asks items plan checkpoint pieces index env (tried.Exits code) {adopted = adopted} is comes =
-    let same = same_Some (record { index = index; env = env; code = Some code }) adopted is in
-    (sym (ap (λ (a : Adopted). a.code) same) ∙ sym comes.1, λ lives. absurd (none-some code (sym lives ∙ comes.1)))
+    (sym (ap (λ (a : Adopted). a.code) (same_Some (record { index = index; env = env; code = Some code }) adopted is)) ∙ sym comes.1, λ lives. absurd (none-some code (sym lives ∙ comes.1)))
 adopted_asks items plan checkpoint pieces index env (tried.Failed cause) {adopted = adopted} is comes = absurd (none-some adopted is)
 adopted_asks items plan checkpoint pieces index env tried.Contradicts {adopted = adopted} is comes = absurd (none-some adopted is)
 adopted_asks items plan checkpoint pieces index env tried.Behind {adopted = adopted} is comes = absurd (none-some adopted is)
 
 -- the start used no answer of malloc
-start_used : (image : Image) → IsUsed (origin image)
+pub start_used : (image : Image) → IsUsed (origin image)
 unfolding start start_machine
 start_used image = refl
 
@@ -95,11 +87,6 @@ joined_behind (suc count) (x ∷ first) others own few =
     let less : length (x ∷ first) - suc count ≡ length first - count = omega arith in
     ap (λ n. take n (drop count (first ++ others)) ++ own) less ∙ joined_behind count first others own (omega (arith, few))
 
-taken_front : {X : Type 0} (count : ℕ) (first others : List X) → count ≤ length first → take count (first ++ others) ≡ take count first
-taken_front zero first others few = refl
-taken_front (suc count) [] others few = absurd (omega (arith, few))
-taken_front (suc count) (x ∷ first) others few = ap (λ xs. x ∷ xs) (taken_front count first others (omega (arith, few)))
-
 pub own_answers : {recorded : ℕ} {limits : Limits} {items : List Item} (plan : List Override) {other : List Override} (image : Image) {later path : Path} (ring : List Path) (index : ℕ) {checkpoint : Path} {own : List Choice} → AreBehind recorded ring
     → AreChained limits items plan image later ring → slice_get ring index ≡ Some checkpoint → Served limits items other checkpoint path → path.choices ≡ checkpoint.choices ++ own → OwnAnswers recorded later path own
 own_answers {recorded = recorded} {limits = limits} {items = items} plan {other = other} image {later = later} {path = path} ring index {checkpoint = checkpoint} {own = own} behind chain found served chose =
@@ -109,15 +96,13 @@ own_answers {recorded = recorded} {limits = limits} {items = items} plan {other 
     let to_path = served_follows limits items other checkpoint path served.more at_checkpoint.used served.ran in
     let used : path.state.machine.allocations ≡ length path.choices = to_path.used in
     let count : length path.choices ≡ length checkpoint.choices + length own = ap length chose ∙ length-append checkpoint.choices own in
-    let whole : length later.choices ≡ length checkpoint.choices + length to_later.others = ap length to_later.chose ∙ length-append checkpoint.choices to_later.others in
     let low : recorded ≤ length checkpoint.choices = behind_at recorded ring index checkpoint behind found in
     let front : path.state.machine.allocations - length own - recorded ≡ length checkpoint.choices - recorded = omega (arith, used, count, low) in
-    let left : length (drop recorded later.choices) ≡ length later.choices - recorded = length-drop recorded later.choices in
     record {
       few = omega (arith, used, count, low);
-      first = omega (arith, used, count, whole, left, low);
+      first = omega (arith, used, count, ap length to_later.chose ∙ length-append checkpoint.choices to_later.others, length-drop recorded later.choices, low);
       low = omega (arith, count, low);
-      front = (ap (take recorded) chose ∙ taken_front recorded checkpoint.choices own low) ∙ sym (ap (take recorded) to_later.chose ∙ taken_front recorded checkpoint.choices to_later.others low);
+      front = (ap (take recorded) chose ∙ take-append-le recorded checkpoint.choices own low) ∙ sym (ap (take recorded) to_later.chose ∙ take-append-le recorded checkpoint.choices to_later.others low);
       joins =
           ap (λ n. take n (drop recorded later.choices) ++ own) front ∙ (ap (λ (cs : List Choice). take (length checkpoint.choices - recorded) (drop recorded cs) ++ own) to_later.chose
           ∙ (joined_behind recorded checkpoint.choices to_later.others own low ∙ sym (ap (drop recorded) chose)));

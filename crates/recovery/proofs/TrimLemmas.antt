@@ -1,5 +1,4 @@
 -- What a ledger gives up was passed, wherever it might still be.
-use Rattle.std.proofs.Common.{is_some}
 use Rattle.std.specs.Option.{option_map}
 use Rattle.reply_ledger.specs.Trimming.{trimmed_connection, trimmed_connections, without}
 use Rattle.reply_ledger.specs.Inside.{earlier_at}
@@ -7,7 +6,7 @@ use Rattle.reply_ledger.proofs.RunLemmas.{length-bytes_of}
 use Rattle.reply_ledger.proofs.EntryLemmas.{sent_to-append}
 use Rattle.reply_ledger.proofs.PositionLemmas.{position-le}
 use Rattle.reply_ledger.proofs.PartLemmas.{come, come_past}
-use Rattle.recovery.proofs.Terms.{Bool, List, None, Option, Some, [], ap, append-nil, append_assoc, arith, cond, drop, false, length, length-append, length-drop, not, refl, suc, sym, take, true, zero, ℕ, ◌&&◌, ◌++◌, ◌+◌, ◌-◌, ◌∙◌, ◌∷◌, ◌≡◌, ◌≤◌, take-add, position_or_len, Send, sent_to, Entry, connection_of-trimmed, is_open-trimmed, bytes_of-stamped_of, shows-trimmed, Connection, Ledger, connection_of, is_open, stamped_to, is_left, parts, parts_behind, settled, unpassed, waits, stamped_of, Bounds, KeepsReplies, may_pass, passed_in}
+use Rattle.recovery.proofs.Terms.{Bool, List, None, Option, Some, [], ap, append-nil, append_assoc, arith, cond, drop, false, length, length-append, length-drop, not, refl, suc, sym, take, true, zero, ℕ, ◌&&◌, ◌++◌, ◌+◌, ◌-◌, ◌∙◌, ◌∷◌, ◌≡◌, ◌≤◌, take-add, position_or_len, is_some, Send, sent_to, Entry, connection_of-trimmed, is_open-trimmed, bytes_of-stamped_of, shows-trimmed, Connection, Ledger, connection_of, is_open, stamped_to, is_left, parts, parts_behind, settled, unpassed, waits, stamped_of, Bounds, KeepsReplies, may_pass, passed_in}
 
 -- the parts before the first that passes a test fail it
 parts_before : (p : Send → Bool) (C : List Connection) (front sends : List Send) (count : ℕ) → count ≤ position_or_len p (parts_behind C front sends)
@@ -23,9 +22,7 @@ parts_before p C front (send ∷ sends) (suc count) few x y z e = by (p (unpasse
     by true test low ih x e = absurd (omega (arith, low))
     by false test low ih [] e = let same : send ≡ y = (cc (e)) in (λ i. p (unpassed C (append-nil front i) (sym same i))) ∙ test
     by false test low ih (first ∷ x) e =
-        let same : send ≡ first = (cc (e)) in
-        let rest : take count sends ≡ x ++ y ∷ z = (cc (e)) in
-        ap (λ (f : List Send). p (unpassed C f y)) (ap (λ (s : Send). front ++ s ∷ x) (sym same) ∙ sym (append_assoc front (send ∷ []) x)) ∙ ih (omega (arith, low)) x rest
+        ap (λ (f : List Send). p (unpassed C f y)) (ap (λ (s : Send). front ++ s ∷ x) (sym (cc (e))) ∙ sym (append_assoc front (send ∷ []) x)) ∙ ih (omega (arith, low)) x (cc (e))
 
 -- each send has a part
 length-parts : (C : List Connection) (front sends : List Send) → length (parts_behind C front sends) ≡ length sends
@@ -78,9 +75,8 @@ keeps_without bounds entries sends ledger count few k = record {
     given_up : (conn : ℕ) → may_pass bounds entries None conn ≡ true → length (sent_to conn (take (ledger.first + count) sends)) ≤ length (sent_to conn (passed_in bounds entries))
     given_up conn may =
         let pieces : List Send = passed_in bounds entries in
-        let past : length (sent_to conn (take count ledger.kept)) ≤ come ledger.connections conn = settled_come ledger count conn few (k.may conn ∙ may) in
         let come_is : come ledger.connections conn ≡ length (stamped_of conn pieces) - earlier_at ledger.connections conn =
         length-bytes_of (stamped_to ledger.connections conn) ∙ (ap length (k.shows.passed conn) ∙ length-drop (earlier_at ledger.connections conn) (stamped_of conn pieces)) in
         let all : length (stamped_of conn pieces) ≡ length (sent_to conn pieces) = sym (length-bytes_of (stamped_of conn pieces)) ∙ ap length (bytes_of-stamped_of conn pieces) in
         let kept : length (sent_to conn (take count ledger.kept)) ≡ length (sent_to conn (take count (drop ledger.first sends))) = ap (λ (l : List Send). length (sent_to conn (take count l))) k.shows.kept in
-        omega (arith, past, come_is, all, kept, k.shows.earlier conn, k.given_up conn may, sent_further conn ledger.first count sends)
+        omega (arith, settled_come ledger count conn few (k.may conn ∙ may), come_is, all, kept, k.shows.earlier conn, k.given_up conn may, sent_further conn ledger.first count sends)

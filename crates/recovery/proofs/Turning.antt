@@ -29,8 +29,7 @@ module _ {R : Type 0} where
   ran_least failure point checkpoint env old new choices log ledger budget permits under result t ran =
       let runs = (ran_on failure point checkpoint env old new choices log ledger budget permits result under t ran).ran in
       let from : old.slots.live.steps ≡ t.path.steps = ap (λ (s : Standing). s.steps) t.stands in
-      let to : runs.now.steps ≡ new.slots.live.steps = ap (λ (s : Standing). s.steps) runs.stands in
-      omega (arith, from, to, runs.goes.later)
+      omega (arith, from, ap (λ (s : Standing). s.steps) runs.stands, runs.goes.later)
 
   module _ (failure : Failure) (point : ℕ) (checkpoint : Path) (env : Env) (old new : CpuState R) (choices : List Choice) (log : Log) (ledger : Ledger) (budget : ℕ) (permits : Heap → ℕ → ℕ → Bool) (under : IsUnder failure budget permits) (found : Event) where
     -- the guest ran to this event
@@ -42,8 +41,7 @@ module _ {R : Type 0} where
     ran_later t ran =
         let runs = (ran_on failure point checkpoint env old new choices log ledger budget permits (Ok found) under t ran).ran in
         let from : old.slots.live.steps ≡ t.path.steps = ap (λ (s : Standing). s.steps) t.stands in
-        let to : runs.now.steps ≡ new.slots.live.steps = ap (λ (s : Standing). s.steps) runs.stands in
-        omega (arith, from, to, runs.goes.later)
+        omega (arith, from, ap (λ (s : Standing). s.steps) runs.stands, runs.goes.later)
 
     -- it asks for an item
     pub asks_now : found ≡ event.Asks → IsTrying failure point checkpoint env old choices log ledger → Ranto found → KeepsSaved old new → IsAsking failure point checkpoint env new choices log ledger
@@ -70,9 +68,7 @@ module _ {R : Type 0} where
     chooses_later choice is t ran =
         let runs = (ran_on failure point checkpoint env old new choices log ledger budget permits (Ok (event.Chooses choice)) under t (subst Ranto is ran)).ran in
         let from : old.slots.live.steps ≡ t.path.steps = ap (λ (s : Standing). s.steps) t.stands in
-        let to : runs.now.steps ≡ new.slots.live.steps = ap (λ (s : Standing). s.steps) runs.stands in
-        let comes = runs.comes in
-        omega (arith, from, to, comes.3)
+        omega (arith, from, ap (λ (s : Standing). s.steps) runs.stands, runs.comes.3)
 
     -- it ended itself
     pub exits_now : (code : ℕ) (result : Tried) → found ≡ event.Exits code → IsTrying failure point checkpoint env old choices log ledger → Ranto found → KeepsSaved old new → IsJudged (ledgers.Covers ledger) (tried.Exits code) result → HasCome failure point checkpoint env new choices ledger result
@@ -105,8 +101,7 @@ module _ {R : Type 0} where
         → taken ≡ new.slots.live.guest.machine.taken → KeepsSaved old new → SendsBy ledger (record { conn = conn; bytes = bytes; taken = taken }) after result → TurnsBy failure point checkpoint env new choices log after result
     emits_now conn bytes taken after result is t ran at saved sent =
         let s = ran_sends failure point checkpoint env old new choices log ledger budget permits conn bytes under t (subst Ranto is ran) in
-        let now : taken ≡ t.path.state.machine.taken = at ∙ (ap (λ (x : Standing). x.guest.machine.taken) (sym s.stands) ∙ s.goes.taken) in
-        of t s now result sent
+        of t s (at ∙ (ap (λ (x : Standing). x.guest.machine.taken) (sym s.stands) ∙ s.goes.taken)) result sent
       where
         of : (t : IsTrying failure point checkpoint env old choices log ledger) → SendsOn failure.rules.limits (items_of failure) (everywhere env point) old.base t.path old.written conn bytes (live_of new) → taken ≡ t.path.state.machine.taken
             → (result : Result (Option Tried) AllocError) → SendsBy ledger (record { conn = conn; bytes = bytes; taken = taken }) after result → TurnsBy failure point checkpoint env new choices log after result
@@ -119,5 +114,4 @@ module _ {R : Type 0} where
     emits_later conn bytes is t ran =
         let s = ran_sends failure point checkpoint env old new choices log ledger budget permits conn bytes under t (subst Ranto is ran) in
         let from : old.slots.live.steps ≡ t.path.steps = ap (λ (x : Standing). x.steps) t.stands in
-        let to : s.now.steps ≡ new.slots.live.steps = ap (λ (x : Standing). x.steps) s.stands in
-        omega (arith, from, to, s.later)
+        omega (arith, from, ap (λ (x : Standing). x.steps) s.stands, s.later)

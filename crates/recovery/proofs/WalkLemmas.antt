@@ -1,30 +1,14 @@
 -- A walk goes on from chance to chance.
 use Rattle.std.proofs.lemmas.List.Sums.{sum_by-append}
-use Rattle.recovery.proofs.Terms.{Bool, List, None, Some, [], add-one, ap, append-nil, append_assoc, arith, cond, false, length, refl, subst, suc, sym, take, true, zero, ℕ, ◌++◌, ◌+◌, ◌-◌, ◌∙◌, ◌∷◌, ◌≡◌, ◌≤◌, take_all, none-some, same_Some, MatchBool, map, slice_get, sum, Choice, Heap, Env, Log, Ledger, discarded, Path, CpuState, Try, survives, Chance, IsRight, Trial, WalksOver, chances_at, environments, survivor_in, table, try_of, Adopted, CanTry, FailedAt, Failure, IsUnder, items_of, pieces_of, HasWalked, KeepsLedger, KeepsSaved, steps_of, AdoptedLast, AdoptedOne, AreTried, FailedOne, FailedSome, HasSameBytes}
+use Rattle.recovery.proofs.Terms.{Bool, List, None, Some, [], ap, append-nil, append_assoc, arith, cond, false, length, refl, subst, suc, sym, take, true, zero, ℕ, ◌++◌, ◌+◌, ◌-◌, ◌∙◌, ◌∷◌, ◌≡◌, ◌≤◌, map-append, take_all, none-some, same_Some, MatchBool, map, slice_get, sum, Choice, Heap, Env, Log, Ledger, discarded, Path, CpuState, Try, survives, Chance, IsRight, Trial, WalksOver, chances_at, environments, survivor_in, table, try_of, Adopted, CanTry, FailedAt, Failure, IsUnder, items_of, pieces_of, HasWalked, KeepsLedger, KeepsSaved, steps_of, AdoptedLast, AdoptedOne, AreTried, FailedOne, FailedSome, HasSameBytes}
 use Rattle.recovery.proofs.Starting.{failed_still}
 use Rattle.recovery.proofs.Adopting.{adopted_survives}
-
--- lists, part by part
-map-append : {X Y : Type 0} (f : X → Y) (xs ys : List X) → map f (xs ++ ys) ≡ map f xs ++ map f ys
-map-append f [] ys = refl
-map-append f (x ∷ xs) ys = ap (λ l. f x ∷ l) (map-append f xs ys)
-
-sum-append : (xs ys : List ℕ) → sum (xs ++ ys) ≡ sum xs + sum ys
-sum-append xs ys = sum_by-append (λ x. x) xs ys
+use Rattle.session_history.proofs.Connected.{take_one}
 
 pub steps_of-more : (trials : List Trial) (trial : Trial) → steps_of (trials ++ trial ∷ []) ≡ steps_of trials + (trial.path.steps - trial.chance.checkpoint.steps)
 steps_of-more trials trial =
     let f : Trial → ℕ = λ (t : Trial). t.path.steps - t.chance.checkpoint.steps in
-    let parts : sum (map f (trials ++ trial ∷ [])) ≡ sum (map f trials) + sum (map f (trial ∷ [])) = ap sum (map-append f trials (trial ∷ [])) ∙ sum-append (map f trials) (map f (trial ∷ [])) in
-    omega (arith, parts)
-
-take_suc : {X : Type 0} (xs : List X) (n : ℕ) (x : X) → slice_get xs n ≡ Some x → take (suc n) xs ≡ take n xs ++ x ∷ []
-take_suc [] n x is = absurd (none-some x is)
-take_suc (y ∷ ys) zero x is = ap (λ z. z ∷ []) (same_Some y x is)
-take_suc (y ∷ ys) (suc n) x is = ap (λ l. y ∷ l) (take_suc ys n x is)
-
-take_more : {X : Type 0} (xs : List X) (n : ℕ) (x : X) → slice_get xs n ≡ Some x → take (n + 1) xs ≡ take n xs ++ x ∷ []
-take_more xs n x is = ap (λ m. take m xs) (add-one n) ∙ take_suc xs n x is
+    omega (arith, ap sum (map-append f trials (trial ∷ [])) ∙ sum_by-append (λ x. x) (map f trials) (map f (trial ∷ [])))
 
 -- a list around one of its elements
 around : {X : Type 0} (xs : List X) (n : ℕ) (x : X) → slice_get xs n ≡ Some x → (more : List X) × (xs ≡ take n xs ++ x ∷ more)
@@ -103,7 +87,7 @@ pub failed_env : {failure : Failure} {point : ℕ} {checkpoint : Path} (place : 
     → FailedSome failure point (chances_at checkpoint (take (place + 1) environments)) noted new before after
 failed_env {failure = failure} {point = point} {checkpoint = checkpoint} place {env = env} {noted = noted} {new = new} {before = before} {after = after} is some one =
     subst (λ (all : List Chance). FailedSome failure point all noted new before after)
-    (sym (ap (chances_at checkpoint) (take_more environments place env is) ∙ map-append (λ (e : Env). record { checkpoint = checkpoint; env = e }) (take place environments) (env ∷ [])))
+    (sym (ap (chances_at checkpoint) (take_one environments place env is) ∙ map-append (λ (e : Env). record { checkpoint = checkpoint; env = e }) (take place environments) (env ∷ [])))
     (failed_more some one)
 
 -- and of one checkpoint more
@@ -111,7 +95,7 @@ pub failed_checkpoint : {failure : Failure} {point : ℕ} (index : ℕ) {checkpo
     → FailedSome failure point (chances_at checkpoint environments) mid new between after → FailedSome failure point (table (take (index + 1) failure.ring)) noted new before after
 failed_checkpoint {failure = failure} {point = point} index {checkpoint = checkpoint} {noted = noted} {new = new} {before = before} {after = after} is some others =
     subst (λ (all : List Chance). FailedSome failure point all noted new before after)
-    (sym (ap table (take_more failure.ring index checkpoint is) ∙ (table-append (take index failure.ring) (checkpoint ∷ []) ∙ ap (λ (all : List Chance). table (take index failure.ring) ++ all) (append-nil (chances_at checkpoint environments)))))
+    (sym (ap table (take_one failure.ring index checkpoint is) ∙ (table-append (take index failure.ring) (checkpoint ∷ []) ∙ ap (λ (all : List Chance). table (take index failure.ring) ++ all) (append-nil (chances_at checkpoint environments)))))
     (record {
       trials = some.trials ++ others.trials;
       tried = tried-append failure point (table (take index failure.ring)) (chances_at checkpoint environments) some.trials others.trials some.tried others.tried;
@@ -122,7 +106,7 @@ failed_checkpoint {failure = failure} {point = point} index {checkpoint = checkp
   where
     steps_of-append : (xs ys : List Trial) → steps_of (xs ++ ys) ≡ steps_of xs + steps_of ys
     steps_of-append xs ys =
-        ap sum (map-append (λ (t : Trial). t.path.steps - t.chance.checkpoint.steps) xs ys) ∙ sum-append (map (λ (t : Trial). t.path.steps - t.chance.checkpoint.steps) xs) (map (λ (t : Trial). t.path.steps - t.chance.checkpoint.steps) ys)
+        ap sum (map-append (λ (t : Trial). t.path.steps - t.chance.checkpoint.steps) xs ys) ∙ sum_by-append (λ x. x) (map (λ (t : Trial). t.path.steps - t.chance.checkpoint.steps) xs) (map (λ (t : Trial). t.path.steps - t.chance.checkpoint.steps) ys)
 
 module _ {R : Type 0} where
   -- behind those that failed one was adopted
@@ -166,7 +150,6 @@ module _ {R : Type 0} where
       let here : List Chance = chances_at checkpoint (take a.place environments) in
       let ring = around failure.ring index checkpoint is in
       let envs = around environments a.place a.env a.env_is in
-      let later : List Chance = chances_at checkpoint envs.0 ++ table ring.0 in
       let split : table failure.ring ≡ (table (take index failure.ring) ++ chances_at checkpoint (take a.place environments)) ++ record { checkpoint = checkpoint; env = a.env } ∷ (chances_at checkpoint envs.0 ++ table ring.0) =
       ap table ring.1
       ∙ (table-append (take index failure.ring) (checkpoint ∷ ring.0)
@@ -183,14 +166,14 @@ module _ {R : Type 0} where
             ∙ (ap (λ (l : List Try). l ++ map try_of (a.trials ++ a.last ∷ [])) some.tries_are
             ∙ (sym (map-append try_of some.trials (a.trials ++ a.last ∷ [])) ∙ ap (map try_of) (sym (append_assoc some.trials a.trials (a.last ∷ [])))));
         walks = subst (λ (all : List Chance). Walks failure point all ((some.trials ++ a.trials) ++ a.last ∷ [])) (sym split)
-            (found_walks failure (early ++ here) later trials tried a.chance_is a.right survived);
+            (found_walks failure (early ++ here) (chances_at checkpoint envs.0 ++ table ring.0) trials tried a.chance_is a.right survived);
         leaves = (a.last, tried_then failure point (early ++ here) trials tried survived, a.adopts);
         counted = let parts = ap steps_of (append_assoc some.trials a.trials (a.last ∷ [])) ∙ steps-append some.trials (a.trials ++ a.last ∷ []) in omega (arith, parts, some.counted, a.counted);
       }
     where
       steps-append : (xs ys : List Trial) → steps_of (xs ++ ys) ≡ steps_of xs + steps_of ys
       steps-append xs ys =
-          ap sum (map-append (λ (t : Trial). t.path.steps - t.chance.checkpoint.steps) xs ys) ∙ sum-append (map (λ (t : Trial). t.path.steps - t.chance.checkpoint.steps) xs) (map (λ (t : Trial). t.path.steps - t.chance.checkpoint.steps) ys)
+          ap sum (map-append (λ (t : Trial). t.path.steps - t.chance.checkpoint.steps) xs ys) ∙ sum_by-append (λ x. x) (map (λ (t : Trial). t.path.steps - t.chance.checkpoint.steps) xs) (map (λ (t : Trial). t.path.steps - t.chance.checkpoint.steps) ys)
 
   -- what holds of the loop over environments, and of that over checkpoints
   pub record TriedUpTo (permits : R → Heap → ℕ → ℕ → Bool) (budget point : ℕ) (index : ℕ) (log : Log) (began now : CpuState R) (old new : Ledger) (before after : ℕ) (noted tries : List Try) (place : ℕ) : Type 0 where

@@ -1,10 +1,5 @@
 -- A failure at which a watch looked: a walk behind that is a walk of the failure.
-use Rattle.std.proofs.Common.{Result, Ok, Err}
-use Rattle.recovery.proofs.Terms.{AllocError, List, None, Option, Some, arith, subst, ℕ, ◌+◌, ◌≡◌, Choice, Ledger, discarded, CpuState, Trial, Adopted, Walked, Failure, LeavesBy, steps_of, WalksBy}
-
--- what is counted behind what the watch counted
-counted_behind : (ran later before started : ℕ) {after : ℕ} (more : ℕ) → started + ran ≡ before + later → after ≡ started + more → ran + after ≡ later + before + more
-counted_behind ran later before started more looked walked = omega (arith, looked, walked)
+use Rattle.recovery.proofs.Terms.{AllocError, List, None, Option, Some, arith, subst, ℕ, ◌+◌, ◌≡◌, Err, Ok, Result, Choice, Ledger, discarded, CpuState, Trial, Adopted, Walked, Failure, LeavesBy, WalksBy}
 
 module _ {R : Type 0} where
   leaves_behind : (failure : Failure) (trials : List Trial) (cpu : CpuState R) (choices : List Choice) (old new : Ledger) (adopted : Option Adopted) → LeavesBy failure trials cpu choices (discarded old) new adopted → LeavesBy failure trials cpu choices old new adopted
@@ -19,5 +14,5 @@ module _ {R : Type 0} where
     tries_are = walks.tries_are;
     walks = walks.walks;
     leaves = leaves_behind failure walks.trials cpu choices old new walked.adopted (subst (λ (ledger : Ledger). LeavesBy failure walks.trials cpu choices ledger new walked.adopted) is walks.leaves);
-    counted = counted_behind ran later before started (steps_of walks.trials) looked walks.counted;
+    counted = omega (arith, looked, walks.counted);
   }

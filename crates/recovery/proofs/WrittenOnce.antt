@@ -1,10 +1,7 @@
 -- What a survivor's run fixes: the pages that it wrote before its requests, and the checkpoints that stand behind them.
-use Rattle.std.proofs.Common.{replicate}
 use Rattle.guest_runs.proofs.WritingOnce.{writes_once}
-use Rattle.trials.proofs.Results.{asks_on}
-use Rattle.recovery.proofs.Terms.{Bool, IfSome, List, Option, Some, [], ap, arith, cond, false, get_or, inl, inr, length, refl, subst, sym, true, ℕ, ◌++◌, ◌+◌, ◌-◌, ◌<◌, ◌∙◌, ◌∷◌, ◌≡◌, slice_get-get_or, Item, Entry, from_newest, count_true, Image, base, AsksFor, Limits, Override, Path, Served, origin, Writes, served_on, items_in, Rules, Survivor, asks_under_all, Before, Behind, Compared, Equal, Later, compare, IsCheckpoint, AreWritten, HasWritten, Keeping, Stand, first_stands, handle, handled, is_far, may_stand, stay, whole_oldest}
+use Rattle.recovery.proofs.Terms.{Bool, IfSome, List, Option, Some, [], ap, arith, cond, false, get_or, inl, inr, length, refl, subst, sym, true, ℕ, ◌++◌, ◌+◌, ◌-◌, ◌<◌, ◌∙◌, ◌∷◌, ◌≡◌, slice_get-get_or, replicate, Item, Entry, from_newest, count_true, Image, base, AsksFor, Limits, Override, Path, Served, origin, Writes, Later, served_on, items_in, Rules, Survivor, asks_under_all, Before, Behind, Compared, Equal, compare, start_taken, asks_on, IsCheckpoint, AreWritten, HasWritten, Keeping, Stand, first_stands, handle, handled, is_far, may_stand, stay, whole_oldest}
 use Rattle.recovery.specs.Laws.{OneNumber, OneRing, SameNumbers}
-use Rattle.recovery.proofs.Forces.{start_taken}
 
 -- a run that goes on from its request for an item doesn't ask for that item again
 asks_no_more : (limits : Limits) (items : List Item) (plan : List Override) (one other : Path) (item : ℕ) → AsksFor limits [] one item → other.state.machine.taken ≡ item → Later limits items plan one other → ⊥
@@ -42,8 +39,7 @@ one_number rules image entries survivor pages from to one other w v =
     let wrote : Writes rules.limits items (base image) w.checkpoint (replicate pages false) w.request v.flags =
     subst (λ (p : Path). Writes rules.limits items (base image) p (replicate pages false) w.request v.flags) (sym checkpoint)
     (subst (λ (p : Path). Writes rules.limits items (base image) v.checkpoint (replicate pages false) p v.flags) (sym request) v.wrote) in
-    let flags : w.flags ≡ v.flags = writes_once rules.limits items (base image) w.checkpoint (replicate pages false) w.request w.flags v.flags w.wrote wrote in
-    w.count_is ∙ ap count_true flags ∙ sym v.count_is
+    w.count_is ∙ ap count_true (writes_once rules.limits items (base image) w.checkpoint (replicate pages false) w.request w.flags v.flags w.wrote wrote) ∙ sym v.count_is
 
 -- of some there is a newest one
 newest_of : (stands : List Stand) → 0 < length stands → (newest : Stand) × (from_newest stands 0 ≡ Some newest)
@@ -130,8 +126,7 @@ module _ (rules : Rules) (image : Image) (entries : List Entry) (survivor : Surv
       let rest : earlier ≡ before = numbers_once from earlier before stands some may w.1 v.1 (omega (arith, same)) in
       let counts : CountsBefore (from + length before) (handled keeping from before stands) one =
       subst (λ (list : List ℕ). CountsBefore (from + length list) (handled keeping from list stands) one) rest w.0 in
-      let first : one ≡ other = one_before (from + length before) one other (handled keeping from before stands) (handled_some from before stands some may) counts v.0 in
-      λ i. first i ∷ rest i
+      λ i. (one_before (from + length before) one other (handled keeping from before stands) (handled_some from before stands some may) counts v.0) i ∷ rest i
 
 pub one_ring : OneRing
 one_ring rules image entries survivor keeping from one other stands w v same = ring_once rules image entries survivor keeping from one other stands w v same

@@ -1,8 +1,7 @@
 -- An answer of malloc is used, or can't be.
-use Rattle.std.proofs.Common.{◌&&◌, ◌||◌}
 use Rattle.std.specs.List.{list_all}
 use Rattle.run_history.specs.declared.answer.Answer.TheVariants as answer
-use Rattle.replay.proofs.Terms.{Bool, List, Some, [], ap, arith, cond, drop, false, filter, inl, inr, length, map, not, refl, subst, sym, true, ℕ, ◌∙◌, ◌∷◌, ◌≡◌, and_parts, both_ways, eqb-false, ltb-false, nat_lt, slice_get, ◌==◌, Told, Seen, Block, Choice, is_allowed, live_blocks, is_bare, most_blocks, Image, allocated_keeps, Machine, register, Guest, IsLaidOut, chosen_standing, is_usable, Standing, items_in, Recorded, IsReplay, IsUnusable, Unanswered, bounds_of, AreOpen, AreOpenThen, IsBetween, IsWanting, IsWholeEnd, Stage, replay_of}
+use Rattle.replay.proofs.Terms.{Bool, List, Some, [], ap, arith, cond, drop, false, filter, inl, inr, length, map, not, refl, subst, sym, true, ℕ, ◌∙◌, ◌∷◌, ◌≡◌, and_parts, both_ways, eqb-false, ltb-false, nat_lt, slice_get, ◌&&◌, ◌==◌, ◌||◌, Told, Seen, Block, Choice, is_allowed, live_blocks, is_bare, most_blocks, Image, allocated_keeps, Machine, register, Guest, IsLaidOut, chosen_standing, is_usable, Standing, items_in, Recorded, IsReplay, IsUnusable, Unanswered, bounds_of, AreOpen, AreOpenThen, IsBetween, IsWanting, IsWholeEnd, Stage, replay_of}
 use Rattle.replay.proofs.ReplayLemmas.{replay_chooses}
 
 -- in a bare heap as many blocks are live as stand
@@ -10,8 +9,7 @@ live_all : (blocks : List Block) → list_all (λ block. (block.side == 0) && no
 live_all [] bare = refl
 live_all (block ∷ blocks) bare =
     let parts = and_parts ((block.side == 0) && not block.delayed) (list_all (λ (b : Block). (b.side == 0) && not b.delayed) blocks) bare in
-    let here = and_parts (block.side == 0) (not block.delayed) parts.0 in
-    by (not block.delayed) here.1 (live_all blocks parts.1)
+    by (not block.delayed) (and_parts (block.side == 0) (not block.delayed) parts.0).1 (live_all blocks parts.1)
   where
     by : (b : Bool) → b ≡ true → length (live_blocks blocks) ≡ length blocks
         → length {A = ℕ × ℕ} (map (λ (x : Block). (x.at, x.size)) (cond b (block ∷ filter (λ (x : Block). not x.delayed) blocks) (filter (λ (x : Block). not x.delayed) blocks))) ≡ length (block ∷ blocks)

@@ -1,11 +1,11 @@
 -- A send of the guest is given to its connection.
 use Rattle.links.specs.declared.journal.Entry.TheVariants as entry
-use Rattle.links.specs.declared.journal.LinkFault.TheVariants as fault
 use Rattle.item_log.specs.Log as logs
-use Rattle.replay.proofs.Terms.{Bool, List, [], ap, arith, drop, false, length, length-set, refl, set, subst, sym, take, true, ℕ, ◌++◌, ◌<◌, ◌∙◌, ◌∷◌, ◌≡◌, both_ways, eqb-false, eqb-true, get_or-set_other, get_or-set_same, take-append-drop, unwrap_or-slice_get, Err, slice_set, ◌&&◌, ◌==◌, ◌||◌, Prefix, Send, Entry, LinkFault, Gives, Phases, Tells, Told, cut_entries, pieces_in, Seen, Image, Answer, events_in-gave, items_in-gave, heeded, items_in, phase_after, Recorded, AreGiven, AreGivenInPart, IsLastSend, found_gone, AreAsked, EndsBy, IsReplay, bounds_of, AreOpen, AreOpenThen, IsBase, IsBetween, IsEnd, IsSending, Stage, has, replay_of, answer_of}
+use Rattle.session_history.proofs.Heeding.{events_in-gave, items_in-gave}
+use Rattle.replay.proofs.Terms.{Bool, List, [], ap, arith, drop, false, length, length-set, refl, set, subst, sym, take, true, ℕ, ◌++◌, ◌<◌, ◌∙◌, ◌∷◌, ◌≡◌, both_ways, eqb-false, eqb-true, get_or-set_other, get_or-set_same, take-append-drop, unwrap_or-slice_get, Err, slice_set, ◌&&◌, ◌==◌, ◌||◌, Prefix, Send, Entry, LinkFault, Memory, ReadFault, Refused, WriteFault, tells_then, Gives, Phases, Tells, Told, cut_entries, pieces_in, Seen, Image, Answer, heeded, items_in, phase_after, Recorded, AreGiven, AreGivenInPart, IsLastSend, found_gone, AreAsked, EndsBy, IsReplay, bounds_of, AreOpen, AreOpenThen, IsBase, IsBetween, IsEnd, IsSending, Stage, has, replay_of, answer_of}
 use Rattle.replay.specs.Giving as giving
 use Rattle.replay.proofs.ReplayLemmas.{replay_same}
-use Rattle.replay.proofs.JournalLemmas.{asked_gave, tells_on, tells_still, last_taken-gave, pieces_in-gave, found_gone-more}
+use Rattle.replay.proofs.JournalLemmas.{asked_gave, tells_still, last_taken-gave, pieces_in-gave, found_gone-more}
 
 -- a set with one more connection
 has_more : (connections : List Bool) {conn : ℕ} (other : ℕ) → conn < length connections → has (slice_set connections conn true) other ≡ (has connections other || ((conn == other) && true))
@@ -44,7 +44,7 @@ module _ (image : Image) (recording : Recorded) (began : Told) (seen later : See
       let events = events_in-gave entries conn bytes gone in
       let items = items_in-gave (bounds_of recording) entries conn bytes gone in
       record {
-        tells = tells_on base.tells tells;
+        tells = tells_then _ _ _ _ _ base.tells tells;
         asked = asked_gave conn bytes gone base.asked;
         is = replay_same items base.is;
         items = record {
@@ -125,7 +125,7 @@ module _ {image : Image} {recording : Recorded} {began : Told} {seen : Seen} {co
   )
   cut_parts later (byte ∷ more) is front tells = (
     sending.entries ++ entry.Gave conn (byte ∷ more) false ∷ [],
-    tells_on sending.base.tells tells,
+    tells_then _ _ _ _ _ sending.base.tells tells,
     replay_same
         (items_in-gave (bounds_of recording) sending.entries conn (byte ∷ more) false) sending.base.is,
     asked_gave conn (byte ∷ more) false sending.base.asked,
@@ -161,7 +161,7 @@ module _ {image : Image} {recording : Recorded} {began : Told} {seen : Seen} {co
 
   pub sends_broken : {later : Seen} (why : LinkFault) (Gave : ℕ → List ℕ → Type 0) → later.takes ≡ true → later.gives ≡ false → has stage.gone conn ≡ false → Gives seen.told later.told conn bytes (Err why) → Gave conn bytes
       → IsEnd image recording began later (IsLastSend began seen.told Gave) stage (answer_of why)
-  sends_broken (fault.Refused kind offset) Gave take give is gives gave = absurd gives
-  sends_broken fault.ReadFault Gave take give is gives gave = absurd gives
-  sends_broken fault.WriteFault Gave take give is gives gave = broken gives.0 Gave take give is gives.1 gives.2 gave (λ sends entries part. part)
-  sends_broken fault.Memory Gave take give is gives gave = broken gives.0 Gave take give is gives.1 gives.2 gave (λ sends entries part. part)
+  sends_broken (Refused kind offset) Gave take give is gives gave = absurd gives
+  sends_broken ReadFault Gave take give is gives gave = absurd gives
+  sends_broken WriteFault Gave take give is gives gave = broken gives.0 Gave take give is gives.1 gives.2 gave (λ sends entries part. part)
+  sends_broken Memory Gave take give is gives gave = broken gives.0 Gave take give is gives.1 gives.2 gave (λ sends entries part. part)

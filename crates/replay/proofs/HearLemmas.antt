@@ -2,19 +2,20 @@
 use Rattle.std.proofs.Math.ListN.{drop_of_length-le}
 use Rattle.links.specs.declared.journal.Entry.TheVariants as entry
 use Rattle.links.specs.declared.journal.LinkEvent.TheVariants as event
-use Rattle.links.specs.declared.journal.LinkFault.TheVariants as fault
 use Rattle.msg_frame.specs.Messages.{Parts, cut}
 use Rattle.item_log.specs.declared.kinds.TheConstants.{OPENED, CLOSED}
 use Rattle.item_log.specs.Connections.{rest_of, in_order}
 use Rattle.item_log.specs.Log as logs
 use Rattle.run_history.specs.declared.answer.Answer.TheVariants as answer
 use Rattle.link_gate.proofs.Phasing.{phases_behind}
-use Rattle.link_gate.proofs.Refusing.{IsEvent, events_behind, items_behind, logged_keeps, limit_events, too_long, limit_items, is_heeded, heeded_with, keeps_items, heeded_without, events_ended}
-use Rattle.replay.proofs.Terms.{Bool, List, None, Option, Some, [], ap, arith, cond, drop, false, length, length-append, map, refl, subst, suc, sym, true, zero, ℕ, ◌++◌, ◌+◌, ◌<◌, ◌^◌, ◌∙◌, ◌∷◌, ◌≡◌, ◌≤◌, drop-append_seam, both_ways, eq-eqb, eqb-false, eqb-true, same_Some, Err, Ok, Result, if◌then◌else◌, slice_get, unwrap_or, ◌==◌, Item, Entry, LinkEvent, LinkFault, Closed, IsInOrder, Open, Phases, StillComes, Tells, Told, events_in, phases_after, pieces_in, NextShows, Seen, Framing, bare_item, brought, hear, hear_parts, items_by, items_of, message_item, Fits, Log, logged, Image, Answer, closed_may, others_may, connections_after, IsLastRefused, Bounds, Unheeded, heeded, items_in, received, refusal, KeepsItems, phase_after, received_is, in_order_shown, Recorded, AreGiven, found_gone, AreAsked, IsAsking, IsReplay, Starved, bounds_of, AreOpen, AreOpenThen, IsWaiting, IsWholeEnd, Stage, WaitsBy, has, replay_of, HeedsEvent, LogsEvent, answer_of}
+use Rattle.link_gate.proofs.Refusing.{IsEvent, events_behind, logged_keeps, limit_events, too_long, limit_items, is_heeded, keeps_items, heeded_without, events_ended, brings_more}
+use Rattle.replay.proofs.Terms.{Bool, List, None, Option, Some, [], ap, arith, cond, drop, false, length, length-append, map, refl, subst, suc, sym, true, zero, ℕ, ◌++◌, ◌+◌, ◌<◌, ◌^◌, ◌∙◌, ◌∷◌, ◌≡◌, ◌≤◌, drop-append_seam, both_ways, eq-eqb, eqb-false, eqb-true, same_Some, Err, Ok, Result, if◌then◌else◌, slice_get, unwrap_or, ◌==◌, Item, LinkEvent, LinkFault, Memory, ReadFault, Refused, WriteFault, tells_then, Closed, IsInOrder, Open, Phases, StillComes, Tells, Told, events_in, phases_after, pieces_in, NextShows, Seen, Framing, bare_item, brought, hear, hear_parts, items_by, items_of, message_item, Fits, Log, logged, Image, Answer, closed_may, others_may, connections_after, IsLastRefused, Unheeded, heeded, items_in, received, refusal, phase_after, received_is, in_order_shown, Recorded, AreGiven, found_gone, AreAsked, IsAsking, IsReplay, Starved, WaitsForItem, bounds_of, AreOpen, AreOpenThen, IsWaiting, IsWholeEnd, Stage, WaitsBy, has, replay_of, HeedsEvent, LogsEvent, answer_of}
 use Rattle.replay.specs.Giving as giving
 use Rattle.replay.proofs.ReplayLemmas.{replay_more, replay_same}
-use Rattle.replay.proofs.JournalLemmas.{asked_took, tells_on, tells_still, last_taken-took, pieces_in-took}
+use Rattle.replay.proofs.JournalLemmas.{asked_took, tells_still, pieces_in-took}
 use Rattle.replay.proofs.OpenLemmas.{messages_open, item_opens, stays_then}
+use Rattle.session_history.proofs.Causes.{last_taken-append}
+use Rattle.link_gate.proofs.Answering.{not_end}
 
 -- items with messages change no connection
 messages_after : (conn : ℕ) (messages : List (List ℕ)) {connections : List Bool} (k : ℕ) (item : Item) → slice_get (map (message_item conn) messages) k ≡ Some item → connections_after item connections ≡ connections
@@ -22,10 +23,6 @@ messages_after conn [] k item here = absurd (cc)
 messages_after conn (bytes ∷ messages) {connections = connections} zero item here =
     subst (λ (i : Item). connections_after i connections ≡ connections) (same_Some (message_item conn bytes) item here) refl
 messages_after conn (bytes ∷ messages) (suc k) item here = messages_after conn messages k item here
-
--- an event of the journal isn't Ends
-not_end : {found : LinkEvent} → IsEvent found → found ≡ event.Ends → ⊥
-not_end one is = let never : [] ≡ event.Ends ∷ [] = subst IsEvent is one in absurd (cc)
 
 module _ (phases after : Phases) (connections : List Bool) where
   -- where each open connection is open still
@@ -74,38 +71,30 @@ module _ (phases after : Phases) (connections : List Bool) where
   event_open framing rests event order opened enters =
       subst (λ (b : Bool). AreOpenThen after (items_by (cond b (brought framing rests event) None)) connections) (sym order) (brought_event framing rests event opened enters)
 
--- one more event brings its items
-brings_more : {bounds : Bounds} {entries : List Entry} {event : LinkEvent} {log : Log} → IsEvent event → KeepsItems bounds entries log → refusal bounds (events_in entries) event ≡ None
-    → items_in bounds (entries ++ entry.Took event ∷ []) ≡ items_in bounds entries ++ items_by (hear bounds.framing log.rests event)
-brings_more {bounds = bounds} {entries = entries} {event = event} {log = log} one keeps fine =
-    ap (items_of bounds.framing) (heeded_with bounds entries event one keeps.all_heeded fine)
-    ∙ items_behind bounds.framing (events_in entries) event log keeps.shows
-    ∙ ap (λ events. items_of bounds.framing events ++ items_by (hear bounds.framing log.rests event)) (sym keeps.all_heeded)
-
 no_end : {last : LinkEvent} → IsEvent last → Some last ≡ Some event.Ends → ⊥
 no_end {last = last} one is =
-    let same : last ≡ event.Ends = same_Some last event.Ends is in
-    let none : [] ≡ last ∷ [] = ap (λ (e : LinkEvent). events_in (entry.Took e ∷ [])) (sym same) ∙ one in
+    let none : [] ≡ last ∷ [] = ap (λ (e : LinkEvent). events_in (entry.Took e ∷ [])) (sym (same_Some last event.Ends is)) ∙ one in
     absurd (cc)
 
 module _ {image : Image} {recording : Recorded} {began : Told} {seen : Seen} {stage : Stage} (waiting : IsWaiting image recording began seen stage) (none_left : logs.received stage.log ≤ stage.live.guest.machine.taken) where
   -- all that was received is taken
   all_taken : stage.live.guest.machine.taken ≡ received (bounds_of recording) waiting.playing.entries
   all_taken =
-      let count = received_is (bounds_of recording) waiting.playing.entries stage.log waiting.playing.base.items in
-      omega (arith, none_left, count, waiting.playing.base.taken)
+      omega (arith, none_left, received_is (bounds_of recording) waiting.playing.entries stage.log waiting.playing.base.items, waiting.playing.base.taken)
 
   asking : IsAsking image recording waiting.playing.entries (replay_of waiting.playing.sends stage.live)
   asking = record {
     is = waiting.playing.base.is;
-    shorter = waiting.shorter;
-    lives = waiting.lives;
-    asks = waiting.asks;
-    taken = all_taken;
+    waits = record { shorter = waiting.shorter; lives = waiting.lives; asks = waiting.asks; taken = all_taken };
     given = waiting.playing.given;
     heeds = waiting.playing.base.items.all_heeded;
     goes_on = waiting.playing.base.goes_on;
   }
+
+  -- it waits still where one more event brings no item
+  waits_still : (event : LinkEvent) → items_in (bounds_of recording) (waiting.playing.entries ++ entry.Took event ∷ []) ≡ items_in (bounds_of recording) waiting.playing.entries
+      → WaitsForItem recording (waiting.playing.entries ++ entry.Took event ∷ []) (replay_of waiting.playing.sends stage.live)
+  waits_still event same = record { shorter = waiting.shorter; lives = waiting.lives; asks = waiting.asks; taken = all_taken ∙ ap length (sym same) }
 
   took : (event : LinkEvent) → AreAsked image recording (waiting.playing.entries ++ entry.Took event ∷ [])
   took event = asked_took event (record { replay = replay_of waiting.playing.sends stage.live; asks = asking }) waiting.playing.base.asked
@@ -125,16 +114,24 @@ module _ {image : Image} {recording : Recorded} {began : Told} {seen : Seen} {st
 
   -- an event is refused
   refused_last : {event : LinkEvent} {cause : Unheeded} → IsEvent event → refusal (bounds_of recording) (events_in waiting.playing.entries) event ≡ Some cause → IsLastRefused (bounds_of recording) (waiting.playing.entries ++ entry.Took event ∷ []) cause
-  refused_last {event = event} one refused = record { before = waiting.playing.entries; event = event; last = refl; no_end = not_end one; refused = refused }
+  refused_last {event = event} one refused = record { before = waiting.playing.entries; event = event; last = refl; no_end = not_end _ one; refused = refused }
+
+  -- and brings no item
+  refused_items : {event : LinkEvent} {cause : Unheeded} → IsEvent event → refusal (bounds_of recording) (events_in waiting.playing.entries) event ≡ Some cause
+      → items_in (bounds_of recording) (waiting.playing.entries ++ entry.Took event ∷ []) ≡ items_in (bounds_of recording) waiting.playing.entries
+  refused_items {event = event} {cause = cause} one refused =
+      ap (items_of recording.frame) (heeded_without (bounds_of recording) waiting.playing.entries event cause one waiting.playing.base.items.all_heeded refused)
+
+  refused_waits : {event : LinkEvent} {cause : Unheeded} → IsEvent event → refusal (bounds_of recording) (events_in waiting.playing.entries) event ≡ Some cause
+      → WaitsForItem recording (waiting.playing.entries ++ entry.Took event ∷ []) (replay_of waiting.playing.sends stage.live)
+  refused_waits {event = event} one refused = waits_still event (refused_items one refused)
 
   refused_replay : {event : LinkEvent} {cause : Unheeded} → IsEvent event → refusal (bounds_of recording) (events_in waiting.playing.entries) event ≡ Some cause
       → IsReplay image recording (waiting.playing.entries ++ entry.Took event ∷ []) (replay_of waiting.playing.sends stage.live)
-  refused_replay {event = event} {cause = cause} one refused =
-      replay_same
-      (ap (items_of recording.frame) (heeded_without (bounds_of recording) waiting.playing.entries event cause one waiting.playing.base.items.all_heeded refused)) waiting.playing.base.is
+  refused_replay one refused = replay_same (refused_items one refused) waiting.playing.base.is
 
   tells_took : {told : Told} {event : LinkEvent} → Tells seen.told told (entry.Took event ∷ []) → Tells began told (waiting.playing.entries ++ entry.Took event ∷ [])
-  tells_took {told = told} {event = event} tells = tells_on waiting.playing.base.tells tells
+  tells_took {told = told} {event = event} tells = tells_then _ _ _ _ _ waiting.playing.base.tells tells
 
 module _ {image : Image} {recording : Recorded} {began : Told} {seen : Seen} {later : Seen} {stage : Stage} (waiting : IsWaiting image recording began seen stage) (none_left : logs.received stage.log ≤ stage.live.guest.machine.taken) where
   -- an event is logged
@@ -146,10 +143,8 @@ module _ {image : Image} {recording : Recorded} {began : Told} {seen : Seen} {la
       let bounds = bounds_of recording in
       let heeds = is_heeded bounds entries event stage.log one base.items (omega (arith, few, base.events)) fits in
       let more = items_by (hear recording.frame stage.log.rests event) in
-      let brings : items_in bounds (entries ++ entry.Took event ∷ []) ≡ items_in bounds entries ++ more = brings_more one base.items heeds.allowed in
+      let brings : items_in bounds (entries ++ entry.Took event ∷ []) ≡ items_in bounds entries ++ more = brings_more _ _ _ _ one base.items heeds.allowed in
       let events : events_in (entries ++ entry.Took event ∷ []) ≡ events_in entries ++ event ∷ [] = events_behind entries event one in
-      let count : length (events_in (entries ++ entry.Took event ∷ [])) ≡ length (events_in entries) + 1 = ap length events ∙ length-append (events_in entries) (event ∷ []) in
-      let items_count : length (items_in bounds (entries ++ entry.Took event ∷ [])) ≡ length (items_in bounds entries) + length more = ap length brings ∙ length-append (items_in bounds entries) more in
       let left : drop stage.live.guest.machine.taken (items_in bounds (entries ++ entry.Took event ∷ [])) ≡ more =
       ap (drop stage.live.guest.machine.taken) brings ∙ ap (λ (n : ℕ). drop n (items_in bounds entries ++ more)) (all_taken waiting none_left) ∙ drop-append_seam (items_in bounds entries) more in
       record {
@@ -157,17 +152,17 @@ module _ {image : Image} {recording : Recorded} {began : Told} {seen : Seen} {la
           entries = entries ++ entry.Took event ∷ [];
           sends = waiting.playing.sends;
           base = record {
-            tells = tells_on base.tells next.told;
+            tells = tells_then _ _ _ _ _ base.tells next.told;
             asked = took waiting none_left event;
             is = replay_more more brings base.is;
             items = keeps_items bounds entries event stage.log new one base.items heeds.allowed is;
-            goes_on = λ ended. no_end one (sym (last_taken-took entries) ∙ ended);
+            goes_on = λ ended. no_end one (sym (last_taken-append entries _) ∙ ended);
             first = (logged_keeps stage.log new event is).0 ∙ base.first;
-            events = omega (arith, base.events, count);
+            events = omega (arith, base.events, ap length events ∙ length-append (events_in entries) (event ∷ []));
             phases_are = λ conn. next.order.1 conn ∙ phases_behind seen.phases (events_in entries) event base.phases_are next.order.0 conn ∙ ap (phase_after conn) (sym events);
             gone = λ conn. base.gone conn ∙ ap (found_gone conn) (sym (pieces_in-took entries event));
             places = base.places;
-            taken = omega (arith, base.taken, items_count);
+            taken = omega (arith, base.taken, ap length brings ∙ length-append (items_in bounds entries) more);
             connected = subst (λ items. AreOpenThen later.phases items stage.live.guest.machine.connections) (sym left)
                 (event_open seen.phases later.phases stage.live.guest.machine.connections recording.frame stage.log.rests event (in_order_now waiting none_left event next.order.0) (opened_now waiting none_left) next.order.1);
             bare = base.bare;
@@ -191,7 +186,7 @@ module _ {image : Image} {recording : Recorded} {began : Told} {seen : Seen} {la
         tells = tells_took waiting none_left next.told;
         asked = took waiting none_left event;
         is = refused_replay waiting none_left one refused;
-        ends = (refused_last waiting none_left one refused, given_still waiting none_left event);
+        ends = (refused_waits waiting none_left one refused, refused_last waiting none_left one refused, given_still waiting none_left event);
         failed = λ no. absurd (both_ways later.takes no next.takes);
         given = given_still waiting none_left event;
       })
@@ -203,7 +198,7 @@ module _ {image : Image} {recording : Recorded} {began : Told} {seen : Seen} {la
         tells = tells_took waiting none_left next.told;
         asked = took waiting none_left event;
         is = refused_replay waiting none_left one refused;
-        ends = (record { refused = record { before = waiting.playing.entries; event = event; last = refl; no_end = not_end one; refused = refused }; piece = did.2 }, given_still waiting none_left event);
+        ends = (refused_waits waiting none_left one refused, record { refused = record { before = waiting.playing.entries; event = event; last = refl; no_end = not_end _ one; refused = refused }; piece = did.2 }, given_still waiting none_left event);
         failed = λ no. absurd (both_ways later.takes no next.takes);
         given = given_still waiting none_left event;
       })
@@ -215,7 +210,7 @@ module _ {image : Image} {recording : Recorded} {began : Told} {seen : Seen} {la
         tells = tells_took waiting none_left next.told;
         asked = took waiting none_left event;
         is = refused_replay waiting none_left one refused;
-        ends = (refused_last waiting none_left one refused, given_still waiting none_left event);
+        ends = (refused_waits waiting none_left one refused, refused_last waiting none_left one refused, given_still waiting none_left event);
         failed = λ no. absurd (both_ways later.takes no next.takes);
         given = given_still waiting none_left event;
       })
@@ -258,7 +253,7 @@ module _ {image : Image} {recording : Recorded} {began : Told} {seen : Seen} {la
         tells = tells_took waiting none_left tells;
         asked = took waiting none_left event.Ends;
         is = replay_same same waiting.playing.base.is;
-        ends = (refl, Starved waiting.shorter waiting.lives waiting.asks (all_taken waiting none_left ∙ ap length (sym same)) (last_taken-took entries), given_still waiting none_left event.Ends, λ _. last);
+        ends = (refl, Starved (waits_still waiting none_left event.Ends same) (last_taken-append entries _), given_still waiting none_left event.Ends, λ _. last);
         failed = λ no. absurd (both_ways later.takes no still);
         given = given_still waiting none_left event.Ends;
       }
@@ -274,7 +269,7 @@ module _ {image : Image} {recording : Recorded} {began : Told} {seen : Seen} {la
 
   -- no event was taken
   pub takes_none : (why : LinkFault) → NextShows seen later (Err why) → IsWholeEnd image recording began later stage (answer_of why)
-  takes_none (fault.Refused kind offset) next = record {
+  takes_none (Refused kind offset) next = record {
     entries = waiting.playing.entries;
     sends = waiting.playing.sends;
     tells = tells_still waiting.playing.base.tells next.told;
@@ -284,7 +279,7 @@ module _ {image : Image} {recording : Recorded} {began : Told} {seen : Seen} {la
     failed = λ _. asking waiting none_left;
     given = waiting.playing.given;
   }
-  takes_none fault.ReadFault next = record {
+  takes_none ReadFault next = record {
     entries = waiting.playing.entries;
     sends = waiting.playing.sends;
     tells = tells_still waiting.playing.base.tells next.told;
@@ -294,8 +289,8 @@ module _ {image : Image} {recording : Recorded} {began : Told} {seen : Seen} {la
     failed = λ _. asking waiting none_left;
     given = waiting.playing.given;
   }
-  takes_none fault.WriteFault next = absurd next.grammar
-  takes_none fault.Memory next = record {
+  takes_none WriteFault next = absurd next.grammar
+  takes_none Memory next = record {
     entries = waiting.playing.entries;
     sends = waiting.playing.sends;
     tells = tells_still waiting.playing.base.tells next.told;

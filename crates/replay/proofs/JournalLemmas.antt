@@ -1,7 +1,6 @@
 -- One more entry behind the journal of a replay.
 use Rattle.links.specs.declared.journal.Entry.TheVariants as entry
-use Rattle.links.proofs.Journaled.{pieces_in-append}
-use Rattle.replay.proofs.Terms.{Bool, List, None, Option, Some, [], ap, append-nil, append_assoc, drop, false, inl, inr, refl, subst, sym, true, ℕ, ◌++◌, ◌∙◌, ◌∷◌, ◌≡◌, ◌⊎◌, unwrap_or, ◌&&◌, ◌==◌, ◌||◌, Entry, LinkEvent, Grew, Piece, Tells, Told, events_in, last_taken, pieces_in, Image, events_in-append, Recorded, found_gone, piece_of, AreAsked, WasAsked}
+use Rattle.replay.proofs.Terms.{Bool, List, Option, Some, [], ap, append-nil, drop, false, inl, inr, refl, subst, sym, true, ℕ, ◌++◌, ◌∙◌, ◌∷◌, ◌≡◌, ◌⊎◌, unwrap_or, ◌&&◌, ◌==◌, ◌||◌, Entry, LinkEvent, tells_then, pieces_in-append, Piece, Tells, Told, last_taken, pieces_in, Image, Recorded, found_gone, piece_of, AreAsked, WasAsked}
 
 -- a place in a journal with one more entry is the last one, or stood there before
 last_split : (xs : List Entry) {x : Entry} (before : List Entry) {y : Entry} (after : List Entry) → xs ++ x ∷ [] ≡ before ++ y ∷ after
@@ -38,37 +37,8 @@ asked_took {image = image} {recording = recording} {entries = entries} event was
       | inr found ↦ asked before found.0 other found.1
     ]
 
--- a list that is told grew twice
-grew_on : {T : Type 0} (a b c : Option (List T)) (xs ys : List T) → Grew a b xs → Grew b c ys → Grew a c (xs ++ ys)
-grew_on None b c xs ys first second = tt
-grew_on (Some a) None c xs ys first second = absurd first
-grew_on (Some a) (Some b) None xs ys first second = absurd second
-grew_on (Some a) (Some b) (Some c) xs ys first second = second ∙ ap (λ l. l ++ ys) first ∙ append_assoc a xs ys
-
--- what a link told grew twice
-pub tells_on : {a b c : Told} {xs ys : List Entry} → Tells a b xs → Tells b c ys → Tells a c (xs ++ ys)
-tells_on {a = a} {b = b} {c = c} {xs = xs} {ys = ys} first second = record {
-  events = subst (Grew a.events c.events) (sym (events_in-append xs ys)) (grew_on a.events b.events c.events (events_in xs) (events_in ys) first.events second.events);
-  pieces = subst (Grew a.pieces c.pieces) (sym (pieces_in-append xs ys)) (grew_on a.pieces b.pieces c.pieces (pieces_in xs) (pieces_in ys) first.pieces second.pieces);
-  journal = grew_on a.journal b.journal c.journal xs ys first.journal second.journal;
-}
-
 pub tells_still : {a b c : Told} {xs : List Entry} → Tells a b xs → Tells b c [] → Tells a c xs
-tells_still {a = a} {c = c} {xs = xs} first second = subst (Tells a c) (append-nil xs) (tells_on first second)
-
--- a link that told nothing more
-grew_same : {T : Type 0} (a : Option (List T)) → Grew a a []
-grew_same None = tt
-grew_same (Some a) = sym (append-nil a)
-
-pub tells_same : {told : Told} → Tells told told []
-tells_same {told = told} = record { events = grew_same told.events; pieces = grew_same told.pieces; journal = grew_same told.journal }
-
--- what was taken last
-pub last_taken-took : (entries : List Entry) {event : LinkEvent} → last_taken (entries ++ entry.Took event ∷ []) ≡ Some event
-last_taken-took [] = refl
-last_taken-took (entry.Gave conn bytes gone ∷ entries) = last_taken-took entries
-last_taken-took (entry.Took first ∷ entries) = ap (λ (found : Option LinkEvent). Some (unwrap_or found first)) (last_taken-took entries)
+tells_still {a = a} {c = c} {xs = xs} first second = subst (Tells a c) (append-nil xs) (tells_then _ _ _ _ _ first second)
 
 pub last_taken-gave : (entries : List Entry) (conn : ℕ) (bytes : List ℕ) (gone : Bool) → last_taken (entries ++ entry.Gave conn bytes gone ∷ []) ≡ last_taken entries
 last_taken-gave [] conn bytes gone = refl

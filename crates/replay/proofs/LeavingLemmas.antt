@@ -1,8 +1,7 @@
 -- Which calls of its link have failed behind a turn, and where a replay has ended.
 use Rattle.links.specs.declared.journal.LinkEvent.TheVariants as event
-use Rattle.links.specs.declared.journal.LinkFault.TheVariants as fault
 use Rattle.run_history.specs.declared.answer.Answer.TheVariants as answer
-use Rattle.replay.proofs.Terms.{None, Option, Some, inl, inr, subst, sym, true, true≢false, ℕ, ◌∙◌, ◌≡◌, Err, IsSome, Ok, Result, LinkEvent, LinkFault, Coming, StaysTold, NextShows, Seen, Answer, LeavesLink, HasNoFault, LeavesBy, Stage, HeedsEvent, LogsEvent, answer_of}
+use Rattle.replay.proofs.Terms.{None, Option, Some, inl, inr, subst, sym, true, true≢false, ℕ, ◌∙◌, ◌≡◌, Err, IsSome, Ok, Result, LinkEvent, LinkFault, Memory, ReadFault, Refused, WriteFault, Coming, StaysTold, NextShows, Seen, Answer, LeavesLink, HasNoFault, LeavesBy, Stage, HeedsEvent, LogsEvent, answer_of}
 
 -- no call failed
 pub leaves_both : (before now : Seen) (result : Result (Unit {0}) Answer) → now.takes ≡ true → now.gives ≡ true → (IsSome before.coming → IsSome now.coming) → HasNoFault result → LeavesBy before now result
@@ -18,16 +17,16 @@ pub taken_known : (old new : Option Coming) (taken : LinkEvent) → StaysTold ol
 taken_known None new taken stays known = absurd (true≢false (sym known))
 taken_known (Some coming) new taken stays known = stays
 
-told_still : (old new : Option Coming) (kind offset : ℕ) → StaysTold old new (Err (fault.Refused kind offset)) → IsSome old → IsSome new
+told_still : (old new : Option Coming) (kind offset : ℕ) → StaysTold old new (Err (Refused kind offset)) → IsSome old → IsSome new
 told_still None new kind offset stays known = absurd (true≢false (sym known))
 told_still (Some coming) new kind offset stays known = stays
 
 -- no event was taken
 pub leaves_untaken : {before now : Seen} (failed : LinkFault) → NextShows before now (Err failed) → before.gives ≡ true → LeavesLink before now (answer_of failed)
-leaves_untaken {before = before} {now = now} (fault.Refused kind offset) shows give = (shows.takes, shows.gives ∙ give, told_still before.coming now.coming kind offset shows.coming)
-leaves_untaken fault.ReadFault shows give = shows.gives ∙ give
-leaves_untaken fault.WriteFault shows give = absurd shows.grammar
-leaves_untaken fault.Memory shows give = inr (shows.gives ∙ give)
+leaves_untaken {before = before} {now = now} (Refused kind offset) shows give = (shows.takes, shows.gives ∙ give, told_still before.coming now.coming kind offset shows.coming)
+leaves_untaken ReadFault shows give = shows.gives ∙ give
+leaves_untaken WriteFault shows give = absurd shows.grammar
+leaves_untaken Memory shows give = inr (shows.gives ∙ give)
 
 -- an event that comes in is no fault
 logs_none : (taken : LinkEvent) (old new : Stage) (result : Result (Unit {0}) Answer) → LogsEvent taken old new result → HasNoFault result
@@ -37,11 +36,8 @@ logs_none taken old new (Err answer.ReadFault) logs = logs
 logs_none taken old new (Err answer.WriteFault) logs = logs
 logs_none taken old new (Err _) logs = tt
 
-mismatch_none : {result : Result (Unit {0}) Answer} {steps : ℕ} → result ≡ Err (answer.Mismatch steps) → HasNoFault result
-mismatch_none is = subst HasNoFault (sym is) tt
-
 pub heeds_none : (taken : LinkEvent) (old new : Stage) (result : Result (Unit {0}) Answer) → HeedsEvent taken old new result → HasNoFault result
-heeds_none event.Ends old new result heeds = mismatch_none heeds.0
+heeds_none event.Ends old new result heeds = subst HasNoFault (sym heeds.0) tt
 heeds_none (event.Opens conn) old new result heeds = logs_none (event.Opens conn) old new result heeds
 heeds_none (event.Piece conn bytes) old new result heeds = logs_none (event.Piece conn bytes) old new result heeds
 heeds_none (event.Closes conn) old new result heeds = logs_none (event.Closes conn) old new result heeds

@@ -50,12 +50,9 @@ module _ {image : Image} {recording : Recorded} {began : Told} {seen : Seen} {st
   ends_judged playing stopped true true false a u t = (refl, Untaken (eqb-true stage.live.steps recording.steps a) (eqb-false stage.live.guest.machine.taken recording.taken t), playing.given, λ ended. absurd (playing.base.goes_on ended))
   ends_judged playing stopped true false taken a u t =
       let apart = eqb-false stage.live.guest.machine.allocations (length recording.choices) u in
-      let most = playing.base.is.used in
-      (refl, Unused (eqb-true stage.live.steps recording.steps a) (omega (arith, apart, most)), playing.given, λ ended. absurd (playing.base.goes_on ended))
+      (refl, Unused (eqb-true stage.live.steps recording.steps a) (omega (arith, apart, playing.base.is.used)), playing.given, λ ended. absurd (playing.base.goes_on ended))
   ends_judged playing stopped false used taken a u t =
-      let apart = eqb-false stage.live.steps recording.steps a in
-      let most = playing.base.is.steps in
-      let low : stage.live.steps < recording.steps = omega (arith, apart, most) in
+      let low : stage.live.steps < recording.steps = omega (arith, eqb-false stage.live.steps recording.steps a, playing.base.is.steps) in
       (refl, Ended low (stopped low), playing.given, λ ended. absurd (playing.base.goes_on ended))
 
   -- the guest has come to its end, or to the record's
@@ -67,8 +64,7 @@ module _ {image : Image} {recording : Recorded} {began : Told} {seen : Seen} {st
 module _ {image : Image} {recording : Recorded} {began : Told} {seen : Seen} {stage : Stage} {later : Standing} (between : IsBetween image recording began seen stage) where
   pub reached_end : seen.takes ≡ true → ComesTo recording.steps stage.live question.Reached later → IsWholeEnd image recording began seen (record stage { live = later }) (judged recording later)
   reached_end still comes =
-      let last = comes.1 in
-      judged_end still (playing_ran comes.0 between.playing) (λ low. absurd (let no : ⊥ = omega (arith, low, last) in no))
+      judged_end still (playing_ran comes.0 between.playing) (λ low. absurd (let no : ⊥ = omega (arith, low, comes.1) in no))
 
   pub exits_end : seen.takes ≡ true → (code : ℕ) → ComesTo recording.steps stage.live (question.Exits code) later → IsWholeEnd image recording began seen (record stage { live = later }) (judged recording later)
   exits_end still code comes =
@@ -146,11 +142,6 @@ wants_first {new = new} comes = asked_size new.guest.machine comes.3
 -- what rose behind a question rose since before it
 pub rises_behind : {until : ℕ} {old new : Standing} (before after : List Send → List Send) {later : ℕ} → Ran until old new before after → new.steps < later → old.steps < later
 rises_behind before after ran low = omega (arith, ran.steps, low)
-
--- what holds where a call went well, or always
-pub if_ok : {X E : Type 0} (result : Result X E) (P Q : Type 0) → (Q → P) → IfOk result (λ _. Q) → IfOk result (λ _. P)
-if_ok (Ok done) P Q f holds = f holds
-if_ok (Err why) P Q f holds = tt
 
 pub ok_always : {X E : Type 0} (result : Result X E) (P : Type 0) → P → IfOk result (λ _. P)
 ok_always (Ok done) P holds = holds

@@ -1,17 +1,15 @@
 -- A replay of a record that a run left is the beginning of that run, and the run's next instruction contradicts each way to differ.
-use Rattle.links.specs.declared.journal.Entry.TheVariants as entry
-use Rattle.links.specs.declared.journal.LinkEvent.TheVariants as event
 use Rattle.run_history.specs.declared.answer.Answer.TheVariants as answer
-use Rattle.replay.proofs.Terms.{Bool, List, None, Option, Some, [], ap, append-nil, append_assoc, arith, cond, drop, false, inl, inr, length, length-append, refl, subst, suc, sym, take, true, zero, ℕ, ◌++◌, ◌+◌, ◌-◌, ◌<◌, ◌∙◌, ◌∷◌, ◌≡◌, ◌≢◌, ◌≤◌, cases_Bool, ne_eqb, length-take-le, take-append-drop, none-some, option_and_then_some, same_Some, slice_get_past, IsSome, is_none, nat_lt, slice_get, Item, Entry, LinkEvent, Ends, Coming, events_in, pieces_in, Seen, Choice, insert_live, is_allowed, most_blocks, Image, Answer, Cause, repeated_add, Later, does_more, next_parts, run_from, run_more, run_one, allocated, chooses, takes, Chooses, Fails, Goes, State, Wants, register, start, repeated, after, does, effect, next, run, events_in-append, IsLastRefused, AreHeeded, Bounds, Unheeded, heeded, heeded_behind, items_in, refusal, Recorded, AreGiven, Differs, Ended, EndsBy, Failed, HasReplayed, IsReplay, IsUnusable, Replay, Starved, Unanswered, Untaken, Unused, bounds_of, BringsFirst, IsNoMismatch, IsRecordOf}
+use Rattle.replay.proofs.Terms.{Bool, List, None, Option, Some, [], ap, append-nil, arith, cond, drop, false, inl, inr, length, refl, subst, suc, sym, take, true, zero, ℕ, ◌++◌, ◌+◌, ◌-◌, ◌<◌, ◌∙◌, ◌∷◌, ◌≡◌, ◌≢◌, ◌≤◌, cases_Bool, ne_eqb, length-take-le, take-append-drop, none-some, option_and_then_some, same_Some, slice_get_past, IsSome, nat_lt, slice_get, Item, Entry, Coming, pieces_in, Seen, Choice, insert_live, is_allowed, most_blocks, Image, Answer, Cause, repeated_add, Later, does_more, next_parts, run_from, run_more, run_one, allocated, chooses, takes, Chooses, Fails, Goes, State, Wants, register, start, repeated, after, does, effect, next, run, items_in, Recorded, AreGiven, Differs, Ended, EndsBy, Failed, HasReplayed, IsReplay, IsUnusable, Replay, Starved, Unanswered, Untaken, Unused, bounds_of, BringsFirst, IsNoMismatch, IsRecordOf}
 use Rattle.replay.proofs.ReplayLemmas.{wants_takes, wants_chooses, asked_size}
+use Rattle.session_history.proofs.Refused.{none_refused}
 
 -- of so many steps there is the first
 first_step : {X : Type 0} (step : X → Option X) (count : ℕ) (x y : X) → 0 < count → repeated step count x ≡ Some y → (next : X) × (step x ≡ Some next)
 first_step step zero x y some ran = absurd (omega (arith, some))
 first_step step (suc count) x y some ran =
     let one_more : suc count ≡ 1 + count = omega arith in
-    let split = sym (repeated_add step x 1 count) ∙ ap (λ (n : ℕ). repeated step n x) (sym one_more) ∙ ran in
-    option_and_then_some (λ z. repeated step count z) (step x) y split (λ z here rest. (z, here))
+    option_and_then_some (λ z. repeated step count z) (step x) y (sym (repeated_add step x 1 count) ∙ ap (λ (n : ℕ). repeated step n x) (sym one_more) ∙ ran) (λ z here rest. (z, here))
 
 -- a replay is the beginning of the run that a record tells of
 pub begins : {image : Image} {items : List Item} {recording : Recorded} {entries : List Entry} {replay : Replay} → IsReplay image recording entries replay → BringsFirst (bounds_of recording) items entries
@@ -46,8 +44,7 @@ goes_on {items = items} {choices = choices} {first = first} {here = here} {last 
     let rest = count - steps in
     let parts : count ≡ steps + rest = omega (arith, short) in
     let some : 0 < rest = omega (arith, short) in
-    let behind : run items choices here rest ≡ Some last = sym (run_from items choices first here steps rest ran) ∙ ap (λ (n : ℕ). run items choices first n) (sym parts) ∙ whole in
-    let step = first_step (next items choices) rest here last some behind in
+    let step = first_step (next items choices) rest here last some (sym (run_from items choices first here steps rest ran) ∙ ap (λ (n : ℕ). run items choices first n) (sym parts) ∙ whole) in
     let is = next_parts items choices here step.0 step.1 in
     record { later = step.0; goes = is.1; lives = is.0; ran = run_one items choices first here step.0 steps ran step.1 }
 
@@ -84,9 +81,8 @@ length-insert_live new (block ∷ blocks) = of (nat_lt new.0 block.0) (length-in
 one_more_live : (here : State) {later : State} (size : ℕ) (choice : Choice) → choice.at ≢ 0 → Some (record here { machine = allocated size choice here.machine }) ≡ Some later → length later.machine.blocks ≡ length here.machine.blocks + 1
 unfolding allocated
 one_more_live here {later = later} size choice some goes =
-    let new : List (ℕ × ℕ) = insert_live (choice.at, size) here.machine.blocks in
     sym (ap (λ (s : State). length s.machine.blocks) (same_Some _ later goes))
-    ∙ ap (λ (b : Bool). length (cond b here.machine.blocks new)) (ne_eqb choice.at 0 some)
+    ∙ ap (λ (b : Bool). length (cond b here.machine.blocks (insert_live (choice.at, size) here.machine.blocks))) (ne_eqb choice.at 0 some)
     ∙ length-insert_live (choice.at, size) here.machine.blocks
 
 -- nor does one whose malloc has no answer that can be used, where there is room behind it
@@ -99,8 +95,7 @@ unusable_not here {later = later} size (Some choice) (inr full) room goes =
       | inl may ↦
           let went : Some (record here { machine = allocated size choice here.machine }) ≡ Some later =
           ap (λ (b : Bool). after here (cond b (Goes (allocated size choice here.machine)) (Chooses size))) (sym may) ∙ goes in
-          let more = one_more_live here size choice full.0 went in
-          absurd (omega (arith, full.1, room, more))
+          absurd (omega (arith, full.1, room, one_more_live here size choice full.0 went))
       | inr not_may ↦ absurd (none-some later (ap (λ (b : Bool). after here (cond b (Goes (allocated size choice here.machine)) (Chooses size))) (sym not_may) ∙ goes))
     ]
 
@@ -118,8 +113,7 @@ unanswered_not items choices here {size = size} {used = used} wants same unusabl
 -- no more items come than these, where the link has ended
 none_left : {items : List Item} (front : List Item) {more : List Item} {taken : ℕ} → items ≡ front ++ more → more ≡ [] → taken ≡ length front → length items ≤ taken
 none_left {items = items} front first all count =
-    let same : length items ≡ length front = ap length (first ∙ ap (λ (rest : List Item). front ++ rest) all ∙ append-nil front) in
-    omega (arith, same, count)
+    omega (arith, ap length (first ∙ ap (λ (rest : List Item). front ++ rest) all ∙ append-nil front), count)
 
 -- so it doesn't differ
 differs_not : {image : Image} {items : List Item} {state : State} {recording : Recorded} {entries : List Entry} {replay : Replay} → IsReplay image recording entries replay → IsRecordOf image items state recording
@@ -142,9 +136,9 @@ differs_not {image = image} {items = items} {state = state} {recording = recordi
         let low : replay.steps + 1 ≤ recording.steps = omega (arith, short) in
         unanswered_not items recording.choices replay.state wants (used_so_many is) unusable
         (of_run.room (replay.steps + 1) (on short).later low (on short).ran) (on short).goes
-    by_case (Starved short lives wants taken ended) =
-        starved_not items recording.choices replay.state wants
-        (none_left (items_in (bounds_of recording) entries) brings.first (brings.all ended) taken) (on short).goes
+    by_case (Starved waits ended) =
+        starved_not items recording.choices replay.state waits.asks
+        (none_left (items_in (bounds_of recording) entries) brings.first (brings.all ended) waits.taken) (on waits.shorter).goes
     by_case (Unused same few) =
         let all : replay.used ≡ length recording.choices = sym (used_so_many is) ∙ ap (λ (s : State). s.machine.allocations) (ends same) ∙ of_run.ran.used in
         omega (arith, all, few)
@@ -172,41 +166,6 @@ pub replay_gives_sends : (image : Image) (items : List Item) (state : State) (re
 replay_gives_sends image items state recording began now before after replayed of_run brings =
     finished_gives now.coming replayed.is of_run brings answer.Finished refl replayed.ends
 
--- an event that is refused isn't heeded, nor is any behind it
-refused_shorter : (bounds : Bounds) (before events : List LinkEvent) (event : LinkEvent) {cause : Unheeded} → refusal bounds (before ++ events) event ≡ Some cause → length (heeded_behind bounds before (events ++ event ∷ [])) ≤ length events
-unfolding heeded_behind
-refused_shorter bounds before [] event refused =
-    let bad : is_none (refusal bounds before event) ≡ false = ap (λ (b : List LinkEvent). is_none (refusal bounds b event)) (sym (append-nil before)) ∙ ap (λ (r : Option Unheeded). is_none r) refused in
-    let none : length (cond (is_none (refusal bounds before event)) (event ∷ []) []) ≡ 0 = ap (λ (b : Bool). length (cond b (event ∷ []) [])) bad in
-    omega (arith, none)
-refused_shorter bounds before (first ∷ events) event refused =
-    of (is_none (refusal bounds before first))
-    (refused_shorter bounds (before ++ first ∷ []) events event (ap (λ (b : List LinkEvent). refusal bounds b event) (append_assoc before (first ∷ []) events) ∙ refused))
-  where
-    of : (b : Bool) → length (heeded_behind bounds (before ++ first ∷ []) (events ++ event ∷ [])) ≤ length events
-        → length (cond b (first ∷ heeded_behind bounds (before ++ first ∷ []) (events ++ event ∷ [])) []) ≤ length (first ∷ events)
-    of true later = omega (arith, later)
-    of false later = omega arith
-
--- where every event is heeded, the last one isn't refused
-last_not : (bounds : Bounds) {entries : List Entry} (before : List Entry) {event : LinkEvent} {cause : Unheeded} → entries ≡ before ++ entry.Took event ∷ [] → events_in (entry.Took event ∷ []) ≡ event ∷ [] → refusal bounds (events_in before) event ≡ Some cause
-    → AreHeeded bounds entries → ⊥
-last_not bounds {entries = entries} before {event = event} last counts refused heeds =
-    let events : events_in entries ≡ events_in before ++ event ∷ [] =
-    ap events_in last ∙ events_in-append before (entry.Took event ∷ []) ∙ ap (λ (more : List LinkEvent). events_in before ++ more) counts in
-    let all : heeded bounds (events_in before ++ event ∷ []) ≡ events_in before ++ event ∷ [] = subst (λ (these : List LinkEvent). heeded bounds these ≡ these) events heeds in
-    omega (arith, refused_shorter bounds [] (events_in before) event refused, ap length all, length-append (events_in before) (event ∷ []))
-
-none_refused : {bounds : Bounds} {entries : List Entry} {cause : Unheeded} → IsLastRefused bounds entries cause → AreHeeded bounds entries → ⊥
-none_refused {bounds = bounds} {entries = entries} {cause = cause} last heeds = by_event last.event last.last last.no_end last.refused
-  where
-    by_event : (event : LinkEvent) → entries ≡ last.before ++ entry.Took event ∷ [] → event ≢ Ends → refusal bounds (events_in last.before) event ≡ Some cause → ⊥
-    by_event (event.Opens conn) split counts refused = last_not bounds last.before split refl refused heeds
-    by_event (event.Piece conn bytes) split counts refused = last_not bounds last.before split refl refused heeds
-    by_event (event.Closes conn) split counts refused = last_not bounds last.before split refl refused heeds
-    by_event event.Settles split counts refused = last_not bounds last.before split refl refused heeds
-    by_event event.Ends split counts refused = absurd (counts refl)
-
 -- the third law
 pub only_faults : (image : Image) (items : List Item) (state : State) (recording : Recorded) (began now : Seen) (end : Answer) (before after : ℕ)
     (replayed : HasReplayed image recording began now end before after)
@@ -219,8 +178,8 @@ only_faults image items state recording began now end before after replayed of_r
     by_answer answer.WriteFault ends = tt
     by_answer answer.Memory ends = tt
     by_answer (answer.InputRefused kind offset) ends = ends.1
-    by_answer (answer.MessageTooLong conn) ends = none_refused ends.0.refused
-    by_answer answer.LimitItems ends = none_refused ends.0
-    by_answer answer.LimitEvents ends = none_refused ends.0
+    by_answer (answer.MessageTooLong conn) ends = λ heeds. none_refused _ _ _ heeds ends.1.refused
+    by_answer answer.LimitItems ends = λ heeds. none_refused _ _ _ heeds ends.1
+    by_answer answer.LimitEvents ends = λ heeds. none_refused _ _ _ heeds ends.1
     by_answer (answer.Mismatch step) ends = absurd (differs_not replayed.is of_run brings ends.1)
     by_answer _ ends = absurd ends

@@ -1,7 +1,8 @@
 -- What each instruction, each answer of malloc and each item makes of a replay.
 use Rattle.run_history.specs.Call.{received}
-use Rattle.replay.proofs.Terms.{List, None, Option, Some, [], add-one, ap, append-nil, arith, length, length-append, refl, subst, sym, take, true, ℕ, ◌++◌, ◌+◌, ◌<◌, ◌∙◌, ◌∷◌, ◌≡◌, take-suc, get_or_from_slice_get, slice_get_within, slice_get, Item, Send, Entry, Choice, is_allowed, Image, allocated_keeps, element_behind, next_after, received_keeps, run_chosen, run_join, run_more, run_one, Alone, Picks, Same, Shape, Takes, does_shape, allocated, chooses, takes, Chooses, Goes, Machine, Wants, register, start, start_machine, after, does, run, start_standing, taken_standing, chosen_standing, Standing, items_in, Recorded, IsReplay, Replay, bounds_of, replay_of, state_of}
+use Rattle.replay.proofs.Terms.{List, None, Option, Some, [], ap, append-nil, arith, length, length-append, refl, subst, sym, take, true, ℕ, ◌++◌, ◌+◌, ◌<◌, ◌∙◌, ◌∷◌, ◌≡◌, slice_get_within, slice_get, Item, Send, Entry, Choice, is_allowed, Image, allocated_keeps, element_behind, next_after, received_keeps, run_chosen, run_join, run_more, run_one, Alone, Picks, Same, Shape, Takes, does_shape, allocated, chooses, takes, Chooses, Goes, Machine, Wants, register, start, start_machine, after, does, run, start_standing, taken_standing, chosen_standing, Standing, items_in, Recorded, IsReplay, Replay, bounds_of, replay_of, state_of}
 use Rattle.replay.proofs.RunLemmas.{Ran}
+use Rattle.session_history.proofs.Connected.{take_one}
 
 -- a guest at its start is a replay of no instruction
 pub replay_start : {image : Image} {recording : Recorded} {entries : List Entry} → IsReplay image recording entries (replay_of [] (start_standing image))
@@ -92,13 +93,6 @@ replay_takes {image = image} {recording = recording} {entries = entries} {sends 
       steps = omega (arith, low);
     }
 
--- the first answers of a record, with one more
-take_more : (choices : List Choice) (n : ℕ) {choice : Choice} → slice_get choices n ≡ Some choice → take (n + 1) choices ≡ take n choices ++ choice ∷ []
-take_more choices n {choice = choice} here =
-    ap (λ (k : ℕ). take k choices) (add-one n)
-    ∙ take-suc choices n choice (slice_get_within choices n choice here)
-    ∙ ap (λ (c : Choice). take n choices ++ c ∷ []) (get_or_from_slice_get choices n choice choice here)
-
 -- a replay uses the answer of malloc that its record has next, where C allows it
 pub replay_chooses : {image : Image} {recording : Recorded} {entries : List Entry} {sends : List Send} (s : Standing) {size : ℕ} {choice : Choice} → s.ended ≡ None → s.steps < recording.steps
     → does None None s.guest.machine ≡ Chooses size → slice_get recording.choices s.guest.machine.allocations ≡ Some choice
@@ -110,20 +104,18 @@ replay_chooses {image = image} {recording = recording} {entries = entries} {send
     let front = take n recording.choices in
     let later : Machine = allocated (register s.guest.machine 10) choice s.guest.machine in
     let keeps = allocated_keeps (register s.guest.machine 10) choice s.guest.machine in
-    let longer : take later.allocations recording.choices ≡ front ++ choice ∷ [] = ap (λ (k : ℕ). take k recording.choices) keeps.allocations ∙ take_more recording.choices n here in
-    let next_is : slice_get (front ++ choice ∷ []) n ≡ Some choice = element_behind front choice n (sym is.ran.used) in
+    let longer : take later.allocations recording.choices ≡ front ++ choice ∷ [] = ap (λ (k : ℕ). take k recording.choices) keeps.allocations ∙ take_one recording.choices n choice here in
     let acts : does (slice_get items s.guest.machine.taken) (slice_get (front ++ choice ∷ []) n) s.guest.machine ≡ Goes later =
     wants_chooses s.guest.machine wants (slice_get items s.guest.machine.taken) (slice_get (front ++ choice ∷ []) n)
-    ∙ ap (chooses (register s.guest.machine 10) s.guest.machine) next_is ∙ rw allowed refl in
+    ∙ ap (chooses (register s.guest.machine 10) s.guest.machine) (element_behind front choice n (sym is.ran.used)) ∙ rw allowed refl in
     let one = run_one items (front ++ choice ∷ []) (start image) (state_of sends s) (state_of sends (chosen_standing choice s)) s.steps
     (run_chosen items front (choice ∷ []) (start image) (state_of sends s) s.steps is.ran.ran)
     (next_after items (front ++ choice ∷ []) (state_of sends s) (Goes later) lives acts) in
-    let within = slice_get_within recording.choices n choice here in
     record {
       ran = record {
         ran = subst (λ (all : List Choice). run items all (start image) (s.steps + 1) ≡ Some (state_of sends (chosen_standing choice s))) (sym longer) one;
         used = keeps.allocations ∙ ap (λ (k : ℕ). k + 1) is.ran.used ∙ sym (length-append front (choice ∷ [])) ∙ ap length (sym longer);
       };
-      used = omega (arith, keeps.allocations, within);
+      used = omega (arith, keeps.allocations, slice_get_within recording.choices n choice here);
       steps = omega (arith, low);
     }

@@ -38,8 +38,7 @@ live_fewer : (blocks : List Block) → length (live_blocks blocks) ≤ length bl
 live_fewer blocks =
     let is_live : Block → Bool = λ (block : Block). not block.delayed in
     let place : Block → ℕ × ℕ = λ (block : Block). (block.at, block.size) in
-    let count = length-map (filter is_live blocks) place ∙ length-filter is_live blocks in
-    omega (arith, count, count_by-le-length is_live blocks)
+    omega (arith, length-map (filter is_live blocks) place ∙ length-filter is_live blocks, count_by-le-length is_live blocks)
 
 -- so there is room in each layout
 room_in : (path : Path) → IsLaidOut (guest_of path) → length path.state.machine.blocks ≤ most_blocks
@@ -57,8 +56,7 @@ served_has_room limits image items plan {path = path} {count = count} ran earlie
     let second = served_follows limits items plan mid path rest first.used behind in
     let longer : run items path.choices (start image) earlier ≡ Some mid.state =
     subst (λ (all : List Choice). run items all (start image) earlier ≡ Some mid.state) (sym second.chose) (run_chosen items mid.choices second.others (start image) mid.state earlier first.ran) in
-    let same : mid.state ≡ state = same_Some mid.state state (sym longer ∙ reached) in
-    subst (λ (s : State). length s.machine.blocks ≤ most_blocks) same (room_in mid (laid_out_behind limits items plan (origin image) earlier (begins_laid_out image) before)))
+    subst (λ (s : State). length s.machine.blocks ≤ most_blocks) (same_Some mid.state state (sym longer ∙ reached)) (room_in mid (laid_out_behind limits items plan (origin image) earlier (begins_laid_out image) before)))
 
 -- so what a session knows of its run is a record of it
 pub session_leaves_record : (rules : Rules) (image : Image) (session : Session) (recording : Recorded) → IsAccount rules image session → HasSession rules session recording
@@ -68,8 +66,7 @@ session_leaves_record rules image session recording account has =
     let items = items_in rules.bounds (journal_of session) in
     let now = session.survivor.now in
     let served = account.served in
-    let follows = served_follows rules.limits items session.survivor.plan (origin image) now served.more refl served.ran in
-    let counted : served.more ≡ now.steps = omega (arith, follows.counted) in
+    let counted : served.more ≡ now.steps = omega (arith, (served_follows rules.limits items session.survivor.plan (origin image) now served.more refl served.ran).counted) in
     let room = served_has_room rules.limits image items session.survivor.plan served.ran in
     record {
       ran = subst (λ (all : List Choice). Run image items all recording.steps now.state) (sym has.choices) (subst (λ (n : ℕ). Run image items now.choices n now.state) (sym has.steps) account.ran);

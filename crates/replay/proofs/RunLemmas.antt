@@ -63,8 +63,7 @@ quiet_parts {until = until} base old {new = new} goes = option_and_then_some (qu
 
 quiet_step : {until : ℕ} {old new : Standing} → old.ended ≡ None → IsQuiet until old new → IsStep old new × (old.steps < until)
 quiet_step {until = until} {old = old} lives quiet =
-    let means = turn_means until old lives quiet.turns in
-    let same = subst (λ (e : Option Question). Means old e quiet.last.standing × IsWithin until old.steps e) quiet.none means in
+    let same = subst (λ (e : Option Question). Means old e quiet.last.standing × IsWithin until old.steps e) quiet.none (turn_means until old lives quiet.turns) in
     (subst (λ (s : Standing). IsStep old s) (sym quiet.left) same.0, same.1)
 
 -- so many quiet turns
@@ -146,8 +145,6 @@ last_by {until = until} {first = first} new (question.Failed cause) ran lives me
 pub comes_by : (until base : ℕ) (old new : Live) (result : Result Question AllocError) → old.standing.ended ≡ None → RunsBy question.Emits (recorded until) base old result new → ComesBy until old.standing result new.standing
 comes_by until base old new (Ok question) lives runs =
     let quiet = ran_quietly base runs.count old lives runs.quiet in
-    let means = turn_means until runs.before.standing quiet.1 runs.turns in
-    let here = subst (λ (e : Option Question). Means runs.before.standing e runs.last.standing × IsWithin until runs.before.standing.steps e) runs.is_event means in
-    let left : new.standing ≡ runs.last.standing = ap (λ (l : Live). l.standing) runs.left in
-    last_by new.standing question quiet.0 quiet.1 (subst (λ (s : Standing). Means runs.before.standing (Some question) s) (sym left) here.0) here.1
+    let here = subst (λ (e : Option Question). Means runs.before.standing e runs.last.standing × IsWithin until runs.before.standing.steps e) runs.is_event (turn_means until runs.before.standing quiet.1 runs.turns) in
+    last_by new.standing question quiet.0 quiet.1 (subst (λ (s : Standing). Means runs.before.standing (Some question) s) (sym (ap (λ (l : Live). l.standing) runs.left)) here.0) here.1
 comes_by until base old new (Err e) lives runs = ran_quietly base runs.count old lives runs.quiet

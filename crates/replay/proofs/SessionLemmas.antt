@@ -1,14 +1,10 @@
 -- A session's record is replayed over the session's stream.
 use Rattle.run_history.specs.declared.answer.Answer.TheVariants as answer
-use Rattle.replay.proofs.Terms.{List, [], ap, append-nil, append_assoc, arith, inl, inr, length, length-append, refl, subst, sym, ℕ, ◌++◌, ◌∙◌, ◌∷◌, ◌≡◌, ◌≤◌, Item, Prefix, Entry, LinkEvent, Ends, HasEnded, events_in, pieces_in, Seen, items_of, Image, Answer, State, IsAccount, Session, journal_of, Bounds, heeded, items_in, Rules, Recorded, AreGiven, AreAsked, HasReplayed, WasAsked, bounds_of, BringsFirst, HadOneStream, HasSession, IsNoMismatch, IsRecordOf}
+use Rattle.replay.proofs.Terms.{List, [], ap, append-nil, append_assoc, arith, inl, inr, length, length-append, refl, subst, sym, ℕ, ◌++◌, ◌∙◌, ◌∷◌, ◌≡◌, ◌≤◌, nil_from_length, Item, Prefix, Entry, LinkEvent, Ends, HasEnded, events_in, pieces_in, Seen, items_of, Image, Answer, State, IsAccount, Session, journal_of, Bounds, heeded, items_in, Rules, Recorded, AreGiven, AreAsked, HasReplayed, WasAsked, bounds_of, BringsFirst, HadOneStream, HasSession, IsNoMismatch, IsRecordOf}
 use Rattle.replay.proofs.RecordLemmas.{begins, goes_on, starved_not, finished_gives, only_faults}
 use Rattle.replay.proofs.RoomLemmas.{session_leaves_record}
-use Rattle.replay.proofs.StreamLemmas.{heeded_first, two_fronts, items_grow, took_behind, ended_behind}
-
--- a list without elements
-nothing : {X : Type 0} (xs : List X) → length xs ≡ 0 → xs ≡ []
-nothing [] none = refl
-nothing (x ∷ xs) none = absurd (omega (arith, none))
+use Rattle.replay.proofs.StreamLemmas.{two_fronts, items_grow, took_behind, ended_behind}
+use Rattle.session_history.proofs.Heeded.{heeded_front}
 
 -- where a replay asked for an event, it hasn't all items of the recorded run
 asked_not : {image : Image} {items : List Item} {state : State} {recording : Recorded} {before : List Entry} → IsRecordOf image items state recording → WasAsked image recording before → items ≡ items_in (bounds_of recording) before → ⊥
@@ -17,9 +13,9 @@ asked_not {items = items} {recording = recording} {before = before} of_run was a
     let brings : BringsFirst bounds items before = record { more = []; first = all ∙ sym (append-nil (items_in bounds before)); all = λ ended. refl } in
     let replay = was.replay in
     let here = begins was.asks.is brings in
-    let on = goes_on here of_run.ran.ran was.asks.shorter in
-    let none : length items ≤ replay.state.machine.taken = omega (arith, ap length all, was.asks.taken) in
-    starved_not items recording.choices replay.state was.asks.asks none on.goes
+    let on = goes_on here of_run.ran.ran was.asks.waits.shorter in
+    let none : length items ≤ replay.state.machine.taken = omega (arith, ap length all, was.asks.waits.taken) in
+    starved_not items recording.choices replay.state was.asks.waits.asks none on.goes
 
 module _ (image : Image) (bounds : Bounds) (journal : List Entry) (events : List LinkEvent) (state : State) (recording : Recorded) (entries : List Entry)
     (asked : AreAsked image recording entries) (frame : recording.frame ≡ bounds.framing) (of_run : IsRecordOf image (items_in bounds journal) state recording) (stream : HadOneStream events journal entries) where
@@ -38,22 +34,21 @@ module _ (image : Image) (bounds : Bounds) (journal : List Entry) (events : List
   session_front : Prefix session_events events
   unfolding session_events
   session_front =
-      let front = heeded_first bounds [] (events_in journal) in
+      let front = heeded_front bounds [] (events_in journal) in
       (front.0 ++ stream.session_took.0, sym (append_assoc (heeded bounds (events_in journal)) front.0 stream.session_took.0) ∙ ap (λ es. es ++ stream.session_took.0) front.1 ∙ stream.session_took.1)
 
   replay_front : Prefix replay_events events
   unfolding replay_events
   replay_front =
-      let front = heeded_first (bounds_of recording) [] (events_in entries) in
+      let front = heeded_front (bounds_of recording) [] (events_in entries) in
       (front.0 ++ stream.replay_took.0, sym (append_assoc (heeded (bounds_of recording) (events_in entries)) front.0 stream.replay_took.0) ∙ ap (λ es. es ++ stream.replay_took.0) front.1 ∙ stream.replay_took.1)
 
   -- the replay took no event behind those of the session
   not_behind : (event : LinkEvent) (mid : List LinkEvent) → replay_events ≡ session_events ++ event ∷ mid → ⊥
   unfolding session_events replay_events
   not_behind event mid longer =
-      let front = heeded_first (bounds_of recording) [] (events_in entries) in
-      let parts : events_in entries ≡ session_events ++ event ∷ (mid ++ front.0) = sym front.1 ∙ ap (λ es. es ++ front.0) longer ∙ append_assoc session_events (event ∷ mid) front.0 in
-      let took = took_behind entries session_events (mid ++ front.0) parts in
+      let front = heeded_front (bounds_of recording) [] (events_in entries) in
+      let took = took_behind entries session_events (mid ++ front.0) (sym front.1 ∙ ap (λ es. es ++ front.0) longer ∙ append_assoc session_events (event ∷ mid) front.0) in
       let was = asked took.before took.after event took.split in
       asked_not of_run was
       (items_are ∙ ap (items_of recording.frame) (sym (was.asks.heeds ∙ took.events)))
@@ -71,8 +66,7 @@ module _ (image : Image) (bounds : Bounds) (journal : List Entry) (events : List
   unfolding replay_events
   all_events ended =
       let took = ended_behind entries ended in
-      let was = asked took.before took.after Ends took.split in
-      subst (λ es. heeded (bounds_of recording) es ≡ es) took.events was.asks.heeds ∙ stream.all ended
+      subst (λ es. heeded (bounds_of recording) es ≡ es) took.events (asked took.before took.after Ends took.split).asks.heeds ∙ stream.all ended
 
   pub stream_brings : BringsFirst (bounds_of recording) (items_in bounds journal) entries
   unfolding replay_events
@@ -82,16 +76,10 @@ module _ (image : Image) (bounds : Bounds) (journal : List Entry) (events : List
     where
       none_more : HasEnded entries → (more : List Item) → items_of recording.frame replay_events ++ more ≡ items_of recording.frame session_events → more ≡ []
       none_more ended more same =
-          let whole = all_events ended in
-          let longer = ap length session_front.1 in
-          let count = length-append session_events session_front.0 in
-          let shorter = ap length replay_first.1 in
           let other = length-append replay_events replay_first.0 in
-          let last : length replay_first.0 ≡ 0 = omega (arith, ap length whole, longer, count, shorter, other) in
-          let no_event = nothing replay_first.0 last in
-          let alike : session_events ≡ replay_events = sym replay_first.1 ∙ ap (λ es. replay_events ++ es) no_event ∙ append-nil replay_events in
-          let items : length (items_of recording.frame session_events) ≡ length (items_of recording.frame replay_events) = ap (λ es. length (items_of recording.frame es)) alike in
-          nothing more (omega (arith, items, ap length same, length-append (items_of recording.frame replay_events) more))
+          let last : length replay_first.0 ≡ 0 = omega (arith, ap length (all_events ended), ap length session_front.1, length-append session_events session_front.0, ap length replay_first.1, other) in
+          let alike : session_events ≡ replay_events = sym replay_first.1 ∙ ap (λ es. replay_events ++ es) (nil_from_length replay_first.0 last) ∙ append-nil replay_events in
+          nil_from_length more (omega (arith, ap (λ es. length (items_of recording.frame es)) alike, ap length same, length-append (items_of recording.frame replay_events) more))
 
 pub one_stream_brings : (image : Image) (bounds : Bounds) (journal : List Entry) (events : List LinkEvent) (state : State) (recording : Recorded) (began now : Seen) (end : Answer) (before after : ℕ)
     (replayed : HasReplayed image recording began now end before after)
@@ -104,10 +92,9 @@ pub session_is_replayed : (rules : Rules) (image : Image) (session : Session) (e
     → IsAccount rules image session → HasSession rules session recording → HadOneStream events (journal_of session) replayed.entries
     → IsNoMismatch recording replayed.entries now.coming end × (end ≡ answer.Finished → AreGiven session.survivor.now.state.sends (pieces_in replayed.entries))
 session_is_replayed rules image session events recording began now end before after replayed account has stream =
-    let items = items_in rules.bounds (journal_of session) in
     let state = session.survivor.now.state in
     let of_run = session_leaves_record rules image session recording account has in
     let brings = stream_brings image rules.bounds (journal_of session) events state recording replayed.entries replayed.asked has.frame of_run stream in (
-      only_faults image items state recording began now end before after replayed of_run brings,
+      only_faults image (items_in rules.bounds (journal_of session)) state recording began now end before after replayed of_run brings,
       λ finished. (finished_gives now.coming replayed.is of_run brings end finished replayed.ends).1,
     )

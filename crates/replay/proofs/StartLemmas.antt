@@ -1,11 +1,11 @@
 -- A replay at its start, and at its end.
 use Rattle.item_log.specs.Log as logs
 use Rattle.run_history.specs.declared.answer.Answer.TheVariants as answer
-use Rattle.replay.proofs.Terms.{List, [], ap, arith, drop, false, length, refl, subst, sym, true, ℕ, ◌+◌, ◌^◌, ◌≡◌, both_ways, length-replicate, Err, Send, IsFresh, Phases, Seen, items_from, items_of, Log, Image, Answer, no_connections_may, no_connections, start_machine, start_standing, Standing, MayBegin, Bounds, heeded, heeded_behind, items_in, Recorded, Player, BreaksOff, IsLastSend, HasReplayedBy, LinkAnswers, bounds_of, AreOpen, AreOpenThen, IsBetween, IsEnd, LinkTurns, Stage, has, replay_of, stage_of}
+use Rattle.replay.proofs.Terms.{List, [], ap, arith, drop, false, length, refl, subst, sym, true, ℕ, ◌+◌, ◌^◌, ◌≡◌, both_ways, length-replicate, Err, Send, tells_nothing, IsFresh, Phases, Seen, items_from, items_of, Log, Image, Answer, no_connections_may, no_connections, start_machine, start_standing, Standing, MayBegin, Bounds, heeded, heeded_behind, items_in, Recorded, Player, BreaksOff, IsLastSend, HasReplayedBy, LinkAnswers, bounds_of, AreOpen, AreOpenThen, IsBetween, IsEnd, LinkTurns, Stage, has, replay_of, stage_of}
 use Rattle.replay.specs.Giving as giving
 use Rattle.replay.specs.Making.{IsMade}
 use Rattle.replay.proofs.ReplayLemmas.{replay_start}
-use Rattle.replay.proofs.JournalLemmas.{asked_none, tells_same}
+use Rattle.replay.proofs.JournalLemmas.{asked_none}
 
 -- nothing is received at the start
 none_heeded : (bounds : Bounds) → heeded bounds [] ≡ []
@@ -35,7 +35,7 @@ starts {recording = recording} {seen = seen} fresh shows is = record {
     entries = [];
     sends = [];
     base = record {
-      tells = tells_same;
+      tells = tells_nothing _;
       asked = asked_none;
       is = replay_start;
       items = record { all_heeded = none_heeded (bounds_of recording); shows = shows; most = ap (λ (l : Log). l.max_items) is };
@@ -57,10 +57,7 @@ starts {recording = recording} {seen = seen} fresh shows is = record {
 
 pub starts_between : {image : Image} {recording : Recorded} {seen : Seen} {player : Player} → IsFresh seen.phases → IsMade image recording.frame player → IsBetween image recording seen.told seen (stage_of player)
 starts_between {image = image} {recording = recording} {seen = seen} {player = player} fresh made =
-    let live = sym made.live in
-    let events = sym made.events in
-    let gone = sym made.gone in
-    let same : start_stage image player.log ≡ stage_of player = λ i. record { live = live i; log = player.log; events = events i; gone = gone i } in
+    let same : start_stage image player.log ≡ stage_of player = λ i. record { live = (sym made.live) i; log = player.log; events = (sym made.events) i; gone = (sym made.gone) i } in
     subst (IsBetween image recording seen.told seen) same
     (starts fresh made.shows made.log)
 
@@ -74,7 +71,7 @@ replayed_none {image = image} {seen = seen} Last may = record {
   replayed = record {
     entries = [];
     replay = replay_of [] (start_standing image);
-    tells = tells_same;
+    tells = tells_nothing _;
     asked = asked_none;
     is = replay_start;
     ends = giving.All [] [] giving.Nothing;

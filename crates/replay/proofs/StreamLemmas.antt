@@ -1,17 +1,7 @@
 -- Two journals over one stream of events: the one of the session that left a record, and the one of its replay.
 use Rattle.links.specs.declared.journal.Entry.TheVariants as entry
 use Rattle.links.specs.declared.journal.LinkEvent.TheVariants as event
-use Rattle.replay.proofs.Terms.{Bool, List, None, Option, Some, [], ap, append_assoc, cond, drop, false, inl, inr, refl, subst, sym, true, ℕ, ◌++◌, ◌∙◌, ◌∷◌, ◌≡◌, ◌⊎◌, none-some, same_Some, is_none, unwrap_or, Prefix, Entry, LinkEvent, Ends, HasEnded, events_in, last_taken, Framing, Heard, first_items, hear, items_from, items_of, events_in-append, Bounds, heeded_behind, refusal}
-
--- the events that are heeded are the first ones
-pub heeded_first : (bounds : Bounds) (before events : List LinkEvent) → Prefix (heeded_behind bounds before events) events
-unfolding heeded_behind
-heeded_first bounds before [] = ([], refl)
-heeded_first bounds before (event ∷ events) = of (is_none (refusal bounds before event)) (heeded_first bounds (before ++ event ∷ []) events)
-  where
-    of : (b : Bool) → Prefix (heeded_behind bounds (before ++ event ∷ []) events) events → Prefix (cond b (event ∷ heeded_behind bounds (before ++ event ∷ []) events) []) (event ∷ events)
-    of true front = (front.0, ap (λ es. event ∷ es) front.1)
-    of false front = (event ∷ events, refl)
+use Rattle.replay.proofs.Terms.{List, None, Option, Some, [], ap, append_assoc, drop, inl, inr, refl, subst, sym, ℕ, ◌++◌, ◌∙◌, ◌∷◌, ◌≡◌, ◌⊎◌, none-some, same_Some, unwrap_or, Prefix, Entry, LinkEvent, Ends, events_in-append, HasEnded, events_in, last_taken, Framing, Heard, first_items, hear, items_from, items_of}
 
 -- of two fronts of one list the first has the second, or ends before it
 pub two_fronts : {X : Type 0} (xs more ys others : List X) → xs ++ more ≡ ys ++ others → Prefix ys xs ⊎ ((x : X) × (mid : List X) × (ys ≡ xs ++ x ∷ mid))
@@ -65,8 +55,7 @@ took_here {first = first} {entries = entries} [] {event = event} counts later sa
     record { before = []; after = entries; split = ap (λ e. entry.Took e ∷ entries) here; events = refl }
 took_here {first = first} {entries = entries} (f ∷ front) {event = event} counts later same =
     let here : first ≡ f = cc in
-    let found = took_later (later front (ap (drop 1) same)) in
-    subst (λ es. TookBehind (entry.Took first ∷ entries) es event) (ap (λ es. es ++ front) counts ∙ ap (λ e. e ∷ front) here) found
+    subst (λ es. TookBehind (entry.Took first ∷ entries) es event) (ap (λ es. es ++ front) counts ∙ ap (λ e. e ∷ front) here) (took_later (later front (ap (drop 1) same)))
 
 pub took_behind : (entries : List Entry) (front : List LinkEvent) {one : LinkEvent} (rest : List LinkEvent) → events_in entries ≡ front ++ one ∷ rest → TookBehind entries front one
 took_behind [] [] rest same = absurd (cc)
@@ -97,6 +86,5 @@ ended_behind (entry.Took first ∷ entries) ended = of (last_taken entries) refl
         let no_events : events_in (entry.Took first ∷ entries) ≡ [] = ap (λ (e : LinkEvent). events_in (entry.Took e ∷ entries)) last ∙ none_taken entries none in
         record { before = []; after = entries; split = ap (λ e. entry.Took e ∷ entries) last; events = sym no_events }
     of (Some found) some later is =
-        let last : found ≡ Ends = sym (ap (λ (o : Option LinkEvent). unwrap_or o first) some) ∙ is in
         subst (λ es. TookBehind (entry.Took first ∷ entries) es Ends) (sym (events_in-append (entry.Took first ∷ []) entries))
-        (took_later (later (some ∙ ap (λ e. Some e) last)))
+        (took_later (later (some ∙ ap (λ e. Some e) (sym (ap (λ (o : Option LinkEvent). unwrap_or o first) some) ∙ is))))

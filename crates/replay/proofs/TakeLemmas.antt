@@ -21,7 +21,6 @@ module _ {image : Image} {recording : Recorded} {began : Told} {seen : Seen} {st
       let keeps = received_keeps item stage.live.guest.machine in
       let taken : later.guest.machine.taken ≡ n + 1 = ap (λ (s : Standing). s.guest.machine.taken) left ∙ keeps.taken in
       let connections : later.guest.machine.connections ≡ connections_after item stage.live.guest.machine.connections = ap (λ (s : Standing). s.guest.machine.connections) left ∙ keeps.connections in
-      let within = slice_get_within items n item here in
       let opened : StayOpen seen.phases (drop (n + 1) items) (connections_after item stage.live.guest.machine.connections) = takes_open seen.phases items n stage.live.guest.machine.connections here base.connected in
       let stays : StayOpen seen.phases (drop later.guest.machine.taken items) later.guest.machine.connections =
       subst (λ (k : ℕ). StayOpen seen.phases (drop k items) later.guest.machine.connections) (sym taken)
@@ -42,7 +41,7 @@ module _ {image : Image} {recording : Recorded} {began : Told} {seen : Seen} {st
             phases_are = base.phases_are;
             gone = base.gone;
             places = base.places;
-            taken = omega (arith, taken, within);
+            taken = omega (arith, taken, slice_get_within items n item here);
             connected = stays_then seen.phases (drop later.guest.machine.taken items) later.guest.machine.connections stays;
             bare = ap (λ (s : Standing). is_bare s.guest.heap) left ∙ base.bare;
           };

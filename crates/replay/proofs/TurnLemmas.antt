@@ -4,7 +4,7 @@ use Rattle.block_book.proofs.Rooms.{bare-filter}
 use Rattle.run_history.specs.Machine.{Ends}
 use Rattle.run_history.specs.Touching.{instruction_at}
 use Rattle.guest_cpu.specs.declared.event.Question.TheVariants as question
-use Rattle.replay.proofs.Terms.{Bool, List, None, Option, Some, [], cond, eqb, false, leb, not, refl, subst, true, ℕ, ◌++◌, ◌+◌, ◌<◌, ◌∷◌, ◌≡◌, ◌≤◌, cond_both, leb-false, leb-true, same_Some, Send, Block, Heap, is_bare, is_live_at, without_block, IsSettled, alone_is, next_after, Alone, Keeps, MaySend, Chooses, Effect, Emits, Fails, Goes, Machine, Wants, does, next, Free, Malloc, Nothing, Request, request_of, Question, heap_after, recorded, recorded_of, recorded_turn, released, Standing, Turn, turn_to, state_of}
+use Rattle.replay.proofs.Terms.{Bool, List, None, Option, Some, [], cond, eqb, false, leb, not, refl, subst, true, ℕ, ◌++◌, ◌+◌, ◌<◌, ◌∷◌, ◌≡◌, ◌≤◌, cond_both, leb-false, leb-true, same_Some, Send, Block, Heap, is_bare, is_live_at, without_block, alone_is, next_after, Alone, Keeps, MaySend, Chooses, Effect, Emits, Fails, Goes, Wants, does, next, Free, Malloc, Nothing, Request, request_of, Question, heap_after, recorded, recorded_of, recorded_turn, released, Standing, Turn, turn_to, state_of}
 
 -- one more instruction of a run, which takes no item and no answer of malloc
 pub record IsStep (old new : Standing) : Type 0 where
@@ -40,25 +40,18 @@ after_bare (Malloc size) heap bare = bare
 after_bare (Free place) heap bare = released_bare heap place bare
 after_bare Nothing heap bare = bare
 
--- an effect by which a guest goes on needs nothing
-goes_settled : {m : Machine} → IsSettled (Goes m)
-goes_settled = record { no_item = λ h. cc; no_choice = λ size h. cc }
-
-emits_settled : {conn : ℕ} {bytes : List ℕ} {m : Machine} → IsSettled (Emits conn bytes m)
-emits_settled = record { no_item = λ h. cc; no_choice = λ size h. cc }
-
 -- what a turn says, by the effect of the instruction
 turn_by : (old : Standing) (found : Option Instr) (heap : Heap) (e : Effect) → old.ended ≡ None → (is_bare old.guest.heap ≡ true → is_bare heap ≡ true) → does None None old.guest.machine ≡ e
     → Means old (recorded_of found heap old e).event (recorded_of found heap old e).standing
 turn_by old found heap (Goes m) lives bare acts = record {
   goes = λ sends. next_after [] [] (state_of sends old) (Goes m) lives acts;
-  keeps = alone_is old.guest.machine (Goes m) acts (goes_settled);
+  keeps = alone_is old.guest.machine (Goes m) acts (record { no_item = λ h. cc; no_choice = λ size h. cc });
   steps = refl;
   ended = refl;
   bare = bare;
 }
 turn_by old found heap (Emits conn bytes m) lives bare acts =
-    let alone : Alone old.guest.machine (Emits conn bytes m) = alone_is old.guest.machine (Emits conn bytes m) acts (emits_settled) in
+    let alone : Alone old.guest.machine (Emits conn bytes m) = alone_is old.guest.machine (Emits conn bytes m) acts (record { no_item = λ h. cc; no_choice = λ size h. cc }) in
     (λ sends. next_after [] [] (state_of sends old) (Emits conn bytes m) lives acts, alone.0, alone.1, refl, refl, bare)
 turn_by old found heap (Ends code) lives bare acts = (λ sends. next_after [] [] (state_of sends old) (Ends code) lives acts, refl, refl, refl)
 turn_by old found heap Wants lives bare acts = (refl, acts)

@@ -23,14 +23,19 @@ pub record IsReplay (image : Image) (recorded : Recorded) (entries : List Entry)
   pub used : replay.used ≤ length recorded.choices
   pub steps : replay.steps ≤ recorded.steps
 
--- A replay asks for an item that a journal hasn't brought: it is shorter than the record's run, it lives, and has taken all that was
--- received. All its sends are given, every event is heeded, and the link hasn't ended.
-pub record IsAsking (image : Image) (recorded : Recorded) (before : List Entry) (replay : Replay) : Type 0 where
-  pub is : IsReplay image recorded before replay
+-- A replay waits for the item that is received next: it is shorter than the record's run, it lives and asks for an item, and has taken all that
+-- was received.
+pub record WaitsForItem (recorded : Recorded) (entries : List Entry) (replay : Replay) : Type 0 where
   pub shorter : replay.steps < recorded.steps
   pub lives : replay.state.ended ≡ None
   pub asks : does None None replay.state.machine ≡ Wants
-  pub taken : replay.state.machine.taken ≡ received (bounds_of recorded) before
+  pub taken : replay.state.machine.taken ≡ received (bounds_of recorded) entries
+
+-- A replay asks for an item that a journal hasn't brought: it waits for it, all its sends are given, every event is heeded, and the link
+-- hasn't ended.
+pub record IsAsking (image : Image) (recorded : Recorded) (before : List Entry) (replay : Replay) : Type 0 where
+  pub is : IsReplay image recorded before replay
+  pub waits : WaitsForItem recorded before replay
   pub given : AreGiven replay.state.sends (pieces_in before)
   pub heeds : heeded (bounds_of recorded) (events_in before) ≡ events_in before
   pub goes_on : HasEnded before → ⊥
@@ -58,22 +63,21 @@ pub data Differs (recorded : Recorded) (entries : List Entry) (replay : Replay) 
   Failed : (cause : Cause) → replay.steps < recorded.steps → replay.state.ended ≡ None → does None None replay.state.machine ≡ Fails cause → Differs recorded entries replay
   Unanswered : (size : ℕ) → replay.steps < recorded.steps → replay.state.ended ≡ None → does None None replay.state.machine ≡ Chooses size
       → IsUnusable replay.state.machine size (slice_get recorded.choices replay.used) → Differs recorded entries replay
-  Starved : replay.steps < recorded.steps → replay.state.ended ≡ None → does None None replay.state.machine ≡ Wants
-      → replay.state.machine.taken ≡ received (bounds_of recorded) entries → HasEnded entries → Differs recorded entries replay
+  Starved : WaitsForItem recorded entries replay → HasEnded entries → Differs recorded entries replay
   Unused : replay.steps ≡ recorded.steps → replay.used < length recorded.choices → Differs recorded entries replay
   Untaken : replay.steps ≡ recorded.steps → replay.state.machine.taken ≢ recorded.taken → Differs recorded entries replay
 
 -- What stands behind each answer. Everywhere but at a fault of writing and want of memory all sends are given. At Mismatch the end of the link is
--- what comes there, where the link has ended.
+-- what comes there, where the link has ended. Where an event is refused, the run waits still for the item for which that was asked.
 abbrev pub EndsBy : Image → Recorded → List Entry → Option Coming → Replay → Answer → Type 0
 EndsBy image recorded entries coming replay answer.Finished =
     (replay.steps ≡ recorded.steps) × (replay.used ≡ length recorded.choices) × (replay.state.machine.taken ≡ recorded.taken) × AreGiven replay.state.sends (pieces_in entries)
 EndsBy image recorded entries coming replay (answer.Mismatch step) =
     (step ≡ replay.steps) × Differs recorded entries replay × AreGiven replay.state.sends (pieces_in entries) × (HasEnded entries → IfSome coming (λ next. next ≡ Comes event.Ends))
 EndsBy image recorded entries coming replay (answer.InputRefused kind offset) = IsAsking image recorded entries replay × IfSome coming (λ next. next ≡ Refuses kind offset)
-EndsBy image recorded entries coming replay (answer.MessageTooLong conn) = IsLastTooLong (bounds_of recorded) entries conn × AreGiven replay.state.sends (pieces_in entries)
-EndsBy image recorded entries coming replay answer.LimitItems = IsLastRefused (bounds_of recorded) entries unheeded.LimitItems × AreGiven replay.state.sends (pieces_in entries)
-EndsBy image recorded entries coming replay answer.LimitEvents = IsLastRefused (bounds_of recorded) entries unheeded.LimitEvents × AreGiven replay.state.sends (pieces_in entries)
+EndsBy image recorded entries coming replay (answer.MessageTooLong conn) = WaitsForItem recorded entries replay × IsLastTooLong (bounds_of recorded) entries conn × AreGiven replay.state.sends (pieces_in entries)
+EndsBy image recorded entries coming replay answer.LimitItems = WaitsForItem recorded entries replay × IsLastRefused (bounds_of recorded) entries unheeded.LimitItems × AreGiven replay.state.sends (pieces_in entries)
+EndsBy image recorded entries coming replay answer.LimitEvents = WaitsForItem recorded entries replay × IsLastRefused (bounds_of recorded) entries unheeded.LimitEvents × AreGiven replay.state.sends (pieces_in entries)
 EndsBy image recorded entries coming replay answer.ReadFault = IsAsking image recorded entries replay
 EndsBy image recorded entries coming replay answer.WriteFault = AreGivenInPart replay.state.sends (pieces_in entries)
 EndsBy image recorded entries coming replay answer.Memory = AreGivenInPart replay.state.sends (pieces_in entries)

@@ -6,7 +6,8 @@ pub use Rattle.links.specs.declared.journal.Entry.{Entry}
 pub use Rattle.links.specs.declared.journal.LinkEvent.{LinkEvent}
 pub use Rattle.links.specs.declared.journal.LinkEvent.TheVariants.{Ends}
 pub use Rattle.links.specs.declared.journal.LinkFault.{LinkFault}
-pub use Rattle.links.specs.Links.{Closed, Comes, Coming, Counts, Gives, Grew, HasEnded, IsFresh, IsInOrder, Open, Phases, Piece, Refuses, StaysTold, StillComes, Tells, TellsHanded, Told, cut_entries, events_in, last_taken, phases_after, pieces_in}
+pub use Rattle.links.specs.declared.journal.LinkFault.TheVariants.{Memory, ReadFault, Refused, WriteFault}
+pub use Rattle.links.specs.Links.{Closed, Comes, Coming, Counts, Gives, HasEnded, IsFresh, IsInOrder, Open, Phases, Piece, Refuses, StaysTold, StillComes, Tells, TellsHanded, Told, cut_entries, events_in, last_taken, phases_after, pieces_in}
 pub use Rattle.links.specs.Seen.{NextShows, Seen}
 pub use Rattle.block_book.specs.declared.block.Block.{Block}
 pub use Rattle.block_book.specs.declared.choice.Choice.{Choice}

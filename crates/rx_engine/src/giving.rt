@@ -4,14 +4,13 @@ ghost use Rattle.session_history.specs.Lawful.{Rules};
 ghost use Rattle.session_history.specs.Giving.{IsReady, IsClosing};
 ghost use Rattle.std.specs.Prelude.{◌≡◌};
 ghost use Rattle.session_state.specs.Standing.{Since, Story, moment, sends, HasPassed};
-ghost use Rattle.session_state.specs.Serving.{IsAnswerTo, IsToldBy, LinkPasses, OnlyReplies, PassesStory, PassesDue, StandsPassing, StandsClosing};
+ghost use Rattle.session_state.specs.Serving.{IsAnswerTo, IsToldBy, KeepsGiving, PassesStory, PassesDue, StandsPassing, StandsClosing};
 
 use crate::Session;
 use guest_space::AccessRule;
 use link_gate::{PassFault, pass_rest, pass_until};
 use links::Link;
-use run_history::Answer;
-use session_state::Stop;
+use session_history::{SessionBreak, Stop};
 
 impl<R: AccessRule> Session<R> {
     /// Passes what was sent to open connections with so many items taken, or fewer.
@@ -19,8 +18,7 @@ impl<R: AccessRule> Session<R> {
         requires { StandsPassing (K.seen link.old) self.old }
         ensures passes { (rules : Rules) (image : Image) (began : Since) (story : Story) → IsToldBy rules image began (K.seen link.old) story self.old → IsReady rules (sends story) (moment story) until self.old.replies
             → PassesStory rules image began (K.seen link.new) story until self.new result }
-        ensures shows { LinkPasses (K.seen link.old) (K.seen link.new) self.new.replies result }
-        ensures only { OnlyReplies self.old self.new }
+        ensures keeps { KeepsGiving (K.seen link.old) (K.seen link.new) self.old self.new result }
         ensures went { K.Went link.old link.new }
     {
         let stamp = self.log.received();
@@ -35,8 +33,7 @@ impl<R: AccessRule> Session<R> {
         requires { StandsPassing (K.seen link.old) self.old }
         ensures passes { (rules : Rules) (image : Image) (began : Since) (story : Story) → rules.hold ≡ self.old.options.hold → IsToldBy rules image began (K.seen link.old) story self.old → HasPassed rules story self.old.replies
             → PassesDue rules image began (K.seen link.new) story self.new result }
-        ensures shows { LinkPasses (K.seen link.old) (K.seen link.new) self.new.replies result }
-        ensures only { OnlyReplies self.old self.new }
+        ensures keeps { KeepsGiving (K.seen link.old) (K.seen link.new) self.old self.new result }
         ensures went { K.Went link.old link.new }
     {
         match self.taken.checked_sub(u64::from(self.options.hold)) {
@@ -50,8 +47,7 @@ impl<R: AccessRule> Session<R> {
         requires { StandsClosing (K.seen link.old) conn self.old }
         ensures passes { (rules : Rules) (image : Image) (began : Since) (story : Story) → rules.hold ≡ self.old.options.hold → IsToldBy rules image began (K.seen link.old) story self.old → IsClosing rules (sends story) (moment story) conn self.old.replies
             → PassesDue rules image began (K.seen link.new) story self.new result }
-        ensures shows { LinkPasses (K.seen link.old) (K.seen link.new) self.new.replies result }
-        ensures only { OnlyReplies self.old self.new }
+        ensures keeps { KeepsGiving (K.seen link.old) (K.seen link.new) self.old self.new result }
         ensures went { K.Went link.old link.new }
     {
         let stamp = self.log.received();
@@ -63,12 +59,12 @@ impl<R: AccessRule> Session<R> {
     }
 }
 
-/// A fault of passing, as a session's answer.
-pub fn answer_to(fault: PassFault) -> Answer
+/// A fault of passing, as what breaks a session off.
+pub fn answer_to(fault: PassFault) -> SessionBreak
     ensures { IsAnswerTo fault result }
 {
     match fault {
-        PassFault::WriteFault => Answer::WriteFault,
-        PassFault::Memory => Answer::Memory,
+        PassFault::WriteFault => SessionBreak::WriteFault,
+        PassFault::Memory => SessionBreak::Memory,
     }
 }

@@ -1,41 +1,41 @@
 // What a session hears of its link.
-ghost use Rattle.std.specs.Prelude.{◌<◌, ◌≤◌, IfOk};
+ghost use Rattle.std.specs.Prelude.{◌<◌, IfOk};
 ghost use Rattle.elf_image.specs.declared.image.Image.{Image};
 ghost use Rattle.item_log.specs.Log.{received};
 ghost use Rattle.session_state.specs.Standing.{Since, IsWaitingFor};
-ghost use Rattle.session_state.specs.Serving.{IsStopAt, KeepsHearing, StandsHearing, WaitsBy, rules_by};
+ghost use Rattle.session_state.specs.Serving.{IsStopAt, KeepsHearing, CountsEvent, StandsHearing, StandsListening, WaitsBy, rules_by};
 
 use crate::Session;
 use guest_space::AccessRule;
 use link_gate::{HearFault, Heard, hear};
 use links::Link;
-use run_history::Answer;
-use session_state::Stop;
+use session_history::{SessionBreak, SessionEnd, Stop};
 
 // What an event that wasn't heard means for a session.
 fn stop_at(fault: HearFault) -> Stop
     ensures { IsStopAt fault result }
 {
     match fault {
-        HearFault::Refused { kind, offset } => Stop::Ends(Answer::InputRefused { kind, offset }),
-        HearFault::LimitEvents => Stop::Ends(Answer::LimitEvents),
-        HearFault::TooLong(conn) => Stop::Ends(Answer::MessageTooLong { conn }),
-        HearFault::LimitItems => Stop::Ends(Answer::LimitItems),
-        HearFault::ReadFault => Stop::Breaks(Answer::ReadFault),
-        HearFault::Memory => Stop::Breaks(Answer::Memory),
+        HearFault::Refused { kind, offset } => Stop::Ends(SessionEnd::InputRefused {
+            kind,
+            offset,
+        }),
+        HearFault::LimitEvents => Stop::Ends(SessionEnd::LimitEvents),
+        HearFault::TooLong(conn) => Stop::Ends(SessionEnd::MessageTooLong { conn }),
+        HearFault::LimitItems => Stop::Ends(SessionEnd::LimitItems),
+        HearFault::ReadFault => Stop::Breaks(SessionBreak::ReadFault),
+        HearFault::Memory => Stop::Breaks(SessionBreak::Memory),
     }
 }
 
 impl<R: AccessRule> Session<R> {
     /// Takes the link's next event, while the guest waits for an item that wasn't received, and passes what the event asks for.
     pub(crate) fn hear<K: Link>(&mut self, link: &mut K) -> Result<(), Stop>
-        requires stands { StandsHearing (rules_by R.rule self.old) (K.seen link.old) self.old }
-        requires none_left { received self.old.log ≤ self.old.taken }
+        requires { StandsListening (rules_by R.rule self.old) (K.seen link.old) self.old }
         ensures hears { (image : Image) (began : Since) → IsWaitingFor (rules_by R.rule self.old) image began (K.seen link.old) self.old
             → WaitsBy (rules_by R.rule self.old) image began (K.seen link.new) self.new result }
         ensures keeps { KeepsHearing (K.seen link.old) (K.seen link.new) self.old self.new result }
-        ensures later { IfOk result (λ _. self.old.events < self.new.events) }
-        ensures most { self.new.events ≤ self.old.options.max_events }
+        ensures counts { CountsEvent self.old self.new result }
         ensures went { K.Went link.old link.new }
     {
         match hear(
@@ -48,7 +48,7 @@ impl<R: AccessRule> Session<R> {
             Ok(Heard::Items) => self.pass_due(link),
             Ok(Heard::Closes(conn)) => self.close(link, conn),
             Ok(Heard::Settles) => self.pass(link, u64::MAX),
-            Ok(Heard::Ends) => Err(Stop::Ends(Answer::Finished)),
+            Ok(Heard::Ends) => Err(Stop::Ends(SessionEnd::Finished)),
             Err(fault) => Err(stop_at(fault)),
         }
     }

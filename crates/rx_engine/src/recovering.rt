@@ -3,36 +3,36 @@ ghost use Rattle.std.specs.Prelude.{◌≡◌, ℕ, ◌+◌, ◌≤◌, IfOk};
 ghost use Rattle.links.specs.Seen.{Seen};
 ghost use Rattle.elf_image.specs.declared.image.Image.{Image};
 ghost use Rattle.session_state.specs.Standing.{Since, IsFailing};
-ghost use Rattle.session_state.specs.Serving.{IsNoteAnswer, UnlessMemory, IsCounted, ComesBetween, StandsFailing, AdoptsBy, KeepsAdopting, KeepsRecovering, end_of, rules_by};
+ghost use Rattle.session_state.specs.Serving.{IsNoteAnswer, UnlessMemory, ComesBetween, StandsFailing, AdoptsBy, KeepsAdopting, KeepsRecovering, end_of, rules_by};
 
 use crate::Session;
 use guest_space::AccessRule;
 use links::Link;
 use recovery::{Adopted, FailureSite, Recovered, Watch, recover};
-use run_history::{Answer, Cause};
+use run_history::Cause;
 use rx_io::{IoFault, Steps};
+use session_history::{SessionBreak, SessionEnd, Stop};
 use session_notes::Notes;
-use session_state::Stop;
 use std::alloc::AllocError;
 use std::sync::ledger::Ledger;
 
-/// A fault of notes, as a session's answer.
-pub fn note_answer(fault: IoFault) -> Answer
+/// A fault of notes, as what breaks a session off.
+pub fn note_answer(fault: IoFault) -> SessionBreak
     ensures { IsNoteAnswer fault result }
 {
     match fault {
-        IoFault::Failed => Answer::FileFault,
-        IoFault::Memory => Answer::Memory,
+        IoFault::Failed => SessionBreak::FileFault,
+        IoFault::Memory => SessionBreak::Memory,
     }
 }
 
 // The end that a recovery comes to, if it does: none survived, or the trial that did had ended itself.
-fn end_of(point: u64, cause: Cause, adopted: Option<Adopted>) -> Option<Answer>
+fn end_of(point: u64, cause: Cause, adopted: Option<Adopted>) -> Option<SessionEnd>
     ensures { result ≡ end_of point cause adopted }
 {
     match adopted {
-        None => Some(Answer::GaveUp { point, cause }),
-        Some(adopted) => adopted.code.map(|code| Answer::Exited(code)),
+        None => Some(SessionEnd::GaveUp { point, cause }),
+        Some(adopted) => adopted.code.map(|code| SessionEnd::Exited(code)),
     }
 }
 
@@ -46,8 +46,7 @@ impl<R: AccessRule> Session<R> {
         cause: Cause,
         steps: &mut Steps<L>,
     ) -> Result<(), Stop>
-        requires fails { StandsFailing (rules_by R.rule self.old) (K.seen link.old) (W.tables watch.old) cause self.old }
-        requires marked { IsCounted self.old }
+        requires { StandsFailing (rules_by R.rule self.old) (K.seen link.old) (W.tables watch.old) cause self.old }
         ensures turns { (image : Image) (began : Since) (lost : ℕ) → IsFailing (rules_by R.rule self.old) image (record began { noted = (N.shown notes.old).told; tables = W.tables watch.old }) (K.seen link.old) cause self.old
             → UnlessMemory result (lost + self.new.steps + (W.ran watch.new + steps.old) ≡ began.lost + self.old.steps + (W.ran watch.old + steps.new))
             → ComesBetween (rules_by R.rule self.old) image (record began { lost = lost; noted = (N.shown notes.new).told; tables = W.tables watch.new }) (K.seen link.new) self.new result }
@@ -58,7 +57,7 @@ impl<R: AccessRule> Session<R> {
         let point = self.taken;
         let recovered = match self.adopt(watch, cause, steps) {
             Ok(recovered) => recovered,
-            Err(AllocError) => return Err(Stop::Breaks(Answer::Memory)),
+            Err(AllocError) => return Err(Stop::Breaks(SessionBreak::Memory)),
         };
         if let Err(fault) = notes.episode(&recovered.episode) {
             return Err(Stop::Breaks(note_answer(fault)));
@@ -76,8 +75,7 @@ impl<R: AccessRule> Session<R> {
         cause: Cause,
         steps: &mut Steps<L>,
     ) -> Result<Recovered, AllocError>
-        requires fails { (seen : Seen) × StandsFailing (rules_by R.rule self.old) seen (W.tables watch.old) cause self.old }
-        requires marked { IsCounted self.old }
+        requires { (seen : Seen) × StandsFailing (rules_by R.rule self.old) seen (W.tables watch.old) cause self.old }
         ensures adopts { (image : Image) (began : Since) (seen : Seen) (lost : ℕ) → IsFailing (rules_by R.rule self.old) image (record began { tables = W.tables watch.old }) seen cause self.old
             → (IfOk result (λ _. lost + self.new.steps + (W.ran watch.new + steps.old) ≡ began.lost + self.old.steps + (W.ran watch.old + steps.new)))
             → AdoptsBy (rules_by R.rule self.old) image (record began { lost = lost; tables = W.tables watch.new }) seen self.old.taken cause self.new result }

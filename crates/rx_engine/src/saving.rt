@@ -10,15 +10,15 @@ ghost use Rattle.recovery.specs.Handling.{alone, stands_of};
 ghost use Rattle.session_state.specs.Sessions.{IsBegun};
 ghost use Rattle.session_state.specs.Standing.{Since, IsWaitingFor};
 ghost use Rattle.session_state.specs.Leaving.{IsHandled, CanForgetSends};
-ghost use Rattle.session_state.specs.Serving.{IsReadyToServe, StandsSomewhere, WaitsBy, KeepsSaving, KeepsNoting, KeepsForgetting, NotesServe, NotesRest, HasNoteRest, rules_by};
+ghost use Rattle.session_state.specs.Serving.{IsReadyToServe, StandsSomewhere, WaitsBy, KeepsSaving, KeepsNoting, KeepsForgetting, NotesRest, HasNoteRest, rules_by};
 
 use crate::Session;
 use crate::recovering::note_answer;
 use guest_space::AccessRule;
 use recovery::{begin_ring, checkpoint, forget};
-use run_history::Answer;
+use session_history::{SessionBreak, Stop};
 use session_notes::Notes;
-use session_state::{Stop, note_up_to};
+use session_state::note_up_to;
 
 impl<R: AccessRule> Session<R> {
     /// Saves the start of the program as the first checkpoint.
@@ -53,8 +53,7 @@ impl<R: AccessRule> Session<R> {
         requires { StandsSomewhere (rules_by R.rule self.old) self.old }
         ensures waits { (image : Image) (began : Since) (seen : Seen) → seen.takes ≡ true → IsWaitingFor (rules_by R.rule self.old) image (record began { noted = (N.shown notes.old).told }) seen self.old
             → WaitsBy (rules_by R.rule self.old) image (record began { noted = (N.shown notes.new).told }) seen self.new result }
-        ensures keeps { KeepsNoting self.old self.new result }
-        ensures shows { NotesServe (N.shown notes.old) (N.shown notes.new) result }
+        ensures keeps { KeepsNoting (N.shown notes.old) (N.shown notes.new) self.old self.new result }
         ensures fixed { N.fixed notes.new ≡ N.fixed notes.old }
     {
         let safe = self.cpu.oldest_marks().choices;
@@ -84,7 +83,7 @@ impl<R: AccessRule> Session<R> {
     }
 
     /// At an end: notes the answers of malloc that aren't noted yet.
-    pub(crate) fn note_rest<N: Notes>(&mut self, notes: &mut N) -> Result<(), Answer>
+    pub(crate) fn note_rest<N: Notes>(&mut self, notes: &mut N) -> Result<(), SessionBreak>
         requires { self.old.recorded + length self.old.choices < 2 ^ 64 }
         ensures noted { NotesRest (N.shown notes.old) (N.shown notes.new) self.old self.new result }
         ensures shows { HasNoteRest (N.shown notes.old) (N.shown notes.new) result }

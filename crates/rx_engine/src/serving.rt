@@ -1,16 +1,13 @@
 // A session from its begin to its end.
-ghost use Rattle.std.specs.Prelude.{◌≡◌, ℕ, ◌+◌, ◌-◌, ◌<◌, ◌≤◌, true};
+ghost use Rattle.std.specs.Prelude.{◌≡◌, None, ℕ, ◌+◌, ◌-◌, ◌≤◌, true};
 ghost use Rattle.links.specs.Seen.{Seen};
 ghost use Rattle.elf_image.specs.declared.image.Image.{Image};
-ghost use Rattle.item_log.specs.Log.{received};
 ghost use Rattle.guest_cpu.specs.declared.event.Event.TheVariants as event;
-ghost use Rattle.session_state.specs.Options.{keeping_for};
 ghost use Rattle.session_history.specs.Answering.{MayBegin};
-ghost use Rattle.session_state.specs.Sessions.{IsBegun};
 ghost use Rattle.session_state.specs.Standing.{Since, IsGoing, IsBetween, IsWaitingFor, IsEnding};
-ghost use Rattle.session_state.specs.Recovered.{HasRecovered, HasWatched};
-ghost use Rattle.session_state.specs.Leaving.{IsHandled, keeping_of, IsTrimmed, HasLeft};
-ghost use Rattle.session_state.specs.Serving.{LinkAnswers, LinkFinishes, LinkPasses, NotesAnswer, UnlessMemory, UnlessNoteFault, IsCounted, HasRun, StandsBetween, StandsAsking, StandsHearing, StandsSomewhere, StandsEmitting, StandsEnding, IsFinishing, ComesBetween, IsReadyToServe, outcome_of, KeepsTurning, KeepsAsking, KeepsReceiving, KeepsItem, KeepsSending, KeepsChoosing, rules_by};
+ghost use Rattle.session_state.specs.Recovered.{HasWatched};
+ghost use Rattle.session_state.specs.Leaving.{keeping_of, IsTrimmed, HasLeft};
+ghost use Rattle.session_state.specs.Serving.{HasServedLink, Finishes, UnlessMemory, UnlessNoteFault, HasRun, StandsBetween, StandsAsking, StandsHearing, StandsTaking, StandsEmitting, StandsEnding, IsFinishing, ComesBetween, IsReadyToServe, outcome_of, KeepsTurning, KeepsAsking, KeepsReceiving, KeepsItem, KeepsSending, KeepsChoosing, rules_by};
 
 use crate::Session;
 use crate::giving::answer_to;
@@ -22,8 +19,8 @@ use links::Link;
 use recovery::{NoWatch, Watch};
 use run_history::Answer;
 use rx_io::{Bytes, Steps};
+use session_history::{SessionBreak, SessionEnd, Stop};
 use session_notes::Notes;
-use session_state::Stop;
 use std::sync::ledger::Ledger;
 
 impl<R: AccessRule> Session<R> {
@@ -39,12 +36,7 @@ impl<R: AccessRule> Session<R> {
     ) -> Answer
         requires begun { IsReadyToServe self.old }
         requires may { MayBegin (K.seen link.old) }
-        ensures served { (image : Image) → IsBegun image self.old.options self.old.cpu.rule self.old
-            → (recovered : HasRecovered (rules_by R.rule self.old) image (keeping_for self.old.options) (K.seen link.old) (K.seen link.new) (outcome_of result self.new) (N.shown notes.old).told (N.shown notes.new).told (steps.new - steps.old))
-            × UnlessNoteFault result (HasLeft (rules_by R.rule self.old) image recovered.telling self.new result) }
-        ensures keeping { (image : Image) → IsBegun image self.old.options self.old.cpu.rule self.old → keeping_of self.new ≡ keeping_for self.old.options }
-        ensures shows { LinkAnswers (K.seen link.old) (K.seen link.new) result }
-        ensures notes { NotesAnswer (N.shown notes.old) (N.shown notes.new) result }
+        ensures served { HasServedLink (rules_by R.rule self.old) (K.seen link.old) (K.seen link.new) (N.shown notes.old) (N.shown notes.new) (steps.new - steps.old) None None self.old self.new result }
         ensures counted_at_least { steps.old + self.new.steps ≤ steps.new }
         ensures outside { K.Went link.old link.new × (N.fixed notes.new ≡ N.fixed notes.old) }
     {
@@ -66,12 +58,7 @@ impl<R: AccessRule> Session<R> {
     ) -> Answer
         requires begun { IsReadyToServe self.old }
         requires may { MayBegin (K.seen link.old) }
-        ensures served { (image : Image) → IsBegun image self.old.options self.old.cpu.rule self.old
-            → (watched : HasWatched (rules_by R.rule self.old) image (keeping_for self.old.options) (K.seen link.old) (K.seen link.new) (outcome_of result self.new) (N.shown notes.old).told (N.shown notes.new).told ((W.ran watch.old + steps.new) - (W.ran watch.new + steps.old)) (W.tables watch.old) (W.tables watch.new))
-            × UnlessNoteFault result (HasLeft (rules_by R.rule self.old) image watched.recovered.telling self.new result) }
-        ensures keeping { (image : Image) → IsBegun image self.old.options self.old.cpu.rule self.old → keeping_of self.new ≡ keeping_for self.old.options }
-        ensures shows { LinkAnswers (K.seen link.old) (K.seen link.new) result }
-        ensures notes { NotesAnswer (N.shown notes.old) (N.shown notes.new) result }
+        ensures served { HasServedLink (rules_by R.rule self.old) (K.seen link.old) (K.seen link.new) (N.shown notes.old) (N.shown notes.new) ((W.ran watch.old + steps.new) - (W.ran watch.new + steps.old)) (W.tables watch.old) (W.tables watch.new) self.old self.new result }
         ensures counted_at_least { W.ran watch.new + steps.old + self.new.steps ≤ W.ran watch.old + steps.new }
         ensures outside { K.Went link.old link.new × (N.fixed notes.new ≡ N.fixed notes.old) }
     {
@@ -79,33 +66,32 @@ impl<R: AccessRule> Session<R> {
         'turns: loop {
             match self.turn(link, notes, watch, steps) {
                 Ok(()) => {}
-                Err(Stop::Breaks(answer)) => return answer,
-                Err(Stop::Ends(answer)) => return self.finish(link, notes, answer),
+                Err(Stop::Breaks(why)) => return why.answer(),
+                Err(Stop::Ends(end)) => return self.finish(link, notes, end).answer(),
             }
         }
     }
 
     // At an end: passes what is held back, notes the rest of the answers of malloc, and gives up the sends that no trial needs.
-    fn finish<K: Link, N: Notes>(&mut self, link: &mut K, notes: &mut N, answer: Answer) -> Answer
-        requires { StandsEnding (rules_by R.rule self.old) (K.seen link.old) answer self.old }
-        ensures served { (image : Image) (began : Since) (first : Seen) (ending : IsEnding (rules_by R.rule self.old) image (record began { told = first.told; noted = (N.shown notes.old).told }) (K.seen link.old) self.old answer)
-            → IsFinishing (rules_by R.rule self.old) first (K.seen link.old) ending.story answer → IsTrimmed self.old
+    fn finish<K: Link, N: Notes>(&mut self, link: &mut K, notes: &mut N, end: SessionEnd) -> Stop
+        requires { StandsEnding (rules_by R.rule self.old) (K.seen link.old) end self.old }
+        ensures served { (image : Image) (began : Since) (first : Seen) (ending : IsEnding (rules_by R.rule self.old) image (record began { told = first.told; noted = (N.shown notes.old).told }) (K.seen link.old) self.old end)
+            → IsFinishing (rules_by R.rule self.old) first (K.seen link.old) ending.story end → IsTrimmed self.old
             → (watched : HasWatched (rules_by R.rule self.old) image (keeping_of self.new) first (K.seen link.new) (outcome_of result self.new) began.noted_before (N.shown notes.new).told (began.lost + self.old.steps) began.tables_before began.tables)
             × UnlessNoteFault result (HasLeft (rules_by R.rule self.old) image watched.recovered.telling self.new result) }
         ensures same { self.new ≡ record self.old { replies = self.new.replies; recorded = self.new.recorded; choices = self.new.choices } }
-        ensures shows { LinkFinishes (K.seen link.old) (K.seen link.new) answer result }
-        ensures notes { NotesAnswer (N.shown notes.old) (N.shown notes.new) result }
+        ensures shows { Finishes (K.seen link.old) (K.seen link.new) (N.shown notes.old) (N.shown notes.new) end result }
         ensures outside { K.Went link.old link.new × (N.fixed notes.new ≡ N.fixed notes.old) }
     {
         let stamp = self.log.received();
         if let Err(fault) = pass_until(&mut self.replies, link, u64::MAX, stamp) {
-            return answer_to(fault);
+            return Stop::Breaks(answer_to(fault));
         }
         if let Err(fault) = self.note_rest(notes) {
-            return fault;
+            return Stop::Breaks(fault);
         }
         self.forget_sends();
-        answer
+        Stop::Ends(end)
     }
 
     // Runs the guest to its next event, and does what the event asks for.
@@ -137,13 +123,13 @@ impl<R: AccessRule> Session<R> {
             Ok(Event::Chooses(choice)) => self.choose(choice),
             Ok(Event::Exits(code)) => {
                 self.count_run();
-                Err(Stop::Ends(Answer::Exited(code)))
+                Err(Stop::Ends(SessionEnd::Exited(code)))
             }
             Ok(Event::Failed(cause)) => {
                 self.count_run();
                 self.recover(link, notes, watch, cause, steps)
             }
-            Err(_) => Err(Stop::Breaks(Answer::Memory)),
+            Err(_) => Err(Stop::Breaks(SessionBreak::Memory)),
         }
     }
 
@@ -176,8 +162,7 @@ impl<R: AccessRule> Session<R> {
         link: &mut K,
         steps: &mut Steps<L>,
     ) -> Result<(), Stop>
-        requires stands { StandsHearing (rules_by R.rule self.old) (K.seen link.old) self.old }
-        requires marked { IsCounted self.old }
+        requires { StandsHearing (rules_by R.rule self.old) (K.seen link.old) self.old }
         ensures turns { (image : Image) (began : Since) → IsWaitingFor (rules_by R.rule self.old) image began (K.seen link.old) self.old
             → ComesBetween (rules_by R.rule self.old) image began (K.seen link.new) self.new result }
         ensures keeps { KeepsReceiving (K.seen link.old) (K.seen link.new) self.old self.new result }
@@ -193,9 +178,7 @@ impl<R: AccessRule> Session<R> {
 
     // The guest takes the item that it waits for, which is there.
     fn take<L: Ledger>(&mut self, steps: &mut Steps<L>)
-        requires waits { StandsSomewhere (rules_by R.rule self.old) self.old }
-        requires handled { IsHandled self.old }
-        requires there { self.old.taken < received self.old.log }
+        requires { StandsTaking (rules_by R.rule self.old) self.old }
         ensures going { (image : Image) (began : Since) (seen : Seen) → IsWaitingFor (rules_by R.rule self.old) image began seen self.old → IsGoing (rules_by R.rule self.old) image began seen self.new }
         ensures keeps { KeepsItem self.old self.new }
         ensures counted { steps.new ≡ steps.old + 1 }
@@ -209,15 +192,14 @@ impl<R: AccessRule> Session<R> {
         requires { StandsEmitting (rules_by R.rule self.old) (K.seen link.old) conn bytes self.old }
         ensures turns { (image : Image) (began : Since) → (K.seen link.old).takes ≡ true → HasRun (rules_by R.rule self.old) image began (K.seen link.old) (event.Emits conn bytes) self.old
             → ComesBetween (rules_by R.rule self.old) image began (K.seen link.new) self.new result }
-        ensures shows { LinkPasses (K.seen link.old) (K.seen link.new) self.new.replies result }
-        ensures keeps { KeepsSending self.old self.new result }
+        ensures keeps { KeepsSending (K.seen link.old) (K.seen link.new) self.old self.new result }
         ensures went { K.Went link.old link.new }
     {
         if let Err(_) = self.replies.sent(conn, bytes, self.taken) {
-            return Err(Stop::Breaks(Answer::Memory));
+            return Err(Stop::Breaks(SessionBreak::Memory));
         }
         self.count_run();
-        self.pass_due(link)
+        self.pass_due(link) // before the guest runs on
     }
 
     // Malloc was answered.
@@ -227,7 +209,7 @@ impl<R: AccessRule> Session<R> {
         ensures keeps { KeepsChoosing self.old self.new result }
     {
         if let Err(_) = self.choices.push(choice) {
-            return Err(Stop::Breaks(Answer::Memory));
+            return Err(Stop::Breaks(SessionBreak::Memory));
         }
         self.count_run();
         Ok(())

@@ -84,13 +84,7 @@ impl<R: AccessRule + Drop> Session<R> {
 
     /// What the session leaves. It takes no memory.
     pub fn into_end(self) -> Left<R>
-        ensures recorded { result.recorded ≡ self.recorded }
-        ensures tail { result.tail ≡ self.choices }
-        ensures steps { result.steps ≡ self.steps }
-        ensures taken { result.taken ≡ self.taken }
-        ensures cpu { result.cpu ≡ self.cpu }
-        ensures log { result.log ≡ self.log }
-        ensures replies { result.replies ≡ self.replies }
+        ensures { result ≡ record { recorded = self.recorded; tail = self.choices; steps = self.steps; taken = self.taken; cpu = self.cpu; log = self.log; replies = self.replies } }
     {
         let Session {
             cpu,

@@ -1,5 +1,6 @@
 -- What the files in memory tell.
-use Rattle.std.specs.Prelude.{Some, unwrap_or, []}
+use Rattle.std.specs.Prelude.{List, Some, unwrap_or, []}
+use Rattle.rx_io.specs.Terms.{FileCall}
 use Rattle.rx_io.specs.Named.{Contents}
 use Rattle.rx_io.specs.Planned.{Plan}
 use Rattle.rx_io.specs.Shelves.{found}
@@ -25,3 +26,7 @@ or_empty files name = Some (unwrap_or (files name) [])
 -- what is told of the files: a name that is missing has no byte
 abbrev pub tame_contents : TameFiles → Contents
 tame_contents s = or_empty (tame_found s)
+
+-- all calls that were made
+abbrev pub tame_file_calls : TameFiles → List FileCall
+tame_file_calls s = s.calls.items

@@ -3,6 +3,7 @@ pub mod Outside
 pub mod Faults
 pub mod Taking
 pub mod Named
+pub mod Calling
 pub mod Planned
 pub mod Sources
 pub mod Sinks

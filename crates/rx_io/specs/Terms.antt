@@ -6,4 +6,5 @@ pub use Rattle.rx_io.specs.declared.fault.IoFault.{IoFault}
 pub use Rattle.rx_io.specs.declared.fault.IoFault.TheVariants.{Failed, Memory}
 pub use Rattle.rx_io.specs.declared.fault.LoadFault.{LoadFault}
 pub use Rattle.rx_io.specs.declared.fault.LoadFault.TheVariants.{TooLarge}
+pub use Rattle.rx_io.specs.declared.file_calls.FileCall.{FileCall}
 pub use Rattle.rx_io.specs.declared.listener_calls.ListenEntry.{ListenEntry}

@@ -39,6 +39,8 @@ impl<T: Sink> Sink for &mut T {
 impl<T: Files> Files for &mut T {
     ghost told = { λ s. T.told s.now };
 
+    ghost calls = { λ s. T.calls s.now };
+
     ghost faults = { λ s. T.faults s.now };
 
     ghost Fixed = { GName × T.Fixed };

@@ -1,5 +1,5 @@
 // Files in memory of which certain calls fail.
-ghost use Rattle.std.specs.Prelude.{◌≡◌, ℕ, ◌≤◌, Option, Some, IfOk, option_copied, vec_len};
+ghost use Rattle.std.specs.Prelude.{◌≡◌, ℕ, ◌≤◌, Option, Some, None, IfOk, option_copied, vec_len};
 ghost use Rattle.rx_io.specs.Faults.{HasCause, HasLoadCause};
 ghost use Rattle.rx_io.specs.Named.{Loads, Starts, Adds};
 ghost use Rattle.rx_io.specs.Planned.{fails_next, after_call, after_load, first_plan, FailsBy, LoadFailsBy};
@@ -44,6 +44,8 @@ impl Files for MemoryFiles {
     ghost use Rattle.rx_io.specs.Kept.{memory_contents, memory_files_plan};
 
     ghost told = { λ s. Some (memory_contents s) };
+
+    ghost calls = { λ _. None };
 
     ghost faults = { λ s. (memory_files_plan s).faults };
 

@@ -135,6 +135,8 @@ fn add_to<R: rt::Files>(
 impl<R: rt::Files> Files for StdFiles<'_, R> {
     ghost told = { λ _. None };
 
+    ghost calls = { λ _. None };
+
     ghost faults = { λ s. s.faults };
 
     ghost Fixed = { Unit {0} };

@@ -1,20 +1,18 @@
 -- The answers of malloc that a run used are those that a record may have.
 use Rattle.std.proofs.lemmas.List.Elements.{All-from_get_or}
 use Rattle.block_book.specs.Block.{touched, lies_in}
+use Rattle.block_book.specs.Answer.{is_allowed, is_clear}
 use Rattle.elf_image.proofs.Valid.{stack_top_below}
 use Rattle.guest_cpu.proofs.ChoiceLemmas.{allowed_clear}
 use Rattle.guest_cpu.proofs.HeapLemmas.{zeroed_within}
 use Rattle.guest_cpu.proofs.StartLemmas.{heap_above_null}
-use Rattle.rx_serve.proofs.Terms.{Bool, List, None, Option, Some, ap, arith, cond, eqb, false, get_or, inl, inr, leb, refl, subst, sym, true, ℕ, ◌%◌, ◌&&◌, ◌+◌, ◌<◌, ◌^◌, ◌∙◌, ◌≡◌, ◌≤◌, and_parts, cases_Bool, cases_eq, cases_lt, leb-true, none-some, same_Some, slice_get-get_or, All, slice_get, Item, Choice, is_allowed, is_clear, Image, heap_end, heap_start, repeated_keeps, allocated_keeps, next_parts, received_keeps, Alone, Picks, Same, Shape, Takes, does_shape, allocated, chooses, received, takes, Chooses, Effect, Emits, Ends, Fails, Goes, Machine, State, Wants, register, start, start_machine, Run, after, does, effect, next, IsChoice}
+use Rattle.rx_serve.proofs.Terms.{List, Some, ap, arith, eqb, false, get_or, inl, inr, leb, refl, subst, sym, true, ℕ, ◌%◌, ◌&&◌, ◌+◌, ◌<◌, ◌^◌, ◌∙◌, ◌≡◌, ◌≤◌, and_parts, cases_Bool, cases_eq, cases_lt, leb-true, same_Some, slice_get-get_or, All, slice_get, Item, Choice, Image, heap_end, heap_start, repeated_keeps, allocated_keeps, next_parts, received_keeps, allocated, received, Machine, State, register, start, start_machine, Run, next, ByChoice, ByEnd, ByItem, ByItself, BySend, Moved, moved, IsChoice}
 
 -- a block that C allows ends below the end of the heap
 clear_below : (start end : ℕ) (live : List (ℕ × ℕ)) (at size : ℕ) → is_clear start end live at size ≡ true → at < end
 unfolding is_clear
 clear_below start end live at size clear =
-    let placed : ((eqb (at % 16) 0) && lies_in at (touched size) start end) ≡ true = (and_parts _ _ clear).0 in
-    let lies : lies_in at (touched size) start end ≡ true = (and_parts (eqb (at % 16) 0) (lies_in at (touched size) start end) placed).1 in
-    let inside : leb (at + touched size) end ≡ true = (and_parts (leb start at) (leb (at + touched size) end) lies).1 in
-    omega (arith, leb-true (at + touched size) end inside)
+    omega (arith, leb-true (at + touched size) end (and_parts (leb start at) (leb (at + touched size) end) (and_parts (eqb (at % 16) 0) (lies_in at (touched size) start end) (and_parts _ _ clear).0).1).1)
 
 -- an answer that C allows in a heap above address 0 and below 2 ^ 32
 allowed_fine : (start end : ℕ) (live : List (ℕ × ℕ)) (size : ℕ) (choice : Choice) → is_allowed start end live size choice ≡ true → 0 < start → end ≤ 2 ^ 32 → IsChoice choice
@@ -46,61 +44,39 @@ same_used image choices s t m is start_same end_same count had = record {
       had.used k choice before there;
 }
 
-machine_of : (s t : State) (some : State) → Some some ≡ Some t → t.machine ≡ some.machine
-machine_of s t some goes = ap (λ (u : State). u.machine) (sym (same_Some some t goes))
-
-alone_used : (image : Image) (choices : List Choice) (s t : State) (e : Effect) → Alone s.machine e → after s e ≡ Some t → HasUsed image choices s → HasUsed image choices t
-alone_used image choices s t (Goes m) alone goes had = same_used image choices s t m (machine_of s t _ goes) alone.heap_start alone.heap_end alone.allocations had
-alone_used image choices s t (Emits conn bytes m) alone goes had = same_used image choices s t m (machine_of s t _ goes) alone.0.heap_start alone.0.heap_end alone.0.allocations had
-alone_used image choices s t (Ends code) alone goes had = same_used image choices s t s.machine (machine_of s t _ goes) refl refl refl had
-alone_used image choices s t Wants alone goes had = absurd alone
-alone_used image choices s t (Chooses size) alone goes had = absurd alone
-alone_used image choices s t (Fails cause) alone goes had = absurd (none-some t goes)
-
-taken_used : (image : Image) (choices : List Choice) (s t : State) (item : Option Item) → after s (takes s.machine item) ≡ Some t → HasUsed image choices s → HasUsed image choices t
-taken_used image choices s t None goes had = absurd (none-some t goes)
-taken_used image choices s t (Some item) goes had =
-    let kept = received_keeps item s.machine in
-    same_used image choices s t (received item s.machine) (machine_of s t _ goes) kept.heap_start kept.heap_end kept.allocations had
-
-picked_used : (image : Image) (choices : List Choice) (s t : State) (size : ℕ) (found : Option Choice) → slice_get choices s.machine.allocations ≡ found → after s (chooses size s.machine found) ≡ Some t → HasUsed image choices s → HasUsed image choices t
-picked_used image choices s t size None there goes had = absurd (none-some t goes)
-picked_used image choices s t size (Some choice) there goes had =
-    elim (cases_Bool (is_allowed s.machine.heap_start s.machine.heap_end s.machine.blocks size choice)) [
-      | inl may ↦
-          let went : Some (record s { machine = allocated size choice s.machine }) ≡ Some t =
-          ap (λ (b : Bool). after s (cond b (Goes (allocated size choice s.machine)) (Chooses size))) (sym may) ∙ goes in
-          let is = machine_of s t _ went in
-          let kept = allocated_keeps size choice s.machine in
-          let below : s.machine.heap_end ≤ 2 ^ 32 = omega (arith, had.end, stack_top_below image) in
-          let above : 0 < s.machine.heap_start = omega (arith, had.start, heap_above_null image) in
-          let fine : IsChoice choice = allowed_fine s.machine.heap_start s.machine.heap_end s.machine.blocks size choice may above below in
-          record {
-            start = ap (λ (n : Machine). n.heap_start) is ∙ kept.heap_start ∙ had.start;
-            end = ap (λ (n : Machine). n.heap_end) is ∙ kept.heap_end ∙ had.end;
-            used = λ k other less here.
-                elim (cases_lt k s.machine.allocations) [
-                  | inl before ↦ had.used k other before here
-                  | inr late ↦
-                      let now : k ≡ s.machine.allocations = omega (arith, late, less, ap (λ (n : Machine). n.allocations) is, kept.allocations) in
-                      let same : choice ≡ other = same_Some choice other (sym there ∙ ap (slice_get choices) (sym now) ∙ here) in
-                      subst IsChoice same fine
-                ];
-          }
-      | inr not_may ↦ absurd (none-some t (ap (λ (b : Bool). after s (cond b (Goes (allocated size choice s.machine)) (Chooses size))) (sym not_may) ∙ goes))
-    ]
+-- an answer of malloc that C allows
+picked_used : (image : Image) (choices : List Choice) (s t : State) (size : ℕ) (choice : Choice) → slice_get choices s.machine.allocations ≡ Some choice → is_allowed s.machine.heap_start s.machine.heap_end s.machine.blocks size choice ≡ true
+    → t.machine ≡ allocated size choice s.machine → HasUsed image choices s → HasUsed image choices t
+picked_used image choices s t size choice there may is had =
+    let kept = allocated_keeps size choice s.machine in
+    let below : s.machine.heap_end ≤ 2 ^ 32 = omega (arith, had.end, stack_top_below image) in
+    let above : 0 < s.machine.heap_start = omega (arith, had.start, heap_above_null image) in
+    record {
+      start = ap (λ (n : Machine). n.heap_start) is ∙ kept.heap_start ∙ had.start;
+      end = ap (λ (n : Machine). n.heap_end) is ∙ kept.heap_end ∙ had.end;
+      used = λ k other less here.
+          elim (cases_lt k s.machine.allocations) [
+            | inl before ↦ had.used k other before here
+            | inr late ↦
+                let now : k ≡ s.machine.allocations = omega (arith, late, less, ap (λ (n : Machine). n.allocations) is, kept.allocations) in
+                subst IsChoice (same_Some choice other (sym there ∙ ap (slice_get choices) (sym now) ∙ here)) (allowed_fine s.machine.heap_start s.machine.heap_end s.machine.blocks size choice may above below)
+          ];
+    }
 
 next_used : (image : Image) (items : List Item) (choices : List Choice) (s t : State) → next items choices s ≡ Some t → HasUsed image choices s → HasUsed image choices t
-next_used image items choices s t goes had = of (does_shape s.machine)
+next_used image items choices s t goes had = by (moved s t (slice_get items s.machine.taken) (slice_get choices s.machine.allocations) (next_parts items choices s t goes).1)
   where
-    parts : after s (effect items choices s.machine) ≡ Some t
-    parts = (next_parts items choices s t goes).1
+    machine_is : (u : State) → u ≡ t → t.machine ≡ u.machine
+    machine_is u is = ap (λ (v : State). v.machine) (sym is)
 
-    of : Shape s.machine (λ item choice. does item choice s.machine) → HasUsed image choices t
-    of (Same e alone is) = alone_used image choices s t e alone (ap (after s) (sym (is (slice_get items s.machine.taken) (slice_get choices s.machine.allocations))) ∙ parts) had
-    of (Takes may is) = taken_used image choices s t (slice_get items s.machine.taken) (ap (after s) (sym (is (slice_get items s.machine.taken) (slice_get choices s.machine.allocations))) ∙ parts) had
-    of (Picks is) = picked_used image choices s t (register s.machine 10) (slice_get choices s.machine.allocations) refl
-        (ap (after s) (sym (is (slice_get items s.machine.taken) (slice_get choices s.machine.allocations))) ∙ parts) had
+    by : Moved s t (slice_get items s.machine.taken) (slice_get choices s.machine.allocations) → HasUsed image choices t
+    by (ByItself m alone is) = same_used image choices s t m (machine_is _ is) alone.heap_start alone.heap_end alone.allocations had
+    by (BySend conn bytes m alone is) = same_used image choices s t m (machine_is _ is) alone.0.heap_start alone.0.heap_end alone.0.allocations had
+    by (ByEnd code is) = same_used image choices s t s.machine (machine_is _ is) refl refl refl had
+    by (ByItem item at is) =
+        let kept = received_keeps item s.machine in
+        same_used image choices s t (received item s.machine) (machine_is _ is) kept.heap_start kept.heap_end kept.allocations had
+    by (ByChoice choice at may is) = picked_used image choices s t (register s.machine 10) choice at may (machine_is _ is) had
 
 begins_used : (image : Image) (choices : List Choice) → HasUsed image choices (start image)
 unfolding start start_machine

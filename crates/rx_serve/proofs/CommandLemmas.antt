@@ -5,7 +5,7 @@ use Rattle.run_history.specs.declared.answer.Answer.TheVariants as answer
 use Rattle.schedule_file.specs.Laws.{OneReading}
 use Rattle.replay.specs.Laws.{HasSession}
 use Rattle.over_trunk.specs.Laws.{IsWithin, IsAsRecorded, SameBytesAreReplayed}
-use Rattle.rx_serve.proofs.Terms.{List, None, Option, Some, [], ap, append-nil, arith, drop, inl, inr, length, refl, subst, sym, take, true, ℕ, ◌++◌, ◌<◌, ◌∙◌, ◌≡◌, ◌≤◌, take-append-drop, none-some, same_Some, All, IsSomeAnd, Contents, Stream, Image, IsImage, refusal, Answer, journal_of, IsEnd, items_in, noted, Recorded, IsChoice, IsRecord, text_of, keeping_for, bounds_of, ReplaysTrunk, WritesSends, ReplayValue, RunValue, End, program_limit, Outside, options_of, rules_of_run, window_of, HasBeenReplayed, HasRecord, HasReplayCause, window_in, HasServed, HasSameOutside, IsReplayedBy, RecordsAreReplayed}
+use Rattle.rx_serve.proofs.Terms.{List, None, Option, Some, [], ap, append-nil, arith, inl, inr, length, refl, subst, sym, take, true, ℕ, ◌++◌, ◌<◌, ◌∙◌, ◌≡◌, ◌≤◌, take-append-drop, none-some, same_Some, All, IsSomeAnd, Contents, Stream, Image, IsImage, refusal, Answer, journal_of, IsEnd, items_in, NoneFailed, noted, Recorded, IsChoice, IsRecord, text_of, unnoted_of, keeping_for, bounds_of, ReplaysTrunk, WritesSends, ReplayValue, RunValue, End, program_limit, Outside, options_of, rules_of_run, window_of, HasBeenReplayed, HasRecord, HasReplayCause, window_in, HasServed, HasSameOutside, IsReplayedBy, RecordsAreReplayed}
 use Rattle.rx_serve.proofs.ChoiceRanges.{choices_fine}
 use Rattle.rx_serve.proofs.NotingLemmas.{few_counts}
 use Rattle.rx_serve.proofs.SettingsLemmas.{window_few, options_in_range}
@@ -36,9 +36,7 @@ module _ (value : RunValue) (replaying : ReplayValue) (files files_later again :
   all_choices =
       let notes = served.noted.serves.is.notes in
       let now = served.noted.serves.telling.account.survivor.now.choices in
-      let first : served.noted.choices ≡ take end.recorded now = notes.choices_noted in
-      let rest : drop end.recorded now ≡ [] = sym notes.tail_is ∙ served.headline.all_recorded ends in
-      first ∙ sym (append-nil (take end.recorded now)) ∙ ap (λ l. take end.recorded now ++ l) (sym rest) ∙ take-append-drop end.recorded now
+      notes.choices_noted ∙ sym (append-nil (take end.recorded now)) ∙ ap (λ l. take end.recorded now ++ l) (sym (sym notes.tail_is ∙ served.headline.all_recorded ends)) ∙ take-append-drop end.recorded now
 
   is_record : IsRecord left
   is_record =
@@ -102,8 +100,8 @@ module _ (value : RunValue) (replaying : ReplayValue) (files files_later again :
       (subst (λ (i : Image). ReplaysTrunk i has.recorded (Some input_again) new_again.input old_again.output new_again.output answered has.counted) image_is has.replays) in
       let within : IsWithin (rules_of_run value).bounds (bounds_of left) = record { items = omega arith; events = omega arith } in
       let both =
-      law (rules_of_run value) (keeping_for (options_of value)) served.image input input_again new.input new_again.input old.output new.output old_again.output new_again.output (record { end = served.ended; recorded = end.recorded; tail = end.tail; taken = end.taken; steps = end.steps }) answered
-      (noted (Some []) (Some [])) (noted (Some served.noted.choices) (Some served.noted.episodes)) served.noted.counted has.counted left served.noted.serves replays has_session within outside.bytes in
+      law (rules_of_run value) (keeping_for (options_of value)) served.image input input_again new.input new_again.input old.output new.output old_again.output new_again.output (record { stop = served.why; recorded = end.recorded; tail = end.tail; taken = end.taken; steps = end.steps }) answered
+      (noted (Some []) (Some []) (Some NoneFailed)) (noted (Some served.noted.choices) (Some served.noted.episodes) (Some (unnoted_of served.noted.left))) served.noted.counted has.counted left served.noted.serves replays has_session within outside.bytes in
       (as_replayed again replaying answered both.0, both.1)
 
 pub records_are_replayed : OneReading → SameBytesAreReplayed → RecordsAreReplayed

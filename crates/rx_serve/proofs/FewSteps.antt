@@ -2,7 +2,7 @@
 -- the next one.
 use Rattle.run_history.specs.Served.{Limits, Override, env_at, Path, origin, planned_next, Served}
 use Rattle.run_history.proofs.Serves.{serves_to}
-use Rattle.rx_serve.proofs.Terms.{Bool, List, None, Option, Some, ap, arith, cond, false, sym, true, ℕ, ◌*◌, ◌+◌, ◌<◌, ◌∙◌, ◌≡◌, ◌≤◌, none-some, same_Some, Item, Choice, is_allowed, Image, repeated_keeps, allocated_keeps, received_keeps, Alone, Picks, Same, Shape, Takes, does_shape, allocated, malloc, received, takes, Chooses, Effect, Emits, Ends, Fails, Goes, Machine, State, Wants, register, start, start_machine, after, does}
+use Rattle.rx_serve.proofs.Terms.{List, None, Option, Some, ap, arith, sym, ℕ, ◌*◌, ◌+◌, ◌<◌, ◌∙◌, ◌≡◌, ◌≤◌, none-some, Item, Choice, Image, repeated_keeps, allocated_keeps, received_keeps, allocated, Machine, State, register, start, start_machine, after, does, ByChoice, ByEnd, ByItem, ByItself, BySend, Moved, moved}
 
 -- what one instruction does to the counts: it is one more since the last item, or took an item, or ended the program
 data Counts (s t : State) : Type 0 where
@@ -10,49 +10,26 @@ data Counts (s t : State) : Type 0 where
   Receives : t.machine.taken ≡ s.machine.taken + 1 → t.machine.since ≡ 0 → Counts s t
   Stops : t.machine ≡ s.machine → (code : ℕ) → t.ended ≡ Some code → Counts s t
 
--- the machine of a state that is known
-machine_of : (s t : State) → Some s ≡ Some t → t.machine ≡ s.machine
-machine_of s t h = sym (ap (λ (v : State). v.machine) (same_Some s t h))
-
 rises_to : (s t : State) (new : Machine) → t.machine ≡ new → new.taken ≡ s.machine.taken → new.since ≡ s.machine.since + 1 → Counts s t
 rises_to s t new is taken since = Rises (ap (λ (m : Machine). m.taken) is ∙ taken) (ap (λ (m : Machine). m.since) is ∙ since)
 
--- after an instruction that needs neither an item nor an answer of malloc
-alone_counts : (s t : State) (e : Effect) → Alone s.machine e → after s e ≡ Some t → Counts s t
-alone_counts s t (Goes new) alone h = rises_to s t new (machine_of _ t h) alone.taken alone.since
-alone_counts s t (Emits conn bytes new) alone h = rises_to s t new (machine_of _ t h) alone.0.taken alone.0.since
-alone_counts s t (Ends code) alone h = Stops (machine_of _ t h) code (sym (ap (λ (v : State). v.ended) (same_Some _ t h)))
-alone_counts s t Wants alone h = absurd alone
-alone_counts s t (Chooses size) alone h = absurd alone
-alone_counts s t (Fails cause) alone h = absurd (none-some t h)
-
--- after a recv
-takes_counts : (s t : State) (item : Option Item) → after s (takes s.machine item) ≡ Some t → Counts s t
-takes_counts s t None h = absurd (none-some t h)
-takes_counts s t (Some item) h =
-    let keeps = received_keeps item s.machine in
-    let is : t.machine ≡ received item s.machine = machine_of _ t h in
-    Receives (ap (λ (m : Machine). m.taken) is ∙ keeps.taken) (ap (λ (m : Machine). m.since) is ∙ keeps.since)
-
--- after a malloc
-malloc_counts : (s t : State) (choice : Option Choice) → after s (malloc choice s.machine) ≡ Some t → Counts s t
-malloc_counts s t None h = absurd (none-some t h)
-malloc_counts s t (Some choice) h = of_test (is_allowed s.machine.heap_start s.machine.heap_end s.machine.blocks (register s.machine 10) choice) h
-  where
-    of_test : (b : Bool) → after s (cond b (Goes (allocated (register s.machine 10) choice s.machine)) (Chooses (register s.machine 10))) ≡ Some t → Counts s t
-    of_test true is =
-        let keeps = allocated_keeps (register s.machine 10) choice s.machine in
-        rises_to s t (allocated (register s.machine 10) choice s.machine) (machine_of _ t is) keeps.taken keeps.since
-    of_test false is = absurd (none-some t is)
-
 -- after any instruction
 does_counts : (s t : State) (item : Option Item) (choice : Option Choice) → after s (does item choice s.machine) ≡ Some t → Counts s t
-does_counts s t item choice goes = of_shape (does_shape s.machine)
+does_counts s t item choice goes = by (moved s t item choice goes)
   where
-    of_shape : Shape s.machine (λ item choice. does item choice s.machine) → Counts s t
-    of_shape (Same e alone is) = alone_counts s t e alone (ap (after s) (sym (is item choice)) ∙ goes)
-    of_shape (Takes may is) = takes_counts s t item (ap (after s) (sym (is item choice)) ∙ goes)
-    of_shape (Picks is) = malloc_counts s t choice (ap (after s) (sym (is item choice)) ∙ goes)
+    machine_is : (u : State) → u ≡ t → t.machine ≡ u.machine
+    machine_is u is = ap (λ (v : State). v.machine) (sym is)
+
+    by : Moved s t item choice → Counts s t
+    by (ByItself m alone is) = rises_to s t m (machine_is _ is) alone.taken alone.since
+    by (BySend conn bytes m alone is) = rises_to s t m (machine_is _ is) alone.0.taken alone.0.since
+    by (ByEnd code is) = Stops (machine_is _ is) code (ap (λ (v : State). v.ended) (sym is))
+    by (ByItem it at is) =
+        let keeps = received_keeps it s.machine in
+        Receives (ap (λ (m : Machine). m.taken) (machine_is _ is) ∙ keeps.taken) (ap (λ (m : Machine). m.since) (machine_is _ is) ∙ keeps.since)
+    by (ByChoice it at may is) =
+        let keeps = allocated_keeps (register s.machine 10) it s.machine in
+        rises_to s t (allocated (register s.machine 10) it s.machine) (machine_is _ is) keeps.taken keeps.since
 
 -- The budget isn't passed, and each instruction is counted by the items that were taken or by those since the last one,
 -- but for the one that ended the program.

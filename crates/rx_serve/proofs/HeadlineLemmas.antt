@@ -1,11 +1,18 @@
 -- The headline, from what a session over a trunk leaves.
+use Rattle.session_history.specs.declared.ends.SessionBreak.TheVariants as session_break
+use Rattle.session_history.specs.declared.ends.SessionEnd.TheVariants as session_end
+use Rattle.session_history.specs.declared.ends.Stop.TheVariants as stop
+use Rattle.links.specs.declared.journal.Entry.{Entry}
+use Rattle.links.specs.Links.{events_in}
 use Rattle.run_history.specs.declared.answer.Answer.TheVariants as answer
 use Rattle.run_history.specs.Run.{run}
 use Rattle.session_history.specs.Owing.{OwesNothing}
 use Rattle.session_history.specs.Giving.{AreGiven}
 use Rattle.session_history.proofs.Endings.{passed_all, received_at_end}
+use Rattle.session_history.specs.declared.ends.SessionEnd.{SessionEnd}
+use Rattle.session_history.specs.Ends.{EndsBy}
 use Rattle.over_trunk.specs.Trunk.{StopsTrunk, Carries}
-use Rattle.rx_serve.proofs.Terms.{IfSome, List, None, Option, Some, [], ap, append-nil, arith, drop, length, refl, subst, suc, sym, true, zero, ℕ, ◌++◌, ◌∙◌, ◌≡◌, ◌≤◌, length-take-le, take-append-drop, option_and_then_some, Item, IsDrained, Stream, Prefix, Entry, events_in, Choice, Image, Answer, next_parts, Chooses, Effect, Emits, Ends, Fails, Goes, State, Wants, start, Run, after, effect, next, output, at_its_end, came_to, HasPassedAll, IsAccount, Session, journal_of, EndsAt, HasComeTo, IsEnd, Rules, entries_of, Episode, noted, Keeping, HasNoted, ServesTrunk, End, Outside, Headline, LastExits, Passed, received_items}
+use Rattle.rx_serve.proofs.Terms.{IfSome, List, None, Option, Some, [], ap, append-nil, arith, drop, length, refl, subst, suc, sym, true, zero, ℕ, ◌++◌, ◌∙◌, ◌≡◌, ◌≤◌, length-take-le, take-append-drop, none-some, option_and_then_some, same_Some, Item, IsDrained, Stream, Prefix, Choice, Image, Answer, next_parts, Chooses, Effect, Emits, Ends, Fails, Goes, State, Wants, start, Run, after, effect, next, output, Stop, at_its_end, came_to, holds_at_end, is_end_answer, HasPassedAll, IsAccount, Session, journal_of, AtEnd, EndsAt, HasComeTo, IsEnd, answer_of, end_answer, Rules, entries_of, Episode, Unnoted, noted, Keeping, HasNoted, ServesTrunk, End, Outside, Headline, LastExits, Passed, received_items}
 
 ended_of : Option State → Option ℕ
 ended_of None = None
@@ -24,8 +31,7 @@ unfolding ended_of
 last_after image items choices n before state code ran goes (Goes m) is then ended = absurd (no_code (ap ended_of then) goes ended)
 last_after image items choices n before state code ran goes (Emits conn bytes m) is then ended = absurd (no_code (ap ended_of then) goes ended)
 last_after image items choices n before state code ran goes (Ends c) is then ended =
-    let same : c ≡ code = exit_code (ap ended_of then) ended in
-    record { earlier = n; before = before; counted = omega arith; ran = ran; exits = is ∙ ap Ends same }
+    record { earlier = n; before = before; counted = omega arith; ran = ran; exits = is ∙ ap Ends (exit_code (ap ended_of then) ended) }
 last_after image items choices n before state code ran goes Wants is then ended = cc
 last_after image items choices n before state code ran goes (Chooses size) is then ended = cc
 last_after image items choices n before state code ran goes (Fails cause) is then ended = cc
@@ -42,12 +48,44 @@ last_exits image items choices (suc n) state code ran ended =
     let parts = next_parts items choices before state last in
     last_after image items choices n before state code earlier parts.0 (effect items choices before.machine) refl parts.1 ended)
 
+-- the end that an answer is
+abbrev ending_of : Answer → Option SessionEnd
+ending_of answer.Finished = Some session_end.Finished
+ending_of (answer.Exited code) = Some (session_end.Exited code)
+ending_of (answer.GaveUp point cause) = Some (session_end.GaveUp point cause)
+ending_of (answer.InputRefused kind offset) = Some (session_end.InputRefused kind offset)
+ending_of (answer.MessageTooLong conn) = Some (session_end.MessageTooLong conn)
+ending_of answer.LimitItems = Some session_end.LimitItems
+ending_of answer.LimitEvents = Some session_end.LimitEvents
+ending_of _ = None
+
+ending_of-end : (end : SessionEnd) → ending_of (end_answer end) ≡ Some end
+ending_of-end session_end.Finished = refl
+ending_of-end (session_end.Exited code) = refl
+ending_of-end (session_end.GaveUp point cause) = refl
+ending_of-end (session_end.InputRefused kind offset) = refl
+ending_of-end (session_end.MessageTooLong conn) = refl
+ending_of-end session_end.LimitItems = refl
+ending_of-end session_end.LimitEvents = refl
+
+-- where an end is answered, a session came to that end
+stops_with : (why : Stop) (end : SessionEnd) → answer_of why ≡ end_answer end → why ≡ stop.Ends end
+stops_with (stop.Ends one) end is = ap stop.Ends (same_Some one end (sym (ending_of-end one) ∙ ap ending_of is ∙ ending_of-end end))
+stops_with (stop.Breaks session_break.ReadFault) end is = absurd (none-some end (ap ending_of is ∙ ending_of-end end))
+stops_with (stop.Breaks session_break.WriteFault) end is = absurd (none-some end (ap ending_of is ∙ ending_of-end end))
+stops_with (stop.Breaks session_break.FileFault) end is = absurd (none-some end (ap ending_of is ∙ ending_of-end end))
+stops_with (stop.Breaks session_break.Memory) end is = absurd (none-some end (ap ending_of is ∙ ending_of-end end))
+
 -- at an end each connection still open was passed all that the run emits on it
-all_at_end : {rules : Rules} {image : Image} {session : Session} {end : Answer} → IsAccount rules image session → EndsAt rules session end → HasPassedAll rules session
+all_at_end : {rules : Rules} {image : Image} {session : Session} {end : SessionEnd} → IsAccount rules image session → EndsAt rules session end → HasPassedAll rules session
 all_at_end {rules = rules} {image = image} {session = session} account ends =
     passed_all rules image session account.passed
     (subst (λ (entries : List Entry). OwesNothing rules.bounds rules.hold (record { start = entries_of session.earlier; since = session.since ++ entries; at_end = true; taken = session.survivor.now.state.machine.taken }) session.survivor.now.state.sends)
     (sym (append-nil session.ending) ∙ ap (λ broken. session.ending ++ broken) (sym ends.unbroken)) ends.owes_nothing)
+
+passed_at_end : (rules : Rules) (session : Session) {image : Image} (why : Stop) → IsAccount rules image session → EndsBy rules session why → AtEnd why (λ end. HasPassedAll rules session)
+passed_at_end rules session (stop.Ends end) account ends = all_at_end account (at_its_end rules session end ends)
+passed_at_end rules session (stop.Breaks fault) account ends = tt
 
 -- what was written, by what was passed
 passed_bytes : (rules : Rules) (image : Image) (sink sink_later : Option (List ℕ)) (session : Session) (end : Answer) → IsAccount rules image session → (IsEnd end → HasPassedAll rules session)
@@ -61,7 +99,7 @@ passed_bytes rules image (Some before) later session end account all carries = r
 }
 
 -- at Finished the source has no byte left
-drained : (source source_later : Option Stream) (events : List _) → StopsTrunk source source_later events answer.Finished → IfSome source (λ _. IsDrained source_later)
+drained : (source source_later : Option Stream) (events : List _) → StopsTrunk source source_later events session_end.Finished → IfSome source (λ _. IsDrained source_later)
 drained None later events stops = tt
 drained (Some stream) later events stops = stops.1
 
@@ -70,9 +108,9 @@ record Recorded (session : Session) (end : End) (recording : List Choice) : Type
   pub count : length recording ≡ end.recorded
   pub all : session.survivor.now.choices ≡ recording ++ end.tail
 
-recorded_in : (session : Session) (end : End) (ended : Answer) (recording : List Choice) (told : List Episode) (episodes : List Episode)
-    → HasNoted (noted (Some []) (Some [])) (noted (Some recording) (Some told)) ended session.survivor.now.choices episodes end.recorded end.tail → Recorded session end recording
-recorded_in session end ended recording told episodes has = record {
+recorded_in : (session : Session) (end : End) (why : Stop) (recording : List Choice) (told : List Episode) {before now : Option Unnoted} (episodes : List Episode)
+    → HasNoted (noted (Some []) (Some []) before) (noted (Some recording) (Some told) now) why session.survivor.now.choices episodes end.recorded end.tail → Recorded session end recording
+recorded_in session end why recording told episodes has = record {
   count = ap (λ (list : List Choice). length list) has.choices_noted ∙ length-take-le end.recorded session.survivor.now.choices has.low;
   all =
       sym (take-append-drop end.recorded session.survivor.now.choices)
@@ -80,35 +118,35 @@ recorded_in session end ended recording told episodes has = record {
       ∙ ap (λ list. recording ++ list) (sym has.tail_is);
 }
 
-pub headline : (rules : Rules) (keeping : Keeping) (image : Image) (old new : Outside) (ended : Answer) (end : End) (recording : List Choice) (told : List Episode)
-    → (IsEnd end.answer → end.answer ≡ ended) → (counted : ℕ)
-    (s : ServesTrunk rules keeping image old.input new.input old.output new.output (record { end = ended; recorded = end.recorded; tail = end.tail; taken = end.taken; steps = end.steps }) (noted (Some []) (Some [])) (noted (Some recording) (Some told)) counted)
+pub headline : (rules : Rules) (keeping : Keeping) (image : Image) (old new : Outside) (why : Stop) (end : End) (recording : List Choice) (told : List Episode) {before now : Option Unnoted}
+    → (IsEnd end.answer → end.answer ≡ answer_of why) → (counted : ℕ)
+    (s : ServesTrunk rules keeping image old.input new.input old.output new.output (record { stop = why; recorded = end.recorded; tail = end.tail; taken = end.taken; steps = end.steps }) (noted (Some []) (Some []) before) (noted (Some recording) (Some told) now) counted)
     → Headline rules image s.telling.account recording old new end
-headline rules keeping image old new ended end recording told same counted s =
+headline rules keeping image old new why end recording told same counted s =
     let session : Session = s.telling.account in
     let items : List Item = received_items rules session in
     let state : State = session.survivor.now.state in
     let is = s.is.is.ended in
-    let recorded : Recorded session end recording = recorded_in session end ended recording told _ s.is.notes in
+    let recorded : Recorded session end recording = recorded_in session end why recording told _ s.is.notes in
     let ran : Run image items (recording ++ end.tail) end.steps state =
     subst (λ n. Run image items (recording ++ end.tail) n state) s.is.steps_are (subst (λ list. Run image items list session.survivor.now.steps state) recorded.all is.account.ran) in
-    let ends_at : (a : Answer) → IsEnd a → end.answer ≡ a → EndsAt rules session a =
-    λ a is_end e. subst (EndsAt rules session) (sym (same (subst IsEnd (sym e) is_end)) ∙ e) (at_its_end rules session ended (subst IsEnd (sym e ∙ same (subst IsEnd (sym e) is_end)) is_end) is.ends) in
+    let ends_at : (e : SessionEnd) → end.answer ≡ end_answer e → EndsAt rules session e =
+    λ e answered. at_its_end rules session e (subst (EndsBy rules session) (stops_with why e (sym (same (subst IsEnd (sym answered) (is_end_answer e))) ∙ answered)) is.ends) in
     record {
       recorded = recorded.count;
       ran = ran;
-      all_recorded = λ is_end. s.is.notes.all_recorded (subst IsEnd (same is_end) is_end);
+      all_recorded = λ is_end. holds_at_end why (subst IsEnd (same is_end) is_end) s.is.notes.all_recorded;
       taken = s.is.taken_is;
       received = subst (λ n. n ≤ length items) s.is.taken_is is.account.taken;
-      passed = passed_bytes rules image old.output new.output session end.answer is.account (λ is_end. all_at_end is.account (ends_at end.answer is_end refl)) s.bytes.carried;
+      passed = passed_bytes rules image old.output new.output session end.answer is.account (λ is_end. holds_at_end why (subst IsEnd (same is_end) is_end) (passed_at_end rules session why is.account is.ends)) s.bytes.carried;
       finished = λ e.
-          let ends : EndsAt rules session answer.Finished = ends_at answer.Finished tt e in
-          let to : HasComeTo rules s.coming session answer.Finished = came_to is.comes ends.came in (
+          let ends : EndsAt rules session session_end.Finished = ends_at session_end.Finished e in
+          let to : HasComeTo rules s.coming session session_end.Finished = came_to is.comes ends.came in (
             sym s.is.taken_is ∙ to.stands.0.taken ∙ sym (ap (λ (list : List Item). length list) (received_at_end rules.bounds session is.pieces (subst AreGiven (sym ends.unbroken) tt))),
-            drained old.input new.input _ (subst (λ (came : Option Answer). IfSome came (StopsTrunk old.input new.input (events_in (journal_of session)))) ends.came s.bytes.stops),
+            drained old.input new.input _ (subst (λ (came : Option SessionEnd). IfSome came (StopsTrunk old.input new.input (events_in (journal_of session)))) ends.came s.bytes.stops),
           );
       exited = λ code e.
-          let ends : EndsAt rules session (answer.Exited code) = ends_at (answer.Exited code) tt e in
-          let to : HasComeTo rules s.coming session (answer.Exited code) = came_to is.comes ends.came in
+          let ends : EndsAt rules session (session_end.Exited code) = ends_at (session_end.Exited code) e in
+          let to : HasComeTo rules s.coming session (session_end.Exited code) = came_to is.comes ends.came in
           last_exits image items (recording ++ end.tail) end.steps state code ran.ran to.stands;
     }

@@ -1,10 +1,10 @@
 pub mod Terms
 pub mod AssemblyLemmas
 pub mod SettingsLemmas
-pub mod FewItems
 pub mod FewSteps
 pub mod NamesLemmas
 pub mod NotingLemmas
+pub mod CallingLemmas
 pub mod HeadlineLemmas
 pub mod RunLemmas
 mod RecordLemmas

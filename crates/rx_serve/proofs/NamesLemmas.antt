@@ -19,8 +19,7 @@ of_value p is =
     let program : Text = positional 0 p in
     let recording : Text = value_of record_row p.options in
     let report : Text = value_of report_row p.options in
-    let apart = (and_parts (fits run_form p) (differ program recording report) is).1 in
-    let others = (and_parts (not (bytes_eq program recording)) (not (bytes_eq program report) && not (bytes_eq recording report)) apart).1 in
+    let others = (and_parts (not (bytes_eq program recording)) (not (bytes_eq program report) && not (bytes_eq recording report)) (and_parts (fits run_form p) (differ program recording report) is).1).1 in
     not_alike recording report (and_parts (not (bytes_eq program report)) (not (bytes_eq recording report)) others).1
 
 pub names_differ : (words : List Text) (value : RunValue) → command_of words ≡ Some (run value) → AreTwo (names_of value)

@@ -3,9 +3,11 @@ use Rattle.std.proofs.lemmas.Nat.{mul-le}
 use Rattle.file_notes.proofs.LawLemmas.{whole_texts}
 use Rattle.rx_io.specs.declared.fault.IoFault.TheVariants as fault
 use Rattle.run_history.specs.declared.answer.Answer.TheVariants as answer
-use Rattle.rx_serve.proofs.Terms.{Bool, List, None, Ok, Option, Some, [], arith, inl, inr, refl, subst, sym, true, true≢false, ℕ, ◌*◌, ◌+◌, ◌<◌, ◌^◌, ◌≡◌, ◌≤◌, IoFault, Contents, Choice, Heap, Image, Answer, Session, journal_of, IsEnd, Rules, Episode, noted, Keeping, Form, MAX_TAKEN, InRecord, InReport, Left, Nothing, is_whole, Names, Stands, Options, AreInRange, keeping_for, rules_of, Outcome, IsNoteAnswer, UnlessNoteFault, ServesTrunk, RunValue, Outside, status_of, ClosesFiles, EndsFiles, HaveTexts, ServesNoted, StartsFiles, names_of, report_form}
-use Rattle.rx_serve.proofs.FewItems.{few_items}
+use Rattle.rx_serve.proofs.Terms.{Bool, List, None, Ok, Option, Some, [], arith, inl, inr, refl, subst, sym, ℕ, ◌*◌, ◌+◌, ◌<◌, ◌^◌, ◌∙◌, ◌≡◌, ◌≤◌, IoFault, FileCall, Contents, Stream, Choice, Heap, Image, Answer, Stop, Session, journal_of, IsEnd, answer_of, Rules, Episode, NoneFailed, noted, Keeping, Form, MAX_TAKEN, InRecord, InReport, Left, Nothing, unnoted_of, Names, Stands, Options, AreInRange, keeping_for, rules_of, IsHandedLast, IsNoteStop, Outcome, ServesTrunk, RunValue, Outside, outside, status_of, ClosesFiles, EndsFiles, HaveTexts, IsFilesAnswer, ServesNoted, StartsFiles, names_of, report_form}
 use Rattle.rx_serve.proofs.FewSteps.{few_steps}
+use Rattle.recovery.proofs.Few.{few_items}
+use Rattle.session_history.specs.declared.ends.SessionBreak.TheVariants as session_break
+use Rattle.session_history.specs.declared.ends.Stop.TheVariants as stop
 
 -- ---- the texts
 
@@ -21,19 +23,26 @@ texts value choices episodes ended taken steps (Some before) (Some started) (Som
 -- ---- the ends
 
 -- a fault of the notes is no end
-note_is_no_end : (why : IoFault) (end : Answer) → IsNoteAnswer why end → IsEnd end → ⊥
+note_is_no_end : (why : IoFault) (end : Answer) → IsFilesAnswer why end → IsEnd end → ⊥
 note_is_no_end fault.Failed end note is = subst IsEnd note is
 note_is_no_end fault.Memory end note is = subst IsEnd note is
 
-pub at_end : {P : Type 0} (end : Answer) → IsEnd end → UnlessNoteFault end P → P
-at_end answer.Finished is holds = holds
-at_end (answer.Exited code) is holds = holds
-at_end (answer.GaveUp point cause) is holds = holds
-at_end (answer.InputRefused kind offset) is holds = holds
-at_end (answer.MessageTooLong conn) is holds = holds
-at_end answer.LimitItems is holds = holds
-at_end answer.LimitEvents is holds = holds
-at_end _ is holds = absurd is
+-- at an end no call of the notes has failed, so nothing is left
+nothing_left : (left : Left) → Some (unnoted_of left) ≡ Some NoneFailed → left ≡ Nothing
+nothing_left Nothing is = refl
+nothing_left (InRecord choices count) is = absurd (let never : ⊥ = cc in never)
+nothing_left (InReport e count) is = absurd (let never : ⊥ = cc in never)
+
+note_stop_no_end : (why : Stop) → IsNoteStop why → IsEnd (answer_of why) → ⊥
+note_stop_no_end (stop.Ends end) note is = note
+note_stop_no_end (stop.Breaks session_break.ReadFault) note is = is
+note_stop_no_end (stop.Breaks session_break.WriteFault) note is = is
+note_stop_no_end (stop.Breaks session_break.FileFault) note is = is
+note_stop_no_end (stop.Breaks session_break.Memory) note is = is
+
+pub whole_at : (why : Stop) (left : Left) (tail : List Choice) (missing : List Episode) → IsHandedLast (Some NoneFailed) (Some (unnoted_of left)) why tail missing → IsEnd (answer_of why) → left ≡ Nothing
+whole_at why left tail missing (inl none) is = nothing_left left none.0
+whole_at why left tail missing (inr failed) is = absurd (note_stop_no_end why failed.0 is)
 
 -- at an end it is the session's own
 pub closes_same : (value : RunValue) (taken steps : ℕ) (files files_later : Option Contents) (ended end : Answer) → ClosesFiles value taken steps files files_later ended end → IsEnd end → end ≡ ended
@@ -41,66 +50,63 @@ closes_same value taken steps files files_later ended end (inl (is_end, (same, e
 closes_same value taken steps files files_later ended end (inr (inl (is_end, (why, (note, ends))))) is = absurd (note_is_no_end why end note is)
 closes_same value taken steps files files_later ended end (inr (inr (none, (same, left)))) is = same
 
+-- no fault of the two files is one of the input or of the output
+pub not_read : (why : IoFault) → IsFilesAnswer why answer.ReadFault → ⊥
+not_read fault.Failed note = cc
+not_read fault.Memory note = cc
+
+pub not_write : (why : IoFault) → IsFilesAnswer why answer.WriteFault → ⊥
+not_write fault.Failed note = cc
+not_write fault.Memory note = cc
+
+-- what is no fault of the files was answered before they were ended
+pub closes_other : (value : RunValue) (taken steps : ℕ) (files files_later : Option Contents) (ended end : Answer) {other : Answer} → ((why : IoFault) → IsFilesAnswer why other → ⊥) → ClosesFiles value taken steps files files_later ended end → end ≡ other → ended ≡ other
+closes_other value taken steps files files_later ended end not (inl (is_end, (same, ends))) is = sym same ∙ is
+closes_other value taken steps files files_later ended end not (inr (inl (is_end, (why, (note, ends))))) is = absurd (not why (subst (IsFilesAnswer why) is note))
+closes_other value taken steps files files_later ended end not (inr (inr (none, (same, kept)))) is = sym same ∙ is
+
 -- and both files have their whole texts
 pub closes_whole : (value : RunValue) (choices : List Choice) (episodes : List Episode) (left : Left) (taken steps : ℕ) (before started noted now : Option Contents) (ended end : Answer)
-    → StartsFiles value before started (Ok tt) → Stands (names_of value) (report_form value.form) started noted choices episodes left → UnlessNoteFault ended (left ≡ Nothing)
+    → StartsFiles value before started (Ok tt) → Stands (names_of value) (report_form value.form) started noted choices episodes left → (IsEnd ended → left ≡ Nothing)
     → ClosesFiles value taken steps noted now ended end → IsEnd end → HaveTexts value choices episodes end taken steps before now
 closes_whole value choices episodes left taken steps before started noted now ended end starts stands whole (inl (is_end, (same, ends))) is =
     subst (λ a. HaveTexts value choices episodes a taken steps before now) (sym same)
     (texts value choices episodes ended taken steps before started noted now starts
-    (subst (λ l. Stands (names_of value) (report_form value.form) started noted choices episodes l) (at_end ended is_end whole) stands) ends)
+    (subst (λ l. Stands (names_of value) (report_form value.form) started noted choices episodes l) (whole is_end) stands) ends)
 closes_whole value choices episodes left taken steps before started noted now ended end starts stands whole (inr (inl (is_end, (why, (note, ends))))) is = absurd (note_is_no_end why end note is)
 closes_whole value choices episodes left taken steps before started noted now ended end starts stands whole (inr (inr (none, (same, kept)))) is = absurd (none (subst IsEnd same is))
 
 -- ---- the notes
 
-nothing_left : (left : Left) → is_whole left ≡ true → left ≡ Nothing
-nothing_left Nothing is = refl
-nothing_left (InRecord choices count) is = absurd (true≢false (sym is))
-nothing_left (InReport e count) is = absurd (true≢false (sym is))
-
-pub unless_whole : (end : Answer) (left : Left) → UnlessNoteFault end (is_whole left ≡ true) → UnlessNoteFault end (left ≡ Nothing)
-unless_whole answer.FileFault left is = tt
-unless_whole answer.Memory left is = tt
-unless_whole answer.Finished left is = nothing_left left is
-unless_whole (answer.Exited code) left is = nothing_left left is
-unless_whole answer.BadWords left is = nothing_left left is
-unless_whole (answer.ElfRefused kind) left is = nothing_left left is
-unless_whole (answer.AsmRefused kind line) left is = nothing_left left is
-unless_whole (answer.RecordRefused line) left is = nothing_left left is
-unless_whole (answer.CountsRefused line) left is = nothing_left left is
-unless_whole (answer.Short conn) left is = nothing_left left is
-unless_whole (answer.Mismatch step) left is = nothing_left left is
-unless_whole answer.TooLarge left is = nothing_left left is
-unless_whole (answer.InputRefused kind offset) left is = nothing_left left is
-unless_whole (answer.MessageTooLong conn) left is = nothing_left left is
-unless_whole (answer.GaveUp point cause) left is = nothing_left left is
-unless_whole answer.LimitItems left is = nothing_left left is
-unless_whole answer.LimitEvents left is = nothing_left left is
-unless_whole answer.ReadFault left is = nothing_left left is
-unless_whole answer.WriteFault left is = nothing_left left is
-
 -- a session served with notes that were new, and that stand in its files
 pub serves_noted : {rules : Rules} {keeping : Keeping} {image : Image} (value : RunValue) (old new : Outside) {outcome : Outcome} {counted : ℕ}
     → (names : Names) (wanted : Form) (told : Option Contents) (choices_before choices : List Choice) (episodes_before episodes : List Episode) (left_before left : Left)
     → choices_before ≡ [] → episodes_before ≡ [] → left_before ≡ Nothing → new.counter ≡ old.counter + counted
-    → ServesTrunk rules keeping image old.input new.input old.output new.output outcome (noted (Some choices_before) (Some episodes_before)) (noted (Some choices) (Some episodes)) counted
-    → names ≡ names_of value → wanted ≡ report_form value.form → told ≡ old.files → Stands names wanted told new.files choices episodes left → UnlessNoteFault outcome.end (is_whole left ≡ is_whole left_before)
+    → ServesTrunk rules keeping image old.input new.input old.output new.output outcome (noted (Some choices_before) (Some episodes_before) (Some (unnoted_of left_before))) (noted (Some choices) (Some episodes) (Some (unnoted_of left))) counted
+    → names ≡ names_of value → wanted ≡ report_form value.form → told ≡ old.files → Stands names wanted told new.files choices episodes left
     → ServesNoted rules keeping image value old new outcome
-serves_noted {rules = rules} {keeping = keeping} {image = image} value old new {outcome = outcome} {counted = counted} names wanted told choices_before choices episodes_before episodes left_before left none none_told none_left count serves names_are form_is told_is stands works = record {
+serves_noted {rules = rules} {keeping = keeping} {image = image} value old new {outcome = outcome} {counted = counted} names wanted told choices_before choices episodes_before episodes left_before left none none_told none_left count serves names_are form_is told_is stands = record {
   choices = choices;
   episodes = episodes;
   left = left;
   counted = counted;
   counts = count;
   serves =
-      subst (λ list. ServesTrunk rules keeping image old.input new.input old.output new.output outcome (noted (Some []) (Some list)) (noted (Some choices) (Some episodes)) counted) none_told
-      (subst (λ list. ServesTrunk rules keeping image old.input new.input old.output new.output outcome (noted (Some list) (Some episodes_before)) (noted (Some choices) (Some episodes)) counted) none serves);
+      subst (λ part. ServesTrunk rules keeping image old.input new.input old.output new.output outcome (noted (Some []) (Some []) (Some (unnoted_of part))) (noted (Some choices) (Some episodes) (Some (unnoted_of left))) counted) none_left
+      (subst (λ list. ServesTrunk rules keeping image old.input new.input old.output new.output outcome (noted (Some []) (Some list) (Some (unnoted_of left_before))) (noted (Some choices) (Some episodes) (Some (unnoted_of left))) counted) none_told
+      (subst (λ list. ServesTrunk rules keeping image old.input new.input old.output new.output outcome (noted (Some list) (Some episodes_before) (Some (unnoted_of left_before))) (noted (Some choices) (Some episodes) (Some (unnoted_of left))) counted) none serves));
   stands =
       subst (λ before. Stands (names_of value) (report_form value.form) before new.files choices episodes left) told_is
       (subst (λ f. Stands (names_of value) f told new.files choices episodes left) form_is (subst (λ n. Stands n wanted told new.files choices episodes left) names_are stands));
-  whole = unless_whole outcome.end left (subst (λ before. UnlessNoteFault outcome.end (is_whole left ≡ is_whole before)) none_left works);
 }
+
+-- the same, of what the files tell by another name
+pub noted_at : {rules : Rules} {keeping : Keeping} {image : Image} {value : RunValue} {old : Outside} {outcome : Outcome} {files files_now : Option Contents} {calls calls_now : Option (List FileCall)}
+    {input : Option Stream} {output : Option (List ℕ)} {counter : ℕ} → files ≡ files_now → calls ≡ calls_now
+    → ServesNoted rules keeping image value old (outside files calls input output counter) outcome → ServesNoted rules keeping image value old (outside files_now calls_now input output counter) outcome
+noted_at {rules = rules} {keeping = keeping} {image = image} {value = value} {old = old} {outcome = outcome} {files_now = files_now} {calls = calls} {input = input} {output = output} {counter = counter} same same_calls noted =
+    subst (λ c. ServesNoted rules keeping image value old (outside files_now c input output counter) outcome) same_calls
+    (subst (λ f. ServesNoted rules keeping image value old (outside f calls input output counter) outcome) same noted)
 
 -- ---- the counts
 
@@ -112,10 +118,7 @@ few_counts options ranges permits {image = image} noted =
     let session : Session = s.telling.account in
     let account = s.is.is.ended.account in
     let few : session.survivor.now.state.machine.taken ≤ 2 ^ 20 =
-    let taken = account.taken in
-    let items = few_items (rules_of options permits).bounds (journal_of session) in
-    let most = ranges.few_items in
-    omega (arith, taken, items, most) in
+    omega (arith, account.taken, few_items (rules_of options permits).bounds (journal_of session), ranges.few_items) in
     let budget = ranges.few_budget in
     let product : session.survivor.now.state.machine.taken * (options.budget + 1) ≤ 2 ^ 20 * (2 ^ 24 + 1) = mul-le session.survivor.now.state.machine.taken (options.budget + 1) (2 ^ 20) (2 ^ 24 + 1) few (omega (arith, budget)) in
     let done = few_steps (rules_of options permits).limits _ session.survivor.plan image session.survivor.now account.served in

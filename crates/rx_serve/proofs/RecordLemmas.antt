@@ -38,6 +38,4 @@ refused_few line (first ∷ lines) is = by (is_some (head_of first)) is
 
 pub line_few : (text : List ℕ) (line : ℕ) → refused_line text ≡ Some line → line ≤ 2 + length text
 line_few text line is =
-    let few = refused_few line (lines_of text) is in
-    let all = lines_few text in
-    omega (arith, few, all)
+    omega (arith, refused_few line (lines_of text) is, lines_few text)

@@ -1,13 +1,14 @@
 -- What each command leaves.
 use Rattle.std.specs.Prelude.{◌≡◌, ◌⊎◌, Option, Some, None, Ok, Err}
 use Rattle.run_history.specs.declared.answer.Answer.TheVariants as answer
-use Rattle.rx_serve.specs.Terms.{IoFault, Contents, Image, Answer, IsEnd, keeping_for, IsNoteAnswer, AsmValue, CommandValue, ReplayValue, RunValue, asm, replay, run}
+use Rattle.rx_serve.specs.Terms.{IoFault, Contents, Image, Answer, Stop, IsEnd, answer_of, CallsFront, keeping_for, AsmValue, CommandValue, ReplayValue, RunValue, asm, replay, run}
 use Rattle.rx_serve.specs.declared.ending.End.{End}
 use Rattle.rx_serve.specs.Assembly.{Assembles, HasAsmCause}
+use Rattle.rx_serve.specs.Calling.{CallsAsm, CallsServed, before_session, replaying}
 use Rattle.rx_serve.specs.Ended.{HasNoSession}
 use Rattle.rx_serve.specs.Headline.{Headline}
 use Rattle.rx_serve.specs.Loading.{HasImage, HasLoadCause}
-use Rattle.rx_serve.specs.Noting.{StartsFiles, ServesNoted, ClosesFiles, HaveTexts}
+use Rattle.rx_serve.specs.Noting.{IsFilesAnswer, StartsFiles, ServesNoted, ClosesFiles, HaveTexts}
 use Rattle.rx_serve.specs.Outside.{Outside, IsUntouched}
 use Rattle.rx_serve.specs.Replaying.{ReplaysFile}
 use Rattle.rx_serve.specs.Settings.{window_of, options_of, rules_of_run}
@@ -17,7 +18,7 @@ pub record StartsBehind (value : RunValue) (files files_later : Option Contents)
   pub image : Image
   pub program : HasImage files value.program (window_of value) image
   pub starts :
-      ((fault : IoFault) × (IsNoteAnswer fault end × StartsFiles value files files_later (Err fault)))
+      ((fault : IoFault) × (IsFilesAnswer fault end × StartsFiles value files files_later (Err fault)))
       ⊎ ((end ≡ answer.Memory) × StartsFiles value files files_later (Ok tt))
 
 -- what the files have where no session began: nothing of them was touched; or the two were started, in part or whole, behind the program
@@ -28,6 +29,7 @@ StartsPartly value files files_later end = (files_later ≡ files) ⊎ StartsBeh
 pub record HasNotBegun (value : RunValue) (old new : Outside) (end : End) : Type 0 where
   pub cause : HasLoadCause old.files value.program (window_of value) end.answer
   pub starts : StartsPartly value old.files new.files end.answer
+  pub called : CallsFront old.calls new.calls (before_session value)
   pub untouched : IsUntouched old new
   pub nothing : HasNoSession end
 
@@ -38,10 +40,11 @@ pub record HasServed (value : RunValue) (old new : Outside) (end : End) : Type 0
   pub program : HasImage old.files value.program (window_of value) image
   pub files_started : Option Contents
   pub files_served : Option Contents
-  pub ended : Answer
+  pub why : Stop
   pub starts : StartsFiles value old.files files_started (Ok tt)
-  pub noted : ServesNoted (rules_of_run value) (keeping_for (options_of value)) image value (record old { files = files_started }) (record new { files = files_served }) (record { end = ended; recorded = end.recorded; tail = end.tail; taken = end.taken; steps = end.steps })
-  pub closes : ClosesFiles value end.taken end.steps files_served new.files ended end.answer
+  pub noted : ServesNoted (rules_of_run value) (keeping_for (options_of value)) image value (record old { files = files_started }) (record new { files = files_served }) (record { stop = why; recorded = end.recorded; tail = end.tail; taken = end.taken; steps = end.steps })
+  pub closes : ClosesFiles value end.taken end.steps files_served new.files (answer_of why) end.answer
+  pub called : CallsServed value old.calls new.calls (answer_of why) end.answer
   pub texts : IsEnd end.answer → HaveTexts value noted.choices noted.episodes end.answer end.taken end.steps old.files new.files
   pub headline : Headline (rules_of_run value) image noted.serves.telling.account noted.choices old new end
 
@@ -52,6 +55,7 @@ RunEnds value old new end = HasNotBegun value old new end ⊎ HasServed value ol
 -- what `asm` leaves: the executable of the text's image, or why it has none. Nothing else was touched
 pub record AsmEnds (value : AsmValue) (old new : Outside) (end : End) : Type 0 where
   pub assembles : Assembles old.files new.files value.source value.out end.answer
+  pub called : CallsAsm value.source value.out old.calls new.calls end.answer
   pub cause : HasAsmCause old.files value.source end.answer
   pub untouched : IsUntouched old new
   pub nothing : HasNoSession end
@@ -59,6 +63,7 @@ pub record AsmEnds (value : AsmValue) (old new : Outside) (end : End) : Type 0 w
 -- what `replay` leaves: a replay of the record, or why none began. No file was touched
 pub record ReplayEnds (value : ReplayValue) (old new : Outside) (end : End) : Type 0 where
   pub replays : ReplaysFile value old new end.answer
+  pub called : CallsFront old.calls new.calls (replaying value)
   pub same_files : new.files ≡ old.files
   pub nothing : HasNoSession end
 

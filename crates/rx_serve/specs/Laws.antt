@@ -1,6 +1,6 @@
 -- What holds of a `run`, and of a `replay` of the record that it left.
 use Rattle.std.specs.Prelude.{[], ◌≡◌, Option, Some, None}
-use Rattle.rx_serve.specs.Terms.{Contents, Stream, Answer, IsComplete, IsEnd, AreAllHeeded, WritesSends, CommandValue, ReplayValue, RunValue}
+use Rattle.rx_serve.specs.Terms.{Contents, Stream, Answer, Stop, IsComplete, IsEnd, answer_of, AreAllHeeded, WritesSends, CommandValue, ReplayValue, RunValue}
 use Rattle.rx_serve.specs.Settings.{rules_of_run}
 use Rattle.command_line.specs.Ranges.{AreInRange}
 use Rattle.run_history.specs.declared.answer.Answer.TheVariants as answer
@@ -45,7 +45,7 @@ OnlyBadWordsAreRefused = (asked : Option CommandValue) (old new : Outside) (end 
 abbrev pub GoodInputIsTaken : Type 0
 GoodInputIsTaken =
     (value : RunValue) (input : Stream) (old new : Outside) (end : End) (served : HasServed value (record old { input = Some input }) new end) →
-    AreAllHeeded (rules_of_run value).bounds input.left → IsComplete (rules_of_run value) served.noted.serves.telling.account end.answer
+    AreAllHeeded (rules_of_run value).bounds input.left → (why : Stop) × (end.answer ≡ answer_of why) × IsComplete (rules_of_run value) served.noted.serves.telling.account why
 
 -- At an end of a `run` that holds nothing back, and that needed no recovery, the frames of its run's sends were written, in order, each whole, and no
 -- byte more.

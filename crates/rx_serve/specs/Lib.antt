@@ -7,6 +7,7 @@ pub mod Status
 pub mod Settings
 pub mod Ended
 pub mod Noting
+pub mod Calling
 pub mod Headline
 pub mod Replaying
 pub mod Commands

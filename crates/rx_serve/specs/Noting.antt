@@ -4,12 +4,19 @@ use Rattle.command_line.specs.declared.run_words.Form.{Form as Wanted}
 use Rattle.command_line.specs.declared.run_words.Form.TheVariants as wanted
 use Rattle.file_notes.specs.Texts.{report_text}
 use Rattle.file_notes.specs.Writing.{StartsBoth, AddsBoth}
+use Rattle.run_history.specs.declared.answer.Answer.TheVariants as answer
+use Rattle.rx_io.specs.declared.fault.IoFault.TheVariants as fault
 use Rattle.run_report.specs.declared.form.Form.TheVariants as form
 use Rattle.run_report.specs.Report as report
 use Rattle.schedule_file.specs.Lines as recording
-use Rattle.rx_serve.specs.Terms.{IoFault, Contents, Choice, Image, Answer, IsEnd, Rules, Episode, noted, Keeping, Form, Left, Nothing, Names, Stands, Outcome, IsNoteAnswer, UnlessNoteFault, ServesTrunk, RunValue}
+use Rattle.rx_serve.specs.Terms.{IoFault, Contents, Choice, Image, Answer, IsEnd, Rules, Episode, NoneFailed, noted, Keeping, Form, Left, unnoted_of, Names, Stands, Outcome, ServesTrunk, RunValue}
 use Rattle.rx_serve.specs.Outside.{Outside}
 use Rattle.rx_serve.specs.Status.{status_of}
+
+-- a fault of a session's files, as its answer
+abbrev pub IsFilesAnswer : IoFault → Answer → Type 0
+IsFilesAnswer fault.Failed end = end ≡ answer.FileFault
+IsFilesAnswer fault.Memory end = end ≡ answer.Memory
 
 -- the names of the two files
 abbrev pub names_of : RunValue → Names
@@ -33,21 +40,21 @@ HaveTexts value choices episodes ended taken steps files files_later =
     StartsBoth (names_of value) (recording.record_text value.window value.frame choices steps taken) (report_text (report_form value.form) episodes (status_of ended) taken steps) files files_later (Ok tt)
 
 -- A session served a trunk, and what it noted stands in its two files behind their first lines: a line of each answer of malloc that can't be rolled
--- back, and the text of each episode. Where it wasn't broken off by its notes, no part of a text stands there. So many instructions were counted.
+-- back, and the text of each episode. What is left behind them is a part of what the call of its notes that broke it off was handed, so of lines of
+-- its own answers of malloc, or of the text of its own last episode; else nothing is. So many instructions were counted.
 pub record ServesNoted (rules : Rules) (keeping : Keeping) (image : Image) (value : RunValue) (old new : Outside) (outcome : Outcome) : Type 0 where
   pub choices : List Choice
   pub episodes : List Episode
   pub left : Left
   pub counted : ℕ
   pub counts : new.counter ≡ old.counter + counted
-  pub serves : ServesTrunk rules keeping image old.input new.input old.output new.output outcome (noted (Some []) (Some [])) (noted (Some choices) (Some episodes)) counted
+  pub serves : ServesTrunk rules keeping image old.input new.input old.output new.output outcome (noted (Some []) (Some []) (Some NoneFailed)) (noted (Some choices) (Some episodes) (Some (unnoted_of left))) counted
   pub stands : Stands (names_of value) (report_form value.form) old.files new.files choices episodes left
-  pub whole : UnlessNoteFault outcome.end (left ≡ Nothing)
 
 -- What a session that came to this end leaves behind its notes. At an end of its own the last lines were written; where that failed, the answer
 -- says it in place of the end. Where it was broken off, its files are left as they are.
 abbrev pub ClosesFiles : RunValue → ℕ → ℕ → Option Contents → Option Contents → Answer → Answer → Type 0
 ClosesFiles value taken steps files files_later ended end =
     (IsEnd ended × ((end ≡ ended) × EndsFiles value ended taken steps files files_later (Ok tt)))
-    ⊎ ((IsEnd ended × ((fault : IoFault) × (IsNoteAnswer fault end × EndsFiles value ended taken steps files files_later (Err fault))))
+    ⊎ ((IsEnd ended × ((why : IoFault) × (IsFilesAnswer why end × EndsFiles value ended taken steps files files_later (Err why))))
     ⊎ ((IsEnd ended → ⊥) × ((end ≡ ended) × (files_later ≡ files))))

@@ -1,21 +1,22 @@
 -- What stands outside of a command at a moment, as far as it tells, and the faults that it has counted.
 use Rattle.std.specs.Prelude.{◌≡◌, ℕ, List, Option}
 use Rattle.run_history.specs.declared.answer.Answer.TheVariants as answer
-use Rattle.rx_serve.specs.Terms.{Rose, Contents, Stream, Answer}
+use Rattle.rx_serve.specs.Terms.{FileCall, Rose, Contents, Stream, Answer}
 
--- what the files, the input and the output tell at a moment, and how many instructions were counted
+-- what the files tell at a moment, their contents and the calls on them, what the input and the output tell, and how many instructions were counted
 pub record Outside : Type 0 where
   pub files : Option Contents
+  pub calls : Option (List FileCall)
   pub input : Option Stream
   pub output : Option (List ℕ)
   pub counter : ℕ
 
-abbrev pub outside : Option Contents → Option Stream → Option (List ℕ) → ℕ → Outside
-outside files input output counter = record { files = files; input = input; output = output; counter = counter }
+abbrev pub outside : Option Contents → Option (List FileCall) → Option Stream → Option (List ℕ) → ℕ → Outside
+outside files calls input output counter = record { files = files; calls = calls; input = input; output = output; counter = counter }
 
--- nothing was read, written or counted; of the files nothing is said
+-- nothing was read, written or counted; of the files and the calls on them nothing is said
 abbrev pub IsUntouched : Outside → Outside → Type 0
-IsUntouched old new = new ≡ record old { files = new.files }
+IsUntouched old new = new ≡ record old { files = new.files; calls = new.calls }
 
 -- how many faults the files, the input and the output have counted
 pub record Faults : Type 0 where

@@ -1,8 +1,9 @@
 -- The command `replay`: a program and a record of it are loaded, and the recorded run is done again.
 use Rattle.std.specs.Prelude.{◌≡◌, ◌⊎◌, ℕ, ◌+◌, ◌*◌, ◌^◌, List, Option, Some, Result, Ok, Err}
-use Rattle.rx_serve.specs.Terms.{Contents, Image, IsImage, refusal, Answer, ElfRefused, FileFault, Memory, RecordRefused, TooLarge, Recorded, IsReading, refused_line, ReplaysTrunk, ReplayValue}
+use Rattle.rx_serve.specs.Terms.{Calls, Contents, Image, IsImage, refusal, Answer, ElfRefused, FileFault, Memory, RecordRefused, TooLarge, Recorded, IsReading, refused_line, ReplaysTrunk, ReplayValue}
 use Rattle.rx_serve.specs.Limits.{program_limit, record_limit}
 use Rattle.rx_serve.specs.Loading.{HasFile, IsTooLarge}
+use Rattle.rx_serve.specs.Calling.{replaying}
 use Rattle.rx_serve.specs.Outside.{Outside, IsUntouched}
 
 -- the file of a name is the text of this record
@@ -65,6 +66,7 @@ pub record HasBeenReplayed (value : ReplayValue) (old new : Outside) (end : Answ
   pub file : HasFile old.files value.program program_limit program
   pub recording : HasRecord old.files value.recording recorded
   pub is : IsImage program (window_in recorded) image
+  pub called : Calls old.calls new.calls (replaying value)
   pub counted : ℕ
   pub counts : new.counter ≡ old.counter + counted
   pub replays : ReplaysTrunk image recorded old.input new.input old.output new.output end counted

@@ -1,14 +1,14 @@
 -- The words that this crate's definitions are written in: those of crates below, and types of its code.
 pub use Rattle.rx_io.specs.declared.bytes.Item.{Item}
 pub use Rattle.rx_io.specs.declared.fault.IoFault.{IoFault}
+pub use Rattle.rx_io.specs.declared.file_calls.FileCall.{FileCall}
+pub use Rattle.rx_io.specs.declared.file_calls.FileCall.TheVariants.{Added, Loaded, Started}
+pub use Rattle.rx_io.specs.Calling.{Calls}
 pub use Rattle.rx_io.specs.Faults.{Rose}
 pub use Rattle.rx_io.specs.Named.{Contents, Holds}
 pub use Rattle.rx_io.specs.Outside.{IsDrained, Stream}
 pub use Rattle.rx_io.specs.Prefix.{Prefix}
-pub use Rattle.links.specs.declared.journal.Entry.{Entry}
-pub use Rattle.links.specs.Links.{events_in}
 pub use Rattle.block_book.specs.declared.choice.Choice.{Choice}
-unfoldable pub use Rattle.block_book.specs.Answer.{is_allowed, is_clear}
 pub use Rattle.block_book.specs.Heap.{Heap}
 pub use Rattle.elf_image.specs.declared.image.Image.{Image}
 pub use Rattle.elf_image.specs.Image.{heap_end, heap_start, written}
@@ -16,33 +16,32 @@ pub use Rattle.elf_image.specs.Refusals.{IsImage}
 unfoldable pub use Rattle.elf_image.specs.Refusals.{refusal}
 pub use Rattle.run_history.specs.declared.answer.Answer.{Answer}
 pub use Rattle.run_history.specs.declared.answer.Answer.TheVariants.{AsmRefused, BadWords, CountsRefused, ElfRefused, Exited, FileFault, Finished, GaveUp, InputRefused, LimitEvents, LimitItems, Memory, MessageTooLong, Mismatch, ReadFault, RecordRefused, Short, TooLarge, WriteFault}
-pub use Rattle.run_history.specs.Call.{chooses, malloc, takes}
 unfoldable pub use Rattle.run_history.specs.Call.{allocated, received}
 pub use Rattle.run_history.specs.Machine.{Chooses, Effect, Emits, Ends, Fails, Goes, Machine, State, Wants, register}
 unfoldable pub use Rattle.run_history.specs.Machine.{start, start_machine}
 pub use Rattle.run_history.specs.Run.{Run, after, effect, output}
 unfoldable pub use Rattle.run_history.specs.Run.{does, next}
+pub use Rattle.session_history.specs.declared.ends.Stop.{Stop}
 pub use Rattle.session_history.specs.Account.{HasPassedAll, IsAccount, Session, journal_of}
 pub use Rattle.session_history.specs.AccountLaws.{IsComplete}
-pub use Rattle.session_history.specs.Ends.{EndsAt, HasComeTo, IsEnd}
-pub use Rattle.session_history.specs.Heeding.{Bounds, TooLong, items_in}
-unfoldable pub use Rattle.session_history.specs.Heeding.{heeded_behind}
+pub use Rattle.session_history.specs.Ends.{AtEnd, EndsAt, HasComeTo, IsEnd, answer_of, end_answer}
+pub use Rattle.session_history.specs.Heeding.{items_in}
 pub use Rattle.session_history.specs.Lawful.{Rules, entries_of}
 pub use Rattle.session_notes.specs.declared.episode.Episode.{Episode}
-pub use Rattle.session_notes.specs.Noting.{noted}
+pub use Rattle.session_notes.specs.Noting.{NoneFailed, Unnoted, noted}
 pub use Rattle.recovery.specs.Handling.{Keeping}
 pub use Rattle.run_report.specs.declared.form.Form.{Form}
 pub use Rattle.schedule_file.specs.declared.recorded.Recorded.{Recorded}
 pub use Rattle.schedule_file.specs.declared.recorded.TheConstants.{MAX_TAKEN}
 pub use Rattle.schedule_file.specs.Records.{IsChoice, IsReading, IsRecord, text_of}
 pub use Rattle.schedule_file.specs.Refusals.{lines_of, onto, refused_behind, refused_from, refused_line, refused_lines}
-pub use Rattle.file_notes.specs.Left.{InRecord, InReport, Left, Nothing, is_whole}
+pub use Rattle.file_notes.specs.Calling.{AddsAlone, CallsFront, ending, is_addition, starting, starts_of}
+pub use Rattle.file_notes.specs.Left.{InRecord, InReport, Left, Nothing, unnoted_of}
 pub use Rattle.file_notes.specs.Names.{AreTwo, Names}
 pub use Rattle.file_notes.specs.Standing.{Stands}
 pub use Rattle.session_state.specs.declared.options.Options.{Options}
 pub use Rattle.session_state.specs.Options.{AreInRange, keeping_for, rules_of}
-pub use Rattle.session_state.specs.Recovered.{HasNoted, Outcome}
-pub use Rattle.session_state.specs.Serving.{IsNoteAnswer, IsReadyToServe, UnlessNoteFault, outcome_of}
+pub use Rattle.session_state.specs.Recovered.{HasNoted, IsHandedLast, IsNoteStop, Outcome}
 pub use Rattle.replay.specs.Replaying.{EndsBy, bounds_of}
 pub use Rattle.over_trunk.specs.EndLaws.{AreAllHeeded, NoOtherEnd, SendsAreWritten}
 pub use Rattle.over_trunk.specs.Replaying.{ReplaysTrunk, WritesSends}

@@ -1,6 +1,7 @@
 // The command `asm`: a text is loaded, assembled, and written as an executable.
 ghost use Rattle.std.specs.Prelude.{◌≡◌, ◌≤◌};
 ghost use Rattle.rx_io.specs.Faults.{Rose};
+ghost use Rattle.rx_serve.specs.Calling.{CallsLoad, CallsWrite, CallsAsm};
 ghost use Rattle.rx_serve.specs.Assembly.{LoadsText, Writes, Assembles, HasAsmCause};
 
 use elf_image::{Image, write_image};
@@ -18,6 +19,7 @@ const ASSEMBLY_WINDOW: u32 = 1 << 20;
 // Loads a text and assembles it.
 fn load_text<F: Files>(alloc: Global, files: &mut F, name: &str) -> Result<Image, Answer>
     ensures loads { LoadsText (F.told files.old) name.now (F.faults files.old) (F.faults files.new) result }
+    ensures calls { CallsLoad name.now (F.calls files.old) (F.calls files.new) result }
     ensures same { F.told files.new ≡ F.told files.old }
     ensures later { F.faults files.old ≤ F.faults files.new }
 {
@@ -37,6 +39,7 @@ fn load_text<F: Files>(alloc: Global, files: &mut F, name: &str) -> Result<Image
 // Makes a file of these bytes.
 fn write_file<F: Files>(files: &mut F, name: &str, bytes: &[u8]) -> Answer
     ensures writes { Writes (F.told files.old) (F.told files.new) name.now bytes.now result }
+    ensures calls { CallsWrite name.now (F.calls files.old) (F.calls files.new) result }
     ensures later { F.faults files.old ≤ F.faults files.new }
     ensures file_fault { result ≡ Answer.FileFault → Rose (F.faults files.old) (F.faults files.new) }
 {
@@ -55,6 +58,7 @@ fn write_file<F: Files>(files: &mut F, name: &str, bytes: &[u8]) -> Answer
 /// Assembles the text of one name, and writes its executable under another.
 pub fn assemble_file<F: Files>(alloc: Global, files: &mut F, source: &str, out: &str) -> Answer
     ensures assembles { Assembles (F.told files.old) (F.told files.new) source.now out.now result }
+    ensures calls { CallsAsm source.now out.now (F.calls files.old) (F.calls files.new) result }
     ensures cause { HasAsmCause (F.told files.old) source.now result }
     ensures later { F.faults files.old ≤ F.faults files.new }
     ensures file_fault { result ≡ Answer.FileFault → Rose (F.faults files.old) (F.faults files.new) }

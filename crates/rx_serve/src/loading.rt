@@ -2,6 +2,7 @@
 ghost use Rattle.std.specs.Prelude.{◌≡◌, ◌≤◌};
 ghost use Rattle.elf_image.specs.Layout.{IsWindow};
 ghost use Rattle.rx_io.specs.Faults.{Rose};
+ghost use Rattle.rx_serve.specs.Calling.{CallsLoad};
 ghost use Rattle.rx_serve.specs.Loading.{LoadsFile, ReadsImage, LoadsImage};
 
 use elf_image::{ElfRefusal, Image, read_image};
@@ -20,6 +21,7 @@ pub(crate) fn load_file<F: Files>(
     limit: u64,
 ) -> Result<Vec<u8>, Answer>
     ensures loads { LoadsFile (F.told files.old) name.now limit result }
+    ensures calls { CallsLoad name.now (F.calls files.old) (F.calls files.new) result }
     ensures same { F.told files.new ≡ F.told files.old }
     ensures later { F.faults files.old ≤ F.faults files.new }
     ensures file_fault { result ≡ Err Answer.FileFault → Rose (F.faults files.old) (F.faults files.new) }
@@ -53,6 +55,7 @@ pub fn load_image<F: Files>(
 ) -> Result<Image, Answer>
     requires { IsWindow window }
     ensures loads { LoadsImage (F.told files.old) name.now window result }
+    ensures calls { CallsLoad name.now (F.calls files.old) (F.calls files.new) result }
     ensures same { F.told files.new ≡ F.told files.old }
     ensures later { F.faults files.old ≤ F.faults files.new }
     ensures file_fault { result ≡ Err Answer.FileFault → Rose (F.faults files.old) (F.faults files.new) }

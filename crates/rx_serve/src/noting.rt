@@ -4,15 +4,18 @@ ghost use Rattle.block_book.specs.declared.choice.Choice.{Choice};
 ghost use Rattle.command_line.specs.Commands.{run_shown};
 ghost use Rattle.command_line.specs.Ranges.{AreInRange};
 ghost use Rattle.elf_image.specs.declared.image.Image.{Image};
+ghost use Rattle.file_notes.specs.Calling.{AddsAlone, CallsUpTo, starting};
 ghost use Rattle.file_notes.specs.Names.{AreTwo};
 ghost use Rattle.session_state.specs.Options.{rules_of, keeping_for};
-ghost use Rattle.session_state.specs.Serving.{IsReadyToServe, IsNoteAnswer, outcome_of};
+ghost use Rattle.session_state.specs.Serving.{IsReadyToServe, outcome_of};
 ghost use Rattle.session_state.specs.Sessions.{IsBegun};
 ghost use Rattle.rx_io.specs.Faults.{Rose, HasCause};
 ghost use Rattle.run_history.specs.declared.answer.Answer.TheVariants as answer;
 ghost use Rattle.schedule_file.specs.declared.recorded.TheConstants.{MAX_TAKEN};
-ghost use Rattle.session_history.specs.Ends.{IsEnd};
-ghost use Rattle.rx_serve.specs.Noting.{names_of, report_form, StartsFiles, ServesNoted, ClosesFiles};
+ghost use Rattle.session_history.specs.Ends.{IsEnd, answer_of};
+ghost use Rattle.session_history.specs.declared.ends.Stop.{Stop};
+ghost use Rattle.rx_serve.specs.Calling.{CallsEnding};
+ghost use Rattle.rx_serve.specs.Noting.{IsFilesAnswer, names_of, report_form, StartsFiles, ServesNoted, ClosesFiles};
 ghost use Rattle.rx_serve.specs.Outside.{outside, faults, HasFaults};
 
 use crate::ending::status_of_answer;
@@ -39,7 +42,7 @@ fn report_form(form: command_line::Form) -> Form
 
 // A fault of a session's files, as its answer.
 pub(crate) fn note_answer(fault: IoFault) -> Answer
-    ensures { IsNoteAnswer fault result }
+    ensures { IsFilesAnswer fault result }
 {
     match fault {
         IoFault::Failed => Answer::FileFault,
@@ -73,6 +76,7 @@ pub(crate) fn start_notes<F: Files>(
     requires in_range { AreInRange (run_shown run.now) }
     requires two { AreTwo (names_of (run_shown run.now)) }
     ensures starts { StartsFiles (run_shown run.now) (F.told files.old) (F.told files.new) result }
+    ensures calls { CallsUpTo (F.calls files.old) (F.calls files.new) (starting (names_of (run_shown run.now))) result }
     ensures cause { HasCause (F.faults files.old) (F.faults files.new) result }
 {
     let names = FileNames {
@@ -98,8 +102,9 @@ pub(crate) fn serve_noted<R: AccessRule, F: Files, S: Source, K: Sink, L: Ledger
 ) -> Answer
     requires two { AreTwo (names_of (run_shown run.now)) }
     requires begun { IsReadyToServe session.old }
-    ensures serves { (image : Image) → IsBegun image session.old.options session.old.cpu.rule session.old
-        → ServesNoted (rules_of session.old.options (R.rule session.old.cpu.rule)) (keeping_for session.old.options) image (run_shown run.now) (outside (F.told files.old) (S.told input.old) (K.told output.old) steps.old) (outside (F.told files.new) (S.told input.new) (K.told output.new) steps.new) (outcome_of result session.new) }
+    ensures serves { (why : Stop) × (result ≡ answer_of why) × ((image : Image) → IsBegun image session.old.options session.old.cpu.rule session.old
+        → ServesNoted (rules_of session.old.options (R.rule session.old.cpu.rule)) (keeping_for session.old.options) image (run_shown run.now) (outside (F.told files.old) (F.calls files.old) (S.told input.old) (K.told output.old) steps.old) (outside (F.told files.new) (F.calls files.new) (S.told input.new) (K.told output.new) steps.new) (outcome_of why session.new)) }
+    ensures adds { AddsAlone (names_of (run_shown run.now)) (F.calls files.old) (F.calls files.new) }
     ensures later { F.faults files.old ≤ F.faults files.new }
     ensures faults { HasFaults (faults (F.faults files.old) (S.faults input.old) (K.faults output.old)) (faults (F.faults files.new) (S.faults input.new) (K.faults output.new)) result }
     ensures counted_at_least { steps.old + session.new.steps ≤ steps.new }
@@ -127,6 +132,7 @@ pub(crate) fn end_notes<F: Files>(
     requires taken { taken ≤ MAX_TAKEN }
     requires steps { steps < 2 ^ 63 }
     ensures closes { ClosesFiles (run_shown run.now) taken steps (F.told files.old) (F.told files.new) ended result }
+    ensures calls { CallsEnding (run_shown run.now) (F.calls files.old) (F.calls files.new) ended result }
     ensures later { F.faults files.old ≤ F.faults files.new }
     ensures file_fault { result ≡ answer.FileFault → (ended ≡ answer.FileFault) ⊎ Rose (F.faults files.old) (F.faults files.new) }
 {

@@ -2,6 +2,8 @@
 ghost use Rattle.std.specs.Prelude.{◌≡◌, ◌≤◌};
 ghost use Rattle.command_line.specs.Commands.{replay_shown};
 ghost use Rattle.rx_io.specs.Faults.{Rose};
+ghost use Rattle.file_notes.specs.Calling.{CallsFront};
+ghost use Rattle.rx_serve.specs.Calling.{CallsLoad, replaying};
 ghost use Rattle.rx_serve.specs.Outside.{outside, faults, HasFaults};
 ghost use Rattle.rx_serve.specs.Replaying.{LoadsRecord, ReplaysFile};
 
@@ -20,6 +22,7 @@ pub const MAX_RECORD: u64 = 64 << 20;
 // Loads a record and reads it.
 fn load_record<F: Files>(alloc: Global, files: &mut F, name: &str) -> Result<Recorded, Answer>
     ensures loads { LoadsRecord (F.told files.old) name.now result }
+    ensures calls { CallsLoad name.now (F.calls files.old) (F.calls files.new) result }
     ensures same { F.told files.new ≡ F.told files.old }
     ensures later { F.faults files.old ≤ F.faults files.new }
     ensures file_fault { result ≡ Err Answer.FileFault → Rose (F.faults files.old) (F.faults files.new) }
@@ -44,7 +47,8 @@ pub(crate) fn replay_file<F: Files, S: Source, K: Sink, L: Ledger>(
     output: &mut K,
     steps: &mut Steps<L>,
 ) -> Answer
-    ensures replays { ReplaysFile (replay_shown replay.now) (outside (F.told files.old) (S.told input.old) (K.told output.old) steps.old) (outside (F.told files.new) (S.told input.new) (K.told output.new) steps.new) result }
+    ensures replays { ReplaysFile (replay_shown replay.now) (outside (F.told files.old) (F.calls files.old) (S.told input.old) (K.told output.old) steps.old) (outside (F.told files.new) (F.calls files.new) (S.told input.new) (K.told output.new) steps.new) result }
+    ensures calls { CallsFront (F.calls files.old) (F.calls files.new) (replaying (replay_shown replay.now)) }
     ensures same { F.told files.new ≡ F.told files.old }
     ensures counted_more { steps.old ≤ steps.new }
     ensures faults { HasFaults (faults (F.faults files.old) (S.faults input.old) (K.faults output.old)) (faults (F.faults files.new) (S.faults input.new) (K.faults output.new)) result }

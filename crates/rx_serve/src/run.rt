@@ -35,7 +35,7 @@ pub fn run_rx<F: Files, S: Source, K: Sink, N: Listener, L: Ledger>(
     // What is left, by cases on the command that the words ask for. `run`: the headline, with the account that it is true of; or no session began, by its
     // cause. `asm`: the executable of the text's image, and nothing else is touched. `replay`: the recorded run is done again, or no replay began,
     // by its cause. Words of no command are refused, and nothing is touched.
-    ensures ends { Ends (command_of (texts_of words.now)) (outside (F.told files.old) (S.told input.old) (K.told output.old) steps.old) (outside (F.told files.new) (S.told input.new) (K.told output.new) steps.new) result }
+    ensures ends { Ends (command_of (texts_of words.now)) (outside (F.told files.old) (F.calls files.old) (S.told input.old) (K.told output.old) steps.old) (outside (F.told files.new) (F.calls files.new) (S.told input.new) (K.told output.new) steps.new) result }
 
     // A fault is answered only where the count of that object's own faults rose.
     ensures faults { HasFaults (faults (F.faults files.old) (S.faults input.old) (K.faults output.old)) (faults (F.faults files.new) (S.faults input.new) (K.faults output.new)) result.answer }

@@ -31,7 +31,7 @@ pub fn run_program<F: Files, S: Source, K: Sink, L: Ledger>(
 ) -> End
     requires in_range { AreInRange (run_shown run.now) }
     requires two { AreTwo (names_of (run_shown run.now)) }
-    ensures ends { RunEnds (run_shown run.now) (outside (F.told files.old) (S.told input.old) (K.told output.old) steps.old) (outside (F.told files.new) (S.told input.new) (K.told output.new) steps.new) result }
+    ensures ends { RunEnds (run_shown run.now) (outside (F.told files.old) (F.calls files.old) (S.told input.old) (K.told output.old) steps.old) (outside (F.told files.new) (F.calls files.new) (S.told input.new) (K.told output.new) steps.new) result }
     ensures faults { HasFaults (faults (F.faults files.old) (S.faults input.old) (K.faults output.old)) (faults (F.faults files.new) (S.faults input.new) (K.faults output.new)) result.answer }
     ensures status { result.status ≡ status_of result.answer }
     ensures counted_at_least { steps.old + result.steps ≤ steps.new }

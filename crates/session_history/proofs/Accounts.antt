@@ -1,6 +1,6 @@
 -- What each event of a session makes of its account.
 use Rattle.links.specs.declared.journal.Entry.TheVariants as entry
-use Rattle.session_history.proofs.Terms.{Bool, List, [], ap, append_assoc, arith, length, length-append, refl, subst, sym, ℕ, ◌++◌, ◌+◌, ◌∙◌, ◌∷◌, ◌≡◌, ◌≤◌, Item, Prefix, Send, Entry, LinkEvent, items_from, Image, prefix_trans, Follows, IsUsed, served_follows, served_is_run, start, start_machine, Run, Limits, Override, Path, Served, origin, heeded_behind, items_in, received, AreInOrder, Covers, IsFeasible, passed_in, Moment, journal, IsDuePiece, Rules, Carries}
+use Rattle.session_history.proofs.Terms.{Bool, List, [], ap, append_assoc, arith, length, length-append, refl, subst, sym, ℕ, ◌++◌, ◌+◌, ◌∙◌, ◌∷◌, ◌≡◌, ◌≤◌, Item, Prefix, Send, Entry, LinkEvent, items_from, Image, Follows, IsUsed, served_follows, served_is_run, start, start_machine, Run, Limits, Override, Path, Served, origin, heeded_behind, items_in, received, AreInOrder, Covers, IsFeasible, passed_in, Moment, journal, IsDuePiece, Rules, Carries}
 use Rattle.session_history.proofs.Paths.{served_same, served_on, served_with}
 use Rattle.session_history.proofs.Growing.{Grows, run_grows}
 use Rattle.session_history.proofs.Passing.{in_order_wider, in_order_then, covers_on, covers_pass, feasible_on, feasible_pass, timed_on}
@@ -66,22 +66,18 @@ carries_event rules image entries event more plan now carries brings =
       timed = carries.timed;
     }
 
--- a piece is passed that was due where the survivor stood on its way
-pub carries_piece : (rules : Rules) (image : Image) (moment : Moment) (conn : ℕ) (bytes : List ℕ) (gone : Bool) (plan : List Override) (path now : Path) → Carries rules image (journal moment) plan now
-    → Served rules.limits (items_in rules.bounds (journal moment)) plan (origin image) path → Served rules.limits (items_in rules.bounds (journal moment)) plan path now
-    → IsDuePiece rules path.state.sends moment conn bytes → Carries rules image (journal moment ++ entry.Gave conn bytes gone ∷ []) plan now
-carries_piece rules image moment conn bytes gone plan path now carries from on due =
+-- a piece is passed that is due where the survivor stands
+pub carries_piece : (rules : Rules) (image : Image) (moment : Moment) (conn : ℕ) (bytes : List ℕ) (gone : Bool) (plan : List Override) (now : Path) → Carries rules image (journal moment) plan now
+    → IsDuePiece rules now.state.sends moment conn bytes → Carries rules image (journal moment ++ entry.Gave conn bytes gone ∷ []) plan now
+carries_piece rules image moment conn bytes gone plan now carries due =
     let entries : List Entry = journal moment in
     let after : List Entry = entries ++ entry.Gave conn bytes gone ∷ [] in
     let items : List Item = items_in rules.bounds entries in
     let piece : Send = record { conn = conn; bytes = bytes; taken = received rules.bounds entries } in
     let passed : passed_in rules.bounds after ≡ passed_in rules.bounds entries ++ piece ∷ [] = passed_in-gave rules.bounds entries conn bytes gone in
     let brings : items_in rules.bounds after ≡ items = items_in-gave rules.bounds entries conn bytes gone in
-    let grown : Went items path now = went rules.limits items plan path now (used_from rules.limits image items plan path from) on in
     let front : List Send = due.stands.earlier ++ due.send ∷ [] in
-    let begins : Prefix front now.state.sends =
-    prefix_trans front path.state.sends now.state.sends
-    (due.stands.later, append_assoc due.stands.earlier (due.send ∷ []) due.stands.later ∙ sym due.stands.split) (grown.grows.more, sym grown.grows.sends) in
+    let begins : Prefix front now.state.sends = (due.stands.later, append_assoc due.stands.earlier (due.send ∷ []) due.stands.later ∙ sym due.stands.split) in
     record {
       served = subst (λ its. Served rules.limits its plan (origin image) now) (sym brings) carries.served;
       taken = subst (λ its. now.state.machine.taken ≤ length its) (sym brings) carries.taken;
@@ -98,6 +94,5 @@ pub carries_run : (rules : Rules) (image : Image) (entries : List Entry) (plan :
 unfolding start start_machine
 carries_run rules image entries plan now carries =
     let items : List Item = items_in rules.bounds entries in
-    let follows = served_follows rules.limits items plan (origin image) now carries.served.more refl carries.served.ran in
-    let count : carries.served.more ≡ now.steps = omega (arith, follows.counted) in
+    let count : carries.served.more ≡ now.steps = omega (arith, (served_follows rules.limits items plan (origin image) now carries.served.more refl carries.served.ran).counted) in
     subst (λ steps. Run image items now.choices steps now.state) count (served_is_run rules.limits image items plan now carries.served.more carries.served.ran)

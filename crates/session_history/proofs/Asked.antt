@@ -2,8 +2,9 @@
 use Rattle.alloc_env.specs.declared.env.Env.{Env}
 use Rattle.run_history.specs.declared.answer.Cause.TheVariants.{BadAccess, Hang}
 use Rattle.run_history.specs.Touching.{touched}
-use Rattle.session_history.proofs.Terms.{Bool, List, None, Option, Some, [], ap, append-nil, arith, cond, false, inl, inr, leb, refl, replicate, subst, suc, sym, true, zero, ℕ, ◌++◌, ◌+◌, ◌∙◌, ◌∷◌, ◌≡◌, ◌⊎◌, length-replicate, none-some, same_Some, option_and_then, slice_get, Item, Send, Choice, is_allowed, repeated_add, repeated_from, repeated_keeps, element_behind, next_after, received_keeps, serves_to, Alone, Picks, Same, Shape, Takes, does_shape, allocated, chooses, takes, Chooses, Fails, Goes, Machine, State, Wants, register, after, does, next, AsksFor, Grant, Guest, Limits, Override, Path, Served, does_with, env_at, grant, guest_of, is_refused, planned_next, serve, served_next, serves, AreBetween}
+use Rattle.session_history.proofs.Terms.{Bool, List, None, Option, Some, [], ap, append-nil, arith, cond, false, inl, inr, leb, refl, replicate, subst, suc, sym, true, zero, ℕ, ◌++◌, ◌+◌, ◌∙◌, ◌∷◌, ◌≡◌, ◌⊎◌, length-replicate, none-some, same_Some, option_and_then, slice_get, Item, Send, Choice, repeated_add, repeated_from, repeated_keeps, element_behind, next_after, received_keeps, serves_to, takes, Fails, State, Wants, after, does, next, AsksFor, Grant, Guest, Limits, Override, Path, Served, does_with, env_at, grant, guest_of, is_refused, planned_next, serve, served_next, serves, AreBetween}
 use Rattle.session_history.proofs.Growing.{Grows, grows_same, grows_on, run_grows}
+use Rattle.run_history.proofs.Wanting.{wants_takes}
 
 -- answers of malloc, of which this one has this number
 answers_with : Option Choice → ℕ → List Choice
@@ -16,7 +17,7 @@ answer_here None number = refl
 answer_here (Some choice) number = element_behind (replicate number choice) choice number (length-replicate number choice)
 
 -- one instruction adds sends
-next_grows : (limits : Limits) (items : List Item) (env : Env) (path to : Path) → served_next limits items env path ≡ Some to → Grows path.state to.state
+pub next_grows : (limits : Limits) (items : List Item) (env : Env) (path to : Path) → served_next limits items env path ≡ Some to → Grows path.state to.state
 next_grows limits items env path to goes =
     let parts = serves_to limits items env path to goes in
     let number = path.state.machine.allocations in
@@ -30,7 +31,7 @@ served_grows limits items plan first second served =
     (λ a b goes. next_grows limits items (env_at plan a.state.machine.taken) a b goes) served.more first second served.ran
 
 -- the second run is the first with one more instruction or several
-record Later (limits : Limits) (items : List Item) (plan : List Override) (first second : Path) : Type 0 where
+pub record Later (limits : Limits) (items : List Item) (plan : List Override) (first second : Path) : Type 0 where
   pub next : Path
   pub goes : planned_next limits items plan first ≡ Some next
   pub on : Served limits items plan next second
@@ -43,7 +44,7 @@ first_one limits items plan first second n ran = of_next (planned_next limits it
     of_next None is =
         absurd (none-some second (sym (repeated_add (planned_next limits items plan) first 1 n ∙ ap (option_and_then (λ (y : Path). serve limits items plan y n)) is) ∙ ran))
 
-later_of : (limits : Limits) (items : List Item) (plan : List Override) (first second : Path) → Served limits items plan first second → (first ≡ second) ⊎ Later limits items plan first second
+pub later_of : (limits : Limits) (items : List Item) (plan : List Override) (first second : Path) → Served limits items plan first second → (first ≡ second) ⊎ Later limits items plan first second
 later_of limits items plan first second served = by_count served.more served.ran
   where
     by_count : (n : ℕ) → serve limits items plan first n ≡ Some second → (first ≡ second) ⊎ Later limits items plan first second
@@ -53,11 +54,11 @@ later_of limits items plan first second served = by_count served.more served.ran
         inr (first_one limits items plan first second n (subst (λ (k : ℕ). serve limits items plan first k ≡ Some second) same ran))
 
 -- a guest that wants an item in an environment, by the answer of the allocator
-record Waits (env : Env) (guest : Guest) : Type 0 where
+pub record Waits (env : Env) (guest : Guest) : Type 0 where
   pub given : Grant
   pub wants : does None given.chosen guest.machine ≡ Wants
 
-waits_of : (limits : Limits) (env : Env) (guest : Guest) → serves limits env None guest ≡ Wants → Waits env guest
+pub waits_of : (limits : Limits) (env : Env) (guest : Guest) → serves limits env None guest ≡ Wants → Waits env guest
 unfolding serves
 waits_of limits env guest asks = of_late (leb limits.budget guest.machine.since) (is_refused limits guest.heap (touched guest.machine)) (grant env guest) asks
   where
@@ -67,30 +68,12 @@ waits_of limits env guest asks = of_late (leb limits.budget guest.machine.since)
     of_late false false None h = cc
     of_late false false (Some given) h = record { given = given; wants = h }
 
--- no malloc wants an item
-never_wants : (size : ℕ) (m : Machine) (choice : Option Choice) → chooses size m choice ≡ Wants → ⊥
-never_wants size m None h = cc
-never_wants size m (Some choice) h = of_test (is_allowed m.heap_start m.heap_end m.blocks size choice) h
-  where
-    of_test : (b : Bool) → cond b (Goes (allocated size choice m)) (Chooses size) ≡ Wants → ⊥
-    of_test true is = cc
-    of_test false is = cc
-
--- an instruction that wants an item takes the one that is next
-wants_takes : (m : Machine) (chosen : Option Choice) → does None chosen m ≡ Wants → (item : Option Item) (choice : Option Choice) → does item choice m ≡ takes m item
-wants_takes m chosen wants item choice = of_shape (does_shape m)
-  where
-    of_shape : Shape m (λ item choice. does item choice m) → does item choice m ≡ takes m item
-    of_shape (Same e alone is) = absurd (subst (Alone m) (sym (is None chosen) ∙ wants) alone)
-    of_shape (Takes may is) = is item choice
-    of_shape (Picks is) = absurd (never_wants (register m 10) m chosen (sym (is None chosen) ∙ wants))
-
 -- its next instruction took that item, and sent nothing
-record TookOne (first second : Path) : Type 0 where
+pub record TookOne (first second : Path) : Type 0 where
   pub taken : second.state.machine.taken ≡ first.state.machine.taken + 1
   pub sends : second.state.sends ≡ first.state.sends
 
-asks_takes : (limits : Limits) (items : List Item) (plan : List Override) (path to : Path) (item : ℕ) → AsksFor limits plan path item → planned_next limits items plan path ≡ Some to → TookOne path to
+pub asks_takes : (limits : Limits) (items : List Item) (plan : List Override) (path to : Path) (item : ℕ) → AsksFor limits plan path item → planned_next limits items plan path ≡ Some to → TookOne path to
 asks_takes limits items plan path to item asks goes =
     let env = env_at plan path.state.machine.taken in
     let waits = waits_of limits env (guest_of path) asks.asks in

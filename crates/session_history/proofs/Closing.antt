@@ -1,8 +1,7 @@
 -- The items of a journal's front, and what a close in it makes of what comes behind.
 use Rattle.links.specs.declared.journal.Entry.TheVariants as entry
 use Rattle.links.specs.declared.journal.LinkEvent.TheVariants as event
-use Rattle.session_history.proofs.Terms.{Bool, List, [], ap, append-nil, append_assoc, arith, eqb, false, inl, inr, length, length-append, refl, subst, sym, take, true, ℕ, ◌++◌, ◌+◌, ◌∙◌, ◌∷◌, ◌≡◌, ◌≢◌, ◌≤◌, cases_Bool, eq-eqb, eqb-true, or_from, or_left, or_right, take-append-le, is_none, ◌||◌, Item, Prefix, Send, Entry, LinkEvent, events_in, CLOSED, none_open, bare_item, heard, items_of, may, no_connections, Bounds, heeded, items_in, received, closes, opens, AreBetween, OpensOnce}
-use Rattle.session_history.proofs.Heeding.{events_in-append}
+use Rattle.session_history.proofs.Terms.{Bool, List, [], ap, append-nil, append_assoc, arith, eqb, false, inl, inr, length, length-append, refl, subst, sym, take, true, ℕ, ◌++◌, ◌+◌, ◌∙◌, ◌∷◌, ◌≡◌, ◌≢◌, ◌≤◌, cases_Bool, eq-eqb, eqb-true, or_from, or_left, or_right, take-append-le, is_none, ◌||◌, Item, Prefix, Send, Entry, LinkEvent, events_in-append, events_in, CLOSED, none_open, bare_item, heard, items_of, may, no_connections, Bounds, heeded, items_in, received, closes, opens, AreBetween, OpensOnce}
 use Rattle.session_history.proofs.Connected.{after_items, IsSent, AreSent}
 use Rattle.session_history.proofs.Heeded.{heeded_front, heeded_grows, heeded_then, heeded_heard}
 use Rattle.session_history.proofs.Opening.{all_open_any, none_open_again, items_behind, close_item, closed_behind, opened_before}
@@ -100,12 +99,11 @@ other_then : (bounds : Bounds) (entries : List Entry) (event : LinkEvent) (more 
     → AreSent (items_in bounds (entries ++ entry.Took event ∷ more)) sends → AreBetween (received bounds entries + 1) high sends → AreUnclosed (heeded bounds (events_in entries)) sends
     → AreUnclosed (heeded bounds (events_in (entries ++ entry.Took event ∷ []))) sends
 other_then bounds entries event more high sends no_close events sent between are =
-    let items : List Item = items_in bounds (entries ++ entry.Took event ∷ more) in
     elim (heeded_then bounds [] (events_in entries) event) [
       | inl same ↦ subst (λ es. AreUnclosed es sends) (sym (ap (heeded bounds) events ∙ same)) are
       | inr grown ↦
           subst (λ es. AreUnclosed es sends) (sym (ap (heeded bounds) events ∙ grown))
-          (unclosed_last (heeded bounds (events_in entries)) event (received bounds entries + 1) high items sends (λ send is late. no_close send.conn) sent between are)
+          (unclosed_last (heeded bounds (events_in entries)) event (received bounds entries + 1) high (items_in bounds (entries ++ entry.Took event ∷ more)) sends (λ send is late. no_close send.conn) sent between are)
     ]
 
 -- one more entry, an event
@@ -114,14 +112,13 @@ pub unclosed_then : (bounds : Bounds) (entries : List Entry) (event : LinkEvent)
     → AreUnclosed (heeded bounds (events_in (entries ++ entry.Took event ∷ []))) sends
 unclosed_then bounds entries (event.Closes conn) more high sends once sent between are =
     let last : List Entry = entry.Took (event.Closes conn) ∷ [] in
-    let items : List Item = items_in bounds (entries ++ entry.Took (event.Closes conn) ∷ more) in
     let events : events_in (entries ++ last) ≡ events_in entries ++ event.Closes conn ∷ [] = events_in-append entries last in
     elim (heeded_then bounds [] (events_in entries) (event.Closes conn)) [
       | inl same ↦ subst (λ es. AreUnclosed es sends) (sym (ap (heeded bounds) events ∙ same)) are
       | inr grown ↦
           let now : heeded bounds (events_in (entries ++ last)) ≡ heeded bounds (events_in entries) ++ event.Closes conn ∷ [] = ap (heeded bounds) events ∙ grown in
           subst (λ es. AreUnclosed es sends) (sym now)
-          (unclosed_last (heeded bounds (events_in entries)) (event.Closes conn) (received bounds entries + 1) high items sends
+          (unclosed_last (heeded bounds (events_in entries)) (event.Closes conn) (received bounds entries + 1) high (items_in bounds (entries ++ entry.Took (event.Closes conn) ∷ more)) sends
           (λ send is late. elim (cases_Bool (eqb conn send.conn)) [
             | inl here ↦ absurd (closed_for bounds entries more conn send once now is late (sym (eqb-true conn send.conn here)))
             | inr apart ↦ or_from (eqb conn send.conn) false apart refl

@@ -1,8 +1,8 @@
 -- The sends of a run: in the order of the items taken, each with some bytes, to a connection that the items taken before it leave open.
-use Rattle.run_history.specs.Machine.{Ends}
 use Rattle.run_history.specs.Call.{received}
-use Rattle.session_history.proofs.Terms.{Bool, List, None, Option, Some, [], ap, arith, cond, false, length, refl, subst, suc, sym, take, true, zero, ℕ, ◌++◌, ◌+◌, ◌<◌, ◌∙◌, ◌∷◌, ◌≡◌, none-some, same_Some, slice_get, Item, Send, Choice, is_allowed, Image, may, repeated_keeps, allocated_keeps, next_parts, received_keeps, Alone, Picks, Same, Shape, Takes, does_shape, allocated, connections_after, malloc, takes, Chooses, Effect, Emits, Fails, Goes, Machine, State, Wants, no_connections, register, start, start_machine, Run, after, does, next, AreInOrder}
+use Rattle.session_history.proofs.Terms.{Bool, List, Option, Some, [], ap, arith, length, refl, subst, sym, take, true, ℕ, ◌++◌, ◌+◌, ◌<◌, ◌∙◌, ◌∷◌, ◌≡◌, take_more, get_or_from_slice_get, slice_get_within, slice_get, Item, Send, Choice, Image, may, repeated_keeps, allocated_keeps, next_parts, received_keeps, allocated, connections_after, Machine, State, no_connections, register, start, start_machine, Run, after, does, next, AreInOrder}
 use Rattle.session_history.proofs.Passing.{in_order_wider, in_order_then}
+use Rattle.session_history.proofs.Growing.{Moved, ByItself, BySend, ByEnd, ByItem, ByChoice, moved}
 
 -- the connections that may be sent to once these items were taken
 abbrev pub after_items : List Item → List Bool → List Bool
@@ -36,13 +36,9 @@ pub record Connected (items : List Item) (s : State) : Type 0 where
   pub ordered : AreInOrder s.machine.taken s.sends
   pub sent : AreSent items s.sends
 
--- one more item
-take_one : (items : List Item) (n : ℕ) (item : Item) → slice_get items n ≡ Some item → take (n + 1) items ≡ take n items ++ item ∷ []
-take_one [] n item is = absurd (none-some item is)
-take_one (first ∷ items) zero item is = ap (λ it. it ∷ []) (same_Some first item is)
-take_one (first ∷ items) (suc n) item is =
-    let count : suc n + 1 ≡ suc (n + 1) = omega arith in
-    ap (λ k. take k (first ∷ items)) count ∙ ap (λ more. first ∷ more) (take_one items n item is)
+-- one more element
+pub take_one : {X : Type 0} (xs : List X) (n : ℕ) (x : X) → slice_get xs n ≡ Some x → take (n + 1) xs ≡ take n xs ++ x ∷ []
+take_one xs n x is = take_more xs n x (slice_get_within xs n x is) ∙ ap (λ it. take n xs ++ it ∷ []) (get_or_from_slice_get xs n x x is)
 
 connected_by : (items : List Item) (s : State) (m : Machine) → m.taken ≡ s.machine.taken → m.connections ≡ s.machine.connections → Connected items s → Connected items (record s { machine = m })
 connected_by items s m taken connections was = record {
@@ -74,39 +70,18 @@ connected_item items s item is was =
       sent = was.sent;
     }
 
-connected_to : (items : List Item) (t u : State) → Some t ≡ Some u → Connected items t → Connected items u
-connected_to items t u same is = subst (Connected items) (same_Some t u same) is
-
 -- one instruction
 after_connected : (items : List Item) (s t : State) (item : Option Item) (choice : Option Choice) → slice_get items s.machine.taken ≡ item → Connected items s → after s (does item choice s.machine) ≡ Some t → Connected items t
-after_connected items s t item choice found was goes = of_shape (does_shape s.machine)
+after_connected items s t item choice found was goes = by (moved s t item choice goes)
   where
-    of_alone : (e : Effect) → Alone s.machine e → after s e ≡ Some t → Connected items t
-    of_alone (Goes m) alone h = connected_to items (record s { machine = m }) t h (connected_by items s m alone.taken alone.connections was)
-    of_alone (Emits conn bytes m) alone h = connected_to items _ t h (connected_send items s conn bytes m alone.0.taken alone.0.connections alone.1.some alone.1.allowed was)
-    of_alone (Ends code) alone h = connected_to items (record s { ended = Some code }) t h (record { connections = was.connections; ordered = was.ordered; sent = was.sent })
-    of_alone Wants alone h = absurd alone
-    of_alone (Chooses size) alone h = absurd alone
-    of_alone (Fails cause) alone h = absurd (none-some t h)
-
-    of_next : (next : Option Item) → slice_get items s.machine.taken ≡ next → after s (takes s.machine next) ≡ Some t → Connected items t
-    of_next None is h = absurd (none-some t h)
-    of_next (Some it) is h = connected_to items (record s { machine = received it s.machine }) t h (connected_item items s it is was)
-
-    of_test : (size : ℕ) (it : Choice) (b : Bool) → after s (cond b (Goes (allocated size it s.machine)) (Chooses size)) ≡ Some t → Connected items t
-    of_test size it true h =
-        let keeps = allocated_keeps size it s.machine in
-        connected_to items (record s { machine = allocated size it s.machine }) t h (connected_by items s (allocated size it s.machine) keeps.taken keeps.connections was)
-    of_test size it false h = absurd (none-some t h)
-
-    of_choice : (chosen : Option Choice) → after s (malloc chosen s.machine) ≡ Some t → Connected items t
-    of_choice None h = absurd (none-some t h)
-    of_choice (Some it) h = of_test (register s.machine 10) it (is_allowed s.machine.heap_start s.machine.heap_end s.machine.blocks (register s.machine 10) it) h
-
-    of_shape : Shape s.machine (λ item choice. does item choice s.machine) → Connected items t
-    of_shape (Same e alone is) = of_alone e alone (ap (after s) (sym (is item choice)) ∙ goes)
-    of_shape (Takes may is) = of_next item found (ap (after s) (sym (is item choice)) ∙ goes)
-    of_shape (Picks is) = of_choice choice (ap (after s) (sym (is item choice)) ∙ goes)
+    by : Moved s t item choice → Connected items t
+    by (ByItself m alone is) = subst (Connected items) is (connected_by items s m alone.taken alone.connections was)
+    by (BySend conn bytes m alone is) = subst (Connected items) is (connected_send items s conn bytes m alone.0.taken alone.0.connections alone.1.some alone.1.allowed was)
+    by (ByEnd code is) = subst (Connected items) is (record { connections = was.connections; ordered = was.ordered; sent = was.sent })
+    by (ByItem it at is) = subst (Connected items) is (connected_item items s it (found ∙ at) was)
+    by (ByChoice it at may is) =
+        let keeps = allocated_keeps (register s.machine 10) it s.machine in
+        subst (Connected items) is (connected_by items s (allocated (register s.machine 10) it s.machine) keeps.taken keeps.connections was)
 
 -- the start
 connected_start : (items : List Item) (image : Image) → Connected items (start image)

@@ -1,7 +1,7 @@
 -- The end of a session: the pieces that it passes there, the one that a fault breaks off, and what was passed in all.
 use Rattle.links.specs.declared.journal.Entry.TheVariants as entry
-use Rattle.session_history.proofs.Terms.{Bool, List, Option, [], ap, append-nil, append_assoc, arith, cond, eqb, false, inl, inr, length, length-append, refl, subst, sym, true, ℕ, ◌++◌, ◌∙◌, ◌∷◌, ◌≡◌, eqb-true, is_some, Item, Prefix, Send, sent_to, Entry, events_in, items_of, Image, Answer, sent_to-more, output, Served, origin, Bounds, heeded, items_in, is_open, passed_in, Moment, OwesNothing, Stands, AreDue, AreLawful, Chapter, IsDue, IsDuePiece, Rules, Survivor, entries_of, place_of, HasPassedAll, IsAccount, IsBroken, Session, journal_of, Carries, Ending, Serving, ending_at, AreGiven, before_end}
-use Rattle.session_history.proofs.Paths.{served_same, served_on}
+use Rattle.session_history.proofs.Terms.{Bool, List, Option, [], ap, append-nil, append_assoc, arith, cond, eqb, false, inl, inr, length, length-append, refl, subst, sym, true, ℕ, ◌++◌, ◌∙◌, ◌∷◌, ◌≡◌, eqb-true, is_some, Item, Prefix, Send, sent_to, Entry, events_in, items_of, Image, sent_to-more, output, Served, origin, SessionEnd, Bounds, heeded, items_in, is_open, passed_in, Moment, OwesNothing, Stands, AreDue, AreLawful, Chapter, IsDueAt, IsDuePiece, Rules, Survivor, entries_of, from_there, place_of, HasPassedAll, IsAccount, IsBroken, Session, journal_of, Carries, Ending, Serving, ending_at, AreGiven, before_end}
+use Rattle.session_history.proofs.Prompt.{prompt_none}
 use Rattle.session_history.proofs.Heeding.{events_in-gave, items_in-gave}
 use Rattle.session_history.proofs.Accounts.{carries_piece, carries_run}
 use Rattle.session_history.proofs.Due.{are_due_then}
@@ -16,12 +16,12 @@ ending_none rules image earlier survivor since at_end serving =
       begins = subst (λ its. Served rules.limits its survivor.plan (origin image) survivor.begun) items serving.begins;
       before = subst (λ its. AreLawful rules its [] earlier) items serving.before;
       due = subst (λ its. AreDue rules its survivor (place_of earlier [] false) since) items serving.due;
-      last = tt;
+      last = prompt_none rules (items_in rules.bounds (entries_of earlier ++ (since ++ []))) survivor (place_of earlier since at_end);
     }
 
 -- one more piece at the end
 pub ending_piece : (rules : Rules) (image : Image) (earlier : List Chapter) (survivor : Survivor) (since ending : List Entry) (at_end : Bool) (conn : ℕ) (bytes : List ℕ) (gone : Bool) → Ending rules image earlier survivor since ending at_end
-    → IsDue rules (items_in rules.bounds (entries_of earlier ++ (since ++ ending))) survivor (place_of earlier (since ++ ending) at_end) (entry.Gave conn bytes gone)
+    → IsDueAt rules survivor.plan survivor.now (ending_at earlier (since ++ ending) at_end survivor.now.state.machine.taken) (entry.Gave conn bytes gone)
     → Ending rules image earlier survivor since (ending ++ entry.Gave conn bytes gone ∷ []) at_end
 ending_piece rules image earlier survivor since ending at_end conn bytes gone was due =
     let entries : List Entry = entries_of earlier ++ (since ++ ending) in
@@ -33,16 +33,18 @@ ending_piece rules image earlier survivor since ending at_end conn bytes gone wa
     record {
       carries =
           subst (λ es. Carries rules image es survivor.plan survivor.now) same
-          (carries_piece rules image (ending_at earlier (since ++ ending) at_end due.way.path.state.machine.taken) conn bytes gone survivor.plan due.way.path survivor.now was.carries
-          (served_on rules.limits items survivor.plan (origin image) survivor.begun due.way.path was.begins due.way.from) due.way.on (piece_due rules items survivor (place_of earlier (since ++ ending) at_end) conn bytes gone due));
+          (carries_piece rules image (ending_at earlier (since ++ ending) at_end survivor.now.state.machine.taken) conn bytes gone survivor.plan survivor.now was.carries
+          (piece_due rules survivor.plan survivor.now (ending_at earlier (since ++ ending) at_end survivor.now.state.machine.taken) conn bytes gone due));
       begins = subst (λ its. Served rules.limits its survivor.plan (origin image) survivor.begun) kept was.begins;
       before = subst (λ its. AreLawful rules its [] earlier) kept was.before;
       due = subst (λ its. AreDue rules its survivor (place_of earlier [] false) since) kept was.due;
-      last = subst (λ its. AreDue rules its survivor (place_of earlier since at_end) (ending ++ more)) kept (are_due_then rules items survivor (place_of earlier since at_end) ending (entry.Gave conn bytes gone) was.last due);
+      last =
+          subst (λ its. AreDue rules its (from_there survivor survivor.now) (place_of earlier since at_end) (ending ++ more)) kept
+          (are_due_then rules items (from_there survivor survivor.now) (place_of earlier since at_end) ending (entry.Gave conn bytes gone) was.last (record { early = was.carries.taken; due = due }));
     }
 
 -- the account of a session at its end
-pub ending_account : (rules : Rules) (image : Image) (earlier : List Chapter) (survivor : Survivor) (since ending : List Entry) (came : Option Answer) → Ending rules image earlier survivor since ending (is_some came)
+pub ending_account : (rules : Rules) (image : Image) (earlier : List Chapter) (survivor : Survivor) (since ending : List Entry) (came : Option SessionEnd) → Ending rules image earlier survivor since ending (is_some came)
     → IsAccount rules image (record { earlier = earlier; survivor = survivor; since = since; came = came; ending = ending; broken = [] })
 ending_account rules image earlier survivor since ending came was =
     let none : entries_of earlier ++ (since ++ ending) ≡ entries_of earlier ++ (since ++ (ending ++ [])) = ap (λ es. entries_of earlier ++ (since ++ es)) (sym (append-nil ending)) in
@@ -57,16 +59,15 @@ ending_account rules image earlier survivor since ending came was =
       feasible = carries.feasible;
       earlier = subst (λ its. AreLawful rules its [] earlier) items was.before;
       since = subst (λ its. AreDue rules its survivor (place_of earlier [] false) since) items was.due;
-      ending = subst (λ its. AreDue rules its survivor (place_of earlier since (is_some came)) ending) items was.last;
+      ending = subst (λ its. AreDue rules its (from_there survivor survivor.now) (place_of earlier since (is_some came)) ending) items was.last;
       broken = tt;
     }
 
 -- and of one whose last piece was broken off
-pub broken_account : (rules : Rules) (image : Image) (earlier : List Chapter) (survivor : Survivor) (since ending : List Entry) (came : Option Answer) (conn : ℕ) (bytes : List ℕ) → Ending rules image earlier survivor since ending (is_some came)
+pub broken_account : (rules : Rules) (image : Image) (earlier : List Chapter) (survivor : Survivor) (since ending : List Entry) (came : Option SessionEnd) (conn : ℕ) (bytes : List ℕ) → Ending rules image earlier survivor since ending (is_some came)
     → IsDuePiece rules survivor.now.state.sends (ending_at earlier (since ++ ending) (is_some came) survivor.now.state.machine.taken) conn bytes
-    → Served rules.limits (items_in rules.bounds (entries_of earlier ++ (since ++ ending))) survivor.plan survivor.begun survivor.now
     → IsAccount rules image (record { earlier = earlier; survivor = survivor; since = since; came = came; ending = ending; broken = entry.Gave conn bytes false ∷ [] })
-broken_account rules image earlier survivor since ending came conn bytes was due from =
+broken_account rules image earlier survivor since ending came conn bytes was due =
     let entries : List Entry = entries_of earlier ++ (since ++ ending) in
     let items : List Item = items_in rules.bounds entries in
     let more : List Entry = entry.Gave conn bytes false ∷ [] in
@@ -75,8 +76,7 @@ broken_account rules image earlier survivor since ending came conn bytes was due
     let kept : items ≡ items_in rules.bounds (entries_of earlier ++ (since ++ (ending ++ more))) = sym (items_in-gave rules.bounds entries conn bytes false) ∙ ap (items_in rules.bounds) same in
     let carries : Carries rules image (entries_of earlier ++ (since ++ (ending ++ more))) survivor.plan survivor.now =
     subst (λ es. Carries rules image es survivor.plan survivor.now) same
-    (carries_piece rules image (ending_at earlier (since ++ ending) (is_some came) survivor.now.state.machine.taken) conn bytes false survivor.plan survivor.now survivor.now was.carries
-    (served_on rules.limits items survivor.plan (origin image) survivor.begun survivor.now was.begins from) (served_same rules.limits items survivor.plan survivor.now) due) in
+    (carries_piece rules image (ending_at earlier (since ++ ending) (is_some came) survivor.now.state.machine.taken) conn bytes false survivor.plan survivor.now was.carries due) in
     record {
       ran = carries_run rules image (entries_of earlier ++ (since ++ (ending ++ more))) survivor.plan survivor.now carries;
       served = carries.served;
@@ -86,7 +86,7 @@ broken_account rules image earlier survivor since ending came conn bytes was due
       feasible = carries.feasible;
       earlier = subst (λ its. AreLawful rules its [] earlier) kept was.before;
       since = subst (λ its. AreDue rules its survivor (place_of earlier [] false) since) kept was.due;
-      ending = subst (λ its. AreDue rules its survivor (place_of earlier since (is_some came)) ending) kept was.last;
+      ending = subst (λ its. AreDue rules its (from_there survivor survivor.now) (place_of earlier since (is_some came)) ending) kept was.last;
       broken = due;
     }
 

@@ -1,6 +1,6 @@
 -- Parts of lists of sends and of journals.
 use Rattle.links.specs.declared.journal.Entry.TheVariants as entry
-use Rattle.session_history.proofs.Terms.{Bool, List, [], ap, arith, cond, drop, eqb, false, inl, inr, length, length-append, map, refl, sym, true, ℕ, ◌++◌, ◌<◌, ◌∙◌, ◌∷◌, ◌≡◌, ◌≤◌, ◌⊎◌, eq-eqb, or_from, or_left, or_parts, or_right, not, ◌&&◌, Prefix, Send, sent_to, Entry, Piece, pieces_in, sent_to-more, Bounds, is_gone, AreBetween, AreInOrder, passed_behind, passed_in, piece_of}
+use Rattle.session_history.proofs.Terms.{Bool, List, [], ap, arith, cond, drop, eqb, false, inl, inr, length, length-append, map, refl, sym, true, ℕ, ◌++◌, ◌<◌, ◌∙◌, ◌∷◌, ◌≡◌, ◌≤◌, ◌⊎◌, eq-eqb, or_from, or_left, or_parts, or_right, not, ◌&&◌, Prefix, Send, sent_to, Entry, Piece, pieces_in, sent_then, Bounds, is_gone, AreBetween, AreInOrder, passed_behind, passed_in, piece_of}
 
 -- one list in two parts, in two ways: one first part has the other, or an element less
 pub two_splits : {X : Type 0} (xs ys front back : List X) → xs ++ ys ≡ front ++ back
@@ -31,12 +31,6 @@ in_order_behind high (send ∷ sends) more are = in_order_behind high sends more
 pub later_taken : (high : ℕ) (sends : List Send) (one : Send) (mid : List Send) (other : Send) (more : List Send) → AreInOrder high (sends ++ one ∷ (mid ++ other ∷ more)) → one.taken ≤ other.taken
 later_taken high sends one mid other more are = (between_here one.taken high mid other more (in_order_behind high sends (one ∷ (mid ++ other ∷ more)) are).0).0
 
--- the pieces of two journals
-pub pieces_in-append : (entries more : List Entry) → pieces_in (entries ++ more) ≡ pieces_in entries ++ pieces_in more
-pieces_in-append [] more = refl
-pieces_in-append (entry.Took event ∷ entries) more = pieces_in-append entries more
-pieces_in-append (entry.Gave conn bytes gone ∷ entries) more = ap (λ pieces. record { conn = conn; bytes = bytes; gone = gone } ∷ pieces) (pieces_in-append entries more)
-
 -- the bytes of pieces for a connection
 sent_by : ℕ → List Piece → List ℕ
 sent_by conn [] = []
@@ -57,17 +51,10 @@ whole_bytes conn (send ∷ sends) = ap (λ more. cond (eqb send.conn conn) send.
 pub front_bytes : (bounds : Bounds) (entries : List Entry) (front : List Send) (conn : ℕ) → pieces_in entries ≡ map piece_of front → sent_to conn (passed_in bounds entries) ≡ sent_to conn front
 front_bytes bounds entries front conn same = passed_bytes bounds conn [] entries ∙ ap (sent_by conn) same ∙ whole_bytes conn front
 
--- a send of some bytes isn't passed where those before it are
-pub sent_to-own : (front : List Send) (send : Send) (conn : ℕ) → send.conn ≡ conn → sent_to conn (front ++ send ∷ []) ≡ sent_to conn front ++ send.bytes
-sent_to-own front send conn same = sent_to-more conn front send ∙ ap (λ (b : Bool). sent_to conn front ++ cond b send.bytes []) (eq-eqb send.conn conn same)
-
 pub never_passed : (front : List Send) (other : Send) (passed : List ℕ) → passed ≡ sent_to other.conn front → 0 < length other.bytes → Prefix (sent_to other.conn (front ++ other ∷ [])) passed → ⊥
 never_passed front other passed same some begins =
-    let own = ap length (sent_to-own front other other.conn refl) in
-    let count = length-append (sent_to other.conn front) other.bytes in
-    let whole = ap length begins.1 in
     let parts = length-append (sent_to other.conn (front ++ other ∷ [])) begins.0 in
-    absurd (omega (arith, own, count, whole, parts, ap length same, some))
+    absurd (omega (arith, ap length (sent_then other.conn front other refl), length-append (sent_to other.conn front) other.bytes, ap length begins.1, parts, ap length same, some))
 
 -- a connection that was never gone was not before
 pub gone_front : (conn : ℕ) (entries more : List Entry) → is_gone conn (entries ++ more) ≡ false → is_gone conn entries ≡ false
@@ -84,7 +71,3 @@ gone_here conn bytes (entry.Gave to other gone ∷ entries) more = or_right (eqb
 
 pub and_three : (a b c : Bool) → a ≡ true → b ≡ false → c ≡ false → (a && not b && not c) ≡ true
 and_three a b c x y z = rw (x, y, z) refl
-
-pub and_nothing : (a b : Bool) → b ≡ false → (a && b) ≡ false
-and_nothing true b y = y
-and_nothing false b y = refl

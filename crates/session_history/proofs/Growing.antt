@@ -1,7 +1,9 @@
 -- What a run adds: sends, each with a number of items taken between those of its ends.
+use Rattle.block_book.specs.Answer.{is_allowed}
 use Rattle.run_history.specs.Machine.{Ends}
 use Rattle.run_history.specs.Call.{received}
-use Rattle.session_history.proofs.Terms.{Bool, List, None, Option, Some, [], ap, append-nil, append_assoc, arith, cond, false, refl, subst, sym, true, ℕ, ◌++◌, ◌∙◌, ◌∷◌, ◌≡◌, ◌≤◌, none-some, same_Some, slice_get, Item, Send, Choice, is_allowed, repeated_keeps, allocated_keeps, next_parts, received_keeps, Alone, Picks, Same, Shape, Takes, does_shape, allocated, malloc, takes, Chooses, Effect, Emits, Fails, Goes, Machine, State, Wants, register, after, does, next, run, AreBetween}
+use Rattle.run_history.proofs.Shapes.{Alone, Picks, Same, Shape, Takes, does_shape}
+use Rattle.session_history.proofs.Terms.{Bool, List, None, Option, Some, [], ap, append-nil, append_assoc, arith, cond, false, refl, subst, sym, true, ℕ, ◌++◌, ◌∙◌, ◌∷◌, ◌≡◌, ◌≤◌, none-some, same_Some, slice_get, Item, Send, Choice, repeated_keeps, allocated_keeps, next_parts, received_keeps, allocated, malloc, takes, Chooses, Effect, Emits, Fails, Goes, Machine, State, Wants, register, after, does, next, run, AreBetween}
 
 -- the second state is the first with more sends
 pub record Grows (first second : State) : Type 0 where
@@ -40,37 +42,55 @@ grows_send : (s : State) (conn : ℕ) (bytes : List ℕ) (m : Machine) → m.tak
     → Grows s (record s { machine = m; sends = s.sends ++ record { conn = conn; bytes = bytes; taken = s.machine.taken } ∷ [] })
 grows_send s conn bytes m same = record { more = record { conn = conn; bytes = bytes; taken = s.machine.taken } ∷ []; sends = refl; taken = omega (arith, same); between = (omega arith, omega (arith, same), tt) }
 
-grows_to : (s t u : State) → Some t ≡ Some u → Grows s t → Grows s u
-grows_to s t u same grows = subst (Grows s) (same_Some t u same) grows
+-- what one instruction made of a state: it needed nothing, or sent, or ended the program; or it took the next item; or its malloc was given an answer
+pub data Moved (s t : State) (item : Option Item) (choice : Option Choice) : Type 0 where
+  ByItself : (m : Machine) → Alone s.machine (Goes m) → record s { machine = m } ≡ t → Moved s t item choice
+  BySend : (conn : ℕ) (bytes : List ℕ) (m : Machine) → Alone s.machine (Emits conn bytes m)
+      → record s { machine = m; sends = s.sends ++ record { conn = conn; bytes = bytes; taken = s.machine.taken } ∷ [] } ≡ t → Moved s t item choice
+  ByEnd : (code : ℕ) → record s { ended = Some code } ≡ t → Moved s t item choice
+  ByItem : (it : Item) → item ≡ Some it → record s { machine = received it s.machine } ≡ t → Moved s t item choice
+  ByChoice : (it : Choice) → choice ≡ Some it → is_allowed s.machine.heap_start s.machine.heap_end s.machine.blocks (register s.machine 10) it ≡ true
+      → record s { machine = allocated (register s.machine 10) it s.machine } ≡ t → Moved s t item choice
 
--- one instruction
-after_grows : (s t : State) (item : Option Item) (choice : Option Choice) → after s (does item choice s.machine) ≡ Some t → Grows s t
-after_grows s t item choice goes = of_shape (does_shape s.machine)
+pub moved : (s t : State) (item : Option Item) (choice : Option Choice) → after s (does item choice s.machine) ≡ Some t → Moved s t item choice
+moved s t item choice goes = of_shape (does_shape s.machine)
   where
-    of_alone : (e : Effect) → Alone s.machine e → after s e ≡ Some t → Grows s t
-    of_alone (Goes m) alone h = grows_to s (record s { machine = m }) t h (grows_by s m (omega (arith, alone.taken)))
-    of_alone (Emits conn bytes m) alone h = grows_to s _ t h (grows_send s conn bytes m alone.0.taken)
-    of_alone (Ends code) alone h = grows_to s (record s { ended = Some code }) t h (record { more = []; sends = sym (append-nil s.sends); taken = omega arith; between = tt })
+    of_alone : (e : Effect) → Alone s.machine e → after s e ≡ Some t → Moved s t item choice
+    of_alone (Goes m) alone h = ByItself m alone (same_Some _ t h)
+    of_alone (Emits conn bytes m) alone h = BySend conn bytes m alone (same_Some _ t h)
+    of_alone (Ends code) alone h = ByEnd code (same_Some _ t h)
     of_alone Wants alone h = absurd alone
     of_alone (Chooses size) alone h = absurd alone
     of_alone (Fails cause) alone h = absurd (none-some t h)
 
-    of_next : (found : Option Item) → after s (takes s.machine found) ≡ Some t → Grows s t
-    of_next None h = absurd (none-some t h)
-    of_next (Some it) h = grows_to s (record s { machine = received it s.machine }) t h (grows_by s (received it s.machine) (omega (arith, (received_keeps it s.machine).taken)))
+    of_next : (found : Option Item) → item ≡ found → after s (takes s.machine found) ≡ Some t → Moved s t item choice
+    of_next None is h = absurd (none-some t h)
+    of_next (Some it) is h = ByItem it is (same_Some _ t h)
 
-    of_test : (size : ℕ) (it : Choice) (b : Bool) → after s (cond b (Goes (allocated size it s.machine)) (Chooses size)) ≡ Some t → Grows s t
-    of_test size it true h = grows_to s (record s { machine = allocated size it s.machine }) t h (grows_by s (allocated size it s.machine) (omega (arith, (allocated_keeps size it s.machine).taken)))
-    of_test size it false h = absurd (none-some t h)
+    of_test : (it : Choice) (b : Bool) → choice ≡ Some it → is_allowed s.machine.heap_start s.machine.heap_end s.machine.blocks (register s.machine 10) it ≡ b
+        → after s (cond b (Goes (allocated (register s.machine 10) it s.machine)) (Chooses (register s.machine 10))) ≡ Some t → Moved s t item choice
+    of_test it true is may h = ByChoice it is may (same_Some _ t h)
+    of_test it false is may h = absurd (none-some t h)
 
-    of_choice : (found : Option Choice) → after s (malloc found s.machine) ≡ Some t → Grows s t
-    of_choice None h = absurd (none-some t h)
-    of_choice (Some it) h = of_test (register s.machine 10) it (is_allowed s.machine.heap_start s.machine.heap_end s.machine.blocks (register s.machine 10) it) h
+    of_choice : (found : Option Choice) → choice ≡ found → after s (malloc found s.machine) ≡ Some t → Moved s t item choice
+    of_choice None is h = absurd (none-some t h)
+    of_choice (Some it) is h = of_test it (is_allowed s.machine.heap_start s.machine.heap_end s.machine.blocks (register s.machine 10) it) is refl h
 
-    of_shape : Shape s.machine (λ item choice. does item choice s.machine) → Grows s t
+    of_shape : Shape s.machine (λ item choice. does item choice s.machine) → Moved s t item choice
     of_shape (Same e alone is) = of_alone e alone (ap (after s) (sym (is item choice)) ∙ goes)
-    of_shape (Takes may is) = of_next item (ap (after s) (sym (is item choice)) ∙ goes)
-    of_shape (Picks is) = of_choice choice (ap (after s) (sym (is item choice)) ∙ goes)
+    of_shape (Takes may is) = of_next item refl (ap (after s) (sym (is item choice)) ∙ goes)
+    of_shape (Picks is) = of_choice choice refl (ap (after s) (sym (is item choice)) ∙ goes)
+
+after_grows : (s t : State) (item : Option Item) (choice : Option Choice) → after s (does item choice s.machine) ≡ Some t → Grows s t
+after_grows s t item choice goes = by (moved s t item choice goes)
+  where
+    by : Moved s t item choice → Grows s t
+    by (ByItself m alone is) = subst (Grows s) is (grows_by s m (omega (arith, alone.taken)))
+    by (BySend conn bytes m alone is) = subst (Grows s) is (grows_send s conn bytes m alone.0.taken)
+    by (ByEnd code is) = subst (Grows s) is (record { more = []; sends = sym (append-nil s.sends); taken = omega arith; between = tt })
+    by (ByItem it at is) = subst (Grows s) is (grows_by s (received it s.machine) (omega (arith, (received_keeps it s.machine).taken)))
+    by (ByChoice it at may is) =
+        subst (Grows s) is (grows_by s (allocated (register s.machine 10) it s.machine) (omega (arith, (allocated_keeps (register s.machine 10) it s.machine).taken)))
 
 -- a run
 pub run_grows : (items : List Item) (choices : List Choice) (s t : State) (n : ℕ) → run items choices s n ≡ Some t → Grows s t

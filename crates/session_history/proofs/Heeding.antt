@@ -1,17 +1,6 @@
 -- What one more entry makes of the events that are heeded, of the items received and of what was passed.
 use Rattle.links.specs.declared.journal.Entry.TheVariants as entry
-use Rattle.links.specs.declared.journal.LinkEvent.TheVariants as event
-use Rattle.session_history.proofs.Terms.{Bool, List, None, [], ap, append-nil, append_assoc, arith, cond, drop, false, length, refl, sym, true, ℕ, ◌++◌, ◌∙◌, ◌∷◌, ◌≡◌, is_none, Entry, LinkEvent, events_in, items_of, Bounds, heeded, heeded_behind, items_in, received, refusal, passed_behind, passed_in}
-
--- the events of two journals
-pub events_in-append : (entries more : List Entry) → events_in (entries ++ more) ≡ events_in entries ++ events_in more
-events_in-append [] more = refl
-events_in-append (entry.Gave conn bytes gone ∷ entries) more = events_in-append entries more
-events_in-append (entry.Took (event.Opens conn) ∷ entries) more = ap (λ events. event.Opens conn ∷ events) (events_in-append entries more)
-events_in-append (entry.Took (event.Piece conn bytes) ∷ entries) more = ap (λ events. event.Piece conn bytes ∷ events) (events_in-append entries more)
-events_in-append (entry.Took (event.Closes conn) ∷ entries) more = ap (λ events. event.Closes conn ∷ events) (events_in-append entries more)
-events_in-append (entry.Took event.Settles ∷ entries) more = ap (λ events. event.Settles ∷ events) (events_in-append entries more)
-events_in-append (entry.Took event.Ends ∷ entries) more = events_in-append entries more
+use Rattle.session_history.proofs.Terms.{Bool, List, None, [], ap, append-nil, append_assoc, arith, cond, drop, false, length, sym, true, ℕ, ◌++◌, ◌∙◌, ◌∷◌, ◌≡◌, is_none, Entry, LinkEvent, events_in-append, events_in, items_of, Bounds, heeded, heeded_behind, items_in, received, refusal, passed_behind, passed_in}
 
 -- a piece brings no event
 pub events_in-gave : (entries : List Entry) (conn : ℕ) (bytes : List ℕ) (gone : Bool) → events_in (entries ++ entry.Gave conn bytes gone ∷ []) ≡ events_in entries

@@ -1,5 +1,6 @@
 pub mod Terms
 pub mod Paths
+pub mod Prompt
 pub mod Due
 pub mod Owing
 pub mod Heeding
@@ -21,4 +22,3 @@ pub mod Closing
 pub mod Pieces
 pub mod Sent
 pub mod Turns
-pub mod Answered

@@ -1,7 +1,8 @@
 -- What events open and close, and what their items do.
+use Rattle.std.proofs.Math.Seq.{take-append-add}
 use Rattle.links.specs.declared.journal.LinkEvent.TheVariants as event
 use Rattle.item_log.proofs.Hearing.{one_more_event}
-use Rattle.session_history.proofs.Terms.{Bool, List, None, Option, Some, [], ap, append_assoc, arith, eqb, false, inl, inr, length, length-append, map, refl, subst, suc, sym, take, true, zero, ℕ, ◌++◌, ◌+◌, ◌-◌, ◌∙◌, ◌∷◌, ◌≡◌, ◌≢◌, ◌≤◌, take-append-add, both_ways, cond_both, eq-eqb, or_cases, or_left, or_right, is_none, unwrap_or, ◌||◌, Item, LinkEvent, Framing, Parts, cut, CLOSED, in_order, none_open, rest_of, Heard, bare_item, behind_items, brought, first_items, hear, hear_parts, heard, items_by, items_from, items_of, message_item, OpenWithin, closed_may, may, within_after, within_start, connections_after, no_connections, closes, opens, OpensOnce}
+use Rattle.session_history.proofs.Terms.{Bool, List, None, Option, Some, [], ap, append_assoc, arith, eqb, false, inl, inr, length, length-append, map, refl, subst, suc, sym, take, true, zero, ℕ, ◌++◌, ◌+◌, ◌-◌, ◌∙◌, ◌∷◌, ◌≡◌, ◌≢◌, ◌≤◌, both_ways, cond_both, eq-eqb, or_cases, or_left, or_right, is_none, unwrap_or, ◌||◌, Item, LinkEvent, Framing, Parts, cut, CLOSED, in_order, none_open, rest_of, Heard, bare_item, behind_items, brought, first_items, hear, hear_parts, heard, items_by, items_from, items_of, message_item, OpenWithin, closed_may, may, within_after, within_start, connections_after, no_connections, closes, opens, OpensOnce}
 use Rattle.session_history.proofs.Connected.{after_items, after_items-append}
 
 -- each connection that some events open has this property, and each that some items open
@@ -176,18 +177,16 @@ close_item framing events conn was now = of_before (heard framing events) refl w
 pub closed_behind : (before later : List Item) (conn n : ℕ) → Opening (λ c. c ≢ conn) later → length before + 1 ≤ n → may (after_items (take n ((before ++ bare_item CLOSED conn ∷ []) ++ later)) no_connections) conn ≡ true → ⊥
 closed_behind before later conn n all late may_be =
     let front : List Item = before ++ bare_item CLOSED conn ∷ [] in
-    let count : length front ≡ length before + 1 = length-append before (bare_item CLOSED conn ∷ []) in
     let k : ℕ = n - length front in
-    let same : n ≡ length front + k = omega (arith, count, late) in
+    let same : n ≡ length front + k = omega (arith, length-append before (bare_item CLOSED conn ∷ []), late) in
     let split : take n (front ++ later) ≡ front ++ take k later = ap (λ m. take m (front ++ later)) same ∙ take-append-add front later k in
-    let parts : after_items (take n (front ++ later)) no_connections ≡ after_items (take k later) (after_items front no_connections) = ap (λ its. after_items its no_connections) split ∙ after_items-append front (take k later) no_connections in
     let closed : may (after_items front no_connections) conn ≡ false =
     ap (λ cs. may cs conn) (after_items-append before (bare_item CLOSED conn ∷ []) no_connections) ∙ closed_may (bare_item CLOSED conn) (after_items before no_connections) refl in
     let within : OpenWithin (λ c. c ≢ conn) (after_items front no_connections) = record {
       each = λ c may_c same. both_ways (may (after_items front no_connections) conn) closed (subst (λ d. may (after_items front no_connections) d ≡ true) same may_c);
     } in
     let all_within = within_items (λ c. c ≢ conn) (take k later) (after_items front no_connections) within (opening-take (λ c. c ≢ conn) k later all) in
-    all_within.each conn (ap (λ cs. may cs conn) (sym parts) ∙ may_be) refl
+    all_within.each conn (ap (λ cs. may cs conn) (sym (ap (λ its. after_items its no_connections) split ∙ after_items-append front (take k later) no_connections)) ∙ may_be) refl
 
 -- a connection that the items of some events leave open is one that they open
 pub opened_before : (framing : Framing) (events : List LinkEvent) (conn n : ℕ) → may (after_items (take n (items_of framing events)) no_connections) conn ≡ true → opens conn events ≡ true

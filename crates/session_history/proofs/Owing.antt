@@ -2,7 +2,8 @@
 use Rattle.links.specs.declared.journal.Entry.TheVariants as entry
 use Rattle.links.specs.declared.journal.LinkEvent.TheVariants as event
 use Rattle.session_history.proofs.Terms.{List, None, Option, Some, [], ap, append-nil, append_assoc, arith, inl, inr, refl, subst, sym, ℕ, ◌++◌, ◌∷◌, ◌≡◌, ◌≤◌, none-some, same_Some, option_map, unwrap_or, Item, Send, Entry, LinkEvent, Bounds, IsOwed, Latest, Place, behind, latest, moment_at, AreDue, IsDue, Rules, Survivor, then_place}
-use Rattle.session_history.proofs.Due.{behind_all}
+use Rattle.session_history.proofs.Paths.{served_same}
+use Rattle.session_history.proofs.Due.{behind_all, EachDue, each_due}
 
 -- what is owed stays owed where more items were taken
 pub owed_later : (bounds : Bounds) (hold : ℕ) (place : Place) (low high : ℕ) (send : Send) → low ≤ high → IsOwed bounds hold (moment_at place low) send → IsOwed bounds hold (moment_at place high) send
@@ -36,7 +37,10 @@ latest_stands (entry.Took (event.Closes conn) ∷ entries) last is = last_here (
 latest_stands (entry.Took event.Settles ∷ entries) last is = last_here event.Settles entries (latest entries) last (λ l h. latest_stands entries l h) is
 
 -- one of some entries that are due
+due_among : (rules : Rules) (items : List Item) (survivor : Survivor) (place : Place) (front : List Entry) (e : Entry) (back : List Entry) → EachDue rules items survivor place (front ++ e ∷ back) → IsDue rules items survivor (behind_all place front) e
+due_among rules items survivor place [] e back are = subst (λ since. IsDue rules items survivor (record place { since = since }) e) (sym (append-nil place.since)) are.0
+due_among rules items survivor place (first ∷ front) e back are =
+    subst (λ since. IsDue rules items survivor (record place { since = since }) e) (append_assoc place.since (first ∷ []) front) (due_among rules items survivor (then_place place first) front e back are.1)
+
 pub due_at : (rules : Rules) (items : List Item) (survivor : Survivor) (place : Place) (front : List Entry) (e : Entry) (back : List Entry) → AreDue rules items survivor place (front ++ e ∷ back) → IsDue rules items survivor (behind_all place front) e
-due_at rules items survivor place [] e back are = subst (λ since. IsDue rules items survivor (record place { since = since }) e) (sym (append-nil place.since)) are.0
-due_at rules items survivor place (first ∷ front) e back are =
-    subst (λ since. IsDue rules items survivor (record place { since = since }) e) (append_assoc place.since (first ∷ []) front) (due_at rules items survivor (then_place place first) front e back are.1)
+due_at rules items survivor place front e back are = due_among rules items survivor place front e back (each_due rules items survivor survivor.begun place (front ++ e ∷ back) (served_same rules.limits items survivor.plan survivor.begun) are)

@@ -15,7 +15,7 @@ in_order_then high (first ∷ pieces) piece is are =
     (between_append first.taken high pieces (piece ∷ []) are.0 (omega (arith, is, are.1), omega (arith, is), tt), are.1, in_order_then high pieces piece is are.2)
 
 -- of sends with higher numbers none is made in time
-none_until : (item low high : ℕ) (sends : List Send) → item < low → AreBetween low high sends → until item sends ≡ []
+pub none_until : (item low high : ℕ) (sends : List Send) → item < low → AreBetween low high sends → until item sends ≡ []
 none_until item low high [] h are = refl
 none_until item low high (send ∷ sends) h are =
     ap (λ (b : Bool). cond b (send ∷ until item sends) (until item sends)) (lt-leb send.taken item (omega (arith, h, are.0))) ∙ none_until item low high sends h are.2
@@ -47,7 +47,7 @@ timed_on s t grows are =
     (between_wider s.machine.taken t.machine.taken 0 t.machine.taken grows.more (omega arith) (omega arith) grows.between))
 
 -- the sends made in time of a run that went on begin with those of the run
-until_grown : (item : ℕ) (s t : State) → Grows s t → Prefix (until item s.sends) (until item t.sends)
+pub until_grown : (item : ℕ) (s t : State) → Grows s t → Prefix (until item s.sends) (until item t.sends)
 until_grown item s t grows = (until item grows.more, sym (ap (until item) grows.sends ∙ filter-append _ s.sends grows.more))
 
 pub feasible_on : (high : ℕ) (pieces : List Send) (s t : State) → Grows s t → AreInOrder high pieces → AreBetween 0 s.machine.taken s.sends → Covers pieces s → IsFeasible pieces s → IsFeasible pieces t
@@ -73,9 +73,8 @@ covers_pass pieces piece s front begins part covers conn = of (eqb piece.conn co
   where
     of : (b : Bool) → eqb piece.conn conn ≡ b → Prefix (sent_to conn (pieces ++ piece ∷ [])) (output s conn)
     of true same =
-        let is = eqb-true piece.conn conn same in
         subst (λ bytes. Prefix bytes (output s conn)) (sym (sent_to-more conn pieces piece ∙ ap (λ (b : Bool). sent_to conn pieces ++ cond b piece.bytes []) same))
-        (prefix_trans _ _ _ (subst (λ c. Prefix (sent_to c pieces ++ piece.bytes) (sent_to c front)) is part) (prefix_sent conn front s.sends begins))
+        (prefix_trans _ _ _ (subst (λ c. Prefix (sent_to c pieces ++ piece.bytes) (sent_to c front)) (eqb-true piece.conn conn same) part) (prefix_sent conn front s.sends begins))
     of false other =
         subst (λ bytes. Prefix bytes (output s conn)) (sym (sent_to-more conn pieces piece ∙ ap (λ (b : Bool). sent_to conn pieces ++ cond b piece.bytes []) other ∙ append-nil (sent_to conn pieces)))
         (covers conn)

@@ -1,13 +1,13 @@
 -- The pieces of a session that holds nothing back are the sends of its run.
 use Rattle.links.specs.declared.journal.Entry.TheVariants as entry
 use Rattle.links.specs.declared.journal.LinkEvent.TheVariants as event
-use Rattle.session_history.proofs.Terms.{Bool, List, None, Option, Some, [], ap, append-nil, append_assoc, arith, false, inl, inr, length, length-append, map, refl, subst, sym, true, ℕ, ◌++◌, ◌+◌, ◌∙◌, ◌∷◌, ◌≡◌, ◌≤◌, both_ways, append_cancel_left, map-append, none-some, same_Some, option_map, unwrap_or, Item, Prefix, Send, sent_to, Entry, LinkEvent, events_in, pieces_in, Image, prefix_sent, start, start_machine, Path, Served, origin, Bounds, heeded, items_in, received, closes, is_gone, is_open, AreBetween, AreInOrder, passed_in, IsDueBy, IsMadeDue, IsOwed, IsPassed, Latest, Moment, Place, Stands, behind, latest, moment_at, IsDue, IsDueEvent, IsDuePiece, IsWholePiece, Rules, Survivor, is_closed_by, is_closing, OpensOnce, piece_of}
+use Rattle.session_history.proofs.Terms.{Bool, List, None, Option, Some, [], ap, append-nil, append_assoc, arith, false, inl, inr, length, length-append, map, refl, subst, sym, true, ℕ, ◌++◌, ◌+◌, ◌∙◌, ◌∷◌, ◌≡◌, ◌≤◌, and_right, both_ways, append_cancel_left, map-append, nil_from_length, none-some, same_Some, option_map, unwrap_or, Item, Prefix, Send, sent_to, Entry, LinkEvent, pieces_in-append, events_in, pieces_in, sent_then, Image, prefix_sent, start, start_machine, Path, Served, origin, Bounds, heeded, items_in, received, closes, is_gone, is_open, AreBetween, AreInOrder, passed_in, IsDueBy, IsMadeDue, IsOwed, IsPassed, Latest, Moment, Place, Stands, behind, latest, moment_at, IsDue, IsDueEvent, IsDuePiece, IsWholePiece, Rules, Survivor, is_closed_by, is_closing, OpensOnce, piece_of}
 use Rattle.session_history.proofs.Heeding.{events_in-gave}
 use Rattle.session_history.proofs.Passing.{timed_on}
 use Rattle.session_history.proofs.Paths.{served_on}
 use Rattle.session_history.proofs.Connected.{IsSent, AreSent, are_sent-behind}
 use Rattle.session_history.proofs.Asked.{served_grows, sends_later}
-use Rattle.session_history.proofs.Fronts.{two_splits, between_behind, between_here, later_taken, pieces_in-append, front_bytes, sent_to-own, never_passed, gone_front, and_three, and_nothing}
+use Rattle.session_history.proofs.Fronts.{two_splits, between_behind, between_here, later_taken, front_bytes, never_passed, gone_front, and_three}
 use Rattle.session_history.proofs.Closing.{received_longer, opened_in_time, AreUnclosed, unclosed_behind, unclosed_then}
 
 -- the entries before the last event are the first ones
@@ -51,10 +51,7 @@ due_taken : (bounds : Bounds) (entries : List Entry) (at_end : Bool) (conn taken
 due_taken bounds entries at_end conn taken None is unclosed due = absurd due
 due_taken bounds entries at_end conn taken (Some last) is unclosed due =
     let front = latest_front entries last is in
-    let low = made_due_taken bounds entries at_end conn taken last.event (received bounds last.before) unclosed due in
-    let longer = received_longer bounds last.before front.0 in
-    let same = ap (received bounds) front.1 in
-    omega (arith, low, longer, same)
+    omega (arith, made_due_taken bounds entries at_end conn taken last.event (received bounds last.before) unclosed due, received_longer bounds last.before front.0, ap (received bounds) front.1)
 
 owed_taken : (bounds : Bounds) (hold : ℕ) (entries : List Entry) (at_end : Bool) (count : ℕ) (send : Send) → closes send.conn (heeded bounds (events_in entries)) ≡ false → count ≤ received bounds entries → (at_end ≡ true → send.taken ≤ received bounds entries) → IsOwed bounds hold (seen_at entries at_end count) send → send.taken ≤ received bounds entries
 owed_taken bounds hold entries at_end count send unclosed low all (inl (opened, inl early)) = omega (arith, early, low)
@@ -119,10 +116,9 @@ pub next_owed : (rules : Rules) (image : Image) (survivor : Survivor) (entries m
     → ((stands : Stands sends other) → stands.earlier ≡ walked.front → IsOwed rules.bounds rules.hold (seen_at entries at_end count) other → IsPassed rules.bounds entries sends other stands) → ⊥
 next_owed rules image survivor entries more at_end count sends other mid later knows walked is split early owed passed =
     let sent = (subst (AreSent (items_in rules.bounds (entries ++ more))) is (rest_sent rules image survivor entries (entries ++ more) knows walked)).0 in
-    let unclosed = (subst (AreUnclosed (heeded rules.bounds (events_in entries))) is walked.unclosed).0 in
     never_passed walked.front other (sent_to other.conn (passed_in rules.bounds entries)) (front_bytes rules.bounds entries walked.front other.conn walked.pieces) sent.some
     (passed (record { earlier = walked.front; later = mid; split = split }) refl
-    (owed (still_open rules image survivor entries more other knows sent unclosed early)))
+    (owed (still_open rules image survivor entries more other knows sent ((subst (AreUnclosed (heeded rules.bounds (events_in entries))) is walked.unclosed).0) early)))
 
 -- an event
 pub step_event : (rules : Rules) (image : Image) (survivor : Survivor) (entries : List Entry) (event : LinkEvent) (more : List Entry) (at_end : Bool) → Knows rules image survivor (entries ++ entry.Took event ∷ more)
@@ -136,7 +132,6 @@ step_event rules image survivor entries event more at_end knows due walked =
     let later = sends_later rules.limits items survivor.plan path survivor.now (received rules.bounds entries) asked.asks due.way.on in
     let from = served_on rules.limits items survivor.plan (origin image) survivor.begun path knows.begins due.way.from in
     let timed : AreBetween 0 path.state.machine.taken path.state.sends = timed_on (origin image).state path.state (served_grows rules.limits items survivor.plan (origin image) path from) tt in
-    let all_sent = rest_sent rules image survivor entries whole knows walked in
     elim (two_splits walked.front walked.rest path.state.sends later.more (sym walked.split ∙ later.sends)) [
       | inl found ↦ record {
         front = walked.front;
@@ -144,7 +139,7 @@ step_event rules image survivor entries event more at_end knows due walked =
         split = walked.split;
         pieces = pieces_in-append entries (entry.Took event ∷ []) ∙ append-nil (pieces_in entries) ∙ walked.pieces;
         unclosed =
-            unclosed_then rules.bounds entries event more survivor.now.state.machine.taken walked.rest knows.opens_once all_sent
+            unclosed_then rules.bounds entries event more survivor.now.state.machine.taken walked.rest knows.opens_once (rest_sent rules image survivor entries whole knows walked)
             (between_behind (received rules.bounds entries + 1) survivor.now.state.machine.taken found.0 walked.rest (subst (AreBetween (received rules.bounds entries + 1) survivor.now.state.machine.taken) found.2 later.between)) walked.unclosed;
       }
       | inr found ↦
@@ -154,13 +149,6 @@ step_event rules image survivor entries event more at_end knows due walked =
           (λ opened. inl (opened, inl (omega (arith, low.1, knows.holds_nothing))))
           (λ stands is owed. asked.owes_nothing found.0 stands owed))
     ]
-
-empty_list : (bytes : List ℕ) → length bytes ≡ 0 → bytes ≡ []
-empty_list [] none = refl
-empty_list (byte ∷ bytes) none = absurd (omega (arith, none))
-
-first_same : (x y : Send) (xs ys : List Send) → x ∷ xs ≡ y ∷ ys → x ≡ y
-first_same x y xs ys same = cc
 
 -- a piece: it is the next send, whole
 module _ (rules : Rules) (image : Image) (survivor : Survivor) (entries : List Entry) (conn : ℕ) (bytes : List ℕ) (more : List Entry) (at_end : Bool) (count : ℕ) (sends beyond : List Send) where
@@ -181,12 +169,11 @@ module _ (rules : Rules) (image : Image) (survivor : Survivor) (entries : List E
       let order = later_taken survivor.now.state.machine.taken walked.front other mid due.send (due.stands.later ++ beyond) (subst (AreInOrder survivor.now.state.machine.taken) every knows.ordered) in
       let split : sends ≡ walked.front ++ other ∷ (mid ++ due.send ∷ due.stands.later) =
       due.stands.split ∙ ap (λ front. front ++ due.send ∷ due.stands.later) earlier ∙ append_assoc walked.front (other ∷ mid) (due.send ∷ due.stands.later) in
-      let other_not : is_closing rules.bounds (seen_at entries at_end count) other.conn ≡ false = and_nothing (is_closed_by (latest entries) other.conn) (closes other.conn events) unclosed.0 in
-      let send_not : is_closing rules.bounds (seen_at entries at_end count) due.send.conn ≡ false = and_nothing (is_closed_by (latest entries) due.send.conn) (closes due.send.conn events) closed_not in
+      let send_not : is_closing rules.bounds (seen_at entries at_end count) due.send.conn ≡ false = and_right (is_closed_by (latest entries) due.send.conn) (closes due.send.conn events) closed_not in
       let long : length due.stands.earlier ≡ length walked.front + length (other ∷ mid) = ap length earlier ∙ length-append walked.front (other ∷ mid) in
       next_owed rules image survivor entries (entry.Gave conn bytes false ∷ more) at_end count sends other (mid ++ due.send ∷ due.stands.later) (mid ++ behind) knows walked rest split (omega (arith, order, early))
       (λ opened. owed_too rules.bounds rules.hold entries at_end count due.send other closed_not opened (omega (arith, order)) due.owed)
-      (λ stands is owed. due.in_order other stands (inr (other_not ∙ sym send_not, omega (arith, long, ap length is))) owed)
+      (λ stands is owed. due.in_order other stands (inr ((and_right (is_closed_by (latest entries) other.conn) (closes other.conn events) unclosed.0) ∙ sym send_not, omega (arith, long, ap length is))) owed)
 
   -- a send that was passed
   not_before : (walked : Walked rules.bounds entries survivor.now.state.sends) (piece : IsWholePiece rules sends (seen_at entries at_end count) conn bytes)
@@ -198,7 +185,7 @@ module _ (rules : Rules) (image : Image) (survivor : Survivor) (entries : List E
       let begins : Prefix (sent_to conn done) (sent_to conn walked.front) = prefix_sent conn done walked.front (mid, append_assoc due.stands.earlier (due.send ∷ []) mid ∙ sym front) in
       let none : length bytes ≡ 0 =
       omega (arith, ap length piece.whole, length-append (sent_to conn (passed_in rules.bounds entries)) bytes, ap length bytes_are, ap length begins.1, length-append (sent_to conn done) begins.0) in
-      due.left (sym (append-nil (sent_to conn (passed_in rules.bounds entries))) ∙ ap (λ l. sent_to conn (passed_in rules.bounds entries) ++ l) (sym (empty_list bytes none)) ∙ piece.whole)
+      due.left (sym (append-nil (sent_to conn (passed_in rules.bounds entries))) ∙ ap (λ l. sent_to conn (passed_in rules.bounds entries) ++ l) (sym (nil_from_length bytes none)) ∙ piece.whole)
 
   next_whole : (walked : Walked rules.bounds entries survivor.now.state.sends) (piece : IsWholePiece rules sends (seen_at entries at_end count) conn bytes) → survivor.now.state.sends ≡ sends ++ beyond
       → piece.due.stands.earlier ≡ walked.front → walked.rest ≡ piece.due.send ∷ (piece.due.stands.later ++ beyond) → Walked rules.bounds (entries ++ entry.Gave conn bytes false ∷ []) survivor.now.state.sends
@@ -207,7 +194,7 @@ module _ (rules : Rules) (image : Image) (survivor : Survivor) (entries : List E
       let bytes_are = front_bytes rules.bounds entries walked.front conn walked.pieces in
       let own : bytes ≡ due.send.bytes =
       append_cancel_left (sent_to conn walked.front) bytes due.send.bytes
-      (ap (λ front. front ++ bytes) (sym bytes_are) ∙ piece.whole ∙ sent_to-own due.stands.earlier due.send conn due.to ∙ ap (λ front. sent_to conn front ++ due.send.bytes) earlier) in
+      (ap (λ front. front ++ bytes) (sym bytes_are) ∙ piece.whole ∙ sent_then conn due.stands.earlier due.send due.to ∙ ap (λ front. sent_to conn front ++ due.send.bytes) earlier) in
       let same : record { conn = conn; bytes = bytes; gone = false } ≡ piece_of due.send = ap (λ c. record { conn = c; bytes = bytes; gone = false }) (sym due.to) ∙ ap (λ b. record { conn = due.send.conn; bytes = b; gone = false }) own in
       let events : events_in entries ≡ events_in (entries ++ entry.Gave conn bytes false ∷ []) = sym (events_in-gave entries conn bytes false) in
       record {
@@ -242,6 +229,6 @@ module _ (rules : Rules) (image : Image) (survivor : Survivor) (entries : List E
             (λ earlier rest. next_whole walked piece grown earlier rest)
             (λ other mid earlier rest. not_between knows walked due low grown all other mid earlier rest)
         | inr found ↦
-            let here : due.send ≡ found.0 = first_same due.send found.0 (due.stands.later ++ beyond) (found.1 ++ walked.rest) found.3 in
+            let here : due.send ≡ found.0 = cc in
             absurd (not_before walked piece found.1 (found.2 ∙ ap (λ send. due.stands.earlier ++ send ∷ found.1) (sym here)))
       ]

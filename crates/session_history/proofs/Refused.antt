@@ -1,28 +1,19 @@
 -- An event that is heeded isn't refused.
 use Rattle.links.specs.declared.journal.Entry.TheVariants as entry
 use Rattle.links.specs.declared.journal.LinkEvent.TheVariants as event
-use Rattle.session_history.proofs.Terms.{List, Option, Some, [], ap, arith, inl, inr, length, length-append, refl, subst, sym, take, ◌++◌, ◌∙◌, ◌∷◌, ◌≡◌, take-append_seam, is_none, Entry, LinkEvent, Ends, events_in, AreHeeded, Bounds, Unheeded, heeded, refusal, IsLastRefused}
-use Rattle.session_history.proofs.Heeding.{events_in-append, refused_unheeded}
+use Rattle.session_history.proofs.Terms.{List, Option, Some, [], ap, arith, inl, inr, length, length-append, refl, subst, sym, ◌++◌, ◌∙◌, ◌∷◌, ◌≡◌, same_from_push, is_none, Entry, LinkEvent, Ends, events_in-append, events_in, AreHeeded, Bounds, Unheeded, heeded, refusal, IsLastRefused}
+use Rattle.session_history.proofs.Heeding.{refused_unheeded}
 use Rattle.session_history.proofs.Heeded.{heeded_front, heeded_then}
-
--- of two lists with one more element each that are one, the lists before are one, and so are the elements
-pub same_before : {X : Type 0} (xs ys : List X) (x y : X) → xs ++ x ∷ [] ≡ ys ++ y ∷ [] → xs ≡ ys
-same_before xs ys x y same =
-    let count : length xs ≡ length ys = omega (arith, ap length same, length-append xs (x ∷ []), length-append ys (y ∷ [])) in
-    sym (take-append_seam xs (x ∷ [])) ∙ ap (take (length xs)) same ∙ ap (λ n. take n (ys ++ y ∷ [])) count ∙ take-append_seam ys (y ∷ [])
 
 -- an event that is heeded isn't refused
 last_unrefused : (bounds : Bounds) (events : List LinkEvent) (last : LinkEvent) (cause : Unheeded) → heeded bounds (events ++ last ∷ []) ≡ events ++ last ∷ [] → refusal bounds events last ≡ Some cause → ⊥
 last_unrefused bounds events last cause all refused =
     let front = heeded_front bounds [] events in
-    let short = ap length front.1 in
-    let parts = length-append (heeded bounds events) front.0 in
     let longer = length-append events (last ∷ []) in
     elim (heeded_then bounds [] events last) [
-      | inl same ↦ absurd (omega (arith, short, parts, longer, ap length (sym same ∙ all)))
+      | inl same ↦ absurd (omega (arith, ap length front.1, length-append (heeded bounds events) front.0, longer, ap length (sym same ∙ all)))
       | inr grown ↦
-          let before : heeded bounds events ≡ events = same_before (heeded bounds events) events last last (sym grown ∙ all) in
-          let unheeded = refused_unheeded bounds events last before (ap (λ (r : Option Unheeded). is_none r) refused) in
+          let unheeded = refused_unheeded bounds events last ((same_from_push (heeded bounds events) events last last (sym grown ∙ all)).0) (ap (λ (r : Option Unheeded). is_none r) refused) in
           absurd (omega (arith, longer, ap length (sym unheeded ∙ all)))
     ]
 

@@ -1,6 +1,8 @@
 -- The walk over a session's entries, up to its end: what is sent is passed.
 use Rattle.links.specs.declared.journal.Entry.TheVariants as entry
-use Rattle.session_history.proofs.Terms.{Bool, List, Option, [], ap, append-nil, append_assoc, arith, false, inl, inr, length, map, refl, subst, sym, true, ◌++◌, ◌∙◌, ◌∷◌, ◌≡◌, ◌≤◌, both_ways, is_some, Item, Send, Entry, Grew, events_in, pieces_in, items_of, Image, Answer, start, start_machine, origin, heeded, heeded_behind, items_in, received, AreBetween, OwesNothing, AreDue, IsDue, IsWholePiece, Rules, Survivor, Session, journal_of, PassesAtOnce, SentIsPassed, ServedIsPassed, piece_of}
+use Rattle.session_history.proofs.Terms.{Bool, List, Option, [], ap, append-nil, append_assoc, arith, false, inl, inr, length, map, refl, subst, sym, true, ◌++◌, ◌∙◌, ◌∷◌, ◌≡◌, ◌≤◌, both_ways, is_some, Item, Send, Entry, Grew, events_in, pieces_in, items_of, Image, start, start_machine, origin, SessionEnd, heeded, heeded_behind, items_in, received, AreBetween, OwesNothing, IsDue, Rules, Survivor, Session, journal_of, PassesAtOnce, SentIsPassed, ServedIsPassed, piece_of}
+use Rattle.session_history.proofs.Paths.{served_same}
+use Rattle.session_history.proofs.Due.{EachDue, due_ran, each_due}
 use Rattle.session_history.proofs.Ended.{at_its_end}
 use Rattle.session_history.proofs.Endings.{events_in-given}
 use Rattle.session_history.proofs.Passing.{timed_on}
@@ -19,13 +21,12 @@ step rules image survivor entries (entry.Gave conn bytes true) more at_end knows
     absurd (both_ways _ (knows.none_gone conn) (gone_here conn bytes entries more))
 step rules image survivor entries (entry.Gave conn bytes false) more at_end knows all due walked =
     let grows = served_grows rules.limits (items_in rules.bounds (entries ++ entry.Gave conn bytes false ∷ more)) survivor.plan due.way.path survivor.now due.way.on in
-    let piece : IsWholePiece rules due.way.path.state.sends (seen_at entries at_end due.way.path.state.machine.taken) conn bytes = due.due in
-    step_whole rules image survivor entries conn bytes more at_end due.way.path.state.machine.taken due.way.path.state.sends grows.more knows walked piece due.early grows.sends all
+    step_whole rules image survivor entries conn bytes more at_end due.way.path.state.machine.taken due.way.path.state.sends grows.more knows walked due.due due.early grows.sends all
 
 -- some entries, one after another
 walk : (rules : Rules) (image : Image) (survivor : Survivor) (whole entries todo more : List Entry) (at_end : Bool) → Knows rules image survivor whole → whole ≡ entries ++ (todo ++ more)
     → (at_end ≡ true → received rules.bounds whole ≤ received rules.bounds entries)
-    → AreDue rules (items_in rules.bounds whole) survivor (place_behind entries at_end) todo → Walked rules.bounds entries survivor.now.state.sends → Walked rules.bounds (entries ++ todo) survivor.now.state.sends
+    → EachDue rules (items_in rules.bounds whole) survivor (place_behind entries at_end) todo → Walked rules.bounds entries survivor.now.state.sends → Walked rules.bounds (entries ++ todo) survivor.now.state.sends
 walk rules image survivor whole entries [] more at_end knows is all due walked = subst (λ es. Walked rules.bounds es survivor.now.state.sends) (sym (append-nil entries)) walked
 walk rules image survivor whole entries (e ∷ todo) more at_end knows is all due walked =
     let next : Walked rules.bounds (entries ++ e ∷ []) survivor.now.state.sends =
@@ -71,18 +72,21 @@ none_left rules image survivor entries knows walked owes (other ∷ rest) is =
     (λ stands at_front owed. owes other stands owed))
 
 -- a session of one survivor, of which no piece was broken off
-alone_passed : (rules : Rules) (image : Image) (survivor : Survivor) (since : List Entry) (came : Option Answer) (ending : List Entry) → PassesAtOnce rules image (record { earlier = []; survivor = survivor; since = since; came = came; ending = ending; broken = [] })
+alone_passed : (rules : Rules) (image : Image) (survivor : Survivor) (since : List Entry) (came : Option SessionEnd) (ending : List Entry) → PassesAtOnce rules image (record { earlier = []; survivor = survivor; since = since; came = came; ending = ending; broken = [] })
     → pieces_in (since ++ (ending ++ [])) ≡ map piece_of survivor.now.state.sends
 alone_passed rules image survivor since came ending has =
     let session : Session = record { earlier = []; survivor = survivor; since = since; came = came; ending = ending; broken = [] } in
     let whole : List Entry = since ++ (ending ++ []) in
+    let items : List Item = items_in rules.bounds whole in
     let knows : Knows rules image survivor whole = knows_all rules image session has in
     let first : Walked rules.bounds since survivor.now.state.sends =
-    walk rules image survivor whole [] since (ending ++ []) false knows refl (λ never. absurd (cc)) has.account.since (walked_nothing rules survivor) in
+    walk rules image survivor whole [] since (ending ++ []) false knows refl (λ never. absurd (cc))
+    (each_due rules items survivor survivor.begun (place_behind [] false) since (served_same rules.limits items survivor.plan survivor.begun) has.account.since) (walked_nothing rules survivor) in
     let same : events_in whole ≡ events_in since = ap (λ es. events_in (since ++ es)) (append-nil ending) ∙ events_in-given since ending has.given in
     let count : received rules.bounds whole ≡ received rules.bounds since = ap (λ es. length (items_of rules.bounds.framing (heeded rules.bounds es))) same in
     let walked : Walked rules.bounds (since ++ ending) survivor.now.state.sends =
-    walk rules image survivor whole since ending [] (is_some came) knows refl (λ ended. omega (arith, count)) has.account.ending first in
+    walk rules image survivor whole since ending [] (is_some came) knows refl (λ ended. omega (arith, count))
+    (each_due rules items survivor survivor.now (place_behind since (is_some came)) ending (due_ran rules items survivor (place_behind [] false) since has.account.since) has.account.ending) first in
     let none : survivor.now.state.sends ≡ walked.front =
     none_left rules image survivor (since ++ ending) (subst (Knows rules image survivor) (sym (append_assoc since ending [])) knows) walked has.owes_nothing walked.rest refl in
     ap (λ es. pieces_in (since ++ es)) (append-nil ending) ∙ walked.pieces ∙ ap (map piece_of) (sym none)
@@ -95,8 +99,8 @@ sent_is_passed rules image session has =
     ∙ alone_passed rules image session.survivor session.since session.came session.ending (subst (PassesAtOnce rules image) same has)
 
 pub served_is_passed : ServedIsPassed
-served_is_passed rules image began seen session end is shows at_end first holds_nothing none_gone opens_once =
-    let ends = at_its_end rules session end at_end is.ends in
+served_is_passed rules image began seen session end is shows first holds_nothing none_gone opens_once =
+    let ends = at_its_end rules session end is.ends in
     let passed = sent_is_passed rules image session (record {
       account = is.account;
       first = first;

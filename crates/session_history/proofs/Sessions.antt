@@ -1,29 +1,30 @@
 -- One lemma for each event of a session: what it makes of the account.
 use Rattle.links.specs.declared.journal.Entry.TheVariants as entry
-use Rattle.session_history.proofs.Terms.{Bool, List, Option, [], ap, append-nil, append_assoc, false, refl, subst, sym, true, ℕ, ◌++◌, ◌∙◌, ◌∷◌, ◌≡◌, ◌≤◌, Item, Entry, LinkEvent, Image, Answer, start, start_machine, Override, Path, Served, origin, items_in, received, Covers, IsFeasible, passed_in, Place, moment_at, AreDue, AreLawful, Chapter, IsDue, IsDuePiece, IsWholePiece, LeavesNothing, Rules, Survivor, entries_of, place_of, IsAccount, Carries, Serving, first_survivor, gone_on, moment_of}
+use Rattle.session_history.proofs.Terms.{Bool, List, Option, [], ap, append-nil, append_assoc, false, refl, subst, sym, true, ℕ, ◌++◌, ◌∙◌, ◌∷◌, ◌≡◌, ◌≤◌, is_some, Item, Entry, LinkEvent, Image, start, start_machine, Override, Path, Served, origin, SessionEnd, items_in, received, Covers, IsFeasible, passed_in, Moment, AreDue, AreLawful, Chapter, IsDueAt, IsDueEvent, IsDuePiece, IsPrompt, IsWholePiece, LeavesNothing, Rules, Survivor, entries_of, from_there, gone_on, place_of, IsAccount, Carries, Serving, first_survivor, moment_of}
 use Rattle.session_history.proofs.Passing.{timed_on}
-use Rattle.session_history.proofs.Accounts.{Went, went, carries_none, carries_on, carries_event, carries_piece, carries_run}
-use Rattle.session_history.proofs.Paths.{served_same, served_on, served_with}
+use Rattle.session_history.proofs.Accounts.{went, carries_none, carries_on, carries_event, carries_piece, carries_run}
+use Rattle.session_history.proofs.Paths.{served_same, served_with}
+use Rattle.session_history.proofs.Prompt.{prompt_none}
 use Rattle.session_history.proofs.Heeding.{items_in-gave}
-use Rattle.session_history.proofs.Due.{due_with, are_due_on, are_due_with, are_due_then, are_lawful_with}
+use Rattle.session_history.proofs.Due.{are_due_on, are_due_with, are_due_then, are_lawful_with}
 
 pub serving_first : (rules : Rules) (image : Image) → Serving rules image [] (first_survivor image) []
-serving_first rules image = record { carries = carries_none rules image []; begins = served_same rules.limits (items_in rules.bounds []) [] (origin image); before = tt; due = tt }
+serving_first rules image = record { carries = carries_none rules image []; begins = served_same rules.limits (items_in rules.bounds []) [] (origin image); before = tt; due = prompt_none rules (items_in rules.bounds []) (first_survivor image) (place_of [] [] false) }
 
--- the survivor goes on, to any run that took received items alone
+-- the survivor goes on where it owes nothing, to any run that took received items alone
 pub serving_on : (rules : Rules) (image : Image) (earlier : List Chapter) (survivor : Survivor) (since : List Entry) (to : Path) → Serving rules image earlier survivor since
-    → Served rules.limits (items_in rules.bounds (entries_of earlier ++ since)) survivor.plan survivor.now to → to.state.machine.taken ≤ received rules.bounds (entries_of earlier ++ since)
+    → IsPrompt rules (items_in rules.bounds (entries_of earlier ++ since)) (gone_on (from_there survivor survivor.now) to) (place_of earlier since false) → to.state.machine.taken ≤ received rules.bounds (entries_of earlier ++ since)
     → Serving rules image earlier (gone_on survivor to) since
 serving_on rules image earlier survivor since to serving on taken = record {
-  carries = carries_on rules image (entries_of earlier ++ since) survivor.plan survivor.now to serving.carries on taken;
+  carries = carries_on rules image (entries_of earlier ++ since) survivor.plan survivor.now to serving.carries on.ran taken;
   begins = serving.begins;
   before = serving.before;
   due = are_due_on rules (items_in rules.bounds (entries_of earlier ++ since)) survivor to (place_of earlier [] false) since on serving.due;
 }
 
--- an event that is due is taken: with the items that it brings, or none where it is refused
+-- an event that is due where the survivor stands is taken: with the items that it brings, or none where it is refused
 pub serving_event : (rules : Rules) (image : Image) (earlier : List Chapter) (survivor : Survivor) (since : List Entry) (event : LinkEvent) (more : List Item) → Serving rules image earlier survivor since
-    → IsDue rules (items_in rules.bounds (entries_of earlier ++ since)) survivor (place_of earlier since false) (entry.Took event)
+    → IsDueEvent rules survivor.plan survivor.now (moment_of earlier since survivor.now.state.machine.taken)
     → items_in rules.bounds ((entries_of earlier ++ since) ++ entry.Took event ∷ []) ≡ items_in rules.bounds (entries_of earlier ++ since) ++ more
     → Serving rules image earlier survivor (since ++ entry.Took event ∷ [])
 serving_event rules image earlier survivor since event more serving due brings =
@@ -38,18 +39,16 @@ serving_event rules image earlier survivor since event more serving due brings =
       due =
           subst (λ its. AreDue rules its survivor (place_of earlier [] false) (since ++ entry.Took event ∷ [])) grown
           (are_due_then rules (items ++ more) survivor (place_of earlier [] false) since (entry.Took event) (are_due_with rules items more survivor (place_of earlier [] false) since serving.due)
-          (due_with rules items more survivor (place_of earlier since false) (entry.Took event) due));
+          (record { early = serving.carries.taken; due = due }));
     }
 
 -- a piece that is due is passed, whole, or in part to a connection that is gone
-pub piece_due : (rules : Rules) (items : List Item) (survivor : Survivor) (place : Place) (conn : ℕ) (bytes : List ℕ) (gone : Bool) (due : IsDue rules items survivor place (entry.Gave conn bytes gone))
-    → IsDuePiece rules due.way.path.state.sends (moment_at place due.way.path.state.machine.taken) conn bytes
-piece_due rules items survivor place conn bytes true due = due.due
-piece_due rules items survivor place conn bytes false due =
-    let whole : IsWholePiece rules due.way.path.state.sends (moment_at place due.way.path.state.machine.taken) conn bytes = due.due in whole.due
+pub piece_due : (rules : Rules) (plan : List Override) (path : Path) (moment : Moment) (conn : ℕ) (bytes : List ℕ) (gone : Bool) → IsDueAt rules plan path moment (entry.Gave conn bytes gone) → IsDuePiece rules path.state.sends moment conn bytes
+piece_due rules plan path moment conn bytes true due = due
+piece_due rules plan path moment conn bytes false due = let whole : IsWholePiece rules path.state.sends moment conn bytes = due in whole.due
 
 pub serving_piece : (rules : Rules) (image : Image) (earlier : List Chapter) (survivor : Survivor) (since : List Entry) (conn : ℕ) (bytes : List ℕ) (gone : Bool) → Serving rules image earlier survivor since
-    → IsDue rules (items_in rules.bounds (entries_of earlier ++ since)) survivor (place_of earlier since false) (entry.Gave conn bytes gone)
+    → IsDueAt rules survivor.plan survivor.now (moment_of earlier since survivor.now.state.machine.taken) (entry.Gave conn bytes gone)
     → Serving rules image earlier survivor (since ++ entry.Gave conn bytes gone ∷ [])
 serving_piece rules image earlier survivor since conn bytes gone serving due =
     let entries : List Entry = entries_of earlier ++ since in
@@ -59,17 +58,17 @@ serving_piece rules image earlier survivor since conn bytes gone serving due =
     record {
       carries =
           subst (λ es. Carries rules image es survivor.plan survivor.now) same
-          (carries_piece rules image (moment_of earlier since due.way.path.state.machine.taken) conn bytes gone survivor.plan due.way.path survivor.now serving.carries
-          (served_on rules.limits items survivor.plan (origin image) survivor.begun due.way.path serving.begins due.way.from) due.way.on (piece_due rules items survivor (place_of earlier since false) conn bytes gone due));
+          (carries_piece rules image (moment_of earlier since survivor.now.state.machine.taken) conn bytes gone survivor.plan survivor.now serving.carries
+          (piece_due rules survivor.plan survivor.now (moment_of earlier since survivor.now.state.machine.taken) conn bytes gone due));
       begins = subst (λ its. Served rules.limits its survivor.plan (origin image) survivor.begun) kept serving.begins;
       before = subst (λ its. AreLawful rules its [] earlier) kept serving.before;
       due =
           subst (λ its. AreDue rules its survivor (place_of earlier [] false) (since ++ entry.Gave conn bytes gone ∷ [])) kept
-          (are_due_then rules items survivor (place_of earlier [] false) since (entry.Gave conn bytes gone) serving.due due);
+          (are_due_then rules items survivor (place_of earlier [] false) since (entry.Gave conn bytes gone) serving.due (record { early = serving.carries.taken; due = due }));
     }
 
 -- a session that serves has an account
-pub serving_account : (rules : Rules) (image : Image) (earlier : List Chapter) (survivor : Survivor) (since : List Entry) (came : Option Answer) → Serving rules image earlier survivor since
+pub serving_account : (rules : Rules) (image : Image) (earlier : List Chapter) (survivor : Survivor) (since : List Entry) (came : Option SessionEnd) → Serving rules image earlier survivor since
     → IsAccount rules image (record { earlier = earlier; survivor = survivor; since = since; came = came; ending = []; broken = [] })
 serving_account rules image earlier survivor since came serving =
     let entries : List Entry = entries_of earlier ++ since in
@@ -85,12 +84,12 @@ serving_account rules image earlier survivor since came serving =
       feasible = carries.feasible;
       earlier = subst (λ its. AreLawful rules its [] earlier) items serving.before;
       since = subst (λ its. AreDue rules its survivor (place_of earlier [] false) since) items serving.due;
-      ending = tt;
+      ending = prompt_none rules (items_in rules.bounds (entries_of earlier ++ (since ++ []))) survivor (place_of earlier since (is_some came));
       broken = tt;
     }
 
 -- the entries of some chapters, and of one more
-entries_of-then : (chapters : List Chapter) (chapter : Chapter) → entries_of (chapters ++ chapter ∷ []) ≡ entries_of chapters ++ chapter.entries
+pub entries_of-then : (chapters : List Chapter) (chapter : Chapter) → entries_of (chapters ++ chapter ∷ []) ≡ entries_of chapters ++ chapter.entries
 entries_of-then [] chapter = append-nil chapter.entries
 entries_of-then (first ∷ chapters) chapter = ap (λ es. first.entries ++ es) (entries_of-then chapters chapter) ∙ sym (append_assoc first.entries (entries_of chapters) chapter.entries)
 
@@ -123,18 +122,17 @@ serving_adopts rules image earlier survivor since plan to serving leaves ran tak
     let items : List Item = items_in rules.bounds entries in
     let chapter : Chapter = record { survivor = survivor; entries = since } in
     let same : entries ≡ entries_of (earlier ++ chapter ∷ []) ++ [] = sym (entries_of-then earlier chapter) ∙ sym (append-nil (entries_of (earlier ++ chapter ∷ []))) in
-    let grown : Went items (origin image) to = went rules.limits items plan (origin image) to refl ran in
     let carries : Carries rules image entries plan to = record {
       served = ran;
       taken = taken;
       covers = covers;
       feasible = feasible;
       ordered = serving.carries.ordered;
-      timed = timed_on (origin image).state to.state grown.grows tt;
+      timed = timed_on (origin image).state to.state (went rules.limits items plan (origin image) to refl ran).grows tt;
     } in
     record {
       carries = subst (λ es. Carries rules image es plan to) same carries;
       begins = subst (λ es. Served rules.limits (items_in rules.bounds es) plan (origin image) to) same ran;
       before = subst (λ es. AreLawful rules (items_in rules.bounds es) [] (earlier ++ chapter ∷ [])) same (are_lawful_then rules items [] earlier chapter serving.before serving.due leaves);
-      due = tt;
+      due = prompt_none rules (items_in rules.bounds (entries_of (earlier ++ chapter ∷ []) ++ [])) (record { plan = plan; begun = to; now = to }) (place_of (earlier ++ chapter ∷ []) [] false);
     }

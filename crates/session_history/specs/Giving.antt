@@ -1,9 +1,9 @@
 -- Pieces that a session gives one after another, each when it is due.
-use Rattle.std.specs.Prelude.{◌≡◌, ℕ, ◌≤◌, List, [], ◌∷◌, ◌++◌, true, false, None, Some, Result, Ok, Err}
+use Rattle.std.specs.Prelude.{◌≢◌, ◌≡◌, ℕ, ◌≤◌, List, [], ◌∷◌, ◌++◌, true, false, None, Some, Result, Ok, Err}
 use Rattle.links.specs.declared.journal.Entry.TheVariants as entry
 use Rattle.links.specs.declared.journal.LinkEvent.TheVariants as event
 use Rattle.reply_ledger.specs.Parts.{next_part, rest_part}
-use Rattle.session_history.specs.Terms.{Prefix, Send, sent_to, Entry, Tells, Told, events_in, Ledger}
+use Rattle.session_history.specs.Terms.{Prefix, Send, sent_to, Entry, Tells, TellsHanded, Told, cut_entries, events_in, Seen, Ledger}
 use Rattle.session_history.specs.Heeding.{heeded}
 use Rattle.session_history.specs.Opened.{closes, is_open, is_gone}
 use Rattle.session_history.specs.Passing.{passed_in}
@@ -26,6 +26,17 @@ AreDuePieces rules sends moment (entry.Gave conn bytes false ∷ entries) =
 AreDuePieces rules sends moment (entry.Gave conn bytes true ∷ entries) =
     IsDuePiece rules sends moment conn bytes × AreDuePieces rules sends (then_entry moment (entry.Gave conn bytes true)) entries
 AreDuePieces rules sends moment (entry.Took event ∷ entries) = ⊥
+
+-- A link that gives no more was handed all that was left of one send that was due, if it tells that; and some first bytes of it went out,
+-- perhaps none, perhaps all.
+pub record HasHanded (rules : Rules) (sends : List Send) (moment : Moment) (broken : List Entry) (seen : Seen) : Type 0 where
+  pub conn : ℕ
+  pub bytes : List ℕ
+  pub whole : IsWholePiece rules sends moment conn bytes
+  pub front : List ℕ
+  pub first : Prefix front bytes
+  pub broken_is : broken ≡ cut_entries conn front
+  pub handed : TellsHanded seen.told seen.handed conn bytes
 
 -- a moment with more entries behind it
 abbrev pub then_entries : Moment → List Entry → Moment
@@ -64,19 +75,20 @@ pub record IsClosing (rules : Rules) (sends : List Send) (moment : Moment) (conn
 
 module _ {E : Type 0} where
   -- What was passed, by the answer: pieces that were due, up to where nothing is left; or, after a fault, some of them, and perhaps
-  -- a first part of one more.
-  abbrev pub PassesBy : Rules → List Send → Moment → (List Entry → Type 0) → Told → Told → Result (Unit {0}) E → Type 0
-  PassesBy rules sends moment IsDone old new (Ok done) = (more : List Entry) × AreDuePieces rules sends moment more × Tells old new more × IsDone more
+  -- a first part of one more, which the link was handed whole.
+  abbrev pub PassesBy : Rules → List Send → Moment → (List Entry → Type 0) → Told → Seen → Result (Unit {0}) E → Type 0
+  PassesBy rules sends moment IsDone old new (Ok done) = (more : List Entry) × AreDuePieces rules sends moment more × Tells old new.told more × IsDone more
   PassesBy rules sends moment IsDone old new (Err fault) =
-      (more : List Entry) × (broken : List Entry) × AreDuePieces rules sends moment more × IsBroken rules sends (then_entries moment more) broken × Tells old new (more ++ broken)
+      (more : List Entry) × (broken : List Entry) × AreDuePieces rules sends moment more × IsBroken rules sends (then_entries moment more) broken × Tells old new.told (more ++ broken)
+      × (new.gives ≡ false → HasHanded rules sends (then_entries moment more) broken new) × (broken ≢ [] → new.gives ≡ false)
 
   -- all that was sent with so many items taken, or fewer, was passed
-  abbrev pub Passes : Rules → List Send → Moment → ℕ → Ledger → Told → Told → Result (Unit {0}) E → Type 0
+  abbrev pub Passes : Rules → List Send → Moment → ℕ → Ledger → Told → Seen → Result (Unit {0}) E → Type 0
   Passes rules sends moment until ledger old new result =
       PassesBy rules sends moment (λ more. KeepsReplies rules.bounds (journal moment ++ more) None sends ledger × (next_part ledger until ≡ None)) old new result
 
   -- all that was sent to a closing connection was passed, or it is gone
-  abbrev pub PassesRest : Rules → List Send → Moment → ℕ → Ledger → Told → Told → Result (Unit {0}) E → Type 0
+  abbrev pub PassesRest : Rules → List Send → Moment → ℕ → Ledger → Told → Seen → Result (Unit {0}) E → Type 0
   PassesRest rules sends moment conn ledger old new result =
       PassesBy rules sends moment
       (λ more. KeepsReplies rules.bounds (journal moment ++ more) (Some conn) sends ledger × (is_gone conn (journal moment ++ more) ≡ false → rest_part ledger conn ≡ None)) old new result

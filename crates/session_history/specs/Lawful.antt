@@ -1,6 +1,6 @@
 -- The journal of a session is lawful where each reply comes when it is owed, and no event comes before it is asked for. It is
 -- told in chapters, one for each survivor: a chapter has the entries of its survivor's time.
-use Rattle.std.specs.Prelude.{◌≡◌, ◌≢◌, ℕ, ◌<◌, ◌≤◌, List, [], ◌∷◌, ◌++◌, length, Bool, true, false, Option, None, Some, ◌⊎◌, ◌==◌, ◌&&◌}
+use Rattle.std.specs.Prelude.{◌≡◌, ◌≢◌, ℕ, ◌+◌, ◌<◌, ◌≤◌, List, [], ◌∷◌, ◌++◌, length, Bool, true, false, Option, None, Some, ◌⊎◌, ◌==◌, ◌&&◌}
 use Rattle.links.specs.declared.journal.Entry.TheVariants as entry
 use Rattle.links.specs.declared.journal.LinkEvent.TheVariants as event
 use Rattle.session_history.specs.Terms.{Item, Prefix, Send, sent_to, Entry, LinkEvent, events_in, AsksFor, Limits, Override, Path, Served}
@@ -94,10 +94,29 @@ then_entry moment entry = record moment { since = moment.since ++ entry ∷ [] }
 abbrev pub then_place : Place → Entry → Place
 then_place place entry = record place { since = place.since ++ entry ∷ [] }
 
--- each of some entries is due at its place
+-- the survivor up to where it stood then, and from there on
+abbrev pub gone_on : Survivor → Path → Survivor
+gone_on survivor path = record survivor { now = path }
+
+abbrev pub from_there : Survivor → Path → Survivor
+from_there survivor path = record survivor { begun = path }
+
+-- how many moves a run has made: items that it took, and sends
+abbrev pub moves : Path → ℕ
+moves path = path.state.machine.taken + length path.state.sends
+
+-- A survivor went from where it began to where it stands now, and owed nothing at this place wherever it stood on the way with fewer moves made: so
+-- it made no move while it owed something there.
+pub record IsPrompt (rules : Rules) (items : List Item) (survivor : Survivor) (place : Place) : Type 0 where
+  pub ran : Served rules.limits items survivor.plan survivor.begun survivor.now
+  pub owed_nothing : (way : OnTheWay rules items survivor) → moves way.path < moves survivor.now → OwesNothing rules.bounds rules.hold (moment_at place way.path.state.machine.taken) way.path.state.sends
+
+-- Each of some entries is due at its place, where the survivor stood no earlier than at the one before. From where it began to the first
+-- one, from one to the next, and from the last to where it stands now it made no move while it owed something.
 abbrev pub AreDue : Rules → List Item → Survivor → Place → List Entry → Type 0
-AreDue rules items survivor place [] = Unit {0}
-AreDue rules items survivor place (entry ∷ entries) = IsDue rules items survivor place entry × AreDue rules items survivor (then_place place entry) entries
+AreDue rules items survivor place [] = IsPrompt rules items survivor place
+AreDue rules items survivor place (entry ∷ entries) =
+    (due : IsDue rules items survivor place entry) × IsPrompt rules items (gone_on survivor due.way.path) place × AreDue rules items (from_there survivor due.way.path) (then_place place entry) entries
 
 -- a survivor and the entries of its time
 pub record Chapter : Type 0 where

@@ -4,11 +4,7 @@ use Rattle.session_history.specs.Terms.{Entry, Image, Override, Path, Served, or
 use Rattle.session_history.specs.Heeding.{items_in, received}
 use Rattle.session_history.specs.Passing.{passed_in, Covers, IsFeasible, AreBetween, AreInOrder}
 use Rattle.session_history.specs.Owing.{Moment, moment_at}
-use Rattle.session_history.specs.Lawful.{Rules, Survivor, AreDue, AreLawful, Chapter, entries_of, place_of}
-
--- the survivor went on to here
-abbrev pub gone_on : Survivor → Path → Survivor
-gone_on survivor path = record survivor { now = path }
+use Rattle.session_history.specs.Lawful.{Rules, Survivor, AreDue, AreLawful, Chapter, entries_of, from_there, place_of}
 
 -- What holds of a journal and the survivor behind it: it is a run on the items received, which emits what was passed.
 pub record Carries (rules : Rules) (image : Image) (entries : List Entry) (plan : List Override) (now : Path) : Type 0 where
@@ -38,10 +34,10 @@ first_survivor image = record { plan = []; begun = origin image; now = origin im
 abbrev pub ending_at : List Chapter → List Entry → Bool → ℕ → Moment
 ending_at earlier since at_end taken = moment_at (place_of earlier since at_end) taken
 
--- a session that may have come to its end, with the pieces that were passed there
+-- a session that may have come to its end, with the pieces that were passed there, where its survivor stands
 pub record Ending (rules : Rules) (image : Image) (earlier : List Chapter) (survivor : Survivor) (since ending : List Entry) (at_end : Bool) : Type 0 where
   pub carries : Carries rules image (entries_of earlier ++ (since ++ ending)) survivor.plan survivor.now
   pub begins : Served rules.limits (items_in rules.bounds (entries_of earlier ++ (since ++ ending))) survivor.plan (origin image) survivor.begun
   pub before : AreLawful rules (items_in rules.bounds (entries_of earlier ++ (since ++ ending))) [] earlier
   pub due : AreDue rules (items_in rules.bounds (entries_of earlier ++ (since ++ ending))) survivor (place_of earlier [] false) since
-  pub last : AreDue rules (items_in rules.bounds (entries_of earlier ++ (since ++ ending))) survivor (place_of earlier since at_end) ending
+  pub last : AreDue rules (items_in rules.bounds (entries_of earlier ++ (since ++ ending))) (from_there survivor survivor.now) (place_of earlier since at_end) ending

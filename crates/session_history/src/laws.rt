@@ -16,17 +16,17 @@ pub fn session_begins()
     ensures { SessionBegins }
 {}
 
-/// It serves on while its survivor goes on.
+/// It serves on while its survivor goes on, and makes no move where it owes something.
 pub fn survivor_goes_on()
     ensures { SurvivorGoesOn }
 {}
 
-/// And when an event is taken that is due.
+/// And when an event is taken that is due where its survivor stands.
 pub fn event_is_taken()
     ensures { EventIsTaken }
 {}
 
-/// And when a piece is passed that is due.
+/// And when a piece is passed that is due there.
 pub fn piece_is_passed()
     ensures { PieceIsPassed }
 {}

@@ -1,7 +1,7 @@
 //! What a session is between a link and a guest, as definitions: the events that it heeds, what it owes to each connection
 //! and when, and one account of the whole.
 //!
-//! The crate has no code but laws, each the contract of a function that does nothing.
+//! The crate has no code but why a session stops, and laws, each the contract of a function that does nothing.
 //! An account is one record: the run, what each connection was passed, and the lawful journal.
 //! A session may serve on with another survivor, if that emits what was passed, and in time.
 //! How one is found isn't said here: `trials` says it.
@@ -12,4 +12,7 @@
 #![tactic(auto)]
 
 pub mod account_laws;
+mod ends;
 pub mod laws;
+
+pub use ends::{SessionBreak, SessionEnd, Stop};

@@ -6,7 +6,7 @@
 //! Notes may tell what was noted or not, as a sink may. Notes that are lent are notes too.
 //! The trait doesn't say which answers and episodes it is given.
 //! That they are those of the session, `serve` of `rx_engine` says.
-//! `NoteList` and `NoNotes` always work. No program uses them: a session of `rx` notes into two files, by `file_notes`.
+//! `NoteList` and `NoNotes` don't tell what a failed call was handed. No program uses them: a session of `rx` notes into two files, by `file_notes`.
 #![tactic(auto)]
 
 mod episode;

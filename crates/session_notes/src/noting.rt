@@ -8,8 +8,8 @@ use rx_io::IoFault;
 
 /// What a session notes while it serves: its answers of malloc and its episodes, two lists that grow at their ends.
 pub trait Notes {
-    /// What they show of themselves: the answers of malloc and the episodes noted so far, if they tell them; how often a call has failed; whether
-    /// they work.
+    /// What they show of themselves: the answers of malloc and the episodes noted so far, and what the first call that failed was handed, if they
+    /// tell them; how often a call has failed.
     ghost shown: { Self → Shown };
 
     /// What of it no call changes.

@@ -1,16 +1,17 @@
 -- The words and lemmas that this crate's proofs are written in: those of crates below, and its own words.
-pub use Rattle.std.proofs.Common.{Bool, Err, List, None, Ok, Option, Result, Some, [], ap, append-nil, append_assoc, arith, cond, drop, eqb, false, if◌then◌else◌, inl, inr, length, length-append, length-drop, ltb, map, max, min, not, refl, subst, suc, sym, take, true, zero, ℕ, ◌*◌, ◌++◌, ◌+◌, ◌-◌, ◌/◌, ◌<◌, ◌^◌, ◌∙◌, ◌∷◌, ◌≡◌, ◌≤◌, ◌⊎◌}
-pub use Rattle.std.proofs.lemmas.Bool.{cases_lt, eq-eqb, eqb-true, ltb-false, true≢false}
-pub use Rattle.std.proofs.lemmas.List.{get_or-replicate, get_or-set_other, get_or_past, length-replicate, map-append}
+pub use Rattle.std.proofs.Common.{Bool, Err, List, None, Ok, Option, Result, Some, [], ap, append-nil, append_assoc, arith, cond, drop, eqb, false, inl, inr, length, length-append, length-drop, ltb, map, max, min, not, refl, rules, subst, suc, sym, take, true, zero, ℕ, ◌*◌, ◌++◌, ◌+◌, ◌-◌, ◌/◌, ◌<◌, ◌^◌, ◌∙◌, ◌∷◌, ◌≡◌, ◌≤◌, ◌⊎◌}
+pub use Rattle.std.proofs.Math.Seq.{drop-length, take-add, take-length}
+pub use Rattle.std.proofs.lemmas.Bool.{and_parts, cases_lt, eq-eqb, eqb-true, true≢false}
+pub use Rattle.std.proofs.lemmas.List.{drop-append-le, drop-drop, get_or-replicate, get_or-set_other, get_or_past, length-replicate, length-take-le, map-append, take-append-drop, take-append-le}
 pub use Rattle.std.proofs.lemmas.Option.{none-some, same_Some}
-pub use Rattle.std.specs.Prelude.{IfOk, IfSome, IsErrOf, IsSome, is_none, is_some, nat_le, nat_lt, option_map, replicate, slice_get, slice_set, sum, unwrap_or, ◌&&◌, ◌==◌, ◌||◌, ◌≢◌}
+pub use Rattle.std.specs.Prelude.{IfOk, IfSome, IsErrOf, IsSome, is_some, option_map, replicate, slice_get, slice_set, sum, unwrap_or, ◌&&◌, ◌==◌, ◌||◌, ◌≢◌}
 pub use Rattle.rx_io.proofs.Composing.{rose_later}
+pub use Rattle.links.proofs.Growing.{grew_more, grew_nothing, tells_nothing, tells_then}
 pub use Rattle.guest_runs.proofs.RunLemmas.{runs_serve, runs_start, runs_write}
 pub use Rattle.guest_runs.proofs.TakeLemmas.{asks_wants, takes_write}
 pub use Rattle.session_history.proofs.Endings.{broken_account, ending_account, ending_none, ending_piece, events_in-given}
-pub use Rattle.session_history.proofs.Heeding.{events_in-append, items_in-gave, passed_in-took}
 pub use Rattle.session_history.proofs.Paths.{served_on, served_same, served_with}
-pub use Rattle.session_history.proofs.Sessions.{serving_account, serving_adopts, serving_event, serving_first, serving_on, serving_piece}
+pub use Rattle.session_history.proofs.Sessions.{entries_of-then, serving_account, serving_adopts, serving_event, serving_first, serving_on, serving_piece}
 pub use Rattle.link_gate.proofs.MomentLemmas.{closes-gave, due_by, due_not_gone, is_closing-gave, is_open-same, journal-then, latest-gave, not_gone, open_not_closed, owed_open, passed_then}
 pub use Rattle.link_gate.proofs.Refusing.{IsEvent, events_behind, events_ended, heard_behind, heeded_without}
 pub use Rattle.link_gate.proofs.ReplyLemmas.{closed_keeps, fronts_stay, no_rest, nothing_waits, sent_keeps}
@@ -22,12 +23,13 @@ pub use Rattle.recovery.proofs.Forces.{in_force_later, in_force_none}
 pub use Rattle.recovery.proofs.ForgetLemmas.{HasOldest, after_oldest, can_forget, has_oldest, oldest_of, oldest_used}
 pub use Rattle.recovery.proofs.Handled.{handled_adopts, handled_first, handled_near, handled_on, handled_save, has_ring, near_handles, stands_up_to}
 pub use Rattle.recovery.proofs.RingLemmas.{ring_beside, ring_fails, ring_more, ring_on}
-pub use Rattle.session_state.specs.Terms.{Adopted, AllocError, Answer, AreBehind, AreBetween, AreChained, AreDuePieces, AreFronts, AreGiven, AreHeeded, AreInOrder, AreRecovered, AreSendable, AreStampedBy, AsksFor, Bounds, Brings, CanGive, CanGoOn, Cause, Chapter, Checkpoints, Choice, Comes, ComesLast, ComesOn, Coming, Connection, Counts, CpuState, Ending, EndsBy, Entry, Env, Episode, EpisodeShows, Event, Fails, FailsBy, Failure, Framing, GoesOn, Grant, Grew, HasAdoptedRun, HasAnswerCause, HasEnded, HasHandled, HasPassCause, HasRecovery, HasToRecover, HaveRings, Heap, HearFault, HearShows, Heard, HearsBy, Image, IoFault, IsAccount, IsBroken, IsClosing, IsDue, IsDueAt, IsDueBy, IsDuePiece, IsEnd, IsFresh, IsHeard, IsHeeded, IsInForce, IsItemOf, IsLastRefused, IsMadeDue, IsOpened, IsOwed, IsPassed, IsReady, IsRecovery, IsSendable, IsShown, IsSilent, IsUnheeded, IsWaiting, Item, Keeping, KeepsItems, KeepsPassing, KeepsPhases, KeepsReplies, KeepsRing, KeepsSlots, Latest, LeavesNothing, LeavesRun, Ledger, LimitEvents, LimitItems, Limits, LinkEvent, Live, Log, Machine, MayPass, Moment, NotBefore, Noted, Override, OwesNothing, OwesNothingAtEnd, PassFault, Passed, Passes, PassesRest, Path, Phases, Plain, Recovered, Recovery, Refuses, Rose, Rules, RunsWriting, Saved, SavesIf, Seen, Send, Served, Serving, Session, Shown, Shows, ShowsSession, Stand, Standing, Stands, StandsAt, State, Stays, Stop, Survivor, Takes, TakesBehind, TakesOn, Tells, TellsMore, TellsTable, Told, TooLong, Trial, Try, Unheeded, Wants, WasAsked, Writes, adopted_by, after, alone, before_end, behind, behind_items, brought, but_given, closed_connection, closes, closing_of, count_true, ending_at, entries_of, env_at, episode_of, events_in, first_survivor, from_newest, gone_on, guest_of, handle, hear, hear_parts, heard, heeded, is_closed_by, is_closing, is_far, is_gone, is_left, is_open, items_in, items_of, journal, journal_of, keeping_by, last_taken, latest, limits_of, listed, live_of, live_with_item, longer, marks_of, may_send, moment_of, no_replies, noted, opens, origin, passed_in, pieces_in, place_at, place_of, planned_next, received, received_before, received_range, recovery_of, refusal, ring_if, sent_to, standing_of, stands_of, steps_of, survivor_in, taken_in, taken_standing, then_entries, then_entry, with_change, with_live, with_range, with_send}
-unfoldable pub use Rattle.session_state.specs.Terms.{connection_of, does, grant, heard_from, heeded_behind, items_from, next_part, no_connections, parts_behind, rest_part, served_next, serves, settled, stamped, stamps_of, times_of, turn, unpassed, waits}
+pub use Rattle.recovery.proofs.Sending.{between_behind, times_low}
+pub use Rattle.session_state.specs.Terms.{Adopted, AllocError, Answer, AreBehind, AreBetween, AreChained, AreDuePieces, AreFronts, AreGiven, AreHeeded, AreInOrder, AreRecovered, AreSendable, AreStampedBy, AsksFor, AtBreak, AtEnd, Bounds, Brings, CanGive, CanGoOn, Cause, Chapter, Checkpoints, Choice, Comes, ComesLast, ComesOn, Coming, Connection, Counts, CpuState, Ending, EndsBy, Entry, Env, Episode, EpisodeShows, Event, Fails, FailsBy, Failure, GoesOn, Grant, Grew, HandedLast, HasAdoptedRun, HasAnswerCause, HasEnded, HasHanded, HasHandled, HasPassCause, HasRecovery, HasToRecover, HaveRings, Heap, HearFault, HearShows, Heard, HearsBy, Image, IoFault, IsAccount, IsBroken, IsClosing, IsDueBy, IsDuePiece, IsEnd, IsFresh, IsHeard, IsHeeded, IsInForce, IsItemOf, IsLastRefused, IsMadeDue, IsOpened, IsOwed, IsPassed, IsReady, IsRecovery, IsSendable, IsShown, IsSilent, IsUnheeded, IsWaiting, Item, Keeping, KeepsItems, KeepsPassing, KeepsPhases, KeepsReplies, KeepsRing, KeepsSlots, Latest, LeavesNothing, LeavesRun, Ledger, Limits, LinkEvent, Live, Log, MayPass, Moment, NotBefore, Noted, OneEpisode, Override, OwesNothing, OwesNothingAtEnd, PassFault, Passed, Passes, PassesRest, Path, Phases, Plain, Prefix, Recovered, Recovery, Refuses, Rose, Rules, RunsWriting, Saved, SavesIf, Seen, Send, Served, Serving, Session, SessionBreak, SessionEnd, Shown, Shows, ShowsSession, Stand, Standing, Stands, StandsAt, State, Stays, Stop, Survivor, Takes, TakesBehind, TakesOn, Tells, TellsMore, TellsTable, Told, Trial, Try, Unheeded, Wants, WasAsked, Writes, adopted_by, after, alone, before_end, behind, behind_items, break_answer, brought, but_given, closed_connection, closes, closing_of, count_true, ending_at, entries_of, env_at, episode_of, events_in, failed_with, first_survivor, from_newest, gone_on, guest_of, handle, hear, hear_parts, heeded, is_closed_by, is_closing, is_far, is_gone, is_left, is_open, items_in, items_of, journal, journal_of, keeping_by, latest, limits_of, listed, live_of, live_with_item, longer, marks_of, may_send, moment_of, moves, no_replies, noted, opens, origin, passed_in, place_at, place_of, planned_next, received, received_before, received_range, recovery_of, ring_if, sent_to, standing_of, stands_of, steps_of, survivor_in, taken_in, taken_standing, then_entries, then_entry, with_change, with_live, with_range, with_send}
+unfoldable pub use Rattle.session_state.specs.Terms.{connection_of, does, grant, heard_from, next_part, no_connections, parts_behind, rest_part, served_next, serves, settled, stamped, stamps_of, times_of, turn, unpassed, waits}
 pub use Rattle.session_state.specs.Options.{keeping_for, rules_of}
 pub use Rattle.session_state.specs.Sessions.{IsBegun, SessionState, env_of}
-pub use Rattle.session_state.specs.Recovered.{AreAllTables, AreLastTables, AreTables, GivesUpBy, HasGivenUp, HasNoted, HasRecovered, HasWatched, IsNoteFault, IsTable, IsTelling, Outcome, Telling, Walk, all_steps, episodes_of, last_of, spent, trials_of, walk_behind}
-pub use Rattle.session_state.specs.Leaving.{CanForgetSends, HandledAt, HandlesRequests, HasLeft, HoldsCheckpoints, IsAtRequest, IsHandled, IsRecorded, IsTrimmed, KeepsOldest, UnlessGaveUp, keeping_of}
-pub use Rattle.session_state.specs.Standing.{AnswersFor, GoesWith, HasNotedMore, HasPassed, HasPassedDue, IsAsking, IsBetween, IsBrokenOff, IsCloseDone, IsEnding, IsFailing, IsGoing, IsHearing, IsLatestBefore, IsLatestDone, IsTold, IsWaitingFor, KeepsCheckpoints, Since, Story, entries, moment, sends, then_story, told_since, unwatched}
-pub use Rattle.session_state.specs.Serving.{Adopting, AdoptsTo, BreaksAt, BreaksBy, BreaksNoting, BreaksOnce, BreaksPassing, CanPass, ComesBetween, GoesFurther, HasNoteRest, HasNoteStop, HasRun, HasSameFrame, HasSameGuest, HasSameOpen, HasStopCause, IsAdoptedLater, IsAnswerTo, IsCounted, IsFinishing, IsNoteAnswer, IsOkOrMemory, IsPassAnswer, IsStopAt, IsToldBy, IsUnnoted, LinkAnswers, LinkFinishes, LinkPasses, LinkServes, MayServe, NotesAnswer, NotesServe, PassesDue, PassesStory, StandsClosing, StandsPassing, StaysKnown, StopsBy, TakesAtEnd, TakesBy, UnlessBroken, UnlessMemory, UnlessNoteFault, UnlessNoteStop, WaitsBy, end_of, outcome_of}
+pub use Rattle.session_state.specs.Recovered.{AreAllTables, AreLastTables, AreTables, FailsAtChoices, GivesUpBy, HasGivenUp, HasNoted, HasWatched, IsHandedLast, IsNoteFault, IsTable, IsTelling, Outcome, Telling, Walk, all_steps, episodes_of, last_of, spent, trials_of, walk_behind}
+pub use Rattle.session_state.specs.Leaving.{CanForgetSends, HandledAt, HandlesRequests, HasLeft, HoldsCheckpoints, IsAtRequest, IsHandled, IsReadFault, IsRecorded, IsTrimmed, KeepsOldest, UnlessGaveUp, keeping_of}
+pub use Rattle.session_state.specs.Standing.{AnswersFor, GoesWith, HasMissed, HasNotedMore, HasPassed, HasPassedDue, IsAsking, IsBetween, IsBrokenOff, IsCloseDone, IsEnding, IsFailing, IsGoing, IsHearing, IsLatestBefore, IsLatestDone, IsTold, IsWaitingFor, KeepsCheckpoints, Since, Story, entries, moment, sends, then_story, told_since, unwatched}
+pub use Rattle.session_state.specs.Serving.{Adopting, AdoptsTo, BreaksAt, BreaksBy, BreaksNoting, BreaksOnce, BreaksPassing, CanPass, ComesBetween, GoesFurther, HasNoteRest, HasNoteStop, HasRun, HasSameFrame, HasSameGuest, HasSameOpen, HasServedLink, HasStopCause, IsAdoptedLater, IsAnswerTo, IsCounted, IsFinishing, IsNoteAnswer, IsOkOrMemory, IsPassAnswer, IsStopAt, IsToldBy, IsUnnoted, LinkAnswers, LinkFinishes, LinkPasses, LinkServes, MayServe, NotesAnswer, NotesServe, PassesDue, PassesStory, StandsClosing, StandsPassing, StaysKnown, StopsBy, TakesAtEnd, TakesBy, UnlessBroken, UnlessMemory, UnlessNoteFault, UnlessNoteStop, WaitsBy, end_of, outcome_of}
 pub use Rattle.session_state.specs.Recording.{KeepsNotes, NotesUpTo}

@@ -1,6 +1,5 @@
 pub mod StoryLemmas
 pub mod HeldLemmas
 pub mod CheckpointLemmas
-pub mod TellLemmas
 pub mod NeedLemmas
 pub mod FrameLemmas

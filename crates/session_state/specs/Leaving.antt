@@ -1,38 +1,47 @@
 -- What a session leaves: the checkpoints of the run that it answers for, and what a trial from them would need.
 use Rattle.std.specs.Prelude.{◌≡◌, ◌⊎◌, false, [], ℕ, ◌+◌, ◌-◌, ◌<◌, ◌≤◌, List, length, None, Some, IfSome, option_map, slice_get}
-use Rattle.run_history.specs.declared.answer.Answer.TheVariants as answer
-use Rattle.session_state.specs.Terms.{Entry, from_newest, Image, Answer, AsksFor, Path, standing_of, IsEnd, before_end, items_in, Chapter, Rules, Survivor, AreChained, AreCheckpoints, Recovery, HasHandled, Keeping, Stand, is_far, keeping_by, stands_of}
+use Rattle.session_history.specs.declared.ends.SessionBreak.TheVariants as session_break
+use Rattle.session_history.specs.declared.ends.SessionEnd.TheVariants as session_end
+use Rattle.session_history.specs.declared.ends.Stop.TheVariants as stop
+use Rattle.session_state.specs.Terms.{Entry, from_newest, Image, AsksFor, Path, standing_of, SessionBreak, SessionEnd, Stop, AtBreak, AtEnd, before_end, items_in, Chapter, Rules, Survivor, AreChained, AreCheckpoints, Recovery, HasHandled, Keeping, Stand, is_far, keeping_by, stands_of}
 use Rattle.session_state.specs.Sessions.{SessionState}
 use Rattle.session_state.specs.Recovered.{Telling}
 
 -- an end but that at which no trial survived
-abbrev pub UnlessGaveUp : Answer → Type 0 → Type 0
-UnlessGaveUp (answer.GaveUp point cause) P = Unit {0}
+abbrev pub UnlessGaveUp : SessionEnd → Type 0 → Type 0
+UnlessGaveUp (session_end.GaveUp point cause) P = Unit {0}
 UnlessGaveUp end P = P
 
--- an answer at which the program waits for an item
-abbrev pub IsAtRequest : Answer → Type 0
-IsAtRequest answer.Finished = Unit {0}
-IsAtRequest (answer.InputRefused kind offset) = Unit {0}
-IsAtRequest (answer.MessageTooLong conn) = Unit {0}
-IsAtRequest answer.LimitItems = Unit {0}
-IsAtRequest answer.LimitEvents = Unit {0}
-IsAtRequest answer.ReadFault = Unit {0}
-IsAtRequest _ = ⊥
+-- an end at which the program waits for an item
+abbrev pub IsAtRequest : SessionEnd → Type 0
+IsAtRequest session_end.Finished = Unit {0}
+IsAtRequest (session_end.Exited code) = ⊥
+IsAtRequest (session_end.GaveUp point cause) = ⊥
+IsAtRequest (session_end.InputRefused kind offset) = Unit {0}
+IsAtRequest (session_end.MessageTooLong conn) = Unit {0}
+IsAtRequest session_end.LimitItems = Unit {0}
+IsAtRequest session_end.LimitEvents = Unit {0}
 
--- What holds before the last request was handled, or behind it: at an answer at which the program waits, it was; where it ended or failed, it made
--- none; and at a fault of writing either may be.
-abbrev pub HandledAt : Answer → Type 0 → Type 0 → Type 0
-HandledAt (answer.Exited code) before behind = before
-HandledAt (answer.GaveUp point cause) before behind = before
-HandledAt answer.WriteFault before behind = before ⊎ behind
-HandledAt end before behind = behind
+-- what broke a session off where the program waits for an item
+abbrev pub IsReadFault : SessionBreak → Type 0
+IsReadFault session_break.ReadFault = Unit {0}
+IsReadFault session_break.WriteFault = ⊥
+IsReadFault session_break.FileFault = ⊥
+IsReadFault session_break.Memory = ⊥
 
 -- Beside the last survivor its requests so far were handled. Or it stands at its request, and that was handled too, so that no checkpoint is due.
 abbrev pub HandlesRequests : Rules → Image → Keeping → List Chapter → List Entry → List Recovery → Survivor → List Stand → Type 0
 HandlesRequests rules image keeping chapters entries recoveries survivor stands =
     HasHandled rules image keeping chapters entries recoveries survivor survivor.now.state.machine.taken stands
     ⊎ (AsksFor rules.limits [] survivor.now survivor.now.state.machine.taken × HasHandled rules image keeping chapters entries recoveries survivor (survivor.now.state.machine.taken + 1) stands × (is_far keeping.every survivor.now.state.machine.taken (from_newest stands 0) ≡ false))
+
+-- Which requests were handled beside the last survivor: where the program waits, those so far and that at which it stands; where it
+-- ended or failed, those so far, since it makes none there; and at a fault of writing either is so, the second only where it stands at a request.
+abbrev pub HandledAt : Stop → Rules → Image → Keeping → List Chapter → List Entry → List Recovery → Survivor → List Stand → Type 0
+HandledAt (stop.Ends (session_end.Exited code)) rules image keeping chapters entries recoveries survivor stands = HasHandled rules image keeping chapters entries recoveries survivor survivor.now.state.machine.taken stands
+HandledAt (stop.Ends (session_end.GaveUp point cause)) rules image keeping chapters entries recoveries survivor stands = HasHandled rules image keeping chapters entries recoveries survivor survivor.now.state.machine.taken stands
+HandledAt (stop.Breaks session_break.WriteFault) rules image keeping chapters entries recoveries survivor stands = HandlesRequests rules image keeping chapters entries recoveries survivor stands
+HandledAt why rules image keeping chapters entries recoveries survivor stands = HasHandled rules image keeping chapters entries recoveries survivor (survivor.now.state.machine.taken + 1) stands
 
 module _ {R : Type 0} where
   -- how a session keeps its checkpoints
@@ -82,13 +91,12 @@ module _ {R : Type 0} where
   -- What a session leaves at an end or at a fault of its link, by its telling: the checkpoints of the survivor's run. The items from before the
   -- oldest one were given up, and no others. At an end so were the sends; and the guest stands where the survivor does, unless none survived.
   -- At a fault as many answers of malloc are recorded as the oldest one had used. Those checkpoints stand that the requests so far left.
-  pub record HasLeft (rules : Rules) (image : Image) (telling : Telling) (session : SessionState R) (end : Answer) : Type 0 where
+  pub record HasLeft (rules : Rules) (image : Image) (telling : Telling) (session : SessionState R) (why : Stop) : Type 0 where
     pub holds : HoldsCheckpoints rules image telling.account.earlier (before_end telling.account) telling.recoveries telling.account.survivor session
     pub oldest : Path
     pub oldest_is : slice_get holds.paths (length holds.paths - 1) ≡ Some oldest
     pub items : session.log.first ≡ oldest.state.machine.taken
-    pub sends : IsEnd end → session.replies.first ≡ length oldest.state.sends
-    pub stands : IsEnd end → UnlessGaveUp end (session.cpu.slots.live ≡ standing_of telling.account.survivor.now)
-    pub recorded : (IsEnd end → ⊥) → session.recorded ≡ length oldest.choices
-    pub requests : HandledAt end (HasHandled rules image (keeping_of session) telling.account.earlier (before_end telling.account) telling.recoveries telling.account.survivor telling.account.survivor.now.state.machine.taken (stands_of session.cpu.slots.saved))
-        (HasHandled rules image (keeping_of session) telling.account.earlier (before_end telling.account) telling.recoveries telling.account.survivor (telling.account.survivor.now.state.machine.taken + 1) (stands_of session.cpu.slots.saved))
+    pub sends : AtEnd why (λ end. session.replies.first ≡ length oldest.state.sends)
+    pub stands : AtEnd why (λ end. UnlessGaveUp end (session.cpu.slots.live ≡ standing_of telling.account.survivor.now))
+    pub recorded : AtBreak why (λ fault. session.recorded ≡ length oldest.choices)
+    pub requests : HandledAt why rules image (keeping_of session) telling.account.earlier (before_end telling.account) telling.recoveries telling.account.survivor (stands_of session.cpu.slots.saved)

@@ -1,7 +1,9 @@
 -- One telling of a session that recovered its program, as data, and what holds of it.
-use Rattle.std.specs.Prelude.{◌≡◌, ◌≢◌, ℕ, ◌+◌, ◌-◌, ◌<◌, ◌≤◌, List, [], ◌∷◌, ◌++◌, length, map, sum, take, drop, Option, None, Some, IfSome, option_map, MatchOption}
-use Rattle.run_history.specs.declared.answer.Answer.TheVariants as answer
-use Rattle.session_state.specs.Terms.{Entry, Coming, Grew, Seen, Choice, Image, Answer, Cause, Path, Session, HasNoEnding, IsEnd, IsEnded, ShowsSession, items_in, Chapter, LeavesNothing, Rules, Survivor, entries_of, passed_in, first_survivor, Episode, Try, Noted, AreRecovered, IsRecovery, Recovery, episode_of, point_of, Trial, survivor_in, HasHandled, HasRing, HaveRings, Keeping, Stand, steps_of, IsWholeTable, TellsMore}
+use Rattle.std.specs.Prelude.{◌≡◌, ◌≢◌, ℕ, ◌+◌, ◌-◌, ◌<◌, ◌≤◌, List, [], ◌∷◌, ◌++◌, length, map, sum, take, drop, Option, None, Some, IfSome, option_map, MatchOption, ◌⊎◌}
+use Rattle.session_history.specs.declared.ends.SessionBreak.TheVariants as session_break
+use Rattle.session_history.specs.declared.ends.SessionEnd.TheVariants as session_end
+use Rattle.session_history.specs.declared.ends.Stop.TheVariants as stop
+use Rattle.session_state.specs.Terms.{Prefix, Entry, Coming, Grew, Seen, Choice, Image, Cause, Path, SessionBreak, SessionEnd, Stop, Session, AtBreak, AtEnd, HandedLast, HasNoEnding, IsEnded, ShowsSession, items_in, Chapter, LeavesNothing, Rules, Survivor, entries_of, passed_in, first_survivor, Episode, Try, Noted, OneEpisode, SomeChoices, Unnoted, failed_with, AreRecovered, IsRecovery, Recovery, episode_of, point_of, Trial, survivor_in, HasHandled, HasRing, HaveRings, Keeping, Stand, steps_of, IsWholeTable, TellsMore}
 
 -- A session so far, as data: the chapters of earlier survivors, with the recovery behind each, the survivor, and the entries of its time.
 pub record Story : Type 0 where
@@ -67,48 +69,71 @@ pub record HasGivenUp (rules : Rules) (image : Image) (keeping : Keeping) (story
   pub owes_nothing : LeavesNothing rules (entries_of story.earlier) story.since story.survivor
 
 -- at GaveUp there was a walk, behind a failure by that cause
-abbrev pub GivesUpBy : Option Walk → Answer → Type 0
-GivesUpBy walk (answer.GaveUp point cause) = option_map (λ one. one.cause) walk ≡ Some cause
+abbrev pub GivesUpBy : Option Walk → SessionEnd → Type 0
+GivesUpBy walk (session_end.GaveUp point cause) = option_map (λ one. one.cause) walk ≡ Some cause
 GivesUpBy walk _ = Unit {0}
 
 -- What holds of a telling at an answer: its account, whose first survivor stood at the start, and each later one is the trial that was adopted
 -- behind a failure, from the checkpoints that the requests before it had left; a walk behind the last one, where none survived; and it gives up
 -- only behind such a walk, whatever it answers then.
-pub record IsTelling (rules : Rules) (image : Image) (keeping : Keeping) (coming : Option Coming) (telling : Telling) (end : Answer) : Type 0 where
-  pub ended : IsEnded rules image coming telling.account end
+pub record IsTelling (rules : Rules) (image : Image) (keeping : Keeping) (coming : Option Coming) (telling : Telling) (why : Stop) : Type 0 where
+  pub ended : IsEnded rules image coming telling.account why
   pub recovered : AreRecovered rules image [] (first_survivor image) telling.account.earlier telling.recoveries telling.account.survivor
   pub ringed : HaveRings rules image keeping telling.account.earlier telling.recoveries
   pub walked : IfSome telling.walk (HasGivenUp rules image keeping (story_of telling))
   pub gave_up : IfSome telling.account.came (GivesUpBy telling.walk)
 
--- an answer behind which the notes of a session may lack its last episode
-abbrev pub IsNoteFault : Answer → Type 0
-IsNoteFault answer.FileFault = Unit {0}
-IsNoteFault answer.Memory = Unit {0}
-IsNoteFault _ = ⊥
+-- behind a fault of its notes, or want of memory, the notes of a session may lack its last episode
+abbrev pub IsNoteFault : SessionBreak → Type 0
+IsNoteFault session_break.ReadFault = ⊥
+IsNoteFault session_break.WriteFault = ⊥
+IsNoteFault session_break.FileFault = Unit {0}
+IsNoteFault session_break.Memory = Unit {0}
+
+abbrev pub IsNoteStop : Stop → Type 0
+IsNoteStop (stop.Ends end) = ⊥
+IsNoteStop (stop.Breaks fault) = IsNoteFault fault
+
+-- a call of notes failed that was handed some of these answers of malloc, the first ones
+pub record FailsAtChoices (old new : Option Unnoted) (choices : List Choice) : Type 0 where
+  pub list : List Choice
+  pub first : Prefix list choices
+  pub some : 0 < length list
+  pub handed : new ≡ failed_with old (SomeChoices list)
+
+-- a call of notes failed that was handed an episode, the only one that is missing
+pub record FailsAtEpisode (old new : Option Unnoted) (missing : List Episode) : Type 0 where
+  pub episode : Episode
+  pub only : missing ≡ episode ∷ []
+  pub handed : new ≡ failed_with old (OneEpisode episode)
+
+-- What a session's notes were handed last: no call of them failed, and no episode is missing; or one failed, which broke the session off. It was
+-- handed some first ones of the tail, and no episode is missing; or the missing episode.
+abbrev pub IsHandedLast : Option Unnoted → Option Unnoted → Stop → List Choice → List Episode → Type 0
+IsHandedLast old new why tail missing =
+    ((new ≡ old) × (missing ≡ [])) ⊎ (IsNoteStop why × ((FailsAtChoices old new tail × (missing ≡ [])) ⊎ FailsAtEpisode old new missing))
 
 -- What a session has noted, by what its notes told when it began, and tell now. Of the run's answers of malloc the first ones are recorded, and
 -- the others are its tail; at an end all are recorded. And each episode is noted, but perhaps the last one, where noting failed.
-pub record HasNoted (before now : Noted) (end : Answer) (choices : List Choice) (episodes : List Episode) (recorded : ℕ) (tail : List Choice) : Type 0 where
+pub record HasNoted (before now : Noted) (why : Stop) (choices : List Choice) (episodes : List Episode) (recorded : ℕ) (tail : List Choice) : Type 0 where
   pub low : recorded ≤ length choices
   pub tail_is : tail ≡ drop recorded choices
-  pub all_recorded : IsEnd end → tail ≡ []
+  pub all_recorded : AtEnd why (λ end. tail ≡ [])
   pub choices_noted : Grew before.choices now.choices (take recorded choices)
   pub told : List Episode
   pub missing : List Episode
   pub all_told : told ++ missing ≡ episodes
-  pub few_missing : length missing ≤ 1
-  pub none_missing : 0 < length missing → IsNoteFault end
+  pub handed : IsHandedLast before.unnoted now.unnoted why tail missing
   pub episodes_noted : Grew before.episodes now.episodes told
 
 -- Nothing came or went behind the last episode of a session: it came to no end; and behind a last recovery, unless a walk follows it, no entry stands.
 abbrev pub HasNothingBehind : Telling → Type 0
 HasNothingBehind telling = HasNoEnding telling.account × MatchOption telling.walk (telling.account.since ≡ []) (λ walk. Unit {0})
 
--- What a session leaves as numbers: its answer; of its run's answers of malloc how many are recorded, and the others; the items that the run took,
+-- What a session leaves as numbers: why it stopped; of its run's answers of malloc how many are recorded, and the others; the items that the run took,
 -- and its instructions.
 pub record Outcome : Type 0 where
-  pub end : Answer
+  pub stop : Stop
   pub recorded : ℕ
   pub tail : List Choice
   pub taken : ℕ
@@ -117,18 +142,19 @@ pub record Outcome : Type 0 where
 -- The outcome of a session, by one telling of it. Its notes tell of its answers of malloc and of each recovery; where they lack an episode, nothing
 -- came or went behind it. So many instructions were counted: those of the survivors, and those of all trials.
 pub record IsOutcome (rules : Rules) (image : Image) (keeping : Keeping) (coming : Option Coming) (telling : Telling) (outcome : Outcome) (noted_before noted_now : Noted) (counted : ℕ) : Type 0 where
-  pub is : IsTelling rules image keeping coming telling outcome.end
-  pub notes : HasNoted noted_before noted_now outcome.end telling.account.survivor.now.choices (episodes_of (story_of telling) telling.walk) outcome.recorded outcome.tail
+  pub is : IsTelling rules image keeping coming telling outcome.stop
+  pub notes : HasNoted noted_before noted_now outcome.stop telling.account.survivor.now.choices (episodes_of (story_of telling) telling.walk) outcome.recorded outcome.tail
   pub unnoted : 0 < length notes.missing → HasNothingBehind telling
   pub taken_is : telling.account.survivor.now.state.machine.taken ≡ outcome.taken
   pub steps_are : telling.account.survivor.now.steps ≡ outcome.steps
-  pub all_counted : outcome.end ≢ answer.Memory → counted ≡ all_steps (story_of telling) telling.walk
+  pub all_counted : outcome.stop ≢ stop.Breaks session_break.Memory → counted ≡ all_steps (story_of telling) telling.walk
 
 -- A session has served a link: one telling of it, which has its outcome, and which its link shows.
 pub record HasRecovered (rules : Rules) (image : Image) (keeping : Keeping) (began seen : Seen) (outcome : Outcome) (noted_before noted_now : Noted) (counted : ℕ) : Type 0 where
   pub telling : Telling
   pub is : IsOutcome rules image keeping seen.coming telling outcome noted_before noted_now counted
   pub shows : ShowsSession rules began seen telling.account
+  pub handed : AtBreak outcome.stop (HandedLast rules telling.account seen)
 
 -- a whole table is that of a recovery, behind all entries that the journal had at the failure
 abbrev pub IsTable : Rules → List Entry → Recovery → List Try → Type 0
@@ -142,19 +168,19 @@ AreTables rules before (chapter ∷ chapters) (recovery ∷ recoveries) (tries �
 AreTables rules before _ _ _ = ⊥
 
 -- Tables behind those. Behind a walk there is one, that of its checkpoints. Else there is none; but where memory ran out one may stand there.
-abbrev pub AreLastTables : Rules → Story → Option Walk → Answer → List (List Try) → Type 0
-AreLastTables rules story None end tables = (length tables ≤ 1) × (end ≢ answer.Memory → tables ≡ [])
-AreLastTables rules story (Some walk) end tables = (tries : List Try) × (tables ≡ tries ∷ []) × IsTable rules (entries story) (walk_behind story.survivor walk) tries
+abbrev pub AreLastTables : Rules → Story → Option Walk → Stop → List (List Try) → Type 0
+AreLastTables rules story None why tables = (length tables ≤ 1) × (why ≢ stop.Breaks session_break.Memory → tables ≡ [])
+AreLastTables rules story (Some walk) why tables = (tries : List Try) × (tables ≡ tries ∷ []) × IsTable rules (entries story) (walk_behind story.survivor walk) tries
 
 -- All tables that a watch tells of a session: those of its recoveries, and those behind the last survivor.
-pub record AreAllTables (rules : Rules) (story : Story) (walk : Option Walk) (end : Answer) (tables : List (List Try)) : Type 0 where
+pub record AreAllTables (rules : Rules) (story : Story) (walk : Option Walk) (why : Stop) (tables : List (List Try)) : Type 0 where
   pub each : List (List Try)
   pub behind : List (List Try)
   pub all : tables ≡ each ++ behind
   pub each_right : AreTables rules [] story.earlier story.recoveries each
-  pub behind_right : AreLastTables rules story walk end behind
+  pub behind_right : AreLastTables rules story walk why behind
 
 -- A session that was watched has served, and its watch, where it tells its tables, has told those of its recoveries more.
 pub record HasWatched (rules : Rules) (image : Image) (keeping : Keeping) (began seen : Seen) (outcome : Outcome) (noted_before noted_now : Noted) (counted : ℕ) (tables_before tables : Option (List (List Try))) : Type 0 where
   pub recovered : HasRecovered rules image keeping began seen outcome noted_before noted_now counted
-  pub watched : TellsMore tables_before tables (AreAllTables rules (story_of recovered.telling) recovered.telling.walk outcome.end)
+  pub watched : TellsMore tables_before tables (AreAllTables rules (story_of recovered.telling) recovered.telling.walk outcome.stop)

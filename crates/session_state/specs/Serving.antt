@@ -3,133 +3,133 @@ use Rattle.std.specs.Prelude.{◌≡◌, ◌≢◌, ◌⊎◌, ℕ, ◌+◌, ◌
 use Rattle.rx_io.specs.declared.fault.IoFault.TheVariants as note
 use Rattle.item_log.specs.Log as logs
 use Rattle.reply_ledger.specs.Ledger.{is_open}
-use Rattle.run_history.specs.declared.answer.Answer.TheVariants as answer
+use Rattle.session_history.specs.declared.ends.SessionBreak.TheVariants as session_break
+use Rattle.session_history.specs.declared.ends.SessionEnd.TheVariants as session_end
+use Rattle.session_history.specs.declared.ends.Stop.TheVariants as stop
 use Rattle.guest_cpu.specs.declared.event.Event.TheVariants as step
 pub use Rattle.session_history.specs.Ends.{TakesAtEnd, StaysKnown}
 use Rattle.link_gate.specs.declared.pass_fault.PassFault.TheVariants as fault
 use Rattle.link_gate.specs.declared.heard.HearFault.TheVariants as hear
-use Rattle.session_state.specs.Terms.{AllocError, IoFault, Rose, Send, Entry, Coming, Counts, Grew, Seen, but_given, Heap, IsOpened, Ledger, next_part, Image, Answer, Cause, Event, live_of, with_live, RunsWriting, HasAnswerCause, IsEnd, WasAsked, AreGiven, IsClosing, Bounds, items_in, received, KeepsReplies, Rules, AreInOrder, passed_in, HearFault, PassFault, CanGive, Try, Noted, Shown, Recovered, Adopted, Stop}
-use Rattle.session_state.specs.declared.stop.Stop.TheVariants as stop
+use Rattle.session_state.specs.Terms.{AllocError, IoFault, Rose, Send, Entry, Coming, Counts, Grew, Seen, but_given, Heap, IsOpened, Ledger, next_part, Image, Answer, Cause, Event, live_of, with_live, RunsWriting, SessionBreak, SessionEnd, Stop, HasAnswerCause, AtBreak, AtEnd, WasAsked, answer_of, AreGiven, IsClosing, Bounds, items_in, received, KeepsReplies, Rules, AreInOrder, passed_in, HearFault, PassFault, CanGive, Try, Noted, Shown, Recovered, Adopted}
 use Rattle.session_state.specs.Sessions.{SessionState, IsBegun}
-use Rattle.session_state.specs.Recovered.{Outcome, IsNoteFault}
-use Rattle.session_state.specs.Leaving.{keeping_of, IsHandled, IsRecorded, IsTrimmed, KeepsOldest, HoldsCheckpoints}
-use Rattle.session_state.specs.Options.{rules_of}
-use Rattle.session_state.specs.Standing.{Since, Story, entries, moment, sends, then_story, IsTold, AnswersFor, HasPassed, HasPassedDue, IsGoing, IsBetween, IsAsking, IsWaitingFor, IsFailing, IsEnding, IsBrokenOff, HasNotedMore}
+use Rattle.session_state.specs.Recovered.{Outcome, IsNoteFault, HasWatched, FailsAtChoices}
+use Rattle.session_state.specs.Leaving.{keeping_of, IsHandled, IsRecorded, IsTrimmed, KeepsOldest, HoldsCheckpoints, HasLeft}
+use Rattle.session_state.specs.Options.{rules_of, keeping_for}
+use Rattle.session_state.specs.Standing.{Since, Story, entries, moment, sends, then_story, IsTold, AnswersFor, HasPassed, HasPassedDue, IsGoing, IsBetween, IsAsking, IsWaitingFor, IsFailing, IsEnding, IsBrokenOff, HasNotedMore, HasMissed}
 
--- a fault of passing is this answer
-abbrev pub IsAnswerTo : PassFault → Answer → Type 0
-IsAnswerTo fault.WriteFault end = end ≡ answer.WriteFault
-IsAnswerTo fault.Memory end = end ≡ answer.Memory
+-- a fault of passing breaks a session off so
+abbrev pub IsAnswerTo : PassFault → SessionBreak → Type 0
+IsAnswerTo fault.WriteFault why = why ≡ session_break.WriteFault
+IsAnswerTo fault.Memory why = why ≡ session_break.Memory
 
 -- an answer of malloc was noted, or memory ran out
 abbrev pub IsOkOrMemory : Result (Unit {0}) Stop → Type 0
 IsOkOrMemory (Ok done) = Unit {0}
-IsOkOrMemory (Err why) = why ≡ stop.Breaks answer.Memory
+IsOkOrMemory (Err why) = why ≡ stop.Breaks session_break.Memory
 
--- a fault of notes is this answer
-abbrev pub IsNoteAnswer : IoFault → Answer → Type 0
-IsNoteAnswer note.Failed end = end ≡ answer.FileFault
-IsNoteAnswer note.Memory end = end ≡ answer.Memory
+-- so does a fault of notes
+abbrev pub IsNoteAnswer : IoFault → SessionBreak → Type 0
+IsNoteAnswer note.Failed why = why ≡ session_break.FileFault
+IsNoteAnswer note.Memory why = why ≡ session_break.Memory
 
 -- the count of failed calls of the notes doesn't fall, and FileFault is answered only where it rose
-pub record HasNoteCause (before now : ℕ) (end : Answer) : Type 0 where
+pub record HasNoteCause (before now : ℕ) (why : Stop) : Type 0 where
   pub later : before ≤ now
-  pub file_fault : end ≡ answer.FileFault → Rose before now
+  pub file_fault : why ≡ stop.Breaks session_break.FileFault → Rose before now
 
 pub record HasNoteStop {X : Type 0} (before now : ℕ) (result : Result X Stop) : Type 0 where
   pub later : before ≤ now
-  pub file_fault : IsErrOf result (stop.Breaks answer.FileFault) → Rose before now
+  pub file_fault : IsErrOf result (stop.Breaks session_break.FileFault) → Rose before now
 
 -- the end that a recovery comes to, if it does: none survived, or the trial that did had ended itself
-abbrev pub end_of : ℕ → Cause → Option Adopted → Option Answer
-end_of point cause None = Some (answer.GaveUp point cause)
-end_of point cause (Some adopted) = option_map answer.Exited adopted.code
+abbrev pub end_of : ℕ → Cause → Option Adopted → Option SessionEnd
+end_of point cause None = Some (session_end.GaveUp point cause)
+end_of point cause (Some adopted) = option_map session_end.Exited adopted.code
 
 -- so it is where the rest of the answers of malloc was noted, or wasn't; no episode is noted
-pub record HasNoteRest (before now : Shown) (result : Result (Unit {0}) Answer) : Type 0 where
+pub record HasNoteRest (before now : Shown) (result : Result (Unit {0}) SessionBreak) : Type 0 where
   pub episodes : now.told.episodes ≡ before.told.episodes
-  pub works : IfOk result (λ _. now.works ≡ before.works)
+  pub unnoted : IfOk result (λ _. now.told.unnoted ≡ before.told.unnoted)
   pub later : before.faults ≤ now.faults
-  pub file_fault : IsErrOf result answer.FileFault → Rose before.faults now.faults
+  pub file_fault : IsErrOf result session_break.FileFault → Rose before.faults now.faults
 
 -- what an event that wasn't heard means for a session
 abbrev pub IsStopAt : HearFault → Stop → Type 0
-IsStopAt (hear.Refused kind offset) why = why ≡ stop.Ends (answer.InputRefused kind offset)
-IsStopAt hear.LimitEvents why = why ≡ stop.Ends answer.LimitEvents
-IsStopAt (hear.TooLong conn) why = why ≡ stop.Ends (answer.MessageTooLong conn)
-IsStopAt hear.LimitItems why = why ≡ stop.Ends answer.LimitItems
-IsStopAt hear.ReadFault why = why ≡ stop.Breaks answer.ReadFault
-IsStopAt hear.Memory why = why ≡ stop.Breaks answer.Memory
+IsStopAt (hear.Refused kind offset) why = why ≡ stop.Ends (session_end.InputRefused kind offset)
+IsStopAt hear.LimitEvents why = why ≡ stop.Ends session_end.LimitEvents
+IsStopAt (hear.TooLong conn) why = why ≡ stop.Ends (session_end.MessageTooLong conn)
+IsStopAt hear.LimitItems why = why ≡ stop.Ends session_end.LimitItems
+IsStopAt hear.ReadFault why = why ≡ stop.Breaks session_break.ReadFault
+IsStopAt hear.Memory why = why ≡ stop.Breaks session_break.Memory
 
 -- no count of failed calls falls, and a fault is answered only where its own rose
 pub record HasStopCause {X : Type 0} (before now : Counts) (result : Result X Stop) : Type 0 where
   pub takes : before.takes ≤ now.takes
   pub gives : before.gives ≤ now.gives
-  pub read_fault : IsErrOf result (stop.Breaks answer.ReadFault) → Rose before.takes now.takes
-  pub write_fault : IsErrOf result (stop.Breaks answer.WriteFault) → Rose before.gives now.gives
+  pub read_fault : IsErrOf result (stop.Breaks session_break.ReadFault) → Rose before.takes now.takes
+  pub write_fault : IsErrOf result (stop.Breaks session_break.WriteFault) → Rose before.gives now.gives
 
 -- what holds unless a session was broken off
 abbrev pub UnlessBroken : {X : Type 0} → Result X Stop → Type 0 → Type 0
 UnlessBroken (Ok done) P = P
 UnlessBroken (Err (stop.Ends end)) P = P
-UnlessBroken (Err (stop.Breaks end)) P = Unit {0}
+UnlessBroken (Err (stop.Breaks why)) P = Unit {0}
 
 -- what holds unless memory ran out
 abbrev pub UnlessMemory : {X : Type 0} → Result X Stop → Type 0 → Type 0
-UnlessMemory result P = result ≢ Err (stop.Breaks answer.Memory) → P
+UnlessMemory result P = result ≢ Err (stop.Breaks session_break.Memory) → P
 
 -- the same where it goes on; where it was broken off nothing is said
 abbrev pub TakesBy : {X : Type 0} → Bool → Result X Stop → Type 0
 TakesBy takes (Ok done) = takes ≡ true
 TakesBy takes (Err (stop.Ends end)) = TakesAtEnd takes end
-TakesBy takes (Err (stop.Breaks end)) = Unit {0}
+TakesBy takes (Err (stop.Breaks why)) = Unit {0}
 
 -- it went on, or was broken off where it passed a piece
-abbrev pub IsPassAnswer : Answer → Type 0
-IsPassAnswer answer.WriteFault = Unit {0}
-IsPassAnswer answer.Memory = Unit {0}
-IsPassAnswer _ = ⊥
+abbrev pub IsPassAnswer : SessionBreak → Type 0
+IsPassAnswer session_break.ReadFault = ⊥
+IsPassAnswer session_break.WriteFault = Unit {0}
+IsPassAnswer session_break.FileFault = ⊥
+IsPassAnswer session_break.Memory = Unit {0}
 
 abbrev pub BreaksPassing : Result (Unit {0}) Stop → Type 0
 BreaksPassing (Ok done) = Unit {0}
 BreaksPassing (Err (stop.Ends end)) = ⊥
-BreaksPassing (Err (stop.Breaks end)) = IsPassAnswer end
+BreaksPassing (Err (stop.Breaks why)) = IsPassAnswer why
 
 -- noting breaks a session off by a fault of the notes, or want of memory
 abbrev pub BreaksNoting : Result (Unit {0}) Stop → Type 0
 BreaksNoting (Ok done) = Unit {0}
 BreaksNoting (Err (stop.Ends end)) = ⊥
-BreaksNoting (Err (stop.Breaks end)) = IsNoteFault end
+BreaksNoting (Err (stop.Breaks why)) = IsNoteFault why
 
 -- what holds unless noting failed
-abbrev pub UnlessNoteFault : Answer → Type 0 → Type 0
-UnlessNoteFault answer.FileFault P = Unit {0}
-UnlessNoteFault answer.Memory P = Unit {0}
-UnlessNoteFault end P = P
+abbrev pub UnlessNoteFault : Stop → Type 0 → Type 0
+UnlessNoteFault (stop.Breaks session_break.FileFault) P = Unit {0}
+UnlessNoteFault (stop.Breaks session_break.Memory) P = Unit {0}
+UnlessNoteFault why P = P
 
 abbrev pub UnlessNoteStop : Result (Unit {0}) Stop → Type 0 → Type 0
 UnlessNoteStop (Ok done) P = P
-UnlessNoteStop (Err (stop.Ends end)) P = P
-UnlessNoteStop (Err (stop.Breaks end)) P = UnlessNoteFault end P
+UnlessNoteStop (Err why) P = UnlessNoteFault why P
 
 -- no fault of the notes stopped it
 abbrev pub IsUnnoted : Result (Unit {0}) Stop → Type 0
-IsUnnoted (Err (stop.Breaks answer.FileFault)) = ⊥
+IsUnnoted (Err (stop.Breaks session_break.FileFault)) = ⊥
 IsUnnoted _ = Unit {0}
 
 -- What is known of a link where a session was broken off: at a fault of writing what comes is told still, at a fault of reading the link
 -- gives still, at one of the notes both hold, and at want of memory one of both. So no call failed but one.
-abbrev pub BreaksAt : Option Coming → Option Coming → Bool → Answer → Type 0
-BreaksAt old new gives answer.WriteFault = StaysKnown old new
-BreaksAt old new gives answer.ReadFault = gives ≡ true
-BreaksAt old new gives answer.FileFault = StaysKnown old new × (gives ≡ true)
-BreaksAt old new gives answer.Memory = StaysKnown old new ⊎ (gives ≡ true)
-BreaksAt old new gives _ = Unit {0}
+abbrev pub BreaksAt : Option Coming → Option Coming → Bool → SessionBreak → Type 0
+BreaksAt old new gives session_break.WriteFault = StaysKnown old new
+BreaksAt old new gives session_break.ReadFault = gives ≡ true
+BreaksAt old new gives session_break.FileFault = StaysKnown old new × (gives ≡ true)
+BreaksAt old new gives session_break.Memory = StaysKnown old new ⊎ (gives ≡ true)
 
 abbrev pub BreaksOnce : {X : Type 0} → Option Coming → Option Coming → Bool → Result X Stop → Type 0
 BreaksOnce old new gives (Ok done) = Unit {0}
 BreaksOnce old new gives (Err (stop.Ends end)) = Unit {0}
-BreaksOnce old new gives (Err (stop.Breaks end)) = BreaksAt old new gives end
+BreaksOnce old new gives (Err (stop.Breaks why)) = BreaksAt old new gives why
 
 -- a session that goes on: events may be taken from its link, and pieces given to it
 pub record MayServe (seen : Seen) (ledger : Ledger) : Type 0 where
@@ -152,38 +152,41 @@ pub record LinkPasses (old new : Seen) (ledger : Ledger) (result : Result (Unit 
   pub broken : BreaksPassing result
   pub cause : HasStopCause old.counts new.counts result
 
--- what a link shows at a session's answer
-pub record LinkAnswers (old new : Seen) (end : Answer) : Type 0 where
-  pub takes : TakesAtEnd new.takes end
-  pub gives : IsEnd end → new.gives ≡ true
-  pub known : IsEnd end → StaysKnown old.coming new.coming
-  pub once : BreaksAt old.coming new.coming new.gives end
-  pub cause : HasAnswerCause old.counts new.counts end
+-- what a link shows where a session stopped
+pub record LinkAnswers (old new : Seen) (why : Stop) : Type 0 where
+  pub takes : AtEnd why (TakesAtEnd new.takes)
+  pub gives : AtEnd why (λ end. new.gives ≡ true)
+  pub known : AtEnd why (λ end. StaysKnown old.coming new.coming)
+  pub once : AtBreak why (BreaksAt old.coming new.coming new.gives)
+  pub cause : HasAnswerCause old.counts new.counts (answer_of why)
 
 -- what it shows where an end was finished: pieces alone were passed
-pub record LinkFinishes (old new : Seen) (end result : Answer) : Type 0 where
-  pub takes : TakesAtEnd old.takes end → TakesAtEnd new.takes result
-  pub gives : IsEnd result → new.gives ≡ true
+pub record LinkFinishes (old new : Seen) (end : SessionEnd) (why : Stop) : Type 0 where
+  pub takes : TakesAtEnd old.takes end → AtEnd why (TakesAtEnd new.takes)
+  pub gives : AtEnd why (λ end. new.gives ≡ true)
   pub rest : new ≡ but_given old new
-  pub once : BreaksAt old.coming new.coming new.gives result
-  pub cause : HasAnswerCause old.counts new.counts result
+  pub once : AtBreak why (BreaksAt old.coming new.coming new.gives)
+  pub cause : HasAnswerCause old.counts new.counts (answer_of why)
 
 -- What is known of a link at this end of a session, before which it showed something: an event was asked for where no more may be taken; what may
 -- be taken is as the end leaves it; and what comes next is told still.
-pub record IsFinishing (rules : Rules) (began before : Seen) (story : Story) (end : Answer) : Type 0 where
+pub record IsFinishing (rules : Rules) (began before : Seen) (story : Story) (end : SessionEnd) : Type 0 where
   pub asked : before.takes ≡ false → IsAsking rules story
   pub takes : TakesAtEnd before.takes end
   pub known : StaysKnown began.coming before.coming
 
--- What notes show behind a part of serving: those that worked work still, unless noting failed; and FileFault has its cause.
+-- What notes show behind a part of serving: FileFault has its cause.
 pub record NotesServe (old new : Shown) (result : Result (Unit {0}) Stop) : Type 0 where
-  pub works : UnlessNoteStop result (new.works ≡ old.works)
   pub cause : HasNoteStop old.faults new.faults result
 
--- what they show at a session's answer
-pub record NotesAnswer (old new : Shown) (end : Answer) : Type 0 where
-  pub works : UnlessNoteFault end (new.works ≡ old.works)
-  pub cause : HasNoteCause old.faults new.faults end
+-- what they show where a session stopped
+pub record NotesAnswer (old new : Shown) (why : Stop) : Type 0 where
+  pub cause : HasNoteCause old.faults new.faults why
+
+-- what both show where an end was finished
+pub record Finishes (old new : Seen) (shown now : Shown) (end : SessionEnd) (why : Stop) : Type 0 where
+  pub link : LinkFinishes old new end why
+  pub notes : NotesAnswer shown now why
 
 -- the same connections are open
 abbrev pub HasSameOpen : Ledger → Ledger → Type 0
@@ -208,9 +211,9 @@ module _ {R : Type 0} where
     pub holds : HoldsCheckpoints rules image story.earlier (entries story) story.recoveries story.survivor session
     pub received_are : logs.received session.log ≡ received rules.bounds (entries story)
 
-  -- the outcome of a session that answers so
-  abbrev pub outcome_of : Answer → SessionState R → Outcome
-  outcome_of end session = record { end = end; recorded = session.recorded; tail = session.choices; taken = session.taken; steps = session.steps }
+  -- the outcome of a session that stopped so
+  abbrev pub outcome_of : Stop → SessionState R → Outcome
+  outcome_of why session = record { stop = why; recorded = session.recorded; tail = session.choices; taken = session.taken; steps = session.steps }
 
   -- what a session allows its guest and its link, by how its access rule is read
   abbrev pub rules_by : (R → Heap → ℕ → ℕ → Bool) → SessionState R → Rules
@@ -219,12 +222,12 @@ module _ {R : Type 0} where
   -- A session came to one of its ends, or was broken off. Where events may not be taken any more, one was asked for.
   abbrev pub StopsBy : Rules → Image → Since → Seen → SessionState R → Stop → Type 0
   StopsBy rules image began seen session (stop.Ends end) = (ending : IsEnding rules image began seen session end) × (seen.takes ≡ false → IsAsking rules ending.story)
-  StopsBy rules image began seen session (stop.Breaks end) = (off : IsBrokenOff rules image began seen session end) × (seen.takes ≡ false → WasAsked rules off.telling.account)
+  StopsBy rules image began seen session (stop.Breaks why) = (off : IsBrokenOff rules image began seen session why) × (seen.takes ≡ false → WasAsked rules off.telling.account)
 
   -- it was broken off
   abbrev pub BreaksBy : Rules → Image → Since → Seen → SessionState R → Stop → Type 0
   BreaksBy rules image began seen session (stop.Ends end) = ⊥
-  BreaksBy rules image began seen session (stop.Breaks end) = IsBrokenOff rules image began seen session end
+  BreaksBy rules image began seen session (stop.Breaks why) = IsBrokenOff rules image began seen session why
 
   -- pieces were passed, up to where nothing is left of what was sent with so many items taken; or the session was broken off
   abbrev pub PassesStory : Rules → Image → Since → Seen → Story → ℕ → SessionState R → Result (Unit {0}) Stop → Type 0
@@ -289,11 +292,16 @@ module _ {R : Type 0} where
     pub is : HasRun rules image began seen (step.Emits conn bytes) session
     pub gives : CanGive seen session.replies
 
-  pub record StandsEnding (rules : Rules) (seen : Seen) (end : Answer) (session : SessionState R) : Type 0 where
+  pub record StandsEnding (rules : Rules) (seen : Seen) (end : SessionEnd) (session : SessionState R) : Type 0 where
     pub image : Image
     pub began : Since
     pub is : IsEnding rules image began seen session end
     pub gives : CanGive seen session.replies
+
+  -- its counts are those of its guest
+  pub record IsCounted (session : SessionState R) : Type 0 where
+    pub taken : session.taken ≡ session.cpu.slots.live.guest.machine.taken
+    pub steps : session.steps ≡ session.cpu.slots.live.steps
 
   pub record StandsFailing (rules : Rules) (seen : Seen) (tables : Option (List (List Try))) (cause : Cause) (session : SessionState R) : Type 0 where
     pub image : Image
@@ -301,6 +309,7 @@ module _ {R : Type 0} where
     pub tables_are : began.tables ≡ tables
     pub is : IsFailing rules image began seen cause session
     pub may : MayServe seen session.replies
+    pub marked : IsCounted session
 
   -- it has heard the close of this connection, for some rules and some image, since some time
   pub record StandsClosing (seen : Seen) (conn : ℕ) (session : SessionState R) : Type 0 where
@@ -315,11 +324,6 @@ module _ {R : Type 0} where
     pub opened : IsOpened session.replies conn
     pub gives : CanGive seen session.replies
 
-  -- its counts are those of its guest
-  pub record IsCounted (session : SessionState R) : Type 0 where
-    pub taken : session.taken ≡ session.cpu.slots.live.guest.machine.taken
-    pub steps : session.steps ≡ session.cpu.slots.live.steps
-
   -- it may pass, and its link gives
   pub record StandsPassing (seen : Seen) (session : SessionState R) : Type 0 where
     pub can : CanPass session
@@ -331,15 +335,20 @@ module _ {R : Type 0} where
     pub no_trial : new.replies.trial ≡ None
     pub first : new.replies.first ≡ old.replies.first
 
+  -- so it is where pieces alone were passed
+  pub record KeepsGiving (before seen : Seen) (old new : SessionState R) (result : Result (Unit {0}) Stop) : Type 0 where
+    pub link : LinkPasses before seen new.replies result
+    pub only : OnlyReplies old new
+
   -- its options and its access rule stay
   pub record HasSameFrame (old new : SessionState R) : Type 0 where
     pub options : new.options ≡ old.options
     pub rule : new.cpu.rule ≡ old.cpu.rule
 
-  -- the rest of the answers of malloc was noted, if there were any; or noting failed, and nothing changed
-  abbrev pub NotesRest : Shown → Shown → SessionState R → SessionState R → Result (Unit {0}) Answer → Type 0
+  -- the rest of the answers of malloc was noted, if there were any; or noting failed, which was handed some of them, and nothing changed
+  abbrev pub NotesRest : Shown → Shown → SessionState R → SessionState R → Result (Unit {0}) SessionBreak → Type 0
   NotesRest before now old new (Ok done) = Grew before.told.choices now.told.choices old.choices × (new ≡ record old { recorded = old.recorded + length old.choices; choices = [] })
-  NotesRest before now old new (Err end) = (now.told.choices ≡ before.told.choices) × (new ≡ old) × IsNoteFault end
+  NotesRest before now old new (Err end) = (now.told.choices ≡ before.told.choices) × (new ≡ old) × IsNoteFault end × FailsAtChoices before.told.unnoted now.told.unnoted old.choices
 
   -- it was begun for some image
   pub record IsReadyToServe (session : SessionState R) : Type 0 where
@@ -356,19 +365,19 @@ module _ {R : Type 0} where
   GoesFurther old new = ((new.until ≡ old.until) × (old.cpu.slots.live.steps < new.cpu.slots.live.steps)) ⊎ IsAdoptedLater old new
 
   -- what a recovery makes of a session: it goes on as a trial, of which what is due has to be passed; or it came to this end
-  abbrev pub AdoptsTo : Rules → Image → Since → Seen → SessionState R → Option Answer → Type 0
+  abbrev pub AdoptsTo : Rules → Image → Since → Seen → SessionState R → Option SessionEnd → Type 0
   AdoptsTo rules image began seen session None = IsGoing rules image began seen session
   AdoptsTo rules image began seen session (Some end) = IsEnding rules image began seen session end
 
   -- so it is once the episode is noted. And where noting it fails, the session is broken off
   pub record Adopting (rules : Rules) (image : Image) (began : Since) (seen : Seen) (point : ℕ) (cause : Cause) (session : SessionState R) (recovered : Recovered) : Type 0 where
     pub goes : (noted : Noted) → HasNotedMore began.noted noted [] (recovered.episode ∷ []) → AdoptsTo rules image (record began { noted = noted }) seen session (end_of point cause recovered.adopted)
-    pub breaks : (end : Answer) → IsNoteFault end → IsBrokenOff rules image began seen session end
+    pub breaks : (why : SessionBreak) → IsNoteFault why → (noted : Noted) → HasMissed began.noted noted recovered.episode → IsBrokenOff rules image (record began { noted = noted }) seen session why
 
   -- or memory ran out
   abbrev pub AdoptsBy : Rules → Image → Since → Seen → ℕ → Cause → SessionState R → Result Recovered AllocError → Type 0
   AdoptsBy rules image began seen point cause session (Ok recovered) = Adopting rules image began seen point cause session recovered
-  AdoptsBy rules image began seen point cause session (Err fault) = IsBrokenOff rules image began seen session answer.Memory
+  AdoptsBy rules image began seen point cause session (Err fault) = IsBrokenOff rules image began seen session session_break.Memory
 
 module _ {R : Type 0} where
   -- what one more event of the link makes of a session beside its story
@@ -376,6 +385,11 @@ module _ {R : Type 0} where
     pub link : LinkServes before seen new.replies result
     pub same : HasSameGuest old new
     pub unnoted : IsUnnoted result
+
+  -- an event was counted, unless it stopped, and no more are than it allows
+  pub record CountsEvent (old new : SessionState R) (result : Result (Unit {0}) Stop) : Type 0 where
+    pub later : IfOk result (λ _. old.events < new.events)
+    pub most : new.events ≤ old.options.max_events
 
   -- what an item makes of it that the guest waited for: it came and was taken, and one instruction more was done at least
   pub record KeepsReceiving (before seen : Seen) (old new : SessionState R) (result : Result (Unit {0}) Stop) : Type 0 where
@@ -408,7 +422,8 @@ module _ {R : Type 0} where
     pub one : new.cpu.slots.live.steps ≡ old.cpu.slots.live.steps + 1
 
   -- what a send makes of it
-  pub record KeepsSending (old new : SessionState R) (result : Result (Unit {0}) Stop) : Type 0 where
+  pub record KeepsSending (before seen : Seen) (old new : SessionState R) (result : Result (Unit {0}) Stop) : Type 0 where
+    pub link : LinkPasses before seen new.replies result
     pub until : new.until ≡ old.until
     pub options : new.options ≡ old.options
     pub cpu : new.cpu ≡ old.cpu
@@ -468,12 +483,24 @@ module _ {R : Type 0} where
   pub record StandsHearing (rules : Rules) (seen : Seen) (session : SessionState R) : Type 0 where
     pub waits : StandsWaiting rules seen session
     pub handled : IsHandled session
+    pub marked : IsCounted session
     pub may : MayServe seen session.replies
+
+  -- and no item is there that it hasn't taken
+  pub record StandsListening (rules : Rules) (seen : Seen) (session : SessionState R) : Type 0 where
+    pub stands : StandsHearing rules seen session
+    pub none_left : logs.received session.log ≤ session.taken
 
   -- it waits so for some link
   pub record StandsSomewhere (rules : Rules) (session : SessionState R) : Type 0 where
     pub seen : Seen
     pub waits : StandsWaiting rules seen session
+
+  -- its request was handled, and the item is there
+  pub record StandsTaking (rules : Rules) (session : SessionState R) : Type 0 where
+    pub waits : StandsSomewhere rules session
+    pub handled : IsHandled session
+    pub there : session.taken < logs.received session.log
 
   -- a checkpoint is saved where one is due; guest and rule stay
   pub record KeepsSaving (old new : SessionState R) : Type 0 where
@@ -483,7 +510,8 @@ module _ {R : Type 0} where
     pub keeping : keeping_of new ≡ keeping_of old
 
   -- answers of malloc are noted up to the oldest checkpoint, or noting failed
-  pub record KeepsNoting (old new : SessionState R) (result : Result (Unit {0}) Stop) : Type 0 where
+  pub record KeepsNoting (shown now : Shown) (old new : SessionState R) (result : Result (Unit {0}) Stop) : Type 0 where
+    pub notes : NotesServe shown now result
     pub same : new ≡ record old { recorded = new.recorded; choices = new.choices }
     pub recorded : IfOk result (λ _. IsRecorded new)
     pub broken : BreaksNoting result
@@ -493,3 +521,14 @@ module _ {R : Type 0} where
     pub same : new ≡ record old { log = new.log; replies = new.replies }
     pub trimmed : IsRecorded old → IsTrimmed new
     pub opened : HasSameOpen old.replies new.replies
+
+module _ {R : Type 0} where
+  -- A session that was begun has served a link, and answers so: why it stopped; what it leaves, by one telling of it; and what its link and its notes show.
+  pub record HasServedLink (rules : Rules) (before seen : Seen) (shown now : Shown) (counted : ℕ) (tables_before tables : Option (List (List Try))) (old new : SessionState R) (answered : Answer) : Type 0 where
+    pub why : Stop
+    pub is : answered ≡ answer_of why
+    pub served : (image : Image) → IsBegun image old.options old.cpu.rule old
+        → (watched : HasWatched rules image (keeping_for old.options) before seen (outcome_of why new) shown.told now.told counted tables_before tables) × UnlessNoteFault why (HasLeft rules image watched.recovered.telling new why)
+    pub keeping : keeping_of new ≡ keeping_for old.options
+    pub link : LinkAnswers before seen why
+    pub notes : NotesAnswer shown now why

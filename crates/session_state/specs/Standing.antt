@@ -1,11 +1,12 @@
 -- Where a session stands between two events of its guest.
 use Rattle.std.specs.Prelude.{◌≡◌, ◌≢◌, ◌⊎◌, ℕ, ◌+◌, ◌<◌, ◌≤◌, List, [], ◌++◌, length, map, take, drop, true, Option, None, Some, IfSome}
-use Rattle.run_history.specs.declared.answer.Answer.TheVariants as answer
+use Rattle.session_history.specs.declared.ends.SessionBreak.TheVariants as session_break
+use Rattle.session_history.specs.declared.ends.Stop.TheVariants as stop
 use Rattle.item_log.specs.Log as logs
-use Rattle.session_state.specs.Terms.{Send, Entry, Grew, Phases, Tells, Told, events_in, Seen, Choice, Ledger, Image, Answer, Cause, may_send, AsksFor, FailsBy, Path, Served, standing_of, IsBounded, journal_of, IsEnd, IsWaiting, StandsAt, before_end, AreHeeded, heeded, items_in, received, KeepsItems, KeepsPhases, KeepsReplies, Rules, is_closing, is_open, opens, IsDueBy, IsPassed, Latest, Moment, OwesNothing, Stands, journal, latest, place_at, received_before, Serving, first_survivor, moment_of, Episode, Try, Noted, AreRecovered, episode_of, HasHandled, stands_of, AreBehind, IsInForce, KeepsRing, steps_of, TellsMore}
+use Rattle.session_state.specs.Terms.{Send, Entry, Grew, Phases, Tells, Told, events_in, Seen, Choice, Ledger, Image, Cause, may_send, AsksFor, FailsBy, Path, Served, standing_of, IsBounded, SessionBreak, SessionEnd, journal_of, HandedLast, IsWaiting, StandsAt, before_end, AreHeeded, heeded, items_in, received, KeepsItems, KeepsPhases, KeepsReplies, Rules, is_closing, is_open, opens, IsDueBy, IsPassed, Latest, Moment, OwesNothing, Stands, journal, latest, place_at, received_before, Serving, first_survivor, moment_of, Episode, Try, Noted, OneEpisode, failed_with, AreRecovered, episode_of, HasHandled, stands_of, AreBehind, IsInForce, KeepsRing, steps_of, TellsMore}
 pub use Rattle.session_state.specs.Recovered.{Story, entries}
 use Rattle.session_state.specs.Recovered.{Walk, Telling, story_of, trials_of, last_of, episodes_of, spent, HasGivenUp, GivesUpBy, IsTelling, HasNoted, HasNothingBehind, IsNoteFault, AreTables, AreAllTables}
-use Rattle.session_state.specs.Leaving.{HoldsCheckpoints, UnlessGaveUp, IsAtRequest, HandlesRequests, keeping_of}
+use Rattle.session_state.specs.Leaving.{HoldsCheckpoints, UnlessGaveUp, IsAtRequest, IsReadFault, HandlesRequests, keeping_of}
 use Rattle.session_state.specs.Sessions.{SessionState}
 
 abbrev pub moment : Story → Moment
@@ -35,10 +36,17 @@ told_since told noted_before noted tables_before tables lost = record { told = t
 abbrev pub unwatched : Since → Since
 unwatched began = record began { tables_before = None; tables = None }
 
--- notes tell these answers of malloc and these episodes more
+-- notes tell these answers of malloc and these episodes more, and no call of them failed
 pub record HasNotedMore (before now : Noted) (choices : List Choice) (episodes : List Episode) : Type 0 where
   pub choices_more : Grew before.choices now.choices choices
   pub episodes_more : Grew before.episodes now.episodes episodes
+  pub unnoted_same : now.unnoted ≡ before.unnoted
+
+-- notes tell the same answers of malloc and the same episodes, and that a call failed that was handed this episode
+pub record HasMissed (before now : Noted) (episode : Episode) : Type 0 where
+  pub choices_same : now.choices ≡ before.choices
+  pub episodes_same : now.episodes ≡ before.episodes
+  pub handed : now.unnoted ≡ failed_with before.unnoted (OneEpisode episode)
 
 -- it is told by one account, by what the link told since the session began, by its notes, which have an episode of each recovery, and by its
 -- watch, which has a table of each
@@ -52,11 +60,12 @@ pub record IsTold (rules : Rules) (image : Image) (began : Since) (now : Told) (
   pub tables : TellsMore began.tables_before began.tables (AreTables rules [] story.earlier story.recoveries)
 
 module _ {R : Type 0} where
-  -- a session answers for the survivor's run: of its answers of malloc the first ones are noted, and it has the others
+  -- a session answers for the survivor's run: of its answers of malloc the first ones are noted, and it has the others; no call of its notes failed
   pub record AnswersFor (began : Since) (story : Story) (session : SessionState R) : Type 0 where
     pub low : session.recorded ≤ length story.survivor.now.choices
     pub recorded : Grew began.noted_before.choices began.noted.choices (take session.recorded story.survivor.now.choices)
     pub choices : session.choices ≡ drop session.recorded story.survivor.now.choices
+    pub unnoted : began.noted.unnoted ≡ began.noted_before.unnoted
     pub taken : session.taken ≡ story.survivor.now.state.machine.taken
     pub steps : session.steps ≡ story.survivor.now.steps
 
@@ -148,7 +157,7 @@ module _ {R : Type 0} where
     pub fails : FailsBy rules.limits going.story.survivor.plan going.story.survivor.now cause
 
   -- at one of its ends, before what is left is passed
-  pub record IsEnding (rules : Rules) (image : Image) (began : Since) (seen : Seen) (session : SessionState R) (end : Answer) : Type 0 where
+  pub record IsEnding (rules : Rules) (image : Image) (began : Since) (seen : Seen) (session : SessionState R) (end : SessionEnd) : Type 0 where
     pub story : Story
     pub walk : Option Walk
     pub lost : ℕ
@@ -156,7 +165,7 @@ module _ {R : Type 0} where
     pub noted : Noted
     pub last_noted : HasNotedMore noted began.noted [] (last_of story.survivor walk)
     pub told : IsTold rules image (unwatched (record began { lost = lost; noted = noted })) seen.told story
-    pub tables : TellsMore began.tables_before began.tables (AreAllTables rules story walk end)
+    pub tables : TellsMore began.tables_before began.tables (AreAllTables rules story walk (stop.Ends end))
     pub answers : AnswersFor (record began { lost = lost; noted = noted }) story session
     pub received_are : logs.received session.log ≡ received rules.bounds (entries story)
     pub replies : KeepsReplies rules.bounds (entries story) None (sends story) session.replies
@@ -165,24 +174,23 @@ module _ {R : Type 0} where
     pub holds : HoldsCheckpoints rules image story.earlier (entries story) story.recoveries story.survivor session
     pub handled : IsAtRequest end → HasHandled rules image (keeping_of session) story.earlier (entries story) story.recoveries story.survivor (story.survivor.now.state.machine.taken + 1) (stands_of session.cpu.slots.saved)
     pub live : UnlessGaveUp end (session.cpu.slots.live ≡ standing_of story.survivor.now)
-    pub is_end : IsEnd end
     pub stands : StandsAt rules (entries story) seen.coming story.survivor end
     pub walked : IfSome walk (HasGivenUp rules image (keeping_of session) story)
     pub gave_up : GivesUpBy walk end
 
   -- a session that was broken off, by no end of its own
-  pub record IsBrokenOff (rules : Rules) (image : Image) (began : Since) (seen : Seen) (session : SessionState R) (end : Answer) : Type 0 where
+  pub record IsBrokenOff (rules : Rules) (image : Image) (began : Since) (seen : Seen) (session : SessionState R) (why : SessionBreak) : Type 0 where
     pub telling : Telling
-    pub is : IsTelling rules image (keeping_of session) seen.coming telling end
-    pub no_end : IsEnd end → ⊥
+    pub is : IsTelling rules image (keeping_of session) seen.coming telling (stop.Breaks why)
     pub none_came : telling.account.came ≡ None
     pub tells : Tells began.told seen.told (journal_of telling.account)
-    pub holds : (IsNoteFault end → ⊥) → HoldsCheckpoints rules image telling.account.earlier (before_end telling.account) telling.recoveries telling.account.survivor session
-    pub handled : IsAtRequest end → HasHandled rules image (keeping_of session) telling.account.earlier (before_end telling.account) telling.recoveries telling.account.survivor (telling.account.survivor.now.state.machine.taken + 1) (stands_of session.cpu.slots.saved)
-    pub notes : HasNoted began.noted_before began.noted end telling.account.survivor.now.choices (episodes_of (story_of telling) telling.walk) session.recorded session.choices
+    pub handed : HandedLast rules telling.account seen why
+    pub holds : (IsNoteFault why → ⊥) → HoldsCheckpoints rules image telling.account.earlier (before_end telling.account) telling.recoveries telling.account.survivor session
+    pub handled : IsReadFault why → HasHandled rules image (keeping_of session) telling.account.earlier (before_end telling.account) telling.recoveries telling.account.survivor (telling.account.survivor.now.state.machine.taken + 1) (stands_of session.cpu.slots.saved)
+    pub notes : HasNoted began.noted_before began.noted (stop.Breaks why) telling.account.survivor.now.choices (episodes_of (story_of telling) telling.walk) session.recorded session.choices
     pub unnoted : 0 < length notes.missing → HasNothingBehind telling
-    pub tables : TellsMore began.tables_before began.tables (AreAllTables rules (story_of telling) telling.walk end)
+    pub tables : TellsMore began.tables_before began.tables (AreAllTables rules (story_of telling) telling.walk (stop.Breaks why))
     pub taken : session.taken ≡ telling.account.survivor.now.state.machine.taken
     pub steps : session.steps ≡ telling.account.survivor.now.steps
-    pub counted : end ≢ answer.Memory → spent telling.recoveries + steps_of (trials_of telling.walk) ≡ began.lost + telling.account.survivor.begun.steps
+    pub counted : why ≢ session_break.Memory → spent telling.recoveries + steps_of (trials_of telling.walk) ≡ began.lost + telling.account.survivor.begun.steps
     pub later : telling.account.survivor.begun.steps ≤ telling.account.survivor.now.steps

@@ -3,10 +3,11 @@ pub use Rattle.std.specs.declared.alloc.AllocError.{AllocError}
 pub use Rattle.rx_io.specs.declared.bytes.Item.{Item}
 pub use Rattle.rx_io.specs.declared.fault.IoFault.{IoFault}
 pub use Rattle.rx_io.specs.Faults.{HasCause, Rose}
+pub use Rattle.rx_io.specs.Prefix.{Prefix}
 pub use Rattle.rx_io.specs.Sends.{Send, sent_to}
 pub use Rattle.links.specs.declared.journal.Entry.{Entry}
 pub use Rattle.links.specs.declared.journal.LinkEvent.{LinkEvent}
-pub use Rattle.links.specs.Links.{Comes, Coming, Counts, Grew, HasEnded, IsFresh, Phases, Refuses, Tells, Told, events_in, last_taken, pieces_in}
+pub use Rattle.links.specs.Links.{Comes, Coming, Counts, Grew, HasEnded, IsFresh, Phases, Refuses, Tells, Told, events_in}
 pub use Rattle.links.specs.Seen.{Seen, but_given}
 pub use Rattle.block_book.specs.declared.choice.Choice.{Choice}
 pub use Rattle.block_book.specs.Heap.{Heap}
@@ -15,9 +16,8 @@ pub use Rattle.alloc_env.specs.declared.env.Env.TheVariants.{Plain}
 pub use Rattle.ckpt_ring.specs.Rings.{Checkpoints, checkpoints, from_newest}
 pub use Rattle.ckpt_ring.specs.Slots.{Saved}
 pub use Rattle.page_line.specs.Line.{count_true}
-pub use Rattle.msg_frame.specs.declared.framing.Framing.{Framing}
-pub use Rattle.item_log.specs.Heard.{behind_items, brought, hear, hear_parts, heard, items_of}
-unfoldable pub use Rattle.item_log.specs.Heard.{heard_from, items_from}
+pub use Rattle.item_log.specs.Heard.{behind_items, brought, hear, hear_parts, items_of}
+unfoldable pub use Rattle.item_log.specs.Heard.{heard_from}
 pub use Rattle.item_log.specs.Log.{IsItemOf, Log, Shows, empty_log}
 pub use Rattle.reply_ledger.specs.Ledger.{Connection, IsOpened, Ledger, NotBefore, Passed, closed_connection, no_replies, with_change, with_send}
 unfoldable pub use Rattle.reply_ledger.specs.Ledger.{connection_of, stamped, stamps_of, times_of}
@@ -27,7 +27,7 @@ pub use Rattle.elf_image.specs.declared.image.Image.{Image}
 pub use Rattle.run_history.specs.declared.answer.Answer.{Answer}
 pub use Rattle.run_history.specs.declared.answer.Cause.{Cause}
 pub use Rattle.run_history.specs.Call.{may_send}
-pub use Rattle.run_history.specs.Machine.{Fails, Machine, State, Wants}
+pub use Rattle.run_history.specs.Machine.{Fails, State, Wants}
 unfoldable pub use Rattle.run_history.specs.Machine.{no_connections}
 pub use Rattle.run_history.specs.Run.{after}
 unfoldable pub use Rattle.run_history.specs.Run.{does}
@@ -42,19 +42,21 @@ pub use Rattle.guest_cpu.specs.Standing.{Live, Standing, marks_of, with_range}
 unfoldable pub use Rattle.guest_cpu.specs.Standing.{turn}
 pub use Rattle.guest_runs.specs.Runs.{GoesOn, IsBounded, IsSilent, TakesOn}
 pub use Rattle.guest_runs.specs.Writing.{RunsWriting, Writes}
+pub use Rattle.session_history.specs.declared.ends.SessionBreak.{SessionBreak}
+pub use Rattle.session_history.specs.declared.ends.SessionEnd.{SessionEnd}
+pub use Rattle.session_history.specs.declared.ends.Stop.{Stop}
 pub use Rattle.session_history.specs.Account.{IsAccount, IsBroken, Session, journal_of}
 pub use Rattle.session_history.specs.Answering.{HasAnswerCause}
-pub use Rattle.session_history.specs.Ends.{EndsBy, HasNoEnding, IsEnd, IsEnded, IsLastRefused, IsWaiting, OwesNothingAtEnd, ShowsSession, StandsAt, StaysKnown, TakesAtEnd, WasAsked, before_end}
-pub use Rattle.session_history.specs.Giving.{AreDuePieces, AreFronts, AreGiven, IsClosing, IsReady, Passes, PassesRest, then_entries}
+pub use Rattle.session_history.specs.Ends.{AtBreak, AtEnd, EndsBy, HandedLast, HasNoEnding, IsEnd, IsEnded, IsLastRefused, IsWaiting, OwesNothingAtEnd, ShowsSession, StandsAt, StaysKnown, TakesAtEnd, WasAsked, answer_of, before_end, break_answer}
+pub use Rattle.session_history.specs.Giving.{AreDuePieces, AreFronts, AreGiven, HasHanded, IsClosing, IsReady, Passes, PassesRest, then_entries}
 pub use Rattle.session_history.specs.Hearing.{IsHeard, IsHeeded, IsUnheeded, closing_of}
-pub use Rattle.session_history.specs.Heeding.{AreHeeded, Bounds, LimitEvents, LimitItems, TooLong, Unheeded, heeded, items_in, received, refusal}
-unfoldable pub use Rattle.session_history.specs.Heeding.{heeded_behind}
+pub use Rattle.session_history.specs.Heeding.{AreHeeded, Bounds, Unheeded, heeded, items_in, received}
 pub use Rattle.session_history.specs.Keeping.{AreSendable, IsSendable, KeepsItems, KeepsPhases, KeepsReplies}
-pub use Rattle.session_history.specs.Lawful.{Chapter, IsDue, IsDueAt, IsDuePiece, LeavesNothing, Rules, Survivor, entries_of, is_closed_by, is_closing, place_of, then_entry}
+pub use Rattle.session_history.specs.Lawful.{Chapter, IsDuePiece, LeavesNothing, Rules, Survivor, entries_of, gone_on, is_closed_by, is_closing, moves, place_of, then_entry}
 pub use Rattle.session_history.specs.Opened.{closes, is_gone, is_open, opens}
 pub use Rattle.session_history.specs.Owing.{IsDueBy, IsMadeDue, IsOwed, IsPassed, Latest, Moment, OwesNothing, Stands, behind, journal, latest, place_at, received_before}
 pub use Rattle.session_history.specs.Passing.{AreBetween, AreInOrder, passed_in}
-pub use Rattle.session_history.specs.Serving.{Ending, Serving, ending_at, first_survivor, gone_on, moment_of}
+pub use Rattle.session_history.specs.Serving.{Ending, Serving, ending_at, first_survivor, moment_of}
 pub use Rattle.link_gate.specs.declared.heard.HearFault.{HearFault}
 pub use Rattle.link_gate.specs.declared.heard.Heard.{Heard}
 pub use Rattle.link_gate.specs.declared.pass_fault.PassFault.{PassFault}
@@ -62,7 +64,7 @@ pub use Rattle.link_gate.specs.Calls.{ComesLast, ComesOn, HearShows, HearsBy, Is
 pub use Rattle.link_gate.specs.Passing.{AreStampedBy, CanGive, HasPassCause, KeepsPassing, MayPass}
 pub use Rattle.session_notes.specs.declared.episode.Episode.{Episode}
 pub use Rattle.session_notes.specs.declared.episode.Try.{Try}
-pub use Rattle.session_notes.specs.Noting.{EpisodeShows, Noted, Shown, noted}
+pub use Rattle.session_notes.specs.Noting.{EpisodeShows, Noted, OneEpisode, Shown, SomeChoices, Unnoted, failed_with, noted}
 pub use Rattle.trials.specs.Chains.{AreChained, AreCheckpoints}
 pub use Rattle.trials.specs.Episodes.{AreRecovered, IsRecovery, Recovery, adopted_by, episode_of, point_of}
 pub use Rattle.trials.specs.Tables.{Trial, survivor_in}
@@ -75,4 +77,3 @@ pub use Rattle.recovery.specs.Sessions.{CanGoOn, Failure, taken_in}
 pub use Rattle.recovery.specs.Trying.{steps_of}
 pub use Rattle.recovery.specs.Watching.{IsWholeTable, TellsMore, TellsTable}
 pub use Rattle.session_state.specs.declared.options.Options.{Options}
-pub use Rattle.session_state.specs.declared.stop.Stop.{Stop}

@@ -9,8 +9,6 @@
 
 mod options;
 mod recording;
-mod stop;
 
 pub use options::Options;
 pub use recording::note_up_to;
-pub use stop::Stop;

@@ -1,9 +1,12 @@
 // Notes that run out of memory in mid-session.
+ghost use Rattle.std.specs.Prelude.{None};
+ghost use Rattle.session_notes.specs.Noting.{noted};
+
 use block_book::Choice;
 use rx_io::IoFault;
 use session_notes::{Episode, Notes};
 
-// Notes of which so many calls are done. Each call behind them answers `Memory` and does nothing.
+// Notes of which so many calls are done. Each call behind them answers `Memory` and does nothing. So they don't tell what a failed call was handed.
 #[derive(Drop)]
 pub struct ShortNotes<N: Notes> {
     pub notes: N,
@@ -11,7 +14,7 @@ pub struct ShortNotes<N: Notes> {
 }
 
 impl<N: Notes> Notes for ShortNotes<N> {
-    ghost shown = { λ s. N.shown s.notes };
+    ghost shown = { λ s. record { told = noted (N.shown s.notes).told.choices (N.shown s.notes).told.episodes None; faults = (N.shown s.notes).faults } };
 
     ghost Fixed = { N.Fixed };
 

@@ -1,8 +1,7 @@
 -- Fronts of what a run emits agree with what was passed, and a byte that differs stays.
 use Rattle.std.proofs.lemmas.List.Elements.{filter-append}
 use Rattle.run_history.proofs.Outputs.{prefix_sent}
-use Rattle.trials.proofs.Terms.{Bool, List, [], ap, append-nil, arith, cond, eqb, false, refl, subst, sym, true, ℕ, ◌&&◌, ◌++◌, ◌<◌, ◌∙◌, ◌∷◌, ◌≡◌, eq-eqb, lt-leb, Prefix, Send, sent_to, agree, State, output, Grows, AreBetween, until, CheckpointUnharmed}
-use Rattle.trials.proofs.Going.{served_grows}
+use Rattle.trials.proofs.Terms.{Bool, List, [], ap, append-nil, arith, eqb, false, refl, subst, sym, true, ℕ, ◌&&◌, ◌++◌, ◌<◌, ◌∙◌, ◌∷◌, ◌≡◌, eq-eqb, Prefix, Send, sent_to, agree, State, output, served_grows, Grows, none_until, until, CheckpointUnharmed}
 
 -- two fronts of one list agree
 fronts_agree : (xs ys r s : List ℕ) → xs ++ r ≡ ys ++ s → agree xs ys ≡ true
@@ -30,12 +29,6 @@ agree-more (x ∷ xs) more (y ∷ ys) h = of_first (eqb x y) (agree-more xs more
 
 pub differs_on : (xs zs ys : List ℕ) → Prefix xs zs → agree xs ys ≡ false → agree zs ys ≡ false
 differs_on xs zs ys front differs = subst (λ (l : List ℕ). agree l ys ≡ false) front.1 (agree-more xs front.0 ys differs)
-
--- of sends with higher numbers none is made in time
-none_until : (item low high : ℕ) (sends : List Send) → item < low → AreBetween low high sends → until item sends ≡ []
-none_until item low high [] h are = refl
-none_until item low high (send ∷ sends) h are =
-    ap (λ (b : Bool). cond b (send ∷ until item sends) (until item sends)) (lt-leb send.taken item (omega (arith, h, are.0))) ∙ none_until item low high sends h are.2
 
 -- a run that went on has made those sends in time that it had when it had taken more items
 pub until_still : (item : ℕ) (s t : State) → Grows s t → item < s.machine.taken → until item t.sends ≡ until item s.sends

@@ -43,17 +43,13 @@ chained_alike limits items plan other image later (newest ∷ older) bound alike
   chained_alike limits items plan other image newest older bound alike (omega (arith, low, taken_later limits items plan newest later chain.0)) chain.1,
 )
 
--- the start has no instruction, so that it goes on from itself alone, under each plan
-start_before : (limits : Limits) (items : List Item) (plan : List Override) (image : Image) (first second : Path) → second ≡ origin image → Served limits items plan first second → first ≡ origin image
-start_before limits items plan image first second is served = nothing_before limits items plan first second served (ap (λ (p : Path). p.steps) is) ∙ is
-
 served_start : (limits : Limits) (items : List Item) (other : List Override) (image : Image) (first second : Path) → first ≡ origin image → second ≡ origin image → Served limits items other first second
 served_start limits items other image first second one is = subst (λ (p : Path). Served limits items other first p) (one ∙ sym is) (served_same limits items other first)
 
 chained_start : (limits : Limits) (items : List Item) (plan other : List Override) (image : Image) (later : Path) (ring : List Path) → later ≡ origin image → AreChained limits items plan image later ring → AreChained limits items other image later ring
 chained_start limits items plan other image later [] is chain = served_start limits items other image (origin image) later refl is
 chained_start limits items plan other image later (newest ∷ older) is chain =
-    let first = start_before limits items plan image newest later is chain.0 in
+    let first = nothing_before limits items plan newest later chain.0 (ap (λ (p : Path). p.steps) is) ∙ is in
     (served_start limits items other image newest later first is, chained_start limits items plan other image newest older first chain.1)
 
 -- up to a checkpoint that isn't the start a trial's plan is the earlier one

@@ -1,30 +1,5 @@
 -- What a served run adds, and how two runs from one place stand to each other.
-use Rattle.std.proofs.lemmas.List.{length-replicate}
-use Rattle.trials.proofs.Terms.{List, None, Option, Some, [], ap, arith, inl, inr, refl, replicate, subst, suc, sym, zero, ℕ, ◌++◌, ◌+◌, ◌-◌, ◌<◌, ◌∙◌, ◌∷◌, ◌≡◌, ◌≤◌, ◌⊎◌, cases_lt, none-some, option_and_then_some, same_Some, option_and_then, slice_get, Item, Choice, Env, repeated_add, repeated_from, repeated_keeps, element_behind, next_after, serves_to, does, next, Limits, Override, Path, Served, env_at, planned_next, serve, served_next, Grows, grows_on, grows_same, run_grows, served_on}
-
--- answers of malloc, of which this one has this number
-answers_with : Option Choice → ℕ → List Choice
-answers_with None number = []
-answers_with (Some choice) number = replicate number choice ++ choice ∷ []
-
-answer_here : (chosen : Option Choice) (number : ℕ) → slice_get (answers_with chosen number) number ≡ chosen
-unfolding answers_with
-answer_here None number = refl
-answer_here (Some choice) number = element_behind (replicate number choice) choice number (length-replicate number choice)
-
--- one instruction adds sends, and is counted
-pub next_grows : (limits : Limits) (items : List Item) (env : Env) (path to : Path) → served_next limits items env path ≡ Some to → Grows path.state to.state
-next_grows limits items env path to goes =
-    let parts = serves_to limits items env path to goes in
-    let number = path.state.machine.allocations in
-    let choices = answers_with parts.given.chosen number in
-    run_grows items choices path.state to.state 1
-    (next_after items choices path.state _ parts.lives (ap (λ (c : Option Choice). does (slice_get items path.state.machine.taken) c path.state.machine) (answer_here parts.given.chosen number)) ∙ parts.goes)
-
-pub served_grows : (limits : Limits) (items : List Item) (plan : List Override) (first second : Path) → Served limits items plan first second → Grows first.state second.state
-served_grows limits items plan first second served =
-    repeated_keeps (planned_next limits items plan) (λ a b. Grows a.state b.state) (λ a. grows_same a.state) (λ a b c. grows_on a.state b.state c.state)
-    (λ a b goes. next_grows limits items (env_at plan a.state.machine.taken) a b goes) served.more first second served.ran
+use Rattle.trials.proofs.Terms.{List, Some, ap, arith, inl, inr, subst, suc, sym, zero, ℕ, ◌+◌, ◌-◌, ◌<◌, ◌∙◌, ◌≡◌, ◌≤◌, cases_lt, option_and_then_some, same_Some, option_and_then, Item, repeated_from, repeated_keeps, serves_to, Limits, Override, Path, Served, env_at, planned_next, serve, Later, later_of, served_grows, served_on}
 
 -- no count of items falls
 pub taken_later : (limits : Limits) (items : List Item) (plan : List Override) (first second : Path) → Served limits items plan first second → first.state.machine.taken ≤ second.state.machine.taken
@@ -49,38 +24,13 @@ nothing_before limits items plan first second served none = by_count served.more
         option_and_then_some (planned_next limits items plan) (serve limits items plan first n) second ran (λ mid before goes.
         let parts = serves_to limits items (env_at plan mid.state.machine.taken) mid second goes in absurd (omega (arith, parts.steps, none)))
 
--- the second run is the first with one more instruction or several
-pub record Later (limits : Limits) (items : List Item) (plan : List Override) (first second : Path) : Type 0 where
-  pub next : Path
-  pub goes : planned_next limits items plan first ≡ Some next
-  pub on : Served limits items plan next second
-
--- so many instructions, the first one by itself
-first_one : (limits : Limits) (items : List Item) (plan : List Override) (first second : Path) (n : ℕ) → serve limits items plan first (1 + n) ≡ Some second → Later limits items plan first second
-first_one limits items plan first second n ran = of_next (planned_next limits items plan first) refl
-  where
-    of_next : (o : Option Path) → planned_next limits items plan first ≡ o → Later limits items plan first second
-    of_next (Some next) is = record { next = next; goes = is; on = record { more = n; ran = sym (repeated_from (planned_next limits items plan) first next 1 n is) ∙ ran } }
-    of_next None is =
-        absurd (none-some second (sym (repeated_add (planned_next limits items plan) first 1 n ∙ ap (option_and_then (λ (y : Path). serve limits items plan y n)) is) ∙ ran))
-
-pub later_of : (limits : Limits) (items : List Item) (plan : List Override) (first second : Path) → Served limits items plan first second → (first ≡ second) ⊎ Later limits items plan first second
-later_of limits items plan first second served = by_count served.more served.ran
-  where
-    by_count : (n : ℕ) → serve limits items plan first n ≡ Some second → (first ≡ second) ⊎ Later limits items plan first second
-    by_count zero ran = inl (same_Some first second ran)
-    by_count (suc n) ran =
-        let same : suc n ≡ 1 + n = omega arith in
-        inr (first_one limits items plan first second n (subst (λ (k : ℕ). serve limits items plan first k ≡ Some second) same ran))
-
 pub later_served : (limits : Limits) (items : List Item) (plan : List Override) (first second : Path) → Later limits items plan first second → Served limits items plan first second
 later_served limits items plan first second later = served_on limits items plan first later.next second (served_one limits items plan first later.next later.goes) later.on
 
 -- and it counts more instructions
 pub later_steps : (limits : Limits) (items : List Item) (plan : List Override) (first second : Path) → Later limits items plan first second → first.steps < second.steps
 later_steps limits items plan first second later =
-    let parts = serves_to limits items (env_at plan first.state.machine.taken) first later.next later.goes in
-    omega (arith, parts.steps, steps_later limits items plan later.next second later.on)
+    omega (arith, (serves_to limits items (env_at plan first.state.machine.taken) first later.next later.goes).steps, steps_later limits items plan later.next second later.on)
 
 -- Of two runs from one place under one plan, one is the other or goes on as it.
 pub data Compared (limits : Limits) (items : List Item) (plan : List Override) (first second : Path) : Type 0 where

@@ -1,8 +1,8 @@
 -- A run that was made in one environment is one under the plan of its trial.
 use Rattle.session_notes.specs.declared.episode.Tried.TheVariants as tried
-use Rattle.trials.proofs.Terms.{Bool, List, None, [], ap, arith, cond, eqb, inl, inr, ltb, subst, sym, ℕ, ◌+◌, ◌<◌, ◌∙◌, ◌∷◌, ◌≡◌, ◌≤◌, ◌⊎◌, cond_both, eqb-false, le-ltb, lt-ltb, Item, Send, Env, Plain, Image, Cause, Fails, Wants, start, start_machine, AsksFor, FailsBy, Limits, Override, Path, Served, env_at, guest_of, origin, planned_next, served_next, serves, Covers, Tried, ComesTo, IsBehindAt, IsContradicted, IsPast, plan_of_trial, IsCheckpoint, TrialComes, TrialServes, everywhere}
-use Rattle.trials.proofs.Asking.{asks_under_all, asks_next, asks_takes}
-use Rattle.trials.proofs.Going.{taken_later, later_of, served_as}
+use Rattle.trials.proofs.Terms.{Bool, List, None, [], ap, arith, cond, eqb, inl, inr, ltb, subst, sym, ℕ, ◌+◌, ◌<◌, ◌∙◌, ◌∷◌, ◌≡◌, ◌≤◌, ◌⊎◌, cond_both, eqb-false, le-ltb, lt-ltb, Item, Send, Env, Plain, Image, Cause, Fails, Wants, start, start_machine, AsksFor, FailsBy, Limits, Override, Path, Served, env_at, guest_of, origin, planned_next, served_next, serves, asks_takes, later_of, Covers, Tried, ComesTo, IsBehindAt, IsContradicted, IsPast, plan_of_trial, IsCheckpoint, TrialComes, TrialServes, everywhere}
+use Rattle.trials.proofs.Asking.{asks_under_all, asks_next}
+use Rattle.trials.proofs.Going.{taken_later, served_as}
 
 -- the environment of the latest override, and of those before it
 pub env_within : (plan : List Override) (low until : ℕ) (env : Env) (count : ℕ) → low ≤ count → count < until → env_at (record { low = low; until = until; env = env } ∷ plan) count ≡ env
@@ -36,7 +36,7 @@ past_request limits items plan checkpoint path asks served =
     ]
 
 -- the start took no item
-start_taken : (image : Image) (checkpoint : Path) → checkpoint ≡ origin image → checkpoint.state.machine.taken ≡ 0
+pub start_taken : (image : Image) (checkpoint : Path) → checkpoint ≡ origin image → checkpoint.state.machine.taken ≡ 0
 unfolding start start_machine
 start_taken image checkpoint is = ap (λ (p : Path). p.state.machine.taken) is
 
@@ -76,8 +76,7 @@ way_fails limits items image plan env point checkpoint path cause at_start low s
     elim (on_way limits items image plan env point checkpoint path at_start low served) [
       | inl same ↦ record { lives = fails.lives; fails = ap (λ (e : Env). serves limits e None (guest_of path)) (sym same) ∙ fails.fails }
       | inr asks ↦
-          let waits = asks_under_all limits [] (everywhere env point) path path.state.machine.taken asks in
-          let never : Wants ≡ Fails cause = sym waits.asks ∙ fails.fails in
+          let never : Wants ≡ Fails cause = sym (asks_under_all limits [] (everywhere env point) path path.state.machine.taken asks).asks ∙ fails.fails in
           absurd (cc)
     ]
 

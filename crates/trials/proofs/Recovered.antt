@@ -1,7 +1,6 @@
 -- What a recovery fixes, and how a session goes on behind it.
 use Rattle.session_notes.specs.declared.episode.Tried.TheVariants as tried
-use Rattle.trials.proofs.Terms.{List, Some, ap, subst, sym, true, ℕ, ◌∙◌, ◌≡◌, slice_get, Item, Send, Image, Cause, Fails, start, start_machine, FailsBy, Limits, Override, Path, Served, origin, timed_on, items_in, Survivor, AreBetween, Covers, passed_in, Tried, survives, ComesTo, IsUnharmed, Trial, AreChained, IsRecovery, Recovery, adopted_by, point_of, OneRecovery, RecoveryAdopts, RecoveryGivesUp}
-use Rattle.trials.proofs.Going.{served_grows}
+use Rattle.trials.proofs.Terms.{List, Some, ap, subst, sym, true, ℕ, ◌∙◌, ◌≡◌, slice_get, Item, Send, Image, Cause, Fails, start, start_machine, FailsBy, Limits, Override, Path, Served, origin, served_grows, timed_on, items_in, Survivor, AreBetween, Covers, passed_in, Tried, survives, ComesTo, IsUnharmed, Trial, AreChained, IsRecovery, Recovery, adopted_by, point_of, OneRecovery, RecoveryAdopts, RecoveryGivesUp}
 use Rattle.trials.proofs.Chained.{chained_at, chained_adopt, chained_from}
 use Rattle.trials.proofs.Walked.{one_walk, none_survives, walk_adopts, walk_gives_up}
 

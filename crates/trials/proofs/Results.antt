@@ -1,9 +1,8 @@
 -- What came of a trial is one, and is found in one place.
 use Rattle.run_history.proofs.Runs.{Later as Missing}
 use Rattle.session_notes.specs.declared.episode.Tried.TheVariants as tried
-use Rattle.trials.proofs.Terms.{List, None, Option, Some, ap, arith, false, inl, inr, leb, refl, subst, sym, true, ℕ, ◌<◌, ◌∙◌, ◌≡◌, ◌≤◌, ◌⊎◌, lt-leb, none-some, same_Some, IsSome, is_some, slice_get, Item, Prefix, Send, sent_to, Env, agree, Cause, does_more, extends_same, serves_to, Fails, Wants, after, does, output, AsksFor, FailsBy, Guest, Limits, Override, Path, Served, does_with, env_at, grant, guest_of, is_refused, planned_next, serves, touched, all_until, timed_on, served_same, AreBetween, Covers, until, Tried, ComesTo, IsBehindAt, IsPast, IsUnharmed, OneResult}
-use Rattle.trials.proofs.Asking.{asks_takes}
-use Rattle.trials.proofs.Going.{served_grows, taken_later, steps_later, Later, later_served, later_steps, Compared, Equal, Before, Behind, compare, same_next}
+use Rattle.trials.proofs.Terms.{List, None, Option, Some, ap, arith, false, inl, inr, leb, refl, subst, sym, true, ℕ, ◌<◌, ◌∙◌, ◌≡◌, ◌≤◌, ◌⊎◌, lt-leb, none-some, same_Some, IsSome, is_some, slice_get, Item, Prefix, Send, sent_to, Env, agree, Cause, does_more, extends_same, serves_to, Fails, Wants, after, does, output, AsksFor, FailsBy, Guest, Limits, Override, Path, Served, does_with, env_at, grant, guest_of, is_refused, planned_next, serves, touched, Later, asks_takes, served_grows, all_until, timed_on, served_same, AreBetween, Covers, until, Tried, ComesTo, IsBehindAt, IsPast, IsUnharmed, OneResult}
+use Rattle.trials.proofs.Going.{taken_later, steps_later, later_served, later_steps, Compared, Equal, Before, Behind, compare, same_next}
 use Rattle.trials.proofs.Agreeing.{differs_on, until_still, output_on}
 
 -- where a trial has a result it was unharmed still, there or one instruction before, with the same items
@@ -29,14 +28,12 @@ reached limits items plan checkpoint pieces point path tried.Behind from comes =
 -- a run that asks for an item and goes on took it
 pub asks_on : (limits : Limits) (items : List Item) (plan : List Override) (first second : Path) (item : ℕ) → AsksFor limits plan first item → Later limits items plan first second → item < second.state.machine.taken
 asks_on limits items plan first second item asks later =
-    let took = asks_takes limits items plan first later.next item asks later.goes in
-    omega (arith, asks.taken, took.taken, taken_later limits items plan later.next second later.on)
+    omega (arith, asks.taken, (asks_takes limits items plan first later.next item asks later.goes).taken, taken_later limits items plan later.next second later.on)
 
 -- one that has ended doesn't go on
 pub ended_on : (limits : Limits) (items : List Item) (plan : List Override) (first second : Path) → IsSome first.state.ended → Later limits items plan first second → ⊥
 ended_on limits items plan first second ended later =
-    let parts = serves_to limits items (env_at plan first.state.machine.taken) first later.next later.goes in
-    let never : false ≡ true = subst (λ (o : Option ℕ). IsSome o) parts.lives ended in absurd (cc)
+    let never : false ≡ true = subst (λ (o : Option ℕ). IsSome o) (serves_to limits items (env_at plan first.state.machine.taken) first later.next later.goes).lives ended in absurd (cc)
 
 -- nor does one that fails
 serves_there : (limits : Limits) (env : Env) (guest : Guest) → leb limits.budget guest.machine.since ≡ false → is_refused limits guest.heap (touched guest.machine) ≡ false → serves limits env None guest ≡ does_with (grant env guest) None guest.machine
@@ -74,8 +71,7 @@ contradicted_on limits items plan checkpoint first second pieces point conn from
         of_compared (Equal same) = differs_stays limits items plan first other.last pieces point conn differs (subst (λ (p : Path). Served limits items plan first p) same (served_same limits items plan first)) other.unharmed
         of_compared (Before on) = differs_stays limits items plan first other.last pieces point conn differs (later_served limits items plan first other.last on) other.unharmed
         of_compared (Behind back) =
-            let round = same_next limits items plan other.last first second back goes in
-            omega (arith, later_steps limits items plan first second later, steps_later limits items plan second first round)
+            omega (arith, later_steps limits items plan first second later, steps_later limits items plan second first (same_next limits items plan other.last first second back goes))
 
 -- one that asks too early doesn't go on to take the item
 behind_on : (limits : Limits) (items : List Item) (plan : List Override) (checkpoint first second : Path) (pieces : List Send) (point item : ℕ) → AreBetween 0 checkpoint.state.machine.taken checkpoint.state.sends

@@ -5,46 +5,24 @@ use Rattle.session_history.proofs.Due.{behind_all}
 use Rattle.session_history.proofs.Owing.{owed_later, latest_stands, due_at}
 use Rattle.session_history.proofs.Sessions.{piece_due}
 use Rattle.session_history.proofs.Endings.{fronts_same, given_broken, received_at_end}
-use Rattle.trials.proofs.Terms.{Bool, List, None, Option, Some, [], ap, append-nil, append_assoc, arith, cond, false, inl, inr, length, refl, subst, sym, true, ℕ, ◌++◌, ◌<◌, ◌∙◌, ◌∷◌, ◌≡◌, ◌≢◌, ◌≤◌, none-some, same_Some, slice_get_within, MatchOption, is_some, slice_get, Item, Prefix, Send, sent_to, Entry, Choice, is_allowed, Image, Cause, repeated_keeps, allocated_keeps, received_keeps, serves_to, Alone, Picks, Same, Shape, Takes, does_shape, allocated, malloc, received, takes, Chooses, Effect, Emits, Ends, Fails, Goes, State, Wants, register, start, start_machine, after, does, AsksFor, FailsBy, Limits, Override, Path, Served, env_at, origin, planned_next, after_ending, journal_of, AreGiven, items_in, AreDue, AreLawful, Chapter, IsDue, IsDueEvent, IsDuePiece, LeavesNothing, Rules, Survivor, entries_of, Latest, Place, Stands, latest, moment_at, passed_in, first_survivor, Trial, survivor_in, AreRecovered, IsRecovery, Recovery, adopted_by}
+use Rattle.trials.proofs.Terms.{Bool, List, None, Option, Some, [], ap, append-nil, append_assoc, arith, false, inl, inr, length, refl, subst, sym, ℕ, ◌++◌, ◌<◌, ◌∙◌, ◌∷◌, ◌≡◌, ◌≢◌, ◌≤◌, slice_get_within, MatchOption, is_some, slice_get, Item, Prefix, Send, sent_to, Entry, Choice, Image, Cause, repeated_keeps, allocated_keeps, received_keeps, serves_to, State, register, start, start_machine, after, does, AsksFor, FailsBy, Limits, Override, Path, Served, env_at, origin, planned_next, later_of, served_grows, ByChoice, ByEnd, ByItem, ByItself, BySend, Moved, moved, after_ending, journal_of, AreGiven, items_in, AreDue, AreLawful, Chapter, IsDue, IsDueEvent, IsDuePiece, LeavesNothing, Rules, Survivor, entries_of, Latest, Place, Stands, latest, moment_at, passed_in, first_survivor, Trial, survivor_in, AreRecovered, IsRecovery, Recovery, adopted_by}
 use Rattle.trials.specs.Shortest.{IsShortest, RecoveriesAreShortest, FailureIsShortest}
-use Rattle.trials.proofs.Going.{served_grows, later_of}
 use Rattle.trials.proofs.Chained.{chained_from}
 use Rattle.trials.proofs.Results.{asks_on, apart_asks_fails}
 
--- a state that is reached has taken no more than this
-state_within : (most : ℕ) (u t : State) → Some u ≡ Some t → u.machine.taken ≤ most → t.machine.taken ≤ most
-state_within most u t same low = subst (λ (s : State). s.machine.taken ≤ most) (same_Some u t same) low
-
 -- one instruction takes no item but the one that is there
 after_within : (s t : State) (items : List Item) (choice : Option Choice) → after s (does (slice_get items s.machine.taken) choice s.machine) ≡ Some t → s.machine.taken ≤ length items → t.machine.taken ≤ length items
-after_within s t items choice goes low = of_shape (does_shape s.machine)
+after_within s t items choice goes low = by (moved s t (slice_get items s.machine.taken) choice goes)
   where
-    of_alone : (e : Effect) → Alone s.machine e → after s e ≡ Some t → t.machine.taken ≤ length items
-    of_alone (Goes m) alone h = state_within (length items) (record s { machine = m }) t h (omega (arith, low, alone.taken))
-    of_alone (Emits conn bytes m) alone h = state_within (length items) _ t h (omega (arith, low, alone.0.taken))
-    of_alone (Ends code) alone h = state_within (length items) (record s { ended = Some code }) t h low
-    of_alone Wants alone h = absurd alone
-    of_alone (Chooses size) alone h = absurd alone
-    of_alone (Fails cause) alone h = absurd (none-some t h)
+    within : (u : State) → u ≡ t → u.machine.taken ≤ length items → t.machine.taken ≤ length items
+    within u is few = subst (λ (v : State). v.machine.taken ≤ length items) is few
 
-    of_next : (found : Option Item) → slice_get items s.machine.taken ≡ found → after s (takes s.machine found) ≡ Some t → t.machine.taken ≤ length items
-    of_next None is h = absurd (none-some t h)
-    of_next (Some it) is h =
-        let inside = slice_get_within items s.machine.taken it is in
-        state_within (length items) (record s { machine = received it s.machine }) t h (omega (arith, inside, (received_keeps it s.machine).taken))
-
-    of_test : (size : ℕ) (it : Choice) (b : Bool) → after s (cond b (Goes (allocated size it s.machine)) (Chooses size)) ≡ Some t → t.machine.taken ≤ length items
-    of_test size it true h = state_within (length items) (record s { machine = allocated size it s.machine }) t h (omega (arith, low, (allocated_keeps size it s.machine).taken))
-    of_test size it false h = absurd (none-some t h)
-
-    of_choice : (found : Option Choice) → after s (malloc found s.machine) ≡ Some t → t.machine.taken ≤ length items
-    of_choice None h = absurd (none-some t h)
-    of_choice (Some it) h = of_test (register s.machine 10) it (is_allowed s.machine.heap_start s.machine.heap_end s.machine.blocks (register s.machine 10) it) h
-
-    of_shape : Shape s.machine (λ item choice. does item choice s.machine) → t.machine.taken ≤ length items
-    of_shape (Same e alone is) = of_alone e alone (ap (after s) (sym (is (slice_get items s.machine.taken) choice)) ∙ goes)
-    of_shape (Takes may is) = of_next (slice_get items s.machine.taken) refl (ap (after s) (sym (is (slice_get items s.machine.taken) choice)) ∙ goes)
-    of_shape (Picks is) = of_choice choice (ap (after s) (sym (is (slice_get items s.machine.taken) choice)) ∙ goes)
+    by : Moved s t (slice_get items s.machine.taken) choice → t.machine.taken ≤ length items
+    by (ByItself m alone is) = within _ is (omega (arith, low, alone.taken))
+    by (BySend conn bytes m alone is) = within _ is (omega (arith, low, alone.0.taken))
+    by (ByEnd code is) = within _ is low
+    by (ByItem it at is) = within _ is (omega (arith, slice_get_within items s.machine.taken it at, (received_keeps it s.machine).taken))
+    by (ByChoice it at may is) = within _ is (omega (arith, low, (allocated_keeps (register s.machine 10) it s.machine).taken))
 
 -- so does a run
 taken_within : (limits : Limits) (items : List Item) (plan : List Override) (first second : Path) → Served limits items plan first second → first.state.machine.taken ≤ length items → second.state.machine.taken ≤ length items
@@ -79,7 +57,7 @@ piece_needed : (rules : Rules) (items : List Item) (start front : List Entry) (s
     → LeavesNothing rules start front survivor → ⊥
 piece_needed rules items start front survivor conn bytes gone at leaves =
     let here : Place = record { start = start; since = front; at_end = false } in
-    let due : IsDuePiece rules at.way.path.state.sends (moment_at here at.way.path.state.machine.taken) conn bytes = piece_due rules items survivor here conn bytes gone at in
+    let due : IsDuePiece rules at.way.path.state.sends (moment_at here at.way.path.state.machine.taken) conn bytes = piece_due rules survivor.plan at.way.path (moment_at here at.way.path.state.machine.taken) conn bytes gone at.due in
     let grows = served_grows rules.limits items survivor.plan at.way.path survivor.now at.way.on in
     let stands : Stands survivor.now.state.sends due.send = record {
       earlier = due.stands.earlier;

@@ -1,7 +1,7 @@
 -- The survivors of a session, one adopted behind the failure of the one before it.
 use Rattle.session_notes.specs.declared.episode.Tried.TheVariants as tried
-use Rattle.trials.proofs.Terms.{List, None, Option, Some, [], ap, append-nil, append_assoc, inl, inr, refl, subst, sym, true, ℕ, ◌++◌, ◌<◌, ◌∷◌, ◌≡◌, MatchOption, is_some, Item, Send, Entry, Cause, FailsBy, Limits, Override, Path, Served, origin, served_same, served_with, items_in, entries_of, passed_in, gone_on, Tried, survives, ComesTo, Trial, survivor_in, AreRecovered, IsRecovery, adopted_by, point_of, PointsRise, RecoveredFirst, RecoveredOn, RecoveredThen}
-use Rattle.trials.proofs.Going.{later_of, later_served, Compared, Equal, Before, Behind, compare}
+use Rattle.trials.proofs.Terms.{List, None, Option, Some, [], ap, append-nil, append_assoc, inl, inr, refl, subst, sym, true, ℕ, ◌++◌, ◌<◌, ◌∷◌, ◌≡◌, MatchOption, is_some, Item, Send, Entry, Cause, FailsBy, Limits, Override, Path, Served, origin, later_of, served_same, served_with, items_in, entries_of, gone_on, passed_in, Tried, survives, ComesTo, Trial, survivor_in, AreRecovered, IsRecovery, adopted_by, point_of, PointsRise, RecoveredFirst, RecoveredOn, RecoveredThen}
+use Rattle.trials.proofs.Going.{later_served, Compared, Equal, Before, Behind, compare}
 use Rattle.trials.proofs.Chained.{chained_from}
 use Rattle.trials.proofs.Results.{asks_on, ended_on, fails_on, apart_asks_fails, apart_ended}
 use Rattle.trials.proofs.Recovered.{recovery_adopts}

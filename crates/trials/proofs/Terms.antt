@@ -1,17 +1,17 @@
 -- The words and lemmas that this crate's proofs are written in: those of crates below, and its own words.
-pub use Rattle.std.proofs.Common.{Bool, List, None, Option, Some, [], ap, append-nil, append_assoc, arith, cond, drop, eqb, false, inl, inr, leb, length, ltb, map, refl, replicate, subst, suc, sym, true, zero, ℕ, ◌&&◌, ◌++◌, ◌+◌, ◌-◌, ◌<◌, ◌∙◌, ◌∷◌, ◌≡◌, ◌≢◌, ◌≤◌, ◌⊎◌}
-pub use Rattle.std.proofs.lemmas.Bool.{cases_lt, cond_both, eq-eqb, eqb-false, le-ltb, lt-leb, lt-ltb, ne_eqb}
+pub use Rattle.std.proofs.Common.{Bool, List, None, Option, Some, [], ap, append-nil, append_assoc, arith, cond, drop, eqb, false, inl, inr, leb, length, ltb, map, refl, subst, suc, sym, true, zero, ℕ, ◌&&◌, ◌++◌, ◌+◌, ◌-◌, ◌<◌, ◌∙◌, ◌∷◌, ◌≡◌, ◌≢◌, ◌≤◌, ◌⊎◌}
+pub use Rattle.std.proofs.lemmas.Bool.{MatchBool-at_false, MatchBool-at_true, cases_lt, cond_both, eq-eqb, eqb-false, le-ltb, lt-leb, lt-ltb, ne_eqb}
 pub use Rattle.std.proofs.lemmas.Option.{none-some, option_and_then_some, same_Some, slice_get_within}
 pub use Rattle.std.specs.Prelude.{IsSome, MatchBool, MatchOption, is_some, option_and_then, option_map, slice_get}
-pub use Rattle.run_history.proofs.Repeats.{repeated_add, repeated_from, repeated_keeps}
-pub use Rattle.run_history.proofs.Runs.{allocated_keeps, does_more, element_behind, extends_same, next_after, received_keeps}
+pub use Rattle.run_history.proofs.Repeats.{repeated_from, repeated_keeps}
+pub use Rattle.run_history.proofs.Runs.{allocated_keeps, does_more, extends_same, received_keeps}
 pub use Rattle.run_history.proofs.Serves.{mallocs, serves_to}
-pub use Rattle.run_history.proofs.Shapes.{Alone, Picks, Same, Shape, Takes, does_shape}
-pub use Rattle.session_history.proofs.Growing.{Grows, grows_on, grows_same, run_grows}
-pub use Rattle.session_history.proofs.Passing.{all_until, timed_on}
+pub use Rattle.session_history.proofs.Asked.{Later, asks_takes, later_of, served_grows, waits_of}
+pub use Rattle.session_history.proofs.Growing.{ByChoice, ByEnd, ByItem, ByItself, BySend, Grows, Moved, moved}
+pub use Rattle.session_history.proofs.Passing.{all_until, none_until, timed_on}
 pub use Rattle.session_history.proofs.Paths.{served_on, served_same, served_with}
-pub use Rattle.trials.specs.Terms.{All, AreBetween, AreDue, AreGiven, AreLawful, AsksFor, BadAccess, Cause, Chapter, Choice, Chooses, Covers, Delay, Effect, Emits, Ends, Entry, Env, Fails, FailsBy, Free, Goes, Grant, Guest, Hang, Image, IsDue, IsDueEvent, IsDuePiece, Isolate, Item, Latest, LeavesNothing, Limits, Machine, Malloc, Nothing, Override, Pad, Path, Place, Plain, Prefix, Request, Rules, Send, Served, Stands, State, Survivor, Tried, Wants, Zero, after, after_ending, chooses, does_with, entries_of, env_at, first_survivor, gone_on, granted, guest_of, is_refused, items_in, journal_of, latest, longer, malloc, moment_at, origin, output, passed_in, planned_next, register, request_of, sent_to, serve, survives, takes, until}
-unfoldable pub use Rattle.trials.specs.Terms.{agree, allocated, does, freed, grant, instruction_at, is_allowed, next, received, served_next, serves, start, start_machine, touched}
+pub use Rattle.trials.specs.Terms.{All, AreBetween, AreDue, AreGiven, AreLawful, AsksFor, BadAccess, Cause, Chapter, Choice, Covers, Delay, Effect, Entry, Env, Fails, FailsBy, Free, Goes, Grant, Guest, Hang, Image, IsDue, IsDueEvent, IsDuePiece, Isolate, Item, Latest, LeavesNothing, Limits, Malloc, Nothing, Override, Pad, Path, Place, Plain, Prefix, Request, Rules, Send, Served, Stands, State, Survivor, Tried, Wants, Zero, after, after_ending, does_with, entries_of, env_at, first_survivor, gone_on, granted, guest_of, is_refused, items_in, journal_of, latest, longer, moment_at, origin, output, passed_in, planned_next, register, request_of, sent_to, serve, survives, until}
+unfoldable pub use Rattle.trials.specs.Terms.{agree, does, grant, instruction_at, served_next, serves, start, start_machine, touched}
 pub use Rattle.trials.specs.Trials.{ComesTo, IsBehindAt, IsContradicted, IsPast, IsTrial, IsUnharmed, plan_of_trial}
 pub use Rattle.trials.specs.Tables.{Chance, IsRight, Trial, WalksOver, chances_at, environments, survivor_in, table}
 pub use Rattle.trials.specs.Chains.{AreChained, AreCheckpoints, IsCheckpoint}

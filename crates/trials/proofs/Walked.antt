@@ -1,5 +1,5 @@
 -- What trials over a table fix.
-use Rattle.trials.proofs.Terms.{Bool, List, None, Some, [], ap, cond, false, inl, inr, map, refl, subst, suc, sym, true, zero, ℕ, ◌++◌, ◌∙◌, ◌∷◌, ◌≡◌, ◌⊎◌, none-some, same_Some, MatchBool, slice_get, Item, Send, Env, Limits, Override, Path, AreBetween, Tried, survives, IsTrial, plan_of_trial, Chance, IsRight, Trial, WalksOver, chances_at, environments, survivor_in, table, NoneSurvives, OneWalk, WalkAdopts, WalkGivesUp}
+use Rattle.trials.proofs.Terms.{Bool, List, None, Some, [], ap, cond, false, inl, inr, map, refl, subst, suc, sym, true, zero, ℕ, ◌++◌, ◌∙◌, ◌∷◌, ◌≡◌, ◌⊎◌, MatchBool-at_false, MatchBool-at_true, none-some, same_Some, MatchBool, slice_get, Item, Send, Env, Limits, Override, Path, AreBetween, Tried, survives, IsTrial, plan_of_trial, Chance, IsRight, Trial, WalksOver, chances_at, environments, survivor_in, table, NoneSurvives, OneWalk, WalkAdopts, WalkGivesUp}
 use Rattle.trials.proofs.Results.{one_result}
 
 -- the sends of a checkpoint were made with no more items than it took
@@ -44,11 +44,6 @@ same_trial limits items plan pieces point trial other same timed one two =
     let both = one_result limits items (plan_of_trial plan trial.chance.checkpoint.state.machine.taken trial.chance.env point) trial.chance.checkpoint trial.path other.path pieces point trial.result other.result timed one moved in
     record { path = both.0; result = both.1 }
 
--- a walk goes on behind a trial that doesn't survive, and ends at one that does
-goes_on : (b : Bool) (ends on : Type 0) → b ≡ false → MatchBool b ends on → on
-goes_on true ends on is h = absurd (cc)
-goes_on false ends on is h = h
-
 none_of : (limits : Limits) (items : List Item) (plan : List Override) (pieces : List Send) (point : ℕ) (chances : List Chance) (trials : List Trial)
     → ((chance : Chance) (index : ℕ) → slice_get chances index ≡ Some chance → IsTimed chance.checkpoint) → WalksOver limits items plan pieces point chances trials
     → ((trial : Trial) (index : ℕ) → slice_get trials index ≡ Some trial → survives trial.result ≡ false)
@@ -57,12 +52,11 @@ none_of limits items plan pieces point [] trials timed walks fails other index h
 none_of limits items plan pieces point (chance ∷ chances) [] timed walks fails other index here right = absurd walks
 none_of limits items plan pieces point (chance ∷ chances) (trial ∷ trials) timed walks fails other zero here right =
     let is : trial.chance ≡ other.chance = walks.0 ∙ same_Some chance other.chance here in
-    let at_start = subst (λ (c : Chance). IsTimed c.checkpoint) (sym walks.0) (timed chance 0 refl) in
-    let same = same_trial limits items plan pieces point trial other is at_start walks.1 right in
+    let same = same_trial limits items plan pieces point trial other is (subst (λ (c : Chance). IsTimed c.checkpoint) (sym walks.0) (timed chance 0 refl)) walks.1 right in
     ap survives (sym same.result) ∙ fails trial 0 refl
 none_of limits items plan pieces point (chance ∷ chances) (trial ∷ trials) timed walks fails other (suc index) here right =
     none_of limits items plan pieces point chances trials (λ c i h. timed c (suc i) h)
-    (goes_on (survives trial.result) (trials ≡ []) (WalksOver limits items plan pieces point chances trials) (fails trial 0 refl) walks.2) (λ t i h. fails t (suc i) h) other index here right
+    (MatchBool-at_false (trials ≡ []) (WalksOver limits items plan pieces point chances trials) (fails trial 0 refl) walks.2) (λ t i h. fails t (suc i) h) other index here right
 
 pub none_survives : NoneSurvives
 none_survives limits items plan pieces point ring trials timed walks fails other index here right =
@@ -78,10 +72,6 @@ equal_trials trial other chance path result =
   where
     made : Chance → Path → Tried → Trial
     made chance path result = record { chance = chance; path = path; result = result }
-
-ends_there : (b : Bool) (ends on : Type 0) → b ≡ true → MatchBool b ends on → ends
-ends_there true ends on is h = h
-ends_there false ends on is h = absurd (cc)
 
 one_walk_of : (limits : Limits) (items : List Item) (plan : List Override) (pieces : List Send) (point : ℕ) (chances : List Chance) (trials others : List Trial)
     → ((chance : Chance) (index : ℕ) → slice_get chances index ≡ Some chance → IsTimed chance.checkpoint) → WalksOver limits items plan pieces point chances trials → WalksOver limits items plan pieces point chances others → trials ≡ others
@@ -101,13 +91,11 @@ one_walk_of limits items plan pieces point (chance ∷ chances) (trial ∷ trial
         → MatchBool (survives trial.result) (trials ≡ []) (WalksOver limits items plan pieces point chances trials) → MatchBool (survives other.result) (others ≡ []) (WalksOver limits items plan pieces point chances others)
         → trial ∷ trials ≡ other ∷ others
     of_survives true is alike first by one two =
-        let none = ends_there (survives trial.result) (trials ≡ []) (WalksOver limits items plan pieces point chances trials) is one in
-        let empty = ends_there (survives other.result) (others ≡ []) (WalksOver limits items plan pieces point chances others) (alike ∙ is) two in
-        ap (λ (t : Trial). t ∷ trials) first ∙ ap (λ (ts : List Trial). other ∷ ts) (none ∙ sym empty)
+        let empty = MatchBool-at_true (others ≡ []) (WalksOver limits items plan pieces point chances others) (alike ∙ is) two in
+        ap (λ (t : Trial). t ∷ trials) first ∙ ap (λ (ts : List Trial). other ∷ ts) ((MatchBool-at_true (trials ≡ []) (WalksOver limits items plan pieces point chances trials) is one) ∙ sym empty)
     of_survives false is alike first by one two =
-        let on = goes_on (survives trial.result) (trials ≡ []) (WalksOver limits items plan pieces point chances trials) is one in
-        let further = goes_on (survives other.result) (others ≡ []) (WalksOver limits items plan pieces point chances others) (alike ∙ is) two in
-        ap (λ (t : Trial). t ∷ trials) first ∙ ap (λ (ts : List Trial). other ∷ ts) (by on further)
+        let further = MatchBool-at_false (others ≡ []) (WalksOver limits items plan pieces point chances others) (alike ∙ is) two in
+        ap (λ (t : Trial). t ∷ trials) first ∙ ap (λ (ts : List Trial). other ∷ ts) (by (MatchBool-at_false (trials ≡ []) (WalksOver limits items plan pieces point chances trials) is one) further)
 
 pub one_walk : OneWalk
 one_walk limits items plan pieces point ring trials others timed walks walked = one_walk_of limits items plan pieces point (table ring) trials others (all_timed ring timed) walks walked
@@ -132,18 +120,17 @@ found limits items plan pieces point (chance ∷ chances) (first ∷ trials) tri
         → (WalksOver limits items plan pieces point chances trials → survivor_in trials ≡ Some trial → Found limits items plan pieces point chances trials trial) → Found limits items plan pieces point (chance ∷ chances) (first ∷ trials) trial
     of_survives true fits is by =
         let same : first ≡ trial = same_Some first trial is in
-        let none = ends_there (survives first.result) (trials ≡ []) (WalksOver limits items plan pieces point chances trials) fits walks.2 in
         record {
           right = subst (IsRight limits items plan pieces point) same walks.1;
           survives_it = ap (λ (t : Trial). survives t.result) (sym same) ∙ fits;
           failing = [];
-          last = ap (λ (ts : List Trial). first ∷ ts) none ∙ ap (λ (t : Trial). t ∷ []) same;
+          last = ap (λ (ts : List Trial). first ∷ ts) (MatchBool-at_true (trials ≡ []) (WalksOver limits items plan pieces point chances trials) fits walks.2) ∙ ap (λ (t : Trial). t ∷ []) same;
           none = refl;
           place = 0;
           here = ap (λ (c : Chance). Some c) (sym walks.0 ∙ ap (λ (t : Trial). t.chance) same);
         }
     of_survives false fails is by =
-        let rest = by (goes_on (survives first.result) (trials ≡ []) (WalksOver limits items plan pieces point chances trials) fails walks.2) is in
+        let rest = by (MatchBool-at_false (trials ≡ []) (WalksOver limits items plan pieces point chances trials) fails walks.2) is in
         record {
           right = rest.right;
           survives_it = rest.survives_it;
@@ -180,7 +167,7 @@ whole_of limits items plan pieces point [] [] walks fails = refl
 whole_of limits items plan pieces point [] (trial ∷ trials) walks fails = absurd walks
 whole_of limits items plan pieces point (chance ∷ chances) [] walks fails = absurd walks
 whole_of limits items plan pieces point (chance ∷ chances) (trial ∷ trials) walks fails =
-    let rest = whole_of limits items plan pieces point chances trials (goes_on (survives trial.result) (trials ≡ []) (WalksOver limits items plan pieces point chances trials) (fails trial 0 refl) walks.2) (λ t i h. fails t (suc i) h) in
+    let rest = whole_of limits items plan pieces point chances trials (MatchBool-at_false (trials ≡ []) (WalksOver limits items plan pieces point chances trials) (fails trial 0 refl) walks.2) (λ t i h. fails t (suc i) h) in
     ap (λ (c : Chance). c ∷ map (λ (t : Trial). t.chance) trials) walks.0 ∙ ap (λ (cs : List Chance). chance ∷ cs) rest
 
 pub walk_gives_up : WalkGivesUp

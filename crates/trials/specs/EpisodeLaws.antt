@@ -1,6 +1,6 @@
 -- What holds of each recovery.
 use Rattle.std.specs.Prelude.{◌≡◌, ℕ, ◌<◌, ◌≤◌, false, None, Some, List, [], ◌∷◌, ◌++◌, drop, slice_get}
-use Rattle.trials.specs.Terms.{Item, Entry, Image, Path, Served, origin, items_in, Chapter, Rules, Survivor, entries_of, Covers, IsFeasible, passed_in, first_survivor, gone_on, survives}
+use Rattle.trials.specs.Terms.{Item, Entry, Image, Path, Served, origin, items_in, Chapter, Rules, Survivor, entries_of, gone_on, Covers, IsFeasible, passed_in, first_survivor, survives}
 use Rattle.trials.specs.Tables.{Trial, table, IsRight, survivor_in}
 use Rattle.trials.specs.Chains.{AreCheckpoints, AreChained}
 use Rattle.trials.specs.Episodes.{Recovery, point_of, IsRecovery, adopted_by, AreRecovered}

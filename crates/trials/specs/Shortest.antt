@@ -1,8 +1,7 @@
 -- The journal that brought a survivor to its failure is the shortest one that does.
 use Rattle.std.specs.Prelude.{◌≡◌, ◌≢◌, ◌<◌, ◌≤◌, List, [], ◌∷◌, ◌++◌, Some}
-use Rattle.session_history.specs.Heeding.{received}
 use Rattle.session_history.specs.Ends.{OwesNothingBefore}
-use Rattle.trials.specs.Terms.{Entry, Image, Cause, FailsBy, IsAccount, Session, AreGiven, Chapter, LeavesNothing, Rules, Survivor, entries_of, Latest, latest, first_survivor}
+use Rattle.trials.specs.Terms.{Entry, Image, Cause, FailsBy, IsAccount, Session, AreGiven, received, Chapter, LeavesNothing, Rules, Survivor, entries_of, Latest, latest, first_survivor}
 use Rattle.trials.specs.Episodes.{Recovery, AreRecovered}
 
 -- What a journal had when a survivor failed, of whose time it has some entries: it brought the items that the survivor took, and its

@@ -4,28 +4,25 @@ pub use Rattle.rx_io.specs.Prefix.{Prefix}
 pub use Rattle.rx_io.specs.Sends.{Send, sent_to}
 pub use Rattle.links.specs.declared.journal.Entry.{Entry}
 pub use Rattle.block_book.specs.declared.choice.Choice.{Choice}
-unfoldable pub use Rattle.block_book.specs.Answer.{is_allowed}
 pub use Rattle.alloc_env.specs.declared.env.Env.{Env}
 pub use Rattle.alloc_env.specs.declared.env.Env.TheVariants.{All, Delay, Isolate, Pad, Plain, Zero}
 unfoldable pub use Rattle.reply_ledger.specs.Trials.{agree}
 pub use Rattle.elf_image.specs.declared.image.Image.{Image}
 pub use Rattle.run_history.specs.declared.answer.Cause.{Cause}
 pub use Rattle.run_history.specs.declared.answer.Cause.TheVariants.{BadAccess, Hang}
-pub use Rattle.run_history.specs.Call.{chooses, malloc, takes}
-unfoldable pub use Rattle.run_history.specs.Call.{allocated, freed, received}
-pub use Rattle.run_history.specs.Machine.{Chooses, Effect, Emits, Ends, Fails, Goes, Machine, State, Wants, register}
+pub use Rattle.run_history.specs.Machine.{Effect, Fails, Goes, State, Wants, register}
 unfoldable pub use Rattle.run_history.specs.Machine.{start, start_machine}
 pub use Rattle.run_history.specs.Run.{after, output}
-unfoldable pub use Rattle.run_history.specs.Run.{does, next}
+unfoldable pub use Rattle.run_history.specs.Run.{does}
 pub use Rattle.run_history.specs.Served.{AsksFor, FailsBy, Free, Grant, Guest, Limits, Malloc, Nothing, Override, Path, Request, Served, does_with, env_at, granted, guest_of, is_refused, longer, origin, planned_next, request_of, serve}
 unfoldable pub use Rattle.run_history.specs.Served.{grant, served_next, serves}
 unfoldable pub use Rattle.run_history.specs.Touching.{instruction_at, touched}
 pub use Rattle.session_history.specs.Account.{IsAccount, Session, after_ending, journal_of}
 pub use Rattle.session_history.specs.Giving.{AreGiven}
-pub use Rattle.session_history.specs.Heeding.{items_in}
-pub use Rattle.session_history.specs.Lawful.{AreDue, AreLawful, Chapter, IsDue, IsDueEvent, IsDuePiece, LeavesNothing, Rules, Survivor, entries_of}
+pub use Rattle.session_history.specs.Heeding.{items_in, received}
+pub use Rattle.session_history.specs.Lawful.{AreDue, AreLawful, Chapter, IsDue, IsDueEvent, IsDuePiece, LeavesNothing, Rules, Survivor, entries_of, gone_on}
 pub use Rattle.session_history.specs.Owing.{Latest, Place, Stands, latest, moment_at}
 pub use Rattle.session_history.specs.Passing.{Agrees, AreBetween, Covers, CoversBefore, IsFeasible, passed_in, until}
-pub use Rattle.session_history.specs.Serving.{first_survivor, gone_on}
+pub use Rattle.session_history.specs.Serving.{first_survivor}
 pub use Rattle.session_notes.specs.declared.episode.Tried.{Tried}
 pub use Rattle.session_notes.specs.Survival.{survives}

@@ -1,7 +1,7 @@
 -- One call on a trunk, as a part of how it goes on.
 use Rattle.links.specs.declared.journal.Given.TheVariants.{All as Whole}
 use Rattle.links.specs.declared.journal.LinkEvent.TheVariants as event
-use Rattle.trunk_wire.proofs.Terms.{Bool, Err, List, Ok, Result, [], append-nil, false, is_ok, length, refl, subst, sym, true, ℕ, ◌++◌, ◌<◌, ◌^◌, ◌∙◌, ◌∷◌, ◌≡◌, All-cons, All-nil, IsDrained, Prefix, CONNECTIONS, Given, Gone, LinkEvent, LinkFault, Memory, ReadFault, Refused, WriteFault, Enters, IsInOrder, Piece, phases_after, IsFrameOf, piece_frame, HasOffset, Reads, TakesBy, Writes, WritesBy, count_after, count_nothing, refusal_in, Intake, IsCut, IsFramed, IsTail, Output, TookFrames, WroteFrames}
+use Rattle.trunk_wire.proofs.Terms.{Bool, Err, List, Ok, Result, Some, [], append-nil, false, is_ok, length, refl, subst, sym, true, ℕ, ◌++◌, ◌<◌, ◌^◌, ◌∙◌, ◌∷◌, ◌≡◌, All-cons, All-nil, IsDrained, Prefix, CONNECTIONS, Given, Gone, LinkEvent, LinkFault, Memory, ReadFault, Refused, WriteFault, Enters, IsInOrder, Piece, phases_after, IsFrameOf, piece_frame, HasOffset, Reads, TakesBy, Writes, WritesBy, count_after, count_nothing, refusal_in, Intake, IsCut, IsFramed, IsTail, Output, TookFrames, WroteFrames}
 
 -- the frame of an event was taken
 took_frame : (old new : Intake) (event : LinkEvent) (bytes : List ℕ) → new.takes ≡ true → Reads old.told new.told old.took new.took bytes → IsFrameOf event bytes → IsInOrder old.phases event
@@ -53,23 +53,23 @@ wrote_frame old new piece framed gives wrote = record {
   tail = [];
   framed = All-cons IsFramed piece [] framed (All-nil IsFramed);
   writes = subst (Writes old.told new.told old.wrote new.wrote) (sym (append-nil (piece_frame piece.conn piece.bytes)) ∙ sym (append-nil (piece_frame piece.conn piece.bytes ++ []))) wrote;
-  cut = subst (λ b. IsCut b []) (sym gives) refl;
+  cut = subst (λ b. IsCut b new.handed []) (sym gives) refl;
 }
 
 -- a first part of a frame was written
-wrote_cut : (old new : Output) (piece : Piece) → IsFramed piece → new.gives ≡ false → (front : List ℕ) × Prefix front (piece_frame piece.conn piece.bytes) × Writes old.told new.told old.wrote new.wrote front → WroteFrames old new
-wrote_cut old new piece framed gives (front, whole, wrote) = record {
+wrote_cut : (old new : Output) (piece : Piece) → IsFramed piece → new.gives ≡ false → new.handed ≡ Some (record { conn = piece.conn; length = length piece.bytes }) → (front : List ℕ) × Prefix front (piece_frame piece.conn piece.bytes) × Writes old.told new.told old.wrote new.wrote front → WroteFrames old new
+wrote_cut old new piece framed gives handed (front, whole, wrote) = record {
   pieces = [];
   tail = front;
   framed = All-nil IsFramed;
   writes = wrote;
-  cut = subst (λ b. IsCut b front) (sym gives) (piece, framed, whole);
+  cut = subst (λ b. IsCut b new.handed front) (sym gives) (piece, framed, whole, handed);
 }
 
 -- what a `give` writes
-pub give_wrote : (old new : Output) (conn : ℕ) (bytes : List ℕ) (result : Result Given LinkFault) → conn < CONNECTIONS → 0 < length bytes → length bytes < 2 ^ 16 → new.gives ≡ is_ok result
+pub give_wrote : (old new : Output) (conn : ℕ) (bytes : List ℕ) (result : Result Given LinkFault) → conn < CONNECTIONS → 0 < length bytes → length bytes < 2 ^ 16 → new.gives ≡ is_ok result → new.handed ≡ Some (record { conn = conn; length = length bytes })
     → WritesBy (Writes old.told new.told old.wrote new.wrote) conn bytes result → WroteFrames old new
-give_wrote old new conn bytes result below some few gives written = by_answer result gives written
+give_wrote old new conn bytes result below some few gives handed written = by_answer result gives written
   where
     piece : Piece
     piece = record { conn = conn; bytes = bytes; gone = false }
@@ -80,7 +80,7 @@ give_wrote old new conn bytes result below some few gives written = by_answer re
     by_answer : (result : Result Given LinkFault) → new.gives ≡ is_ok result → WritesBy (Writes old.told new.told old.wrote new.wrote) conn bytes result → WroteFrames old new
     by_answer (Ok Whole) gives written = wrote_frame old new piece framed gives written
     by_answer (Ok (Gone count)) gives written = absurd written
-    by_answer (Err WriteFault) gives written = wrote_cut old new piece framed gives written
-    by_answer (Err Memory) gives written = wrote_cut old new piece framed gives written
+    by_answer (Err WriteFault) gives written = wrote_cut old new piece framed gives handed written
+    by_answer (Err Memory) gives written = wrote_cut old new piece framed gives handed written
     by_answer (Err ReadFault) gives written = absurd written
     by_answer (Err (Refused kind offset)) gives written = absurd written

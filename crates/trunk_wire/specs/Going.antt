@@ -1,6 +1,6 @@
 -- How a trunk goes on: what it takes from its source and writes to its sink over any number of calls.
 use Rattle.std.specs.Prelude.{◌≡◌, ℕ, ◌^◌, ◌<◌, Bool, true, false, All, List, [], ◌∷◌, ◌++◌, length, Option, None, Some}
-use Rattle.trunk_wire.specs.Terms.{IsDrained, Stream, Prefix, CONNECTIONS, LinkEvent, IsInOrder, Phases, Piece, phases_after}
+use Rattle.trunk_wire.specs.Terms.{IsDrained, Stream, Prefix, CONNECTIONS, LinkEvent, Handed, IsInOrder, Phases, Piece, phases_after}
 use Rattle.trunk_wire.specs.Calls.{Reads, Writes, count_after, IsRefused}
 use Rattle.trunk_wire.specs.Frames.{AreFramesOf, piece_frame, frames}
 use Rattle.trunk_wire.specs.Grammar.{Part, front}
@@ -48,10 +48,11 @@ abbrev pub TakesOn : Bool → Intake → Intake → Type 0
 TakesOn true old new = TookFrames old new
 TakesOn false old new = new ≡ old
 
--- what a sink tells, how many bytes a link wrote to it, and whether the link gives pieces
+-- what a sink tells, how many bytes a link wrote to it, the piece that the link was handed last, and whether it gives pieces
 pub record Output : Type 0 where
   pub told : Option (List ℕ)
   pub wrote : ℕ
+  pub handed : Option Handed
   pub gives : Bool
 
 -- a piece that a frame holds: 1 to 65,535 bytes for a connection below CONNECTIONS, and all of them
@@ -62,10 +63,10 @@ pub record IsFramed (piece : Piece) : Type 0 where
   pub whole : piece.gone ≡ false
 
 -- what was written behind whole frames: nothing while the link gives pieces, else a first part of one more, perhaps all of it,
--- perhaps none
-abbrev pub IsCut : Bool → List ℕ → Type 0
-IsCut true tail = tail ≡ []
-IsCut false tail = (piece : Piece) × IsFramed piece × Prefix tail (piece_frame piece.conn piece.bytes)
+-- perhaps none: that of the piece that it was handed last
+abbrev pub IsCut : Bool → Option Handed → List ℕ → Type 0
+IsCut true handed tail = tail ≡ []
+IsCut false handed tail = (piece : Piece) × IsFramed piece × Prefix tail (piece_frame piece.conn piece.bytes) × (handed ≡ Some (record { conn = piece.conn; length = length piece.bytes }))
 
 -- the frames of pieces were written, and a first part of one more behind them
 pub record WroteFrames (old new : Output) : Type 0 where
@@ -73,7 +74,7 @@ pub record WroteFrames (old new : Output) : Type 0 where
   pub tail : List ℕ
   pub framed : All IsFramed pieces
   pub writes : Writes old.told new.told old.wrote new.wrote (frames pieces ++ tail)
-  pub cut : IsCut new.gives tail
+  pub cut : IsCut new.gives new.handed tail
 
 -- frames are written while the link gives pieces. Once it doesn't, all of this stays
 abbrev pub GivesOn : Bool → Output → Output → Type 0

@@ -45,7 +45,7 @@ wrote_none output gives = record {
   tail = [];
   framed = All-nil IsFramed;
   writes = writes_nothing output.told output.wrote;
-  cut = subst (λ b. IsCut b []) (sym gives) refl;
+  cut = subst (λ b. IsCut b output.handed []) (sym gives) refl;
 }
 
 -- frames were taken, and then more
@@ -75,7 +75,7 @@ took_frames first second third takes one two =
 -- frames were written, and then more
 wrote_frames : (first second third : Output) → second.gives ≡ true → WroteFrames first second → WroteFrames second third → WroteFrames first third
 wrote_frames first second third gives one two =
-    let none : one.tail ≡ [] = subst (λ b. IsCut b one.tail) gives one.cut in
+    let none : one.tail ≡ [] = subst (λ b. IsCut b second.handed one.tail) gives one.cut in
     let wrote : Writes first.told second.told first.wrote second.wrote (frames one.pieces) =
     subst (Writes first.told second.told first.wrote second.wrote) (ap (λ l. frames one.pieces ++ l) none ∙ append-nil (frames one.pieces)) one.writes in
     let joined : frames one.pieces ++ (frames two.pieces ++ two.tail) ≡ frames (one.pieces ++ two.pieces) ++ two.tail =

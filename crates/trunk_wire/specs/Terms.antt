@@ -11,5 +11,5 @@ pub use Rattle.links.specs.declared.journal.LinkEvent.{LinkEvent}
 pub use Rattle.links.specs.declared.journal.LinkFault.{LinkFault}
 pub use Rattle.links.specs.declared.journal.LinkFault.TheVariants.{Memory, ReadFault, Refused, WriteFault}
 pub use Rattle.links.specs.ConnectionTables.{is_open, is_unopened, phases_in}
-pub use Rattle.links.specs.Links.{Closed, Comes, Coming, Counts, Cuts, Enters, Gives, GoesBy, Grew, IsFresh, IsInOrder, Nexts, Open, Phase, Phases, Piece, Refuses, Tells, Told, Unopened, cut_entries, events_in, phases_after, pieces_in, with_phase}
+pub use Rattle.links.specs.Links.{Closed, Comes, Coming, Counts, Cuts, Enters, Gives, GoesBy, Grew, Handed, IsFresh, IsInOrder, Nexts, Open, Phase, Phases, Piece, Refuses, Tells, Told, Unopened, cut_entries, events_in, phases_after, pieces_in, with_phase}
 pub use Rattle.links.specs.Seen.{IsSound, Seen}

@@ -67,7 +67,7 @@ module _ {S K : Type 0} where
   intake_of source_told link = record { told = source_told link.source; took = link.took; phases = phases_in link.table; takes = link.takes; refused = link.refused }
 
   abbrev pub output_of : (K → Option (List ℕ)) → TrunkLink S K → Output
-  output_of sink_told link = record { told = sink_told link.sink; wrote = link.wrote; gives = link.gives }
+  output_of sink_told link = record { told = sink_told link.sink; wrote = link.wrote; handed = handed_by link.handed; gives = link.gives }
 
 -- a link goes on over the same source and the same sink, takes frames and writes frames
 pub record TrunkWent {S K F G : Type 0} (source_fixed : S → F) (source_told : S → Option Stream) (sink_fixed : K → G) (sink_told : K → Option (List ℕ)) (old new : TrunkLink S K) : Type 0 where

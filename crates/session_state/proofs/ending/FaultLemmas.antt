@@ -1,20 +1,24 @@
 -- Faults of notes.
-use Rattle.run_history.specs.declared.answer.Answer.TheVariants as answer
+use Rattle.session_history.specs.declared.ends.SessionBreak.TheVariants as session_break
+use Rattle.session_history.specs.declared.ends.Stop.TheVariants as stop
 use Rattle.rx_io.specs.declared.fault.IoFault.TheVariants as note
-use Rattle.session_state.proofs.Terms.{subst, sym, IoFault, Answer, Session, EndsBy, IsEnd, Rules, IsNoteFault, IsNoteAnswer}
+use Rattle.session_state.proofs.Terms.{[], subst, sym, ◌≡◌, IoFault, Seen, SessionBreak, Session, EndsBy, HandedLast, Rules, IsNoteFault, IsNoteAnswer}
 
--- a fault of notes is no end, and nothing more is asked of it
-pub note_no_end : (fault : Answer) → IsNoteFault fault → IsEnd fault → ⊥
-note_no_end answer.FileFault is end = end
-note_no_end answer.Memory is end = end
-note_no_end _ is end = absurd is
+-- nothing more is asked of a fault of notes
+pub note_ends : (rules : Rules) (session : Session) (fault : SessionBreak) → IsNoteFault fault → EndsBy rules session (stop.Breaks fault)
+note_ends rules session session_break.ReadFault is = absurd is
+note_ends rules session session_break.WriteFault is = tt
+note_ends rules session session_break.FileFault is = tt
+note_ends rules session session_break.Memory is = tt
 
-pub note_ends : (rules : Rules) (session : Session) (fault : Answer) → IsNoteFault fault → EndsBy rules session fault
-note_ends rules session answer.FileFault is = tt
-note_ends rules session answer.Memory is = tt
-note_ends rules session _ is = absurd is
+-- where no piece broke off, nothing is asked of what the link was handed
+pub note_handed : (rules : Rules) (session : Session) (seen : Seen) (fault : SessionBreak) → session.broken ≡ [] → IsNoteFault fault → HandedLast rules session seen fault
+note_handed rules session seen session_break.ReadFault none is = tt
+note_handed rules session seen session_break.WriteFault none is = absurd is
+note_handed rules session seen session_break.FileFault none is = tt
+note_handed rules session seen session_break.Memory none is = λ some. absurd (some none)
 
--- a fault of notes as an answer
-pub note_answered : (fault : IoFault) (end : Answer) → IsNoteAnswer fault end → IsNoteFault end
-note_answered note.Failed end is = subst IsNoteFault (sym is) tt
-note_answered note.Memory end is = subst IsNoteFault (sym is) tt
+-- a fault of notes breaks a session off so
+pub note_answered : (fault : IoFault) (why : SessionBreak) → IsNoteAnswer fault why → IsNoteFault why
+note_answered note.Failed why is = subst IsNoteFault (sym is) tt
+note_answered note.Memory why is = subst IsNoteFault (sym is) tt

@@ -1,9 +1,10 @@
 -- What a link's grammar has next is told still, and a session's counts are those of its guest.
-use Rattle.run_history.specs.declared.answer.Answer.TheVariants as answer
+use Rattle.session_history.specs.declared.ends.SessionBreak.TheVariants as session_break
+use Rattle.session_history.specs.declared.ends.SessionEnd.TheVariants as session_end
 use Rattle.link_gate.specs.declared.heard.HearFault.TheVariants as hear
 use Rattle.link_gate.specs.declared.pass_fault.PassFault.TheVariants as fault
-use Rattle.session_state.proofs.Terms.{Bool, Err, None, Ok, Option, Result, Some, ap, inl, inr, refl, subst, sym, true, ℕ, ◌∙◌, ◌≡◌, ◌≤◌, IsErrOf, IsSome, Coming, Told, Answer, CpuState, IsEnd, HearFault, Heard, PassFault, ComesOn, TakesBehind, Stop, SessionState, IsNoteFault, BreaksAt, BreaksOnce, BreaksPassing, HasNoteStop, HasSameGuest, IsAnswerTo, IsCounted, IsPassAnswer, IsStopAt, IsUnnoted, StaysKnown, TakesAtEnd, TakesBy, UnlessBroken}
-use Rattle.session_state.specs.declared.stop.Stop.TheVariants as stop
+use Rattle.session_history.specs.declared.ends.Stop.TheVariants as stop
+use Rattle.session_state.proofs.Terms.{Bool, Err, None, Ok, Option, Result, Some, ap, inl, inr, refl, subst, sym, true, ℕ, ◌∙◌, ◌≡◌, ◌≤◌, IsErrOf, IsSome, Coming, Told, CpuState, SessionBreak, Stop, HearFault, Heard, PassFault, ComesOn, TakesBehind, SessionState, IsNoteFault, BreaksAt, BreaksOnce, BreaksPassing, HasNoteStop, HasSameGuest, IsAnswerTo, IsCounted, IsPassAnswer, IsStopAt, IsUnnoted, StaysKnown, TakesBy, UnlessBroken}
 
 known_self : (coming : Option Coming) → StaysKnown coming coming
 known_self None = tt
@@ -18,7 +19,7 @@ known_then (Some old) None new first second = let no : ⊥ = cc in absurd no
 known_then (Some old) (Some mid) new first second = second
 
 -- what holds anyhow, holds unless a session was broken off
-unless_broken : (result : Result (Unit {0}) Stop) (P : Type 0) → P → UnlessBroken result P
+pub unless_broken : (result : Result (Unit {0}) Stop) (P : Type 0) → P → UnlessBroken result P
 unless_broken (Ok done) P holds = holds
 unless_broken (Err (stop.Ends end)) P holds = holds
 unless_broken (Err (stop.Breaks end)) P holds = tt
@@ -68,22 +69,18 @@ halted takes is by = subst (λ (w : Stop). TakesBy {X = Unit {0}} takes (Err w))
 -- behind an event that wasn't heard
 pub takes_stopped : (old new : Told) (takes : Bool) (cause : HearFault) (why : Stop) → TakesBehind old new takes (Err cause) → IsStopAt cause why → TakesBy {X = Unit {0}} takes (Err why)
 takes_stopped old new takes (hear.Refused kind offset) why behind is = halted takes is behind
-takes_stopped old new takes hear.LimitEvents why behind is = halted takes is (λ end. behind)
-takes_stopped old new takes (hear.TooLong conn) why behind is = halted takes is (λ end. behind)
-takes_stopped old new takes hear.LimitItems why behind is = halted takes is (λ end. behind)
+takes_stopped old new takes hear.LimitEvents why behind is = halted takes is behind
+takes_stopped old new takes (hear.TooLong conn) why behind is = halted takes is behind
+takes_stopped old new takes hear.LimitItems why behind is = halted takes is behind
 takes_stopped old new takes hear.ReadFault why behind is = halted takes is tt
 takes_stopped old new takes hear.Memory why behind is = halted takes is tt
-
-pub takes_no_end : (takes : Bool) (end : Answer) → (IsEnd end → ⊥) → TakesAtEnd takes end
-takes_no_end takes (answer.InputRefused kind offset) none = absurd (none tt)
-takes_no_end takes _ none = λ is. absurd (none is)
 
 -- where it was broken off, no call failed but one: a piece was given behind an event, or where none was heard
 pub once_given : (old : Option Coming) {mid new : Option Coming} (gives : Bool) (result : Result (Unit {0}) Stop) → StaysKnown old mid → new ≡ mid → BreaksPassing result → BreaksOnce old new gives result
 once_given old gives (Ok done) known same passing = tt
 once_given old gives (Err (stop.Ends end)) known same passing = tt
-once_given old {mid = mid} {new = new} gives (Err (stop.Breaks answer.WriteFault)) known same passing = known_then old mid new known (known_same same)
-once_given old {mid = mid} {new = new} gives (Err (stop.Breaks answer.Memory)) known same passing = inl (known_then old mid new known (known_same same))
+once_given old {mid = mid} {new = new} gives (Err (stop.Breaks session_break.WriteFault)) known same passing = known_then old mid new known (known_same same)
+once_given old {mid = mid} {new = new} gives (Err (stop.Breaks session_break.Memory)) known same passing = inl (known_then old mid new known (known_same same))
 once_given old gives (Err (stop.Breaks _)) known same passing = absurd passing
 
 pub once_heard : (old : Option Coming) {mid new : Option Coming} (gives : Bool) (heard : Heard) (result : Result (Unit {0}) Stop) → ComesOn old mid (Ok heard) → new ≡ mid → BreaksPassing result → BreaksOnce old new gives result
@@ -101,40 +98,32 @@ once_stopped old new {gives = gives} hear.ReadFault why still is = once_why old 
 once_stopped old new {gives = gives} hear.Memory why still is = once_why old new gives is (inr still)
 
 -- the same since earlier
-pub once_at : (old mid new : Option Coming) (gives : Bool) (end : Answer) → StaysKnown old mid → BreaksAt mid new gives end → BreaksAt old new gives end
-once_at old mid new gives answer.WriteFault known once = known_then old mid new known once
-once_at old mid new gives answer.ReadFault known once = once
-once_at old mid new gives answer.FileFault known once = (known_then old mid new known once.0, once.1)
-once_at old mid new gives answer.Memory known (inl once) = inl (known_then old mid new known once)
-once_at old mid new gives answer.Memory known (inr once) = inr once
-once_at old mid new gives _ known once = tt
+pub once_at : (old mid new : Option Coming) (gives : Bool) (why : SessionBreak) → StaysKnown old mid → BreaksAt mid new gives why → BreaksAt old new gives why
+once_at old mid new gives session_break.WriteFault known once = known_then old mid new known once
+once_at old mid new gives session_break.ReadFault known once = once
+once_at old mid new gives session_break.FileFault known once = (known_then old mid new known once.0, once.1)
+once_at old mid new gives session_break.Memory known (inl once) = inl (known_then old mid new known once)
+once_at old mid new gives session_break.Memory known (inr once) = inr once
 
 pub once_then : (old mid new : Option Coming) (gives : Bool) (result : Result (Unit {0}) Stop) → StaysKnown old mid → BreaksOnce mid new gives result → BreaksOnce old new gives result
 once_then old mid new gives (Ok done) known once = tt
 once_then old mid new gives (Err (stop.Ends end)) known once = tt
 once_then old mid new gives (Err (stop.Breaks end)) known once = once_at old mid new gives end known once
 
-pub once_ended : (old new : Option Coming) (gives : Bool) (end : Answer) → IsEnd end → BreaksAt old new gives end
-once_ended old new gives answer.WriteFault is = absurd is
-once_ended old new gives answer.ReadFault is = absurd is
-once_ended old new gives answer.FileFault is = absurd is
-once_ended old new gives answer.Memory is = absurd is
-once_ended old new gives _ is = tt
+pub pass_answer : (why : PassFault) (broken : SessionBreak) → IsAnswerTo why broken → IsPassAnswer broken
+pass_answer fault.WriteFault broken is = subst IsPassAnswer (sym is) tt
+pass_answer fault.Memory broken is = subst IsPassAnswer (sym is) tt
 
-pub pass_answer : (why : PassFault) (end : Answer) → IsAnswerTo why end → IsPassAnswer end
-pass_answer fault.WriteFault end is = subst IsPassAnswer (sym is) tt
-pass_answer fault.Memory end is = subst IsPassAnswer (sym is) tt
-
-pub once_passing : {old new : Option Coming} (gives : Bool) (why : PassFault) (end : Answer) → new ≡ old → IsAnswerTo why end → BreaksAt old new gives end
-once_passing {old = old} {new = new} gives fault.WriteFault end same is = subst (BreaksAt old new gives) (sym is) (known_same same)
-once_passing {old = old} {new = new} gives fault.Memory end same is = subst (BreaksAt old new gives) (sym is) (inl (known_same same))
+pub once_passing : {old new : Option Coming} (gives : Bool) (why : PassFault) (broken : SessionBreak) → new ≡ old → IsAnswerTo why broken → BreaksAt old new gives broken
+once_passing {old = old} {new = new} gives fault.WriteFault broken same is = subst (BreaksAt old new gives) (sym is) (known_same same)
+once_passing {old = old} {new = new} gives fault.Memory broken same is = subst (BreaksAt old new gives) (sym is) (inl (known_same same))
 
 -- passing and hearing answer no fault of the notes
 pub unnoted_passing : (result : Result (Unit {0}) Stop) → BreaksPassing result → IsUnnoted result
 unnoted_passing (Ok done) is = tt
 unnoted_passing (Err (stop.Ends end)) is = absurd is
-unnoted_passing (Err (stop.Breaks answer.WriteFault)) is = tt
-unnoted_passing (Err (stop.Breaks answer.Memory)) is = tt
+unnoted_passing (Err (stop.Breaks session_break.WriteFault)) is = tt
+unnoted_passing (Err (stop.Breaks session_break.Memory)) is = tt
 unnoted_passing (Err (stop.Breaks end)) is = absurd is
 
 unnoted_why : {why now : Stop} → why ≡ now → IsUnnoted (Err now) → IsUnnoted (Err why)
@@ -148,10 +137,10 @@ unnoted_stopped hear.LimitItems why is = unnoted_why is tt
 unnoted_stopped hear.ReadFault why is = unnoted_why is tt
 unnoted_stopped hear.Memory why is = unnoted_why is tt
 
-file_fault : (result : Result (Unit {0}) Stop) → IsUnnoted result → IsErrOf result (stop.Breaks answer.FileFault) → ⊥
+file_fault : (result : Result (Unit {0}) Stop) → IsUnnoted result → IsErrOf result (stop.Breaks session_break.FileFault) → ⊥
 file_fault (Ok done) unnoted is = absurd (cc)
 file_fault (Err (stop.Ends end)) unnoted is = absurd (cc)
-file_fault (Err (stop.Breaks end)) unnoted is = subst (λ (w : Stop). IsUnnoted (Err w)) (err_is (stop.Breaks end) (stop.Breaks answer.FileFault) is) unnoted
+file_fault (Err (stop.Breaks end)) unnoted is = subst (λ (w : Stop). IsUnnoted (Err w)) (err_is (stop.Breaks end) (stop.Breaks session_break.FileFault) is) unnoted
   where
     err_is : (why other : Stop) → IsErrOf {T = Unit {0}} {E = Stop} (Err why) other → why ≡ other
     err_is why other is = cc (is)
@@ -161,19 +150,14 @@ pub noted_still : {before now : ℕ} {result : Result (Unit {0}) Stop} → befor
 noted_still {result = result} later unnoted = record { later = later; file_fault = λ is. absurd (file_fault result unnoted is) }
 
 -- a fault of the notes, where the link failed nothing
-pub once_noted : (coming : Option Coming) {gives : Bool} (end : Answer) → gives ≡ true → IsNoteFault end → BreaksAt coming coming gives end
-once_noted coming answer.FileFault still is = (known_same refl, still)
-once_noted coming answer.Memory still is = inr still
+pub once_noted : (coming : Option Coming) {gives : Bool} (why : SessionBreak) → gives ≡ true → IsNoteFault why → BreaksAt coming coming gives why
+once_noted coming session_break.FileFault still is = (known_same refl, still)
+once_noted coming session_break.Memory still is = inr still
 once_noted coming _ still is = absurd is
 
 -- a stop that isn't for want of memory
-pub breaks_of : {why : Stop} {end other : Answer} → why ≡ stop.Breaks end → IsErrOf {T = Unit {0}} {E = Stop} (Err why) (stop.Breaks other) → end ≡ other
+pub breaks_of : {why : Stop} {one other : SessionBreak} → why ≡ stop.Breaks one → IsErrOf {T = Unit {0}} {E = Stop} (Err why) (stop.Breaks other) → one ≡ other
 breaks_of is same = cc
-
--- a fault of passing is no end
-pub fault_no_end : (why : PassFault) (end : Answer) → IsAnswerTo why end → IsEnd end → ⊥
-fault_no_end fault.WriteFault end is = subst (λ (a : Answer). IsEnd a → ⊥) (sym is) (λ no. no)
-fault_no_end fault.Memory end is = subst (λ (a : Answer). IsEnd a → ⊥) (sym is) (λ no. no)
 
 module _ {R : Type 0} where
   -- counts stay where the guest does

@@ -7,8 +7,9 @@ use Rattle.guest_runs.specs.Laws.{IsStart}
 use Rattle.std.specs.Option.{unwrap_or}
 use Rattle.run_history.specs.Machine as M
 use Rattle.session_history.specs.Heeding as H
-use Rattle.session_state.proofs.Lemmas.{in_force_by, tells_same, none_noted, tells_none, start_trimmed}
-use Rattle.session_state.proofs.Terms.{Bool, List, None, Option, [], ap, arith, drop, false, inl, length, refl, subst, suc, sym, take, true, zero, ℕ, ◌*◌, ◌++◌, ◌+◌, ◌-◌, ◌/◌, ◌∙◌, ◌∷◌, ◌≡◌, ◌≤◌, replicate, slice_get, Send, Grew, IsFresh, Seen, Heap, Checkpoints, Ledger, no_replies, Image, no_connections, origin, CpuState, standing_of, Standing, runs_start, served_same, serving_first, Bounds, items_in, KeepsReplies, Rules, Stands, CanGive, Try, Noted, Shown, recovered_first, in_force_none, handled_first, alone, keeping_by, stands_of, KeepsRing, keeping_for, rules_of, IsBegun, SessionState, AreTables, IsTrimmed, keeping_of, IsBetween, Since, Story, told_since, HasSameFrame, IsCounted, MayServe, StaysKnown}
+use Rattle.session_state.proofs.Lemmas.{in_force_by, none_noted, tells_none}
+use Rattle.session_state.proofs.Terms.{Bool, List, None, Option, [], ap, arith, drop, false, inl, length, refl, subst, suc, sym, take, true, zero, ℕ, ◌*◌, ◌++◌, ◌+◌, ◌-◌, ◌/◌, ◌∙◌, ◌∷◌, ◌≡◌, ◌≤◌, replicate, slice_get, Send, tells_nothing, Grew, IsFresh, Seen, Heap, Checkpoints, Ledger, no_replies, Image, no_connections, origin, CpuState, standing_of, Standing, runs_start, served_same, serving_first, Bounds, items_in, KeepsReplies, Rules, Stands, CanGive, Try, Noted, Shown, recovered_first, in_force_none, handled_first, alone, keeping_by, stands_of, KeepsRing, keeping_for, rules_of, IsBegun, SessionState, AreTables, IsTrimmed, keeping_of, IsBetween, Since, Story, told_since, HasSameFrame, IsCounted, MayServe, StaysKnown}
+use Rattle.session_state.proofs.ending.LeavingLemmas.{start_trimmed}
 
 -- the story of no event
 abbrev first_story : Image → Story
@@ -65,9 +66,7 @@ module _ {R : Type 0} where
   pub begun_keeping : {image : Image} {session : SessionState R} → IsBegun image session.options session.cpu.rule session → keeping_of session ≡ keeping_for session.options
   begun_keeping {image = image} {session = session} begun =
       let same : image.window / 4096 ≡ session.options.window / 4096 = ap (λ n. n / 4096) (sym begun.window) in
-      let pages : session.cpu.slots.pages ≡ session.options.window / 4096 = begun.cpu.pages_are ∙ same in
-      let frames : session.cpu.slots.frames ≡ session.options.frames * (session.options.window / 4096) = begun.cpu.frames_are ∙ ap (λ n. session.options.frames * n) same in
-      λ i. record { ring = (begun.ring i).capacity; every = session.options.every; pages = pages i; frames = frames i }
+      λ i. record { ring = (begun.ring i).capacity; every = session.options.every; pages = (begun.cpu.pages_are ∙ same) i; frames = (begun.cpu.frames_are ∙ ap (λ n. session.options.frames * n) same) i }
 
   pub starts_none : {image : Image} {session : SessionState R} → IsBegun image session.options session.cpu.rule session → session.cpu.slots.live.guest.machine.taken ≡ 0
   unfolding M.start M.start_machine
@@ -87,7 +86,7 @@ module _ {R : Type 0} where
           told = record {
             serving = serving_first rules image;
             way = served_same rules.limits (items_in rules.bounds []) [] (origin image);
-            tells = tells_same;
+            tells = tells_nothing _;
             recovered = recovered_first rules image;
             counted = refl;
             episodes = (none_noted {noted = noted}).episodes_more;
@@ -97,6 +96,7 @@ module _ {R : Type 0} where
             low = omega (arith, begun.none_recorded);
             recorded = subst (λ n. Grew noted.choices noted.choices (take n [])) (sym begun.none_recorded) (none_noted {noted = noted}).choices_more;
             choices = begun.no_choices ∙ sym (ap (λ n. drop n []) begun.none_recorded);
+            unnoted = refl;
             taken = begun.no_items;
             steps = begun.no_steps;
           };
@@ -138,7 +138,6 @@ module _ {R : Type 0} where
     pub no_takes_fell : before.counts.takes ≤ seen.counts.takes
     pub no_gives_fell : before.counts.gives ≤ seen.counts.gives
     pub no_faults_fell : shown.faults ≤ now.faults
-    pub works : now.works ≡ shown.works
     pub outside : Outside
 
   -- it gives to each connection that is open: none was opened

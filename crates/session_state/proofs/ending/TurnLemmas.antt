@@ -1,9 +1,10 @@
 -- Where the guest of a session ran from one of its events on.
-use Rattle.run_history.specs.declared.answer.Answer.TheVariants as answer
+use Rattle.session_history.specs.declared.ends.SessionBreak.TheVariants as session_break
+use Rattle.session_history.specs.declared.ends.SessionEnd.TheVariants as session_end
 use Rattle.guest_cpu.specs.declared.event.Event.TheVariants as step
 use Rattle.guest_cpu.specs.Running.{RunsBy}
 use Rattle.session_state.proofs.Lemmas.{rings_kept, answers_as, broken_off, run_asks, run_exits, run_fails}
-use Rattle.session_state.proofs.Terms.{AllocError, Bool, Err, List, Ok, Result, ap, arith, cond, inl, inr, ltb, refl, subst, sym, ℕ, ◌+◌, ◌<◌, ◌∙◌, ◌≡◌, ◌≤◌, IfOk, Seen, Choice, Heap, Env, Plain, Image, Cause, Path, env_at, limits_of, Event, CpuState, live_of, with_live, Standing, turn, runs_serve, runs_write, RunsWriting, items_in, Rules, Stop, rules_of, SessionState, env_of, keeping_of, IsBetween, IsBrokenOff, IsEnding, IsFailing, IsWaitingFor, Since, entries, ComesBetween, GoesFurther, HasRun, HasSameFrame, IsAdoptedLater, IsCounted, UnlessMemory}
+use Rattle.session_state.proofs.Terms.{AllocError, Bool, Err, List, Ok, Result, ap, arith, cond, inl, inr, ltb, refl, subst, sym, ℕ, ◌+◌, ◌<◌, ◌∙◌, ◌≡◌, ◌≤◌, IfOk, Seen, Choice, Heap, Env, Plain, Image, Cause, Path, env_at, limits_of, Event, CpuState, live_of, with_live, Standing, turn, runs_serve, runs_write, RunsWriting, Stop, items_in, Rules, rules_of, SessionState, env_of, keeping_of, IsBetween, IsBrokenOff, IsEnding, IsFailing, IsWaitingFor, Since, entries, ComesBetween, GoesFurther, HasRun, HasSameFrame, IsAdoptedLater, IsCounted, UnlessMemory}
 
 module _ {R : Type 0} where
   -- how a guest runs in an environment, by the session that it is of
@@ -43,9 +44,7 @@ module _ {R : Type 0} where
   ran_later permits {old = old} cpu force same b ran =
       let runs = (ran_on permits cpu force same b ran).ran in
       let from : old.cpu.slots.live.steps ≡ b.going.story.survivor.now.steps = ap (λ (s : Standing). s.steps) b.going.goes.guest in
-      let to : runs.now.steps ≡ cpu.slots.live.steps = ap (λ (s : Standing). s.steps) runs.stands in
-      let later : b.going.story.survivor.now.steps ≤ runs.now.steps = runs.goes.later in
-      omega (arith, from, to, later)
+      omega (arith, from, ap (λ (s : Standing). s.steps) runs.stands, runs.goes.later)
 
   -- and the session answers for no more of them
   pub ran_low : (permits : R → Heap → ℕ → ℕ → Bool) {env : Env} {image : Image} {began : Since} {seen : Seen} {old inside : SessionState R} (cpu : CpuState R) (result : Result Event AllocError) → env ≡ env_of old → inside ≡ old
@@ -55,9 +54,7 @@ module _ {R : Type 0} where
       let runs = runs_serve (limits_of old.options.budget (permits old.cpu.rule)) (items_in (rules_of old.options (permits old.cpu.rule)).bounds (entries b.going.story)) b.going.story.survivor.plan env old.cpu.base first (live_of old.cpu) (live_of cpu)
       result b.going.goes.lives (env_is b force) b.going.goes.guest (subst (λ (s : SessionState R). Ran permits env s cpu result) same ran) in
       let answers : inside.steps ≡ first.steps = ap (λ (s : SessionState R). s.steps) same ∙ b.going.answers.steps in
-      let to : runs.now.steps ≡ cpu.slots.live.steps = ap (λ (s : Standing). s.steps) runs.stands in
-      let later : first.steps ≤ runs.now.steps = runs.goes.later in
-      omega (arith, answers, to, later)
+      omega (arith, answers, ap (λ (s : Standing). s.steps) runs.stands, runs.goes.later)
 
   -- and grew by a send
   pub emits_later : (permits : R → Heap → ℕ → ℕ → Bool) {env : Env} {image : Image} {began : Since} {seen : Seen} {old inside : SessionState R} (cpu : CpuState R) {conn : ℕ} {bytes : List ℕ} {found : Event} → env ≡ env_of old → inside ≡ old → found ≡ step.Emits conn bytes
@@ -65,9 +62,7 @@ module _ {R : Type 0} where
   emits_later permits {env = env} {old = old} {inside = inside} cpu force same is b ran =
       let runs = (ran_on permits cpu force same b (subst (λ (e : Event). Ran permits env inside cpu (Ok e)) is ran)).ran in
       let from : old.cpu.slots.live.steps ≡ b.going.story.survivor.now.steps = ap (λ (s : Standing). s.steps) b.going.goes.guest in
-      let to : runs.now.steps ≡ cpu.slots.live.steps = ap (λ (s : Standing). s.steps) runs.stands in
-      let later : b.going.story.survivor.now.steps < runs.now.steps = runs.comes.6 in
-      omega (arith, from, to, later)
+      omega (arith, from, ap (λ (s : Standing). s.steps) runs.stands, runs.comes.6)
 
   -- and by an answer of malloc
   pub chooses_later : (permits : R → Heap → ℕ → ℕ → Bool) {env : Env} {image : Image} {began : Since} {seen : Seen} {old inside : SessionState R} (cpu : CpuState R) {choice : Choice} {found : Event} → env ≡ env_of old → inside ≡ old → found ≡ step.Chooses choice
@@ -75,9 +70,7 @@ module _ {R : Type 0} where
   chooses_later permits {env = env} {old = old} {inside = inside} cpu force same is b ran =
       let runs = (ran_on permits cpu force same b (subst (λ (e : Event). Ran permits env inside cpu (Ok e)) is ran)).ran in
       let from : old.cpu.slots.live.steps ≡ b.going.story.survivor.now.steps = ap (λ (s : Standing). s.steps) b.going.goes.guest in
-      let to : runs.now.steps ≡ cpu.slots.live.steps = ap (λ (s : Standing). s.steps) runs.stands in
-      let later : b.going.story.survivor.now.steps < runs.now.steps = runs.comes.3 in
-      omega (arith, from, to, later)
+      omega (arith, from, ap (λ (s : Standing). s.steps) runs.stands, runs.comes.3)
 
   -- its options and its access rule stay
   pub ran_frame : {old inside after : SessionState R} {cpu : CpuState R} → inside ≡ old → cpu ≡ with_live (live_of cpu) inside.cpu → after.options ≡ inside.options → after.cpu ≡ cpu → HasSameFrame old after
@@ -97,9 +90,9 @@ module _ {R : Type 0} where
       (run_asks h refl refl refl (record { taken = refl; steps = refl }))
 
   pub exits_now : {rules : Rules} {image : Image} {began : Since} {seen : Seen} {code : ℕ} {old inside after : SessionState R} {cpu : CpuState R} → inside ≡ old → after ≡ counted_by inside cpu
-      → HasRun rules image began seen (step.Exits code) (record inside { cpu = cpu }) → IsEnding rules image began seen after (answer.Exited code)
+      → HasRun rules image began seen (step.Exits code) (record inside { cpu = cpu }) → IsEnding rules image began seen after (session_end.Exited code)
   exits_now {rules = rules} {image = image} {began = began} {seen = seen} {code = code} same is h =
-      subst (λ (s : SessionState R). IsEnding rules image began seen s (answer.Exited code)) (sym is)
+      subst (λ (s : SessionState R). IsEnding rules image began seen s (session_end.Exited code)) (sym is)
       (run_exits h refl refl refl (record { taken = refl; steps = refl }))
 
   pub fails_now : {rules : Rules} {image : Image} {began : Since} {seen : Seen} {cause : Cause} {old inside after : SessionState R} {cpu : CpuState R} → inside ≡ old → after ≡ counted_by inside cpu
@@ -116,11 +109,11 @@ module _ {R : Type 0} where
 
   -- memory ran out within the run: the session answers for the run before it
   pub breaks_now : {rules : Rules} {image : Image} {began : Since} {seen : Seen} {old inside : SessionState R} {cpu : CpuState R} → inside ≡ old → keeping_of (record inside { cpu = cpu }) ≡ keeping_of old → IsBetween rules image began seen old
-      → IsBrokenOff rules image began seen (record inside { cpu = cpu }) answer.Memory
+      → IsBrokenOff rules image began seen (record inside { cpu = cpu }) session_break.Memory
   breaks_now {inside = inside} {cpu = cpu} same kept b =
       broken_off b.going.told
       (answers_as (ap (λ (s : SessionState R). s.recorded) same) (ap (λ (s : SessionState R). s.choices) same) (ap (λ (s : SessionState R). s.taken) same) (ap (λ (s : SessionState R). s.steps) same)
-      b.going.answers) tt (λ is. is) (rings_kept (record inside { cpu = cpu }) kept b.going.saved) (λ never. absurd (never tt)) (λ is. absurd is)
+      b.going.answers) tt (λ some. absurd (some refl)) (rings_kept (record inside { cpu = cpu }) kept b.going.saved) (λ never. absurd (never tt)) (λ is. absurd is)
 
   -- by other rules that are the same
   pub comes_under : (image : Image) (began : Since) (seen : Seen) (session : SessionState R) (result : Result (Unit {0}) Stop) {first second : Rules} → first ≡ second
@@ -150,9 +143,7 @@ module _ {R : Type 0} where
 
   pub further_adopted : (result : Result (Unit {0}) Stop) (old mid new : SessionState R) → mid.until ≡ old.until → mid.options ≡ old.options → IfOk result (λ _. IsAdoptedLater mid new) → IfOk result (λ _. GoesFurther old new)
   further_adopted (Ok done) old mid new same options later =
-      let past = later.past in
-      let most = later.most in
-      inr (record { past = omega (arith, past, same); most = let items : mid.options.max_items ≡ old.options.max_items = ap (λ o. o.max_items) options in omega (arith, most, items) })
+      inr (record { past = omega (arith, later.past, same); most = let items : mid.options.max_items ≡ old.options.max_items = ap (λ o. o.max_items) options in omega (arith, later.most, items) })
   further_adopted (Err why) old mid new same options later = tt
 
   -- its counts are those of its guest, unless memory ran out

@@ -1,18 +1,7 @@
 -- An event of the link comes: what that makes of a story.
 use Rattle.links.specs.declared.journal.Entry.TheVariants as entry
 use Rattle.links.specs.declared.journal.LinkEvent.TheVariants as event
-use Rattle.session_state.proofs.Terms.{Bool, List, Option, Some, [], ap, append_assoc, eqb, false, inl, inr, refl, subst, sym, true, ℕ, ◌++◌, ◌∙◌, ◌∷◌, ◌≡◌, option_map, unwrap_or, ◌||◌, Item, Entry, LinkEvent, Tells, Told, Image, AsksFor, Served, served_same, served_with, serving_event, AreHeeded, items_in, received, IsDue, Rules, Survivor, entries_of, place_of, opens, IsOwed, IsPassed, Latest, OwesNothing, behind, latest, HasPassedDue, IsLatestDone, IsTold, Since, Story, entries, moment, sends, then_story}
-use Rattle.session_state.proofs.standing.TellLemmas.{tells_on}
-
--- where what was due was passed, and so was what the latest event makes owed, nothing is owed
-pub owes_nothing : (rules : Rules) (story : Story) → HasPassedDue rules story → IsLatestDone rules (moment story) (sends story)
-    → OwesNothing rules.bounds rules.hold (moment story) (sends story)
-owes_nothing rules story due done send stands owed = of owed
-  where
-    of : IsOwed rules.bounds rules.hold (moment story) send → IsPassed rules.bounds (entries story) (sends story) send stands
-    of (inl (still, inl early)) = due send stands still early
-    of (inl (still, inr ended)) = absurd (let no : ⊥ = cc in no)
-    of (inr made) = done send stands made
+use Rattle.session_state.proofs.Terms.{Bool, List, Option, Some, [], ap, append_assoc, eqb, false, refl, subst, sym, true, ℕ, ◌++◌, ◌∙◌, ◌∷◌, ◌≡◌, option_map, unwrap_or, ◌||◌, Item, Entry, LinkEvent, tells_then, Tells, Told, Image, AsksFor, Served, served_with, serving_event, AreHeeded, items_in, received, Rules, Survivor, entries_of, opens, Latest, OwesNothing, behind, latest, IsTold, Since, Story, entries, moment, sends, then_story}
 
 -- an event that is due is taken
 pub told_event : {rules : Rules} {image : Image} {began : Since} {old now : Told} {story : Story} {event : LinkEvent} (more : List Item) → IsTold rules image began old story
@@ -21,15 +10,13 @@ pub told_event : {rules : Rules} {image : Image} {began : Since} {old now : Told
 told_event {rules = rules} {image = image} {began = began} {now = now} {story = story} {event = event} more told asks owes heeds tells brings =
     let items : List Item = items_in rules.bounds (entries story) in
     let survivor : Survivor = story.survivor in
-    let due : IsDue rules items survivor (place_of story.earlier story.since false) (entry.Took event) =
-    record { way = record { path = survivor.now; from = told.way; on = served_same rules.limits items survivor.plan survivor.now }; early = told.serving.carries.taken; due = record { asks = asks; owes_nothing = owes; heeded = heeds } } in
     let same : entries story ++ entry.Took event ∷ [] ≡ entries_of story.earlier ++ (story.since ++ entry.Took event ∷ []) = append_assoc (entries_of story.earlier) story.since (entry.Took event ∷ []) in
     record {
-      serving = serving_event rules image story.earlier survivor story.since event more told.serving due brings;
+      serving = serving_event rules image story.earlier survivor story.since event more told.serving (record { asks = asks; owes_nothing = owes; heeded = heeds }) brings;
       way =
           subst (λ its. Served rules.limits its survivor.plan survivor.begun survivor.now) (sym brings ∙ ap (items_in rules.bounds) same)
           (served_with rules.limits items more survivor.plan survivor.begun survivor.now told.way);
-      tells = subst (Tells began.told now) same (tells_on told.tells tells);
+      tells = subst (Tells began.told now) same (tells_then _ _ _ _ _ told.tells tells);
       recovered = told.recovered;
       counted = told.counted;
       episodes = told.episodes;

@@ -1,10 +1,12 @@
 -- What a session makes of an event that it heard.
 use Rattle.links.specs.declared.journal.Entry.TheVariants as entry
-use Rattle.session_state.proofs.Terms.{List, [], ap, append_assoc, arith, length, subst, sym, true, ℕ, ◌++◌, ◌+◌, ◌<◌, ◌∙◌, ◌∷◌, ◌≡◌, ◌≤◌, ◌⊎◌, Item, Entry, LinkEvent, Phases, Tells, events_in, Seen, Checkpoints, Image, AsksFor, Override, Path, CpuState, events_in-append, IsHeard, Bounds, heeded, items_in, received, KeepsItems, KeepsPhases, Rules, entries_of, opens, ring_more, AreBehind, Brings, KeepsRing, SessionState, keeping_of, AnswersFor, GoesWith, IsTold, IsWaitingFor, KeepsCheckpoints, Since, Story, entries, sends, then_story}
+use Rattle.links.proofs.Journaled.{events_in-append}
+use Rattle.session_state.proofs.Terms.{List, [], ap, append_assoc, arith, length, subst, sym, true, ℕ, ◌++◌, ◌+◌, ◌<◌, ◌∙◌, ◌∷◌, ◌≡◌, ◌≤◌, ◌⊎◌, Item, Entry, LinkEvent, Phases, Tells, events_in, Seen, Checkpoints, Image, AsksFor, Override, Path, CpuState, IsHeard, Bounds, heeded, items_in, received, KeepsItems, KeepsPhases, Rules, entries_of, opens, ring_more, AreBehind, Brings, KeepsRing, SessionState, keeping_of, AnswersFor, GoesWith, IsTold, IsWaitingFor, KeepsCheckpoints, Since, Story, entries, sends, then_story}
 use Rattle.session_state.proofs.standing.HeldLemmas.{requests_by, requests_more}
 use Rattle.session_state.proofs.standing.CheckpointLemmas.{in_force_by}
 use Rattle.session_state.proofs.guest.GuestLemmas.{answers_as}
-use Rattle.session_state.proofs.events.EventLemmas.{owes_nothing, told_event, opens_more}
+use Rattle.session_state.proofs.standing.StoryLemmas.{owes_nothing}
+use Rattle.session_state.proofs.events.EventLemmas.{told_event, opens_more}
 
 -- the entries of a story with more behind them
 pub more_entries : (story : Story) (more : List Entry) → entries story ++ more ≡ entries (then_story story more)
@@ -14,8 +16,7 @@ more_entries story more = append_assoc (entries_of story.earlier) story.since mo
 pub opens_still : (bounds : Bounds) (before : List Entry) {after : List Entry} (more : List Entry) (conn : ℕ) → after ≡ before ++ more → heeded bounds (events_in before) ≡ events_in before → heeded bounds (events_in after) ≡ events_in after
     → opens conn (heeded bounds (events_in before)) ≡ true → opens conn (heeded bounds (events_in after)) ≡ true
 opens_still bounds before {after = after} more conn is first second open_before =
-    let longer : events_in after ≡ events_in before ++ events_in more = ap events_in is ∙ events_in-append before more in
-    ap (opens conn) (second ∙ longer) ∙ opens_more conn (events_in before) (events_in more) (ap (opens conn) (sym first) ∙ open_before)
+    ap (opens conn) (second ∙ (ap events_in is ∙ events_in-append before more)) ∙ opens_more conn (events_in before) (events_in more) (ap (opens conn) (sym first) ∙ open_before)
 
 module _ {R : Type 0} where
   -- but for log, replies and the count of events, nothing of a session changed; and the log gave nothing up
@@ -32,7 +33,7 @@ module _ {R : Type 0} where
     pub options : new.options ≡ old.options
 
   answers_then : {began : Since} {story : Story} {session : SessionState R} (more : List Entry) → AnswersFor began story session → AnswersFor began (then_story story more) session
-  answers_then more answers = record { low = answers.low; recorded = answers.recorded; choices = answers.choices; taken = answers.taken; steps = answers.steps }
+  answers_then more answers = record { low = answers.low; recorded = answers.recorded; choices = answers.choices; unnoted = answers.unnoted; taken = answers.taken; steps = answers.steps }
 
   pub answers_still : {began : Since} {story : Story} {old new : SessionState R} (more : List Entry) → HasSameRun old new → AnswersFor began story old → AnswersFor began (then_story story more) new
   answers_still more same answers = answers_as same.recorded same.choices same.taken same.steps (answers_then more answers)

@@ -1,23 +1,23 @@
 -- What a session makes of a call that heard its link: one lemma for each arm.
-use Rattle.std.proofs.lemmas.List.{length-append}
 use Rattle.links.specs.declared.journal.Entry.TheVariants as entry
 use Rattle.links.specs.declared.journal.LinkEvent.TheVariants as event
 use Rattle.msg_frame.specs.Messages.{Parts, cut}
+use Rattle.msg_frame.specs.declared.framing.Framing.{Framing}
 use Rattle.item_log.specs.Connections as log_connections
 use Rattle.item_log.specs.Log as logs
 use Rattle.item_log.specs.declared.kinds.TheConstants.{CONNECTIONS}
 use Rattle.item_log.specs.Connections.{in_order, none_open, rest_of}
 use Rattle.item_log.specs.Heard.{Heard}
 use Rattle.session_history.specs.Heeding as unheeded
-use Rattle.run_history.specs.declared.answer.Answer.TheVariants as answer
+use Rattle.session_history.specs.declared.ends.SessionEnd.TheVariants as session_end
 use Rattle.link_gate.specs.declared.heard.Heard as heard_type
 use Rattle.link_gate.specs.declared.heard.Heard.TheVariants as heard
 use Rattle.link_gate.specs.declared.heard.HearFault.TheVariants as fault
 use Rattle.link_gate.proofs.Ordering.{heard_some, rests_by, step_heard}
 use Rattle.link_gate.proofs.Phasing.{closes-last, opens-first, opens-last, opens_by}
+use Rattle.session_history.specs.declared.ends.Stop.TheVariants as stop
 use Rattle.session_state.proofs.Lemmas.{still_takes, received_is, IsQuiet, before_given, before_story, goes_given, hearing_items, latest_story, same_run, saved_given, waits_on, IsNoEnd, HasHeard, HasSameRun, answers_still, has_heard, more_entries, saved_heard, all_due, close_ready, settle_done, settle_ready, latest-given}
-use Rattle.session_state.proofs.Terms.{Bool, Err, List, None, Ok, Option, Result, Some, [], ap, arith, false, inl, inr, length, refl, subst, sym, true, ℕ, ◌++◌, ◌+◌, ◌<◌, ◌∙◌, ◌∷◌, ◌≡◌, ◌≤◌, ◌⊎◌, cases_lt, eq-eqb, eqb-true, get_or-replicate, get_or-set_other, get_or_past, length-replicate, IfOk, is_some, slice_set, unwrap_or, ◌==◌, ◌||◌, rose_later, Send, Entry, LinkEvent, Counts, Tells, events_in, Seen, Heap, from_newest, Framing, behind_items, brought, hear, hear_parts, heard_from, Log, Shows, Ledger, connection_of, Image, Answer, IsEnd, IsLastRefused, IsWaiting, StandsAt, AreGiven, IsClosing, IsReady, IsHeard, IsUnheeded, closing_of, Bounds, Unheeded, heeded, received, KeepsItems, KeepsPhases, KeepsReplies, Rules, closes, opens, Latest, HearFault, IsEvent, events_behind, heard_behind, ComesLast, HearsBy, IsShown, Stays, Takes, TakesBehind, is_far, stands_of, Stop, rules_of, SessionState, GivesUpBy, IsHandled, HasPassed, HasPassedDue, IsEnding, IsHearing, IsLatestBefore, IsTold, IsWaitingFor, KeepsCheckpoints, Since, Story, entries, moment, sends, then_story, CanPass, HasSameGuest, HasStopCause, IsStopAt, MayServe, PassesDue, PassesStory, StaysKnown, StopsBy, WaitsBy}
-use Rattle.session_state.specs.declared.stop.Stop.TheVariants as stop
+use Rattle.session_state.proofs.Terms.{Bool, Err, List, None, Ok, Option, Result, Some, [], ap, arith, false, inl, inr, length, length-append, refl, subst, sym, true, ℕ, ◌++◌, ◌+◌, ◌<◌, ◌∙◌, ◌∷◌, ◌≡◌, ◌≤◌, ◌⊎◌, cases_lt, eq-eqb, eqb-true, get_or-replicate, get_or-set_other, get_or_past, length-replicate, IfOk, is_some, slice_set, unwrap_or, ◌==◌, ◌||◌, rose_later, Send, Entry, LinkEvent, Counts, Tells, events_in, Seen, Heap, from_newest, behind_items, brought, hear, hear_parts, heard_from, Log, Shows, Ledger, connection_of, Image, SessionEnd, Stop, IsLastRefused, IsWaiting, StandsAt, AreGiven, IsClosing, IsReady, IsHeard, IsUnheeded, closing_of, Bounds, Unheeded, heeded, received, KeepsItems, KeepsPhases, KeepsReplies, Rules, closes, opens, Latest, HearFault, IsEvent, events_behind, heard_behind, ComesLast, HearsBy, IsShown, Stays, Takes, TakesBehind, is_far, stands_of, rules_of, SessionState, GivesUpBy, IsHandled, HasPassed, HasPassedDue, IsEnding, IsHearing, IsLatestBefore, IsTold, IsWaitingFor, KeepsCheckpoints, Since, Story, entries, moment, sends, then_story, CanPass, HasSameGuest, HasStopCause, IsStopAt, MayServe, PassesDue, PassesStory, StaysKnown, StopsBy, WaitsBy}
 use Rattle.session_state.proofs.events.StopLemmas.{ending_refused, ending_ended, ending_stopped, off_read, off_memory}
 
 -- one place of the connections' rests is set: the others are as they were
@@ -91,8 +91,7 @@ opens_closed {bounds = bounds} {before = before} conn {old = old} {new = new} ke
     let is : events_in (before ++ entry.Took e ∷ []) ≡ events_in before ++ e ∷ [] = events_behind before e refl in
     let all : behind_items keeps.shows.items (hear old.framing old.rests e) ≡ Some (record { items = later.shows.items; rests = new.rests }) =
     sym (heard_behind bounds.framing (events_in before) e old keeps.shows) ∙ (ap (heard_from bounds.framing none_open) (sym is) ∙ later.shows.is_heard) in
-    let order : log_connections.is_open old.rests conn ≡ true = by (hear old.framing old.rests e) refl all in
-    ap (opens conn) (later.all_heeded ∙ is) ∙ (opens-last conn (events_in before) e ∙ ap (λ (b : Bool). b || false) (opens_shown conn keeps.shows order))
+    ap (opens conn) (later.all_heeded ∙ is) ∙ (opens-last conn (events_in before) e ∙ ap (λ (b : Bool). b || false) (opens_shown conn keeps.shows (by (hear old.framing old.rests e) refl all)))
   where
     by : (found : Option Heard) → hear old.framing old.rests (event.Closes conn) ≡ found → behind_items keeps.shows.items found ≡ Some (record { items = later.shows.items; rests = new.rests }) → log_connections.is_open old.rests conn ≡ true
     by None is all = absurd (let never : ⊥ = cc in never)
@@ -197,9 +196,7 @@ module _ {R : Type 0} where
   pub all_taken : {rules : Rules} {image : Image} {began : Since} {before : Seen} {old : SessionState R} (w : IsWaitingFor rules image began before old) → logs.received old.log ≤ old.taken
       → received rules.bounds (entries w.hearing.story) ≤ w.hearing.story.survivor.now.state.machine.taken
   all_taken w none_left =
-      let same = received_is w.hearing.goes.items in
-      let counts = w.hearing.answers.taken in
-      omega (arith, none_left, same, counts)
+      omega (arith, none_left, received_is w.hearing.goes.items, w.hearing.answers.taken)
 
   pub run_of : {old : SessionState R} {log : Log} {ledger : Ledger} {events : ℕ} → log.first ≡ old.log.first → HasSameRun old (with_heard old log ledger events)
   run_of first = record { cpu = refl; recorded = refl; choices = refl; taken = refl; steps = refl; first = first; ring = refl; env = refl; until = refl; options = refl }
@@ -336,17 +333,17 @@ module _ {R : Type 0} where
   waits_settled seen story known (Err (stop.Breaks end)) few all saved same kept no_trial stay still passes = (passes, λ none. still_takes _ still none)
 
   -- an event that is refused, whatever it is
-  refused_any : {rules : Rules} {image : Image} {began : Since} {before seen : Seen} {old new : SessionState R} (w : IsWaitingFor rules image began before old) (e : LinkEvent) (cause : Unheeded) {end : Answer} → IsHandled old
+  refused_any : {rules : Rules} {image : Image} {began : Since} {before seen : Seen} {old new : SessionState R} (w : IsWaitingFor rules image began before old) (e : LinkEvent) (cause : Unheeded) {end : SessionEnd} → IsHandled old
       → received rules.bounds (entries w.hearing.story) ≤ w.hearing.story.survivor.now.state.machine.taken → Tells before.told seen.told (entry.Took e ∷ []) → (u : IsUnheeded rules.bounds (entries w.hearing.story) (sends w.hearing.story) e cause new.replies)
-      → HasSameRun old new → new.log ≡ old.log → new.replies.trial ≡ None → IsEnd end
+      → HasSameRun old new → new.log ≡ old.log → new.replies.trial ≡ None
       → (IsWaiting rules (entries (then_story w.hearing.story (entry.Took e ∷ []))) w.hearing.story.survivor → IsLastRefused rules.bounds (entries (then_story w.hearing.story (entry.Took e ∷ []))) cause
       → StandsAt rules (entries (then_story w.hearing.story (entry.Took e ∷ []))) seen.coming w.hearing.story.survivor end)
       → GivesUpBy None end → IsEnding rules image began seen new end
-  refused_any w event.Ends cause handled all tells u same log no_trial is_end stands gave_up = absurd (u.no_end refl)
-  refused_any w (event.Opens conn) cause handled all tells u same log no_trial is_end stands gave_up = ending_refused w cause tt handled all tells u same log no_trial is_end stands gave_up
-  refused_any w (event.Piece conn bytes) cause handled all tells u same log no_trial is_end stands gave_up = ending_refused w cause tt handled all tells u same log no_trial is_end stands gave_up
-  refused_any w (event.Closes conn) cause handled all tells u same log no_trial is_end stands gave_up = ending_refused w cause tt handled all tells u same log no_trial is_end stands gave_up
-  refused_any w event.Settles cause handled all tells u same log no_trial is_end stands gave_up = ending_refused w cause tt handled all tells u same log no_trial is_end stands gave_up
+  refused_any w event.Ends cause handled all tells u same log no_trial stands gave_up = absurd (u.no_end refl)
+  refused_any w (event.Opens conn) cause handled all tells u same log no_trial stands gave_up = ending_refused w cause tt handled all tells u same log no_trial stands gave_up
+  refused_any w (event.Piece conn bytes) cause handled all tells u same log no_trial stands gave_up = ending_refused w cause tt handled all tells u same log no_trial stands gave_up
+  refused_any w (event.Closes conn) cause handled all tells u same log no_trial stands gave_up = ending_refused w cause tt handled all tells u same log no_trial stands gave_up
+  refused_any w event.Settles cause handled all tells u same log no_trial stands gave_up = ending_refused w cause tt handled all tells u same log no_trial stands gave_up
 
   -- what stands behind a stop, by the fault
   pub stops_by : {rules : Rules} {image : Image} {began : Since} {before : Seen} (seen : Seen) {old : SessionState R} (log : Log) (ledger : Ledger) (events : ℕ) (why : HearFault) (stopped : Stop) (w : IsWaitingFor rules image began before old)
@@ -358,20 +355,20 @@ module _ {R : Type 0} where
   stops_by {rules = rules} {image = image} {began = began} seen {old = old} log ledger events fault.LimitEvents stopped w handled none_left first trial stays last h behind is =
       subst (StopsBy rules image began seen (with_heard old log ledger events)) (sym is) (
         (refused_any w h.0 unheeded.LimitEvents handled (all_taken w none_left) h.1 h.2 (run_of first) stays.0
-            (trial ∙ w.hearing.passed.no_trial) tt (λ waits refused. (waits, refused)) tt),
+            (trial ∙ w.hearing.passed.no_trial) (λ waits refused. (waits, refused)) tt),
         λ none. still_takes _ behind none,
       )
   stops_by {rules = rules} {image = image} {began = began} {before = before} seen {old = old} log ledger events (fault.TooLong conn) stopped w handled none_left first trial stays last h behind is =
       subst (StopsBy rules image began seen (with_heard old log ledger events)) (sym is) (
         (refused_any w h.0 unheeded.TooLong handled (all_taken w none_left) h.1 h.2 (run_of first) stays.0
-            (trial ∙ w.hearing.passed.no_trial) tt
+            (trial ∙ w.hearing.passed.no_trial)
             (λ waits refused. (waits, record { refused = record { before = entries w.hearing.story; event = h.0; last = sym (more_entries w.hearing.story (entry.Took h.0 ∷ [])); no_end = h.2.no_end; refused = h.2.refused }; piece = h.3 })) tt),
         λ none. still_takes _ behind none,
       )
   stops_by {rules = rules} {image = image} {began = began} seen {old = old} log ledger events fault.LimitItems stopped w handled none_left first trial stays last h behind is =
       subst (StopsBy rules image began seen (with_heard old log ledger events)) (sym is) (
         (refused_any w h.0 unheeded.LimitItems handled (all_taken w none_left) h.1 h.2 (run_of first) stays.0
-            (trial ∙ w.hearing.passed.no_trial) tt (λ waits refused. (waits, refused)) tt),
+            (trial ∙ w.hearing.passed.no_trial) (λ waits refused. (waits, refused)) tt),
         λ none. still_takes _ behind none,
       )
   stops_by {rules = rules} {image = image} {began = began} seen {old = old} log ledger events fault.ReadFault stopped w handled none_left first trial stays last h behind is =
@@ -384,7 +381,7 @@ module _ {R : Type 0} where
   -- the link has ended
   pub ends_by : {rules : Rules} {image : Image} {began : Since} {before seen : Seen} {old : SessionState R} {log : Log} {ledger : Ledger} {events : ℕ} (w : IsWaitingFor rules image began before old)
       → IsHandled old → logs.received old.log ≤ old.taken → log.first ≡ old.log.first → ledger.trial ≡ old.replies.trial → HeardEvent rules.bounds (entries w.hearing.story) (sends w.hearing.story) before seen log ledger events event.Ends
-      → ComesLast seen.coming (Ok heard.Ends) → IsEnding rules image began seen (with_heard old log ledger events) answer.Finished
+      → ComesLast seen.coming (Ok heard.Ends) → IsEnding rules image began seen (with_heard old log ledger events) session_end.Finished
   ends_by w handled none_left first trial h last =
       ending_ended w handled (all_taken w none_left) h.tells h.heard (run_of first) (trial ∙ w.hearing.passed.no_trial) last
 

@@ -5,7 +5,7 @@ use Rattle.session_state.proofs.Terms.{List, None, Option, Some, [], ap, arith, 
 use Rattle.session_state.proofs.events.ArmLemmas.{latest_story}
 
 -- a send that stands among sends was made with no more items than the last ones
-between_at : (low : ℕ) {high : ℕ} (front back : List Send) (send : Send) → AreBetween low high (front ++ send ∷ back) → send.taken ≤ high
+pub between_at : (low : ℕ) {high : ℕ} (front back : List Send) (send : Send) → AreBetween low high (front ++ send ∷ back) → send.taken ≤ high
 between_at low [] back send all = all.1
 between_at low (first ∷ front) back send all = between_at low front back send all.2
 
@@ -20,8 +20,7 @@ fronts_of told = told.serving.carries.covers
 -- where no connection closes, what a close makes owed was passed
 none_closes : (bounds : Bounds) (at : Moment) {o : Option Latest} (conn : ℕ) → latest at.since ≡ o → ((c : ℕ) → is_closed_by o c ≡ false) → is_closing bounds at conn ≡ true → ⊥
 none_closes bounds at conn is never closing =
-    let first : is_closed_by (latest at.since) conn ≡ false = ap (λ l. is_closed_by l conn) is ∙ never conn in
-    let nothing : false ≡ true = sym (ap (λ b. b && closes conn (heeded bounds (events_in (journal at)))) first) ∙ closing in
+    let nothing : false ≡ true = sym (ap (λ b. b && closes conn (heeded bounds (events_in (journal at)))) (ap (λ l. is_closed_by l conn) is ∙ never conn)) ∙ closing in
     cc
 
 -- A settle was heard: all that was sent to open connections is owed.
@@ -34,8 +33,7 @@ settle_ready {rules = rules} story told low replies =
       keeps = replies;
       fronts = fronts_of told;
       owed = λ send stands still early.
-          let few = made_by told send stands in
-          inr (subst (IsDueBy rules.bounds (place_at (moment after)) send.conn send.taken) (sym is) (still, omega (arith, few, low)));
+          inr (subst (IsDueBy rules.bounds (place_at (moment after)) send.conn send.taken) (sym is) (still, omega (arith, made_by told send stands, low)));
       closed = λ send stands closing owed. absurd (none_closes rules.bounds (moment after) send.conn is (λ c. refl) closing);
     }
 
@@ -44,8 +42,7 @@ pub all_due : {rules : Rules} {image : Image} {began : Since} {now : Told} {stor
     → KeepsReplies rules.bounds (entries story) None (sends story) ledger → next_part ledger until ≡ None → (send : Send) (stands : Stands (sends story) send) → is_open rules.bounds (entries story) send.conn ≡ true
     → IsPassed rules.bounds (entries story) (sends story) send stands
 all_due {rules = rules} {story = story} {until = until} {ledger = ledger} told low replies none send stands still =
-    let few = made_by told send stands in
-    nothing_waits rules.bounds (entries story) (sends story) ledger until replies (fronts_of told) none send stands still (omega (arith, few, low))
+    nothing_waits rules.bounds (entries story) (sends story) ledger until replies (fronts_of told) none send stands still (omega (arith, made_by told send stands, low))
 
 -- where the latest event is a settle, what it makes owed is owed to open connections
 pub settle_done : (rules : Rules) (story : Story) {last : Latest} → latest (moment story).since ≡ Some last → last.event ≡ event.Settles

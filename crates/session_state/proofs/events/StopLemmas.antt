@@ -1,19 +1,15 @@
 -- The session stops where its guest waits: at the end of its link, at an event that is refused, at a fault.
-use Rattle.std.specs.Prelude.{not}
+use Rattle.session_history.specs.declared.ends.Stop.TheVariants as stop
 use Rattle.links.specs.declared.journal.Entry.TheVariants as entry
 use Rattle.links.specs.declared.journal.LinkEvent.TheVariants as event
 use Rattle.item_log.specs.Log as logs
-use Rattle.run_history.specs.declared.answer.Answer.TheVariants as answer
-use Rattle.rx_io.specs.Prefix.{Prefix}
+use Rattle.session_history.specs.declared.ends.SessionBreak.TheVariants as session_break
+use Rattle.session_history.specs.declared.ends.SessionEnd.TheVariants as session_end
+use Rattle.session_history.proofs.Heeding.{passed_in-took}
 use Rattle.link_gate.proofs.Knowing.{gone-took}
-use Rattle.session_state.proofs.Lemmas.{handled_by, held_as, held_by, held_of, rings_kept, unless_gave_up, waits_handled, still_takes, tells_on, answers_as, broken_off, broken_with, none_lost, none_noted, received_is, IsNoEnd, latest-ended, latest-took, owes_nothing, told_event, HasSameRun, answers_still, more_entries, run_keeping, tables_here, told_unwatched}
-use Rattle.session_state.proofs.Terms.{Bool, List, None, Option, Some, [], ap, append-nil, arith, false, inl, inr, length, refl, subst, sym, true, ℕ, ◌++◌, ◌+◌, ◌∙◌, ◌∷◌, ◌≡◌, ◌≤◌, ◌⊎◌, eqb-true, true≢false, IfSome, unwrap_or, ◌&&◌, ◌==◌, Item, Send, sent_to, Entry, LinkEvent, Comes, HasEnded, Refuses, Tells, Told, events_in, last_taken, Seen, items_of, Log, Ledger, Image, Answer, AsksFor, CpuState, standing_of, passed_in-took, served_same, IsEnd, IsLastRefused, IsWaiting, StandsAt, WasAsked, IsHeard, IsHeeded, IsUnheeded, closing_of, Bounds, Unheeded, heeded, items_in, received, KeepsReplies, Rules, is_closed_by, is_closing, closes, is_gone, is_open, opens, IsDueBy, Moment, journal, latest, place_at, passed_in, due_by, due_not_gone, IsEvent, events_ended, heeded_without, handled_on, HasHandled, HaveRings, stands_of, SessionState, GivesUpBy, HoldsCheckpoints, IsHandled, keeping_of, AnswersFor, IsAsking, IsBrokenOff, IsEnding, IsLatestDone, IsTold, IsWaitingFor, Since, Story, entries, moment, sends, then_story}
-
--- what was taken last
-pub last_taken-took : (es : List Entry) {e : LinkEvent} → last_taken (es ++ entry.Took e ∷ []) ≡ Some e
-last_taken-took [] = refl
-last_taken-took (entry.Gave conn bytes gone ∷ es) = last_taken-took es
-last_taken-took (entry.Took first ∷ es) = ap (λ (o : Option LinkEvent). Some (unwrap_or o first)) (last_taken-took es)
+use Rattle.session_history.proofs.Causes.{last_taken-append}
+use Rattle.session_state.proofs.Lemmas.{handled_by, held_as, held_by, held_of, rings_kept, unless_gave_up, waits_handled, owes_nothing, still_takes, answers_as, broken_off, broken_with, none_lost, none_noted, received_is, IsNoEnd, latest-ended, latest-took, told_event, HasSameRun, answers_still, more_entries, run_keeping, tables_here, told_unwatched}
+use Rattle.session_state.proofs.Terms.{Bool, List, None, Some, [], ap, append-nil, arith, false, inl, inr, length, not, refl, subst, sym, true, ℕ, ◌++◌, ◌+◌, ◌∙◌, ◌∷◌, ◌≡◌, ◌≤◌, ◌⊎◌, eqb-true, true≢false, IfSome, ◌&&◌, ◌==◌, Item, Prefix, Send, sent_to, Entry, LinkEvent, tells_then, Comes, HasEnded, Refuses, Tells, Told, events_in, Seen, items_of, Log, Ledger, Image, AsksFor, CpuState, standing_of, SessionBreak, SessionEnd, served_same, IsLastRefused, IsWaiting, StandsAt, WasAsked, IsHeard, IsHeeded, IsUnheeded, closing_of, Bounds, Unheeded, heeded, items_in, received, KeepsReplies, Rules, is_closed_by, is_closing, closes, is_gone, is_open, opens, IsDueBy, Moment, journal, latest, place_at, passed_in, due_by, due_not_gone, IsEvent, events_ended, heeded_without, handled_on, HasHandled, HaveRings, stands_of, SessionState, GivesUpBy, HoldsCheckpoints, IsHandled, keeping_of, AnswersFor, IsAsking, IsBrokenOff, IsEnding, IsLatestDone, IsTold, IsWaitingFor, Since, Story, entries, moment, sends, then_story}
 
 -- behind an event that is refused no connection closes
 pub refused_closes : (bounds : Bounds) (story : Story) (e : LinkEvent) → IsNoEnd e → heeded bounds (events_in (entries (then_story story (entry.Took e ∷ [])))) ≡ heeded bounds (events_in (entries story))
@@ -73,7 +69,7 @@ told_nothing : {rules : Rules} {image : Image} {began : Since} {before now : Tol
 told_nothing {began = began} {now = now} {story = story} told tells = record {
   serving = told.serving;
   way = told.way;
-  tells = subst (Tells began.told now) (append-nil (entries story)) (tells_on told.tells tells);
+  tells = subst (Tells began.told now) (append-nil (entries story)) (tells_then _ _ _ _ _ told.tells tells);
   recovered = told.recovered;
   counted = told.counted;
   episodes = told.episodes;
@@ -87,8 +83,7 @@ module _ {R : Type 0} where
       → IsTold rules image began now (then_story w.hearing.story (entry.Took e ∷ []))
   waits_took {rules = rules} w all tells more brings =
       let story : Story = w.hearing.story in
-      let low = w.hearing.told.serving.carries.taken in
-      let exact : received rules.bounds (entries story) ≡ story.survivor.now.state.machine.taken = omega (arith, low, all) in
+      let exact : received rules.bounds (entries story) ≡ story.survivor.now.state.machine.taken = omega (arith, w.hearing.told.serving.carries.taken, all) in
       told_event more w.hearing.told (subst (AsksFor rules.limits story.survivor.plan story.survivor.now) (sym exact) w.hearing.asks) (owes_nothing rules story w.due w.hearing.passed.done) w.hearing.goes.items.all_heeded tells brings
 
   -- it waits behind entries that bring nothing
@@ -96,9 +91,8 @@ module _ {R : Type 0} where
       → items_in rules.bounds (entries w.hearing.story ++ more) ≡ items_in rules.bounds (entries w.hearing.story) → IsWaiting rules (entries (then_story w.hearing.story more)) w.hearing.story.survivor
   waits_still {rules = rules} w more all none =
       let story : Story = w.hearing.story in
-      let low = w.hearing.told.serving.carries.taken in
       let same : items_in rules.bounds (entries (then_story story more)) ≡ items_in rules.bounds (entries story) = ap (items_in rules.bounds) (sym (more_entries story more)) ∙ none in
-      let exact : story.survivor.now.state.machine.taken ≡ received rules.bounds (entries (then_story story more)) = omega (arith, low, all, ap length same) in
+      let exact : story.survivor.now.state.machine.taken ≡ received rules.bounds (entries (then_story story more)) = omega (arith, w.hearing.told.serving.carries.taken, all, ap length same) in
       subst (AsksFor rules.limits story.survivor.plan story.survivor.now) exact w.hearing.asks
 
   -- it waits where it is
@@ -106,8 +100,7 @@ module _ {R : Type 0} where
       → IsWaiting rules (entries w.hearing.story) w.hearing.story.survivor
   waits_here {rules = rules} w all =
       let story : Story = w.hearing.story in
-      let low = w.hearing.told.serving.carries.taken in
-      let exact : story.survivor.now.state.machine.taken ≡ received rules.bounds (entries story) = omega (arith, low, all) in
+      let exact : story.survivor.now.state.machine.taken ≡ received rules.bounds (entries story) = omega (arith, w.hearing.told.serving.carries.taken, all) in
       subst (AsksFor rules.limits story.survivor.plan story.survivor.now) exact w.hearing.asks
 
   -- its guest is as it was, with its checkpoints
@@ -124,9 +117,8 @@ module _ {R : Type 0} where
       → HasHandled rules image (keeping_of new) w.hearing.story.earlier after w.hearing.story.recoveries w.hearing.story.survivor (w.hearing.story.survivor.now.state.machine.taken + 1) (stands_of new.cpu.slots.saved)
   handled_here {rules = rules} {image = image} {old = old} {new = new} w {after = after} none same handled =
       let story : Story = w.hearing.story in
-      let requests : ℕ = story.survivor.now.state.machine.taken + 1 in
       handled_by old new (ap (λ (cpu : CpuState R). cpu.slots.saved) same.cpu) (run_keeping same)
-      (handled_on rules image (keeping_of old) story.earlier (entries story) after [] story.recoveries story.survivor story.survivor requests (stands_of old.cpu.slots.saved) refl refl
+      (handled_on rules image (keeping_of old) story.earlier (entries story) after [] story.recoveries story.survivor story.survivor (story.survivor.now.state.machine.taken + 1) (stands_of old.cpu.slots.saved) refl refl
       (served_same rules.limits (items_in rules.bounds after) story.survivor.plan story.survivor.now) (none ∙ sym (append-nil (items_in rules.bounds (entries story)))) (waits_handled w handled))
 
   lives_here : {rules : Rules} {image : Image} {began : Since} {before : Seen} {old new : SessionState R} (w : IsWaitingFor rules image began before old) → HasSameRun old new
@@ -137,13 +129,13 @@ module _ {R : Type 0} where
   answers_here same answers = answers_as same.recorded same.choices same.taken same.steps answers
 
   -- an event that is refused ends the session
-  pub ending_refused : {rules : Rules} {image : Image} {began : Since} {before seen : Seen} {old new : SessionState R} (w : IsWaitingFor rules image began before old) {e : LinkEvent} (cause : Unheeded) {end : Answer} → IsNoEnd e → IsHandled old
+  pub ending_refused : {rules : Rules} {image : Image} {began : Since} {before seen : Seen} {old new : SessionState R} (w : IsWaitingFor rules image began before old) {e : LinkEvent} (cause : Unheeded) {end : SessionEnd} → IsNoEnd e → IsHandled old
       → received rules.bounds (entries w.hearing.story) ≤ w.hearing.story.survivor.now.state.machine.taken → Tells before.told seen.told (entry.Took e ∷ []) → (u : IsUnheeded rules.bounds (entries w.hearing.story) (sends w.hearing.story) e cause new.replies)
-      → HasSameRun old new → new.log ≡ old.log → new.replies.trial ≡ None → IsEnd end
+      → HasSameRun old new → new.log ≡ old.log → new.replies.trial ≡ None
       → (IsWaiting rules (entries (then_story w.hearing.story (entry.Took e ∷ []))) w.hearing.story.survivor → IsLastRefused rules.bounds (entries (then_story w.hearing.story (entry.Took e ∷ []))) cause
       → StandsAt rules (entries (then_story w.hearing.story (entry.Took e ∷ []))) seen.coming w.hearing.story.survivor end)
       → GivesUpBy None end → IsEnding rules image began seen new end
-  ending_refused {rules = rules} {image = image} {began = began} {before = before} {new = new} w {e = e} cause {end = end} no_end handled all tells u same log no_trial is_end stands gave_up =
+  ending_refused {rules = rules} {image = image} {began = began} {before = before} {new = new} w {e = e} cause {end = end} no_end handled all tells u same log no_trial stands gave_up =
       let story : Story = w.hearing.story in
       let es = more_entries story (entry.Took e ∷ []) in
       let none : items_in rules.bounds (entries (then_story story (entry.Took e ∷ []))) ≡ items_in rules.bounds (entries story) = ap (items_in rules.bounds) (sym es) ∙ u.brings_none in
@@ -158,7 +150,7 @@ module _ {R : Type 0} where
         noted = began.noted;
         last_noted = none_noted;
         told = told_unwatched (waits_took w all tells [] (u.brings_none ∙ sym (append-nil (items_in rules.bounds (entries story)))));
-        tables = tables_here rules (then_story story (entry.Took e ∷ [])) end began.tables_before began.tables w.hearing.told.tables;
+        tables = tables_here rules (then_story story (entry.Took e ∷ [])) (stop.Ends end) began.tables_before began.tables w.hearing.told.tables;
         answers = answers_still (entry.Took e ∷ []) same w.hearing.answers;
         received_are = ap (λ (l : Log). logs.received l) log ∙ (received_is w.hearing.goes.items ∙ ap length (sym none));
         replies = subst (λ (all : List Entry). KeepsReplies rules.bounds all None (sends story) new.replies) es u.replies;
@@ -167,7 +159,6 @@ module _ {R : Type 0} where
         holds = held_as none (held_here w same);
         handled = λ is. handled_here w none same handled;
         live = unless_gave_up end (new.cpu.slots.live ≡ standing_of story.survivor.now) (lives_here w same);
-        is_end = is_end;
         stands = stands waits (record { before = entries story; event = e; last = sym es; no_end = u.no_end; refused = u.refused });
         walked = tt;
         gave_up = gave_up;
@@ -176,7 +167,7 @@ module _ {R : Type 0} where
   -- the link has ended
   pub ending_ended : {rules : Rules} {image : Image} {began : Since} {before seen : Seen} {old new : SessionState R} (w : IsWaitingFor rules image began before old) → IsHandled old
       → received rules.bounds (entries w.hearing.story) ≤ w.hearing.story.survivor.now.state.machine.taken → Tells before.told seen.told (entry.Took event.Ends ∷ []) → IsHeard rules.bounds (entries w.hearing.story) (sends w.hearing.story) event.Ends new.log new.replies
-      → HasSameRun old new → new.replies.trial ≡ None → IfSome seen.coming (λ next. next ≡ Comes event.Ends) → IsEnding rules image began seen new answer.Finished
+      → HasSameRun old new → new.replies.trial ≡ None → IfSome seen.coming (λ next. next ≡ Comes event.Ends) → IsEnding rules image began seen new session_end.Finished
   ending_ended {rules = rules} {image = image} {began = began} {new = new} w handled all tells heard same no_trial last =
       let story : Story = w.hearing.story in
       let es = more_entries story (entry.Took event.Ends ∷ []) in
@@ -189,7 +180,7 @@ module _ {R : Type 0} where
         noted = began.noted;
         last_noted = none_noted;
         told = told_unwatched (waits_took w all tells heard.more heard.brings);
-        tables = tables_here rules (then_story story (entry.Took event.Ends ∷ [])) answer.Finished began.tables_before began.tables w.hearing.told.tables;
+        tables = tables_here rules (then_story story (entry.Took event.Ends ∷ [])) (stop.Ends session_end.Finished) began.tables_before began.tables w.hearing.told.tables;
         answers = answers_still (entry.Took event.Ends ∷ []) same w.hearing.answers;
         received_are = received_is heard.items ∙ ap (received rules.bounds) es;
         replies = subst (λ (all : List Entry). KeepsReplies rules.bounds all None (sends story) new.replies) es heard.replies;
@@ -198,8 +189,7 @@ module _ {R : Type 0} where
         holds = held_as (ap (items_in rules.bounds) (sym es) ∙ none) (held_here w same);
         handled = λ is. handled_here w (ap (items_in rules.bounds) (sym es) ∙ none) same handled;
         live = lives_here w same;
-        is_end = tt;
-        stands = (waits_still w (entry.Took event.Ends ∷ []) all none, subst HasEnded es (last_taken-took (entries story)), last);
+        stands = (waits_still w (entry.Took event.Ends ∷ []) all none, subst HasEnded es (last_taken-append (entries story) event.Ends), last);
         walked = tt;
         gave_up = tt;
       }
@@ -207,7 +197,7 @@ module _ {R : Type 0} where
   -- the link has no event there
   pub ending_stopped : {rules : Rules} {image : Image} {began : Since} {before seen : Seen} {kind offset : ℕ} {old new : SessionState R} (w : IsWaitingFor rules image began before old) → IsHandled old
       → received rules.bounds (entries w.hearing.story) ≤ w.hearing.story.survivor.now.state.machine.taken → Tells before.told seen.told [] → HasSameRun old new → new.log ≡ old.log → new.replies ≡ old.replies
-      → IfSome seen.coming (λ next. next ≡ Refuses kind offset) → (ending : IsEnding rules image began seen new (answer.InputRefused kind offset)) × IsAsking rules ending.story
+      → IfSome seen.coming (λ next. next ≡ Refuses kind offset) → (ending : IsEnding rules image began seen new (session_end.InputRefused kind offset)) × IsAsking rules ending.story
   ending_stopped {rules = rules} {image = image} {began = began} {seen = seen} {kind = kind} {offset = offset} {new = new} w handled all tells same log replies stops =
       let story : Story = w.hearing.story in
       let told : IsTold rules image began seen.told story = told_nothing w.hearing.told tells in
@@ -220,7 +210,7 @@ module _ {R : Type 0} where
           noted = began.noted;
           last_noted = none_noted;
           told = told_unwatched told;
-          tables = tables_here rules story (answer.InputRefused kind offset) began.tables_before began.tables w.hearing.told.tables;
+          tables = tables_here rules story (stop.Ends (session_end.InputRefused kind offset)) began.tables_before began.tables w.hearing.told.tables;
           answers = answers_here same w.hearing.answers;
           received_are = ap (λ (l : Log). logs.received l) log ∙ received_is w.hearing.goes.items;
           replies = subst (λ (ledger : Ledger). KeepsReplies rules.bounds (entries story) None (sends story) ledger) (sym replies) w.hearing.passed.replies;
@@ -229,7 +219,6 @@ module _ {R : Type 0} where
           holds = held_here w same;
           handled = λ is. handled_here w refl same handled;
           live = lives_here w same;
-          is_end = tt;
           stands = (waits, w.hearing.goes.items.all_heeded, stops);
           walked = tt;
           gave_up = tt;
@@ -239,26 +228,26 @@ module _ {R : Type 0} where
 
   -- no event could be taken
   pub off_read : {rules : Rules} {image : Image} {began : Since} {before seen : Seen} {old new : SessionState R} (w : IsWaitingFor rules image began before old) → IsHandled old
-      → received rules.bounds (entries w.hearing.story) ≤ w.hearing.story.survivor.now.state.machine.taken → Tells before.told seen.told [] → HasSameRun old new → IsBrokenOff rules image began seen new answer.ReadFault
+      → received rules.bounds (entries w.hearing.story) ≤ w.hearing.story.survivor.now.state.machine.taken → Tells before.told seen.told [] → HasSameRun old new → IsBrokenOff rules image began seen new session_break.ReadFault
   off_read {rules = rules} w handled all tells same =
       let story : Story = w.hearing.story in
       broken_off (told_nothing w.hearing.told tells) (answers_here same w.hearing.answers)
-      ((waits_here w all, owes_nothing rules story w.due w.hearing.passed.done, w.hearing.goes.items.all_heeded), (refl, refl, refl)) (λ is. is)
+      ((waits_here w all, owes_nothing rules story w.due w.hearing.passed.done, w.hearing.goes.items.all_heeded), (refl, refl, refl)) tt
       (rings_here w same) (λ never. held_here w same) (λ is. handled_here w refl same handled)
 
   -- memory ran out, before an event was taken or behind one that is heeded
   pub off_memory : {rules : Rules} {image : Image} {began : Since} {before seen : Seen} {old new : SessionState R} (w : IsWaitingFor rules image began before old)
       → received rules.bounds (entries w.hearing.story) ≤ w.hearing.story.survivor.now.state.machine.taken → HasSameRun old new → (Tells before.told seen.told [] ⊎ (seen.takes ≡ true))
       → (Tells before.told seen.told [] ⊎ ((e : LinkEvent) × Tells before.told seen.told (entry.Took e ∷ []) × IsHeeded rules.bounds (entries w.hearing.story) e))
-      → (off : IsBrokenOff rules image began seen new answer.Memory) × (seen.takes ≡ false → WasAsked rules off.telling.account)
+      → (off : IsBrokenOff rules image began seen new session_break.Memory) × (seen.takes ≡ false → WasAsked rules off.telling.account)
   off_memory {rules = rules} {seen = seen} w all same (inl tells) took =
       let story : Story = w.hearing.story in
-      broken_with (λ account. seen.takes ≡ false → WasAsked rules account) (told_nothing w.hearing.told tells) (answers_here same w.hearing.answers) tt (λ is. is) (rings_here w same) (λ never. absurd (never tt)) (λ is. absurd is)
+      broken_with (λ account. seen.takes ≡ false → WasAsked rules account) (told_nothing w.hearing.told tells) (answers_here same w.hearing.answers) tt (λ some. absurd (some refl)) (rings_here w same) (λ never. absurd (never tt)) (λ is. absurd is)
       (λ none. (waits_here w all, owes_nothing rules story w.due w.hearing.passed.done, w.hearing.goes.items.all_heeded))
   off_memory {rules = rules} {seen = seen} w all same (inr still) (inl tells) =
-      broken_with (λ account. seen.takes ≡ false → WasAsked rules account) (told_nothing w.hearing.told tells) (answers_here same w.hearing.answers) tt (λ is. is) (rings_here w same) (λ never. absurd (never tt)) (λ is. absurd is)
+      broken_with (λ account. seen.takes ≡ false → WasAsked rules account) (told_nothing w.hearing.told tells) (answers_here same w.hearing.answers) tt (λ some. absurd (some refl)) (rings_here w same) (λ never. absurd (never tt)) (λ is. absurd is)
       (λ none. still_takes _ still none)
   off_memory {rules = rules} {seen = seen} w all same (inr still) (inr took) =
       broken_with (λ account. seen.takes ≡ false → WasAsked rules account)
-      (waits_took w all took.1 took.2.more took.2.brings) (answers_still (entry.Took took.0 ∷ []) same w.hearing.answers) tt (λ is. is) (rings_here w same) (λ never. absurd (never tt)) (λ is. absurd is)
+      (waits_took w all took.1 took.2.more took.2.brings) (answers_still (entry.Took took.0 ∷ []) same w.hearing.answers) tt (λ some. absurd (some refl)) (rings_here w same) (λ never. absurd (never tt)) (λ is. absurd is)
       (λ none. still_takes _ still none)

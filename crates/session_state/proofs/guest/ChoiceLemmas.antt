@@ -1,30 +1,9 @@
 -- What no trial needs any more is noted and given up, while the guest waits for an item.
 use Rattle.recovery.specs.Forgetting.{CanForget, Forgets}
-use Rattle.session_state.proofs.Lemmas.{note_at_none, rings_kept, account_of, still_takes, broken_off, received_is, grew_on, taken_all, note_ends, note_no_end}
-use Rattle.session_state.proofs.Terms.{Bool, Err, List, None, Option, Some, [], ap, arith, cond, drop, false, length, length-append, length-drop, map, refl, subst, suc, sym, take, true, zero, ℕ, ◌++◌, ◌+◌, ◌-◌, ◌∙◌, ◌∷◌, ◌≡◌, ◌≤◌, none-some, same_Some, is_some, option_map, slice_get, Item, Grew, Seen, Choice, Log, Ledger, Image, Answer, State, after, Grant, Limits, Override, Path, Served, env_at, grant, guest_of, listed, longer, origin, planned_next, served_next, serves, Rules, Episode, Noted, noted, episode_of, can_forget, AreBehind, SessionState, IsNoteFault, IsEnding, IsWaitingFor, Since, entries, WaitsBy}
-use Rattle.session_state.specs.declared.stop.Stop.TheVariants as stop
+use Rattle.session_history.specs.declared.ends.Stop.TheVariants as stop
 use Rattle.run_history.proofs.Repeats.{repeated_keeps}
-use Rattle.session_state.proofs.guest.SaveLemmas.{waits_whole}
-
-module _ {X : Type 0} where
-  take_none : (count : ℕ) → take {A = X} count [] ≡ []
-  take_none zero = refl
-  take_none (suc count) = refl
-
-  drop_none : (count : ℕ) → drop {A = X} count [] ≡ []
-  drop_none zero = refl
-  drop_none (suc count) = refl
-
-  -- the first elements, and those behind them up to a number
-  take_on : (first more : ℕ) (xs : List X) → take first xs ++ take more (drop first xs) ≡ take (first + more) xs
-  take_on zero more xs = ap (λ n. take n xs) (let same : more ≡ 0 + more = omega arith in same)
-  take_on (suc first) more [] = take_none more ∙ sym (take_none (suc first + more))
-  take_on (suc first) more (x ∷ xs) = ap (λ ys. x ∷ ys) (take_on first more xs) ∙ ap (λ n. take n (x ∷ xs)) (let same : suc (first + more) ≡ suc first + more = omega arith in same)
-
-  drop_on : (first more : ℕ) (xs : List X) → drop more (drop first xs) ≡ drop (first + more) xs
-  drop_on zero more xs = ap (λ n. drop n xs) (let same : more ≡ 0 + more = omega arith in same)
-  drop_on (suc first) more [] = drop_none more ∙ sym (drop_none (suc first + more))
-  drop_on (suc first) more (x ∷ xs) = drop_on first more xs ∙ ap (λ n. drop n (x ∷ xs)) (let same : suc (first + more) ≡ suc first + more = omega arith in same)
+use Rattle.session_state.proofs.Lemmas.{note_at_none, rings_kept, account_of, still_takes, broken_noting, notes_unhanded, received_is, taken_all, tables_here, told_unwatched, note_ends, note_handed}
+use Rattle.session_state.proofs.Terms.{Bool, Err, List, None, Option, Some, ap, arith, cond, drop, false, length, length-append, length-drop, map, refl, subst, sym, take, true, ℕ, ◌++◌, ◌+◌, ◌-◌, ◌∙◌, ◌≡◌, ◌≤◌, take-add, drop-drop, none-some, same_Some, is_some, option_map, slice_get, Item, grew_more, Grew, Seen, Choice, Log, Ledger, Image, State, after, Grant, Limits, Override, Path, Served, env_at, grant, guest_of, listed, longer, origin, planned_next, served_next, serves, SessionBreak, SessionEnd, Rules, Noted, Shown, noted, episode_of, can_forget, AreBehind, SessionState, FailsAtChoices, IsNoteFault, IsEnding, IsWaitingFor, Since, entries, WaitsBy}
 
 -- a run used no more answers of malloc than it has instructions
 record IsFew (first second : Path) : Type 0 where
@@ -42,10 +21,7 @@ few_one limits items plan first second goes = of (is_some first.state.ended) goe
     grown None state is = record { few = let steps : first.steps + 1 ≡ second.steps = ap (λ (p : Path). p.steps) is in let choices : length first.choices ≡ length second.choices = ap (λ (p : Path). length p.choices) is in omega (arith, steps, choices) }
     grown (Some granted) state is =
         let steps : first.steps + 1 ≡ second.steps = ap (λ (p : Path). p.steps) is in
-        let choices : length (first.choices ++ listed granted.chosen) ≡ length second.choices = ap (λ (p : Path). length p.choices) is in
-        let parts = length-append first.choices (listed granted.chosen) in
-        let one = listed_one granted.chosen in
-        record { few = omega (arith, steps, choices, parts, one) }
+        record { few = omega (arith, steps, ap (λ (p : Path). length p.choices) is, length-append first.choices (listed granted.chosen), listed_one granted.chosen) }
 
     of_next : (granted : Option Grant) (state : Option State) → option_map (longer first granted) state ≡ Some second → IsFew first second
     of_next granted None is = absurd (none-some second is)
@@ -61,36 +37,34 @@ few_choices {limits = limits} {items = items} {plan = plan} image {path = path} 
     let all : IsFew (origin image) path =
     repeated_keeps (planned_next limits items plan) IsFew (λ x. record { few = omega arith }) (λ x y z first second. record { few = let one = first.few in let other = second.few in omega (arith, one, other) }) (few_one limits items plan) served.more (origin image) path
     served.ran in
-    let few = all.few in
     let none : length (origin image).choices ≡ 0 = refl in
     let start : (origin image).steps ≡ 0 = refl in
-    omega (arith, few, none, start)
+    omega (arith, all.few, none, start)
 
 module _ {R : Type 0} where
-  -- notes that tell the same
-  pub waits_told : {rules : Rules} {image : Image} (began : Since) {seen : Seen} {choices later : Option (List Choice)} {episodes others : Option (List Episode)} {session : SessionState R} → later ≡ choices → others ≡ episodes
-      → IsWaitingFor rules image (record began { noted = noted choices episodes }) seen session → IsWaitingFor rules image (record began { noted = noted later others }) seen session
-  waits_told {rules = rules} {image = image} began {seen = seen} {later = later} {episodes = episodes} {session = session} same alike waits =
-      subst (λ e. IsWaitingFor rules image (record began { noted = noted later e }) seen session) (sym alike)
-      (subst (λ c. IsWaitingFor rules image (record began { noted = noted c episodes }) seen session) (sym same) waits)
-
   -- noting failed
-  pub waits_unnoted : {rules : Rules} {image : Image} {began : Since} {seen : Seen} {session : SessionState R} {end : Answer} → IsWaitingFor rules image began seen session → seen.takes ≡ true → IsNoteFault end
-      → WaitsBy rules image began seen session (Err (stop.Breaks end))
-  waits_unnoted {rules = rules} {seen = seen} {session = session} {end = end} w takes note =
-      let h = w.hearing in
-      (broken_off h.told h.answers (note_ends rules (account_of h.story) end note) (note_no_end end note) (rings_kept session refl h.saved) (λ never. absurd (never note)) (λ is. absurd (note_at_none end note is)), λ none. still_takes _ takes none)
+  pub waits_unnoted : {rules : Rules} {image : Image} (began : Since) (shown now : Shown) {seen : Seen} {session : SessionState R} {why : SessionBreak} → IsWaitingFor rules image (record began { noted = shown.told }) seen session → seen.takes ≡ true
+      → IsNoteFault why → now.told.choices ≡ shown.told.choices → now.told.episodes ≡ shown.told.episodes → FailsAtChoices shown.told.unnoted now.told.unnoted session.choices
+      → WaitsBy rules image (record began { noted = now.told }) seen session (Err (stop.Breaks why))
+  waits_unnoted {rules = rules} began shown now {session = session} {why = why} w takes note choices episodes fails =
+      let h = w.hearing in (
+        (broken_noting (λ account. Unit {0}) {began = record began { noted = now.told }} {before = began.noted_before} {noted = shown.told} (told_unwatched h.told)
+            (tables_here rules h.story (stop.Breaks why) began.tables_before began.tables h.told.tables)
+            (notes_unhanded {began = record began { noted = shown.told }} h.told.episodes h.answers note choices episodes fails) (λ some. absurd (omega (arith, some))) h.answers.taken h.answers.steps
+            (note_ends rules (account_of h.story) why note) (note_handed rules (account_of h.story) _ why refl note) (rings_kept session refl h.saved) (λ never. absurd (never note)) (λ is. absurd (note_at_none why note is)) tt).0,
+        λ none. still_takes _ takes none,
+      )
 
   -- the answers of malloc up to a number are noted
-  pub waits_noted : {rules : Rules} {image : Image} (began : Since) {seen : Seen} {choices later : Option (List Choice)} {episodes others : Option (List Episode)} {old : SessionState R} {safe : ℕ} {left : List Choice}
-      (w : IsWaitingFor rules image (record began { noted = noted choices episodes }) seen old) → AreBehind safe w.hearing.saved.paths → safe ≤ length w.hearing.story.survivor.now.choices → old.recorded ≤ safe
-      → Grew choices later (take (safe - old.recorded) old.choices) → others ≡ episodes → left ≡ drop (safe - old.recorded) old.choices
-      → IsWaitingFor rules image (record began { noted = noted later others }) seen (record old { recorded = safe; choices = left })
-  waits_noted began {choices = choices} {later = later} {episodes = episodes} {old = old} {safe = safe} w behind low more grew alike rest =
+  pub waits_noted : {rules : Rules} {image : Image} (began : Since) (before now : Noted) {seen : Seen} {old : SessionState R} {safe : ℕ} {left : List Choice}
+      (w : IsWaitingFor rules image (record began { noted = before }) seen old) → AreBehind safe w.hearing.saved.paths → safe ≤ length w.hearing.story.survivor.now.choices → old.recorded ≤ safe
+      → Grew before.choices now.choices (take (safe - old.recorded) old.choices) → now.episodes ≡ before.episodes → now.unnoted ≡ before.unnoted → left ≡ drop (safe - old.recorded) old.choices
+      → IsWaitingFor rules image (record began { noted = now }) seen (record old { recorded = safe; choices = left })
+  waits_noted began before now {old = old} {safe = safe} w behind low more grew alike same rest =
       let h = w.hearing in
       let all : List Choice = h.story.survivor.now.choices in
       let count : old.recorded + (safe - old.recorded) ≡ safe = omega (arith, more) in
-      let grown : Grew choices later (take (safe - old.recorded) (drop old.recorded all)) = subst (λ (cs : List Choice). Grew choices later (take (safe - old.recorded) cs)) h.answers.choices grew in
+      let grown : Grew before.choices now.choices (take (safe - old.recorded) (drop old.recorded all)) = subst (λ (cs : List Choice). Grew before.choices now.choices (take (safe - old.recorded) cs)) h.answers.choices grew in
       record {
         hearing = record {
           story = h.story;
@@ -106,9 +80,10 @@ module _ {R : Type 0} where
           answers = record {
             low = low;
             recorded =
-                subst (Grew began.noted_before.choices later) (take_on old.recorded (safe - old.recorded) all ∙ ap (λ n. take n all) count)
-                (grew_on began.noted_before.choices choices later (take old.recorded all) (take (safe - old.recorded) (drop old.recorded all)) h.answers.recorded grown);
-            choices = rest ∙ ap (drop (safe - old.recorded)) h.answers.choices ∙ (drop_on old.recorded (safe - old.recorded) all ∙ ap (λ n. drop n all) count);
+                subst (Grew began.noted_before.choices now.choices) (sym (take-add old.recorded (safe - old.recorded) all) ∙ ap (λ n. take n all) count)
+                (grew_more began.noted_before.choices before.choices now.choices (take old.recorded all) (take (safe - old.recorded) (drop old.recorded all)) h.answers.recorded grown);
+            choices = rest ∙ ap (drop (safe - old.recorded)) h.answers.choices ∙ (drop-drop (safe - old.recorded) old.recorded all ∙ ap (λ n. drop n all) count);
+            unnoted = same ∙ h.answers.unnoted;
             taken = h.answers.taken;
             steps = h.answers.steps;
           };
@@ -135,8 +110,7 @@ module _ {R : Type 0} where
       → safe - session.recorded ≤ length session.choices
   waits_left {session = session} w low =
       let h = w.hearing in
-      let left : length session.choices ≡ length h.story.survivor.now.choices - session.recorded = ap length h.answers.choices ∙ length-drop session.recorded h.story.survivor.now.choices in
-      omega (arith, left, low)
+      omega (arith, ap length h.answers.choices ∙ length-drop session.recorded h.story.survivor.now.choices, low)
 
   -- what is asked for before what no trial needs is given up
   pub waits_forgets : {rules : Rules} {image : Image} {began : Since} {seen : Seen} {session : SessionState R} → IsWaitingFor rules image began seen session → CanForget session.cpu session.log session.replies
@@ -155,7 +129,7 @@ module _ {R : Type 0} where
         hearing = record {
           story = h.story;
           told = h.told;
-          answers = record { low = h.answers.low; recorded = h.answers.recorded; choices = h.answers.choices; taken = h.answers.taken; steps = h.answers.steps };
+          answers = record { low = h.answers.low; recorded = h.answers.recorded; choices = h.answers.choices; unnoted = h.answers.unnoted; taken = h.answers.taken; steps = h.answers.steps };
           goes = record {
             lives = h.goes.lives;
             guest = h.goes.guest;
@@ -174,12 +148,8 @@ module _ {R : Type 0} where
         due = w.due;
       }
 
-  -- the log has the item that the guest takes next
-  pub waits_kept : {rules : Rules} {image : Image} {began : Since} {seen : Seen} {session : SessionState R} → IsWaitingFor rules image began seen session → session.log.first ≤ session.taken
-  waits_kept w = waits_whole w
-
   -- the number of all answers of malloc at an end is one of 64 bits
-  pub ending_few : {rules : Rules} {image : Image} {began : Since} {seen : Seen} {session : SessionState R} {end : Answer} → IsEnding rules image began seen session end → session.recorded + length session.choices ≤ session.steps
+  pub ending_few : {rules : Rules} {image : Image} {began : Since} {seen : Seen} {session : SessionState R} {end : SessionEnd} → IsEnding rules image began seen session end → session.recorded + length session.choices ≤ session.steps
   ending_few {image = image} {session = session} e =
       let all = few_choices image e.told.serving.carries.served in
       let count = taken_all session.recorded e.story.survivor.now.choices e.answers.choices e.answers.low in
@@ -188,14 +158,14 @@ module _ {R : Type 0} where
 
   -- where the notes told nothing when the session began, they may tell anything now
   pub waits_untold : {rules : Rules} {image : Image} {began : Since} {seen : Seen} {session : SessionState R} {told : Noted} → IsWaitingFor rules image began seen session
-      → IsWaitingFor rules image (record began { noted_before = noted None None; noted = told }) seen session
+      → IsWaitingFor rules image (record began { noted_before = noted None None told.unnoted; noted = told }) seen session
   waits_untold {told = told} w =
       let h = w.hearing in
       record {
         hearing = record {
           story = h.story;
           told = record { serving = h.told.serving; way = h.told.way; tells = h.told.tells; counted = h.told.counted; recovered = h.told.recovered; episodes = tt; tables = h.told.tables };
-          answers = record { low = h.answers.low; recorded = tt; choices = h.answers.choices; taken = h.answers.taken; steps = h.answers.steps };
+          answers = record { low = h.answers.low; recorded = tt; choices = h.answers.choices; unnoted = refl; taken = h.answers.taken; steps = h.answers.steps };
           goes = h.goes;
           saved = h.saved;
           passed = h.passed;

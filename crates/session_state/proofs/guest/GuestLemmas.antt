@@ -1,13 +1,16 @@
 -- What an event of the guest makes of a session.
+use Rattle.session_history.specs.declared.ends.Stop.TheVariants as stop
 use Rattle.item_log.specs.Log as logs
 use Rattle.item_log.proofs.Shown.{shown_items}
-use Rattle.run_history.specs.declared.answer.Answer.TheVariants as answer
+use Rattle.session_history.specs.declared.ends.SessionEnd.TheVariants as session_end
 use Rattle.guest_cpu.specs.declared.event.Event.TheVariants as event
-use Rattle.session_state.proofs.Terms.{List, None, Ok, Option, Some, [], ap, append-nil, arith, drop, false, length, length-append, map, refl, subst, suc, sym, take, true, zero, ℕ, ◌++◌, ◌+◌, ◌<◌, ◌∙◌, ◌∷◌, ◌≡◌, ◌≤◌, slice_get, unwrap_or, Send, Entry, LinkEvent, Grew, Phases, Tells, Told, events_in, Seen, Choice, items_of, Log, Ledger, Image, Answer, Cause, may_send, Machine, AsksFor, Path, live_of, standing_of, Standing, GoesOn, IsSilent, RunsWriting, Writes, serving_account, Session, EndsBy, IsEnd, StandsAt, Bounds, items_in, received, KeepsItems, KeepsReplies, Rules, is_open, IsPassed, Stands, gone_on, Episode, Noted, steps_later, episode_of, HasHandled, HaveRings, stands_of, steps_of, TellsMore, SessionState, AreAllTables, GivesUpBy, HasNoted, IsNoteFault, HoldsCheckpoints, IsAtRequest, keeping_of, AnswersFor, GoesWith, HasNotedMore, HasPassed, HasPassedDue, IsBetween, IsBrokenOff, IsEnding, IsFailing, IsGoing, IsLatestBefore, IsLatestDone, IsTold, IsWaitingFor, Since, Story, entries, moment, unwatched, IsCounted}
-use Rattle.session_state.proofs.standing.StoryLemmas.{on_story, told_on, account_of, journal_of_story}
+use Rattle.session_state.proofs.Terms.{List, None, Ok, [], ap, append-nil, arith, drop, inl, inr, length, length-append, map, refl, subst, sym, take, true, ℕ, ◌++◌, ◌+◌, ◌<◌, ◌∙◌, ◌∷◌, ◌≡◌, ◌≤◌, drop-append-le, take-append-le, Send, Entry, LinkEvent, grew_nothing, Grew, Phases, Tells, Told, events_in, Seen, Choice, items_of, Log, Ledger, Image, Cause, AsksFor, Path, live_of, standing_of, Standing, GoesOn, IsSilent, RunsWriting, Writes, SessionBreak, SessionEnd, serving_account, Session, EndsBy, HandedLast, StandsAt, Bounds, items_in, received, KeepsItems, KeepsReplies, Rules, gone_on, is_open, IsPassed, Stands, Episode, Noted, OneEpisode, failed_with, steps_later, episode_of, HasHandled, HaveRings, stands_of, steps_of, TellsMore, SessionState, AreAllTables, FailsAtChoices, GivesUpBy, HasNoted, IsNoteFault, HoldsCheckpoints, IsAtRequest, IsReadFault, keeping_of, AnswersFor, GoesWith, HasMissed, HasNotedMore, HasPassed, HasPassedDue, IsBetween, IsBrokenOff, IsEnding, IsFailing, IsGoing, IsLatestBefore, IsLatestDone, IsTold, IsWaitingFor, Since, Story, entries, moment, unwatched, IsCounted}
+use Rattle.session_state.proofs.guest.NoteLemmas.{grew_same}
+use Rattle.session_state.proofs.standing.StoryLemmas.{on_story, told_on, account_of, journal_of_story, moves_none}
 use Rattle.session_state.proofs.recovering.TableLemmas.{told_unwatched, tables_here}
 use Rattle.session_state.proofs.standing.CheckpointLemmas.{HasSameSide, saved_on}
 use Rattle.session_state.proofs.standing.HeldLemmas.{held_of, requests_on, unless_gave_up}
+use Rattle.recovery.proofs.Running.{may_send_by}
 
 -- without trials nothing was counted for them
 pub none_lost : {lost : ℕ} → lost ≡ lost + steps_of []
@@ -19,24 +22,14 @@ received_is {bounds = bounds} {entries = entries} {log = log} keeps = (shown_ite
 
 -- what is recorded of a run's answers of malloc stays recorded where it uses more
 module _ {X : Type 0} where
-  take_front : (count : ℕ) (xs more : List X) → count ≤ length xs → take count (xs ++ more) ≡ take count xs
-  take_front zero xs more low = refl
-  take_front (suc count) [] more low = absurd (omega (arith, low))
-  take_front (suc count) (x ∷ xs) more low = ap (λ ys. x ∷ ys) (take_front count xs more (omega (arith, low)))
-
-  drop_front : (count : ℕ) (xs more : List X) → count ≤ length xs → drop count xs ++ more ≡ drop count (xs ++ more)
-  drop_front zero xs more low = refl
-  drop_front (suc count) [] more low = absurd (omega (arith, low))
-  drop_front (suc count) (x ∷ xs) more low = drop_front count xs more (omega (arith, low))
-
   answers_low : (before : List X) {after : List X} (more : List X) {now was : ℕ} → now ≡ was → after ≡ before ++ more → was ≤ length before → now ≤ length after
   answers_low before more same goes low = let long = ap length goes ∙ length-append before more in omega (arith, same, long, low)
 
   answers_front : (before : List X) {after : List X} (more : List X) {now was : ℕ} → now ≡ was → after ≡ before ++ more → was ≤ length before → take now after ≡ take was before
-  answers_front before {after = after} more {was = was} same goes low = ap (λ n. take n after) same ∙ (ap (take was) goes ∙ take_front was before more low)
+  answers_front before {after = after} more {was = was} same goes low = ap (λ n. take n after) same ∙ (ap (take was) goes ∙ take-append-le was before more low)
 
   answers_behind : (before : List X) {after : List X} (more : List X) {now was : ℕ} → now ≡ was → after ≡ before ++ more → was ≤ length before → drop was before ++ more ≡ drop now after
-  answers_behind before {after = after} more {was = was} same goes low = drop_front was before more low ∙ (sym (ap (drop was) goes) ∙ sym (ap (λ n. drop n after) same))
+  answers_behind before {after = after} more {was = was} same goes low = sym (drop-append-le was before more low) ∙ (sym (ap (drop was) goes) ∙ sym (ap (λ n. drop n after) same))
 
   pub none_more : {xs ys : List X} → xs ≡ ys → xs ≡ ys ++ []
   none_more {ys = ys} same = same ∙ sym (append-nil ys)
@@ -44,16 +37,8 @@ module _ {X : Type 0} where
 pub none_used : {first second : Path} → IsSilent first second → second.choices ≡ first.choices ++ []
 none_used {first = first} silent = silent.choices ∙ sym (append-nil first.choices)
 
-grew_none : {X : Type 0} (told : Option (List X)) → Grew told told []
-grew_none None = tt
-grew_none (Some list) = sym (append-nil list)
-
 pub none_noted : {noted : Noted} → HasNotedMore noted noted [] []
-none_noted {noted = noted} = record { choices_more = grew_none noted.choices; episodes_more = grew_none noted.episodes }
-
--- who may be sent to is told by the machine's connections
-may_send_by : (m n : Machine) (conn : ℕ) → n.connections ≡ m.connections → may_send n conn ≡ true → may_send m conn ≡ true
-may_send_by m n conn same may = ap (λ connections. unwrap_or (slice_get connections conn) false) (sym same) ∙ may
+none_noted {noted = noted} = record { choices_more = grew_nothing noted.choices; episodes_more = grew_nothing noted.episodes; unnoted_same = refl }
 
 -- the survivor takes no item: it is still in the received ones
 pub still_received : {rules : Rules} {image : Image} {began : Since} {now : Told} {story : Story} (to : Path) → IsTold rules image began now story → to.state.machine.taken ≡ story.survivor.now.state.machine.taken
@@ -87,6 +72,7 @@ module _ {R : Type 0} where
     low = subst (λ n. n ≤ length story.survivor.now.choices) (sym recorded) answers.low;
     recorded = subst (λ n. Grew began.noted_before.choices began.noted.choices (take n story.survivor.now.choices)) (sym recorded) answers.recorded;
     choices = choices ∙ (answers.choices ∙ ap (λ n. drop n story.survivor.now.choices) (sym recorded));
+    unnoted = answers.unnoted;
     taken = taken ∙ answers.taken;
     steps = steps ∙ answers.steps;
   }
@@ -98,6 +84,7 @@ module _ {R : Type 0} where
     low = answers_low story.survivor.now.choices more recorded goes answers.low;
     recorded = subst (Grew began.noted_before.choices began.noted.choices) (sym (answers_front story.survivor.now.choices more recorded goes answers.low)) answers.recorded;
     choices = chosen ∙ (ap (λ cs. cs ++ more) answers.choices ∙ answers_behind story.survivor.now.choices more recorded goes answers.low);
+    unnoted = answers.unnoted;
     taken = counted.taken ∙ ap (λ (s : Standing). s.guest.machine.taken) stands;
     steps = counted.steps ∙ ap (λ (s : Standing). s.steps) stands;
   }
@@ -117,14 +104,14 @@ module _ {R : Type 0} where
   }
 
   -- where the survivor goes on, used these answers of malloc and sent nothing, the session goes on
-  pub going_on : {rules : Rules} {image : Image} {began : Since} {seen : Seen} {old new : SessionState R} (g : IsGoing rules image began seen old) {to : Path} (more : List Choice) → HasSameParts old new
+  pub going_on : {rules : Rules} {image : Image} {began : Since} {seen : Seen} {old new : SessionState R} (g : IsGoing rules image began seen old) {to : Path} (more : List Choice) → HasPassedDue rules g.story → HasSameParts old new
       → to.choices ≡ g.story.survivor.now.choices ++ more → new.choices ≡ old.choices ++ more → IsCounted new
       → GoesOn rules.limits (items_in rules.bounds (entries g.story)) g.story.survivor.plan g.story.survivor.now to → Writes rules.limits (items_in rules.bounds (entries g.story)) old.cpu.base g.story.survivor.now old.cpu.written to new.cpu.written
       → to.state.ended ≡ None → new.cpu.slots.live ≡ standing_of to → to.state.sends ≡ g.story.survivor.now.state.sends → IsGoing rules image began seen new
-  going_on {rules = rules} g {to = to} more same used chosen counted goes wrote lives stands none =
+  going_on {rules = rules} g {to = to} more due same used chosen counted goes wrote lives stands none =
       record {
         story = on_story g.story to;
-        told = told_on g.told goes.served (still_received to g.told goes.taken);
+        told = told_on g.told due g.passed.done goes.served (moves_none g.story.survivor.now to goes.taken none) (still_received to g.told goes.taken);
         answers = answers_for more g.answers same.side.recorded used chosen counted stands;
         goes = goes_with g.goes same.side.log same.side.events goes lives stands;
         saved =
@@ -143,7 +130,7 @@ module _ {R : Type 0} where
       let comes = runs.comes in
       record {
         going =
-            going_on b.going (choice ∷ []) same comes.0 chosen counted runs.goes writing.wrote comes.2 (sym runs.stands) comes.1;
+            going_on b.going (choice ∷ []) b.due same comes.0 chosen counted runs.goes writing.wrote comes.2 (sym runs.stands) comes.1;
         due = due_still rules b.going.story runs.now comes.1 runs.goes.taken b.due;
       }
 
@@ -157,7 +144,7 @@ module _ {R : Type 0} where
       let to : Path = runs.now in
       let asks : AsksFor rules.limits story.survivor.plan to story.survivor.now.state.machine.taken = runs.comes.1 in
       let silent : IsSilent story.survivor.now to = runs.comes.0 in
-      let going = going_on b.going [] same (none_used silent) (none_more chosen) counted runs.goes writing.wrote asks.lives (sym runs.stands) silent.sends in
+      let going = going_on b.going [] b.due same (none_used silent) (none_more chosen) counted runs.goes writing.wrote asks.lives (sym runs.stands) silent.sends in
       record {
         hearing = record {
           story = going.story;
@@ -173,20 +160,20 @@ module _ {R : Type 0} where
       }
 
   -- a session whose survivor has come to an end, and sent nothing on the way
-  comes_ending : {rules : Rules} {image : Image} {began : Since} {seen : Seen} {old new : SessionState R} (g : IsGoing rules image began seen old) {to : Path} {end : Answer} → HasSameParts old new
+  comes_ending : {rules : Rules} {image : Image} {began : Since} {seen : Seen} {old new : SessionState R} (g : IsGoing rules image began seen old) {to : Path} {end : SessionEnd} → HasPassedDue rules g.story → HasSameParts old new
       → new.choices ≡ old.choices → IsCounted new → GoesOn rules.limits (items_in rules.bounds (entries g.story)) g.story.survivor.plan g.story.survivor.now to
-      → Writes rules.limits (items_in rules.bounds (entries g.story)) old.cpu.base g.story.survivor.now old.cpu.written to new.cpu.written → IsSilent g.story.survivor.now to → new.cpu.slots.live ≡ standing_of to → IsEnd end
+      → Writes rules.limits (items_in rules.bounds (entries g.story)) old.cpu.base g.story.survivor.now old.cpu.written to new.cpu.written → IsSilent g.story.survivor.now to → new.cpu.slots.live ≡ standing_of to
       → StandsAt rules (entries g.story) seen.coming (gone_on g.story.survivor to) end → GivesUpBy None end
       → (IsAtRequest end → HasHandled rules image (keeping_of new) g.story.earlier (entries g.story) g.story.recoveries (gone_on g.story.survivor to) (to.state.machine.taken + 1) (stands_of new.cpu.slots.saved)) → IsEnding rules image began seen new end
-  comes_ending {rules = rules} {image = image} {began = began} {new = new} g {to = to} {end = end} same chosen counted goes wrote silent stands is_end cause gave_up at_request =
+  comes_ending {rules = rules} {image = image} {began = began} {new = new} g {to = to} {end = end} due same chosen counted goes wrote silent stands cause gave_up at_request =
       let passed = has_passed {to = to} g.passed same.replies silent.sends in
       record {
         story = on_story g.story to;
         walk = None;
         lost = began.lost;
         lost_is = none_lost;
-        told = told_unwatched (told_on g.told goes.served (still_received to g.told goes.taken));
-        tables = tables_here rules (on_story g.story to) end began.tables_before began.tables g.told.tables;
+        told = told_unwatched (told_on g.told due g.passed.done goes.served (moves_none g.story.survivor.now to goes.taken silent.sends) (still_received to g.told goes.taken));
+        tables = tables_here rules (on_story g.story to) (stop.Ends end) began.tables_before began.tables g.told.tables;
         noted = began.noted;
         last_noted = none_noted;
         answers = answers_for [] g.answers same.side.recorded (none_used silent) (none_more chosen) counted stands;
@@ -198,7 +185,6 @@ module _ {R : Type 0} where
             (requests_on goes.served goes.taken g.saved.requests) g.saved);
         handled = at_request;
         live = unless_gave_up end (new.cpu.slots.live ≡ standing_of to) stands;
-        is_end = is_end;
         stands = cause;
         walked = tt;
         gave_up = gave_up;
@@ -207,10 +193,10 @@ module _ {R : Type 0} where
   -- it ended itself
   pub exits_ending : {rules : Rules} {image : Image} {began : Since} {seen : Seen} {code : ℕ} {old new : SessionState R} (b : IsBetween rules image began seen old) → HasSameParts old new → new.choices ≡ old.choices
       → IsCounted new → RunsWriting rules.limits (items_in rules.bounds (entries b.going.story)) b.going.story.survivor.plan old.cpu.base b.going.story.survivor.now old.cpu.written (Ok (event.Exits code)) (live_of new.cpu)
-      → IsEnding rules image began seen new (answer.Exited code)
+      → IsEnding rules image began seen new (session_end.Exited code)
   exits_ending b same chosen counted writing =
       let runs = writing.ran in
-      comes_ending b.going same chosen counted runs.goes writing.wrote runs.comes.0 (sym runs.stands) tt runs.comes.1 tt (λ is. absurd is)
+      comes_ending b.going b.due same chosen counted runs.goes writing.wrote runs.comes.0 (sym runs.stands) runs.comes.1 tt (λ is. absurd is)
 
   -- it fails at its next instruction
   pub fails_failing : {rules : Rules} {image : Image} {began : Since} {seen : Seen} {cause : Cause} {old new : SessionState R} (b : IsBetween rules image began seen old) → HasSameParts old new → new.choices ≡ old.choices → IsCounted new
@@ -220,35 +206,65 @@ module _ {R : Type 0} where
       let runs = writing.ran in
       let silent : IsSilent b.going.story.survivor.now runs.now = runs.comes.0 in
       record {
-        going = going_on b.going [] same (none_used silent) (none_more chosen) counted runs.goes writing.wrote runs.comes.1.lives (sym runs.stands) silent.sends;
+        going = going_on b.going [] b.due same (none_used silent) (none_more chosen) counted runs.goes writing.wrote runs.comes.1.lives (sym runs.stands) silent.sends;
         due = due_still rules b.going.story runs.now silent.sends runs.goes.taken b.due;
         fails = runs.comes.1;
       }
 
-  -- what is noted of a session that stands so: these episodes of all, but perhaps the last one
-  abbrev pub notes_here : {began : Since} {story : Story} {session : SessionState R} {end : Answer} (told missing : List Episode) {all : List Episode} → Grew began.noted_before.episodes began.noted.episodes told → AnswersFor began story session
-      → all ≡ told ++ missing → length missing ≤ 1 → (0 < length missing → IsNoteFault end) → (IsEnd end → ⊥) → HasNoted began.noted_before began.noted end story.survivor.now.choices all session.recorded session.choices
-  notes_here told missing grew answers all few missed no_end = record {
+  -- what is noted of a session that stands so, and that no call of its notes broke off: all of these episodes
+  abbrev pub notes_here : {began : Since} {story : Story} {session : SessionState R} {why : SessionBreak} (told : List Episode) {all : List Episode} → Grew began.noted_before.episodes began.noted.episodes told → AnswersFor began story session
+      → all ≡ told ++ [] → HasNoted began.noted_before began.noted (stop.Breaks why) story.survivor.now.choices all session.recorded session.choices
+  notes_here told grew answers all = record {
     low = answers.low;
     tail_is = answers.choices;
-    all_recorded = λ is. absurd (no_end is);
+    all_recorded = tt;
     choices_noted = answers.recorded;
     told = told;
-    missing = missing;
+    missing = [];
     all_told = sym all;
-    few_missing = few;
-    none_missing = missed;
+    handed = inl (answers.unnoted, refl);
     episodes_noted = grew;
+  }
+
+  -- so it is where noting answers of malloc failed
+  abbrev pub notes_unhanded : {began : Since} {now : Noted} {story : Story} {session : SessionState R} {why : SessionBreak} {all : List Episode} → Grew began.noted_before.episodes began.noted.episodes all → AnswersFor began story session
+      → IsNoteFault why → now.choices ≡ began.noted.choices → now.episodes ≡ began.noted.episodes → FailsAtChoices began.noted.unnoted now.unnoted session.choices
+      → HasNoted began.noted_before now (stop.Breaks why) story.survivor.now.choices all session.recorded session.choices
+  notes_unhanded {began = began} {now = now} {story = story} {session = session} {all = all} grew answers note choices episodes fails = record {
+    low = answers.low;
+    tail_is = answers.choices;
+    all_recorded = tt;
+    choices_noted = grew_same began.noted_before.choices (take session.recorded story.survivor.now.choices) answers.recorded choices;
+    told = all;
+    missing = [];
+    all_told = append-nil all;
+    handed = inr (note, inl (subst (λ u. FailsAtChoices u now.unnoted session.choices) answers.unnoted fails, refl));
+    episodes_noted = grew_same began.noted_before.episodes all grew episodes;
+  }
+
+  -- and where noting the last episode failed
+  abbrev pub notes_missed : {began : Since} {now : Noted} {story : Story} {session : SessionState R} {why : SessionBreak} (told : List Episode) (episode : Episode) {all : List Episode} → Grew began.noted_before.episodes began.noted.episodes told → AnswersFor began story session
+      → all ≡ told ++ episode ∷ [] → IsNoteFault why → HasMissed began.noted now episode → HasNoted began.noted_before now (stop.Breaks why) story.survivor.now.choices all session.recorded session.choices
+  notes_missed {began = began} {story = story} {session = session} told episode grew answers all note missed = record {
+    low = answers.low;
+    tail_is = answers.choices;
+    all_recorded = tt;
+    choices_noted = grew_same began.noted_before.choices (take session.recorded story.survivor.now.choices) answers.recorded missed.choices_same;
+    told = told;
+    missing = episode ∷ [];
+    all_told = sym all;
+    handed = inr (note, inr (record { episode = episode; only = refl; handed = missed.handed ∙ ap (λ u. failed_with u (OneEpisode episode)) answers.unnoted }));
+    episodes_noted = grew_same began.noted_before.episodes told grew missed.episodes_same;
   }
 
   -- A session that is broken off where it stood, and has noted so much, has an account, of which holds what holds of its story's. What its
   -- story was told beside that may be told otherwise.
-  pub broken_noting : (P : Session → Type 0) {rules : Rules} {image : Image} {began : Since} {before noted : Noted} {seen : Seen} {session : SessionState R} {story : Story} {end : Answer}
+  pub broken_noting : (P : Session → Type 0) {rules : Rules} {image : Image} {began : Since} {before noted : Noted} {seen : Seen} {session : SessionState R} {story : Story} {why : SessionBreak}
       → IsTold rules image (unwatched (record began { noted_before = before; noted = noted })) seen.told story
-      → TellsMore began.tables_before began.tables (AreAllTables rules story None end)
-      → (notes : HasNoted began.noted_before began.noted end story.survivor.now.choices (map episode_of story.recoveries) session.recorded session.choices) → (0 < length notes.missing → story.since ≡ []) → session.taken ≡ story.survivor.now.state.machine.taken → session.steps ≡ story.survivor.now.steps
-      → EndsBy rules (account_of story) end → (IsEnd end → ⊥) → HaveRings rules image (keeping_of session) story.earlier story.recoveries → ((IsNoteFault end → ⊥) → HoldsCheckpoints rules image story.earlier (entries story) story.recoveries story.survivor session) → (IsAtRequest end → HasHandled rules image (keeping_of session) story.earlier (entries story) story.recoveries story.survivor (story.survivor.now.state.machine.taken + 1) (stands_of session.cpu.slots.saved)) → P (account_of story) → (off : IsBrokenOff rules image began seen session end) × P off.telling.account
-  broken_noting P {rules = rules} {image = image} {began = began} {seen = seen} {session = session} {story = story} {end = end} told tables notes unnoted taken steps ends no_end rings held at_request holds = (
+      → TellsMore began.tables_before began.tables (AreAllTables rules story None (stop.Breaks why))
+      → (notes : HasNoted began.noted_before began.noted (stop.Breaks why) story.survivor.now.choices (map episode_of story.recoveries) session.recorded session.choices) → (0 < length notes.missing → story.since ≡ []) → session.taken ≡ story.survivor.now.state.machine.taken → session.steps ≡ story.survivor.now.steps
+      → EndsBy rules (account_of story) (stop.Breaks why) → HandedLast rules (account_of story) seen why → HaveRings rules image (keeping_of session) story.earlier story.recoveries → ((IsNoteFault why → ⊥) → HoldsCheckpoints rules image story.earlier (entries story) story.recoveries story.survivor session) → (IsReadFault why → HasHandled rules image (keeping_of session) story.earlier (entries story) story.recoveries story.survivor (story.survivor.now.state.machine.taken + 1) (stands_of session.cpu.slots.saved)) → P (account_of story) → (off : IsBrokenOff rules image began seen session why) × P off.telling.account
+  broken_noting P {rules = rules} {image = image} {began = began} {seen = seen} {session = session} {story = story} {why = why} told tables notes unnoted taken steps ends handed rings held at_request holds = (
     record {
       telling = record { account = account_of story; recoveries = story.recoveries; walk = None };
       is = record {
@@ -258,9 +274,9 @@ module _ {R : Type 0} where
         walked = tt;
         gave_up = tt;
       };
-      no_end = no_end;
       none_came = refl;
       tells = subst (Tells began.told seen.told) (sym (journal_of_story story)) told.tells;
+      handed = handed;
       holds = held;
       handled = at_request;
       notes = record {
@@ -271,8 +287,7 @@ module _ {R : Type 0} where
         told = notes.told;
         missing = notes.missing;
         all_told = notes.all_told ∙ sym (append-nil (map episode_of story.recoveries));
-        few_missing = notes.few_missing;
-        none_missing = notes.none_missing;
+        handed = notes.handed;
         episodes_noted = notes.episodes_noted;
       };
       unnoted = λ some. ((refl, refl, refl), unnoted some);
@@ -285,13 +300,13 @@ module _ {R : Type 0} where
     holds,
   )
 
-  pub broken_with : (P : Session → Type 0) {rules : Rules} {image : Image} {began : Since} {seen : Seen} {session : SessionState R} {story : Story} {end : Answer} → IsTold rules image began seen.told story → AnswersFor began story session
-      → EndsBy rules (account_of story) end → (IsEnd end → ⊥) → HaveRings rules image (keeping_of session) story.earlier story.recoveries → ((IsNoteFault end → ⊥) → HoldsCheckpoints rules image story.earlier (entries story) story.recoveries story.survivor session) → (IsAtRequest end → HasHandled rules image (keeping_of session) story.earlier (entries story) story.recoveries story.survivor (story.survivor.now.state.machine.taken + 1) (stands_of session.cpu.slots.saved)) → P (account_of story) → (off : IsBrokenOff rules image began seen session end) × P off.telling.account
-  broken_with P {rules = rules} {image = image} {began = began} {session = session} {story = story} {end = end} told answers ends no_end rings held at_request holds =
+  pub broken_with : (P : Session → Type 0) {rules : Rules} {image : Image} {began : Since} {seen : Seen} {session : SessionState R} {story : Story} {why : SessionBreak} → IsTold rules image began seen.told story → AnswersFor began story session
+      → EndsBy rules (account_of story) (stop.Breaks why) → HandedLast rules (account_of story) seen why → HaveRings rules image (keeping_of session) story.earlier story.recoveries → ((IsNoteFault why → ⊥) → HoldsCheckpoints rules image story.earlier (entries story) story.recoveries story.survivor session) → (IsReadFault why → HasHandled rules image (keeping_of session) story.earlier (entries story) story.recoveries story.survivor (story.survivor.now.state.machine.taken + 1) (stands_of session.cpu.slots.saved)) → P (account_of story) → (off : IsBrokenOff rules image began seen session why) × P off.telling.account
+  broken_with P {rules = rules} {image = image} {began = began} {session = session} {story = story} {why = why} told answers ends handed rings held at_request holds =
       broken_noting P (told_unwatched told)
-      (tables_here rules story end began.tables_before began.tables told.tables)
-      (notes_here (map episode_of story.recoveries) [] told.episodes answers (sym (append-nil (map episode_of story.recoveries))) (omega arith) (λ some. absurd (omega (arith, some))) no_end) (λ some. absurd (omega (arith, some))) answers.taken answers.steps ends no_end rings held at_request holds
+      (tables_here rules story (stop.Breaks why) began.tables_before began.tables told.tables)
+      (notes_here (map episode_of story.recoveries) told.episodes answers (sym (append-nil (map episode_of story.recoveries)))) (λ some. absurd (omega (arith, some))) answers.taken answers.steps ends handed rings held at_request holds
 
-  pub broken_off : {rules : Rules} {image : Image} {began : Since} {seen : Seen} {session : SessionState R} {story : Story} {end : Answer} → IsTold rules image began seen.told story → AnswersFor began story session
-      → EndsBy rules (account_of story) end → (IsEnd end → ⊥) → HaveRings rules image (keeping_of session) story.earlier story.recoveries → ((IsNoteFault end → ⊥) → HoldsCheckpoints rules image story.earlier (entries story) story.recoveries story.survivor session) → (IsAtRequest end → HasHandled rules image (keeping_of session) story.earlier (entries story) story.recoveries story.survivor (story.survivor.now.state.machine.taken + 1) (stands_of session.cpu.slots.saved)) → IsBrokenOff rules image began seen session end
-  broken_off told answers ends no_end rings held at_request = (broken_with (λ account. Unit {0}) told answers ends no_end rings held at_request tt).0
+  pub broken_off : {rules : Rules} {image : Image} {began : Since} {seen : Seen} {session : SessionState R} {story : Story} {why : SessionBreak} → IsTold rules image began seen.told story → AnswersFor began story session
+      → EndsBy rules (account_of story) (stop.Breaks why) → HandedLast rules (account_of story) seen why → HaveRings rules image (keeping_of session) story.earlier story.recoveries → ((IsNoteFault why → ⊥) → HoldsCheckpoints rules image story.earlier (entries story) story.recoveries story.survivor session) → (IsReadFault why → HasHandled rules image (keeping_of session) story.earlier (entries story) story.recoveries story.survivor (story.survivor.now.state.machine.taken + 1) (stands_of session.cpu.slots.saved)) → IsBrokenOff rules image began seen session why
+  broken_off told answers ends handed rings held at_request = (broken_with (λ account. Unit {0}) told answers ends handed rings held at_request tt).0

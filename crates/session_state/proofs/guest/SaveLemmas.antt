@@ -20,9 +20,7 @@ module _ {R : Type 0} where
       → KeepsRing rules image entries plan now ring cpu checkpoints log ledger → log.first ≤ now.state.machine.taken
   kept_first [] keeps = let some = keeps.some in absurd (omega (arith, some))
   kept_first {rules = rules} {entries = entries} {plan = plan} {now = now} (newest ∷ older) keeps =
-      let later = taken_later rules.limits (items_in rules.bounds entries) plan newest now keeps.chained.0 in
-      let kept = keeps.kept.0.items in
-      omega (arith, later, kept)
+      omega (arith, taken_later rules.limits (items_in rules.bounds entries) plan newest now keeps.chained.0, keeps.kept.0.items)
 
   -- its survivor can go on
   pub waits_goes : {rules : Rules} {image : Image} {began : Since} {seen : Seen} {session : SessionState R} (w : IsWaitingFor rules image began seen session) → CanGoOn rules (entries w.hearing.story) w.hearing.story.survivor.now
@@ -41,9 +39,7 @@ module _ {R : Type 0} where
   pub waits_whole : {rules : Rules} {image : Image} {began : Since} {seen : Seen} {session : SessionState R} → IsWaitingFor rules image began seen session → session.log.first ≤ session.taken
   waits_whole w =
       let h = w.hearing in
-      let taken = h.answers.taken in
-      let kept = kept_first h.saved.paths h.saved.ring in
-      omega (arith, taken, kept)
+      omega (arith, h.answers.taken, kept_first h.saved.paths h.saved.ring)
 
   pub waits_counted : {rules : Rules} {image : Image} {began : Since} {seen : Seen} {session : SessionState R} (w : IsWaitingFor rules image began seen session) → session.replies.first ≤ length w.hearing.story.survivor.now.state.sends
   waits_counted w = w.hearing.passed.replies.shows.counted
@@ -59,7 +55,7 @@ module _ {R : Type 0} where
         hearing = record {
           story = h.story;
           told = h.told;
-          answers = record { low = h.answers.low; recorded = h.answers.recorded; choices = h.answers.choices; taken = h.answers.taken; steps = h.answers.steps };
+          answers = record { low = h.answers.low; recorded = h.answers.recorded; choices = h.answers.choices; unnoted = h.answers.unnoted; taken = h.answers.taken; steps = h.answers.steps };
           goes = record {
             lives = h.goes.lives;
             guest = live ∙ h.goes.guest;

@@ -2,9 +2,9 @@
 use Rattle.links.specs.declared.journal.LinkEvent.TheVariants as event
 use Rattle.run_history.proofs.Connections.{OpenWithin, within_after}
 use Rattle.guest_cpu.specs.declared.event.Event.TheVariants as step
-use Rattle.session_state.proofs.Terms.{List, None, Ok, Option, Some, [], ap, arith, length, length-append, refl, subst, sym, true, ℕ, ◌++◌, ◌<◌, ◌∙◌, ◌∷◌, ◌≡◌, ◌≤◌, IsSome, is_some, slice_get, Item, Send, LinkEvent, Phases, events_in, Seen, IsOpened, Ledger, connection_of, with_send, Image, may_send, Path, live_of, live_with_item, received_range, taken_standing, standing_of, Live, Standing, with_range, takes_write, TakesOn, RunsWriting, Writes, Bounds, heeded, items_in, received, IsSendable, KeepsItems, KeepsReplies, Rules, opens, IsDueBy, IsMadeDue, IsPassed, Latest, Moment, journal, latest, place_at, received_before, sent_keeps, SessionState, IsHandled, GoesWith, HasPassed, IsBetween, IsGoing, IsLatestBefore, IsLatestDone, IsWaitingFor, Since, Story, entries, moment, sends, IsCounted}
+use Rattle.session_state.proofs.Terms.{List, None, Ok, Option, Some, [], ap, arith, length, length-append, refl, subst, sym, true, ℕ, ◌++◌, ◌<◌, ◌∙◌, ◌∷◌, ◌≡◌, ◌≤◌, slice_get, Item, Send, LinkEvent, Phases, events_in, Seen, IsOpened, Ledger, with_send, Image, may_send, Path, live_of, live_with_item, received_range, taken_standing, standing_of, Live, Standing, with_range, takes_write, TakesOn, RunsWriting, Writes, Bounds, heeded, items_in, received, IsSendable, KeepsItems, KeepsReplies, Rules, opens, IsDueBy, IsMadeDue, IsPassed, Latest, Moment, journal, latest, place_at, received_before, sent_keeps, SessionState, IsHandled, GoesWith, HasPassed, IsBetween, IsGoing, IsLatestBefore, IsLatestDone, IsWaitingFor, Since, Story, entries, moment, sends, IsCounted}
 use Rattle.session_state.proofs.standing.HeldLemmas.{requests_on, requests_taken, waits_handled}
-use Rattle.session_state.proofs.standing.StoryLemmas.{on_story, told_on}
+use Rattle.session_state.proofs.standing.StoryLemmas.{on_story, moves_sent, moves_took, told_on}
 use Rattle.session_state.proofs.standing.CheckpointLemmas.{HasSameSide, saved_on}
 use Rattle.session_state.proofs.guest.GuestLemmas.{HasSameParts, none_more, none_used, answers_for, goes_with, has_passed, still_received}
 
@@ -47,12 +47,9 @@ done_sent rules at {all = all} last late done send stands due = of (placed all s
     of (Within later split) = done send (record { earlier = stands.earlier; later = later; split = split }) due
 
 -- a connection that the guest may send to was opened in the ledger
-is_known : {X : Type 0} (found : Option X) → is_some found ≡ true → IsSome found
-is_known found is = is
-
 module _ {R : Type 0} where
   pub may_opened : {rules : Rules} {story : Story} {session : SessionState R} {phases : Phases} (conn : ℕ) → GoesWith rules story session phases → HasPassed rules story session.replies → may_send story.survivor.now.state.machine conn ≡ true → IsOpened session.replies conn
-  may_opened {session = session} conn goes passed may = is_known (connection_of session.replies.connections conn) (passed.replies.opened conn ∙ goes.within conn may)
+  may_opened {session = session} conn goes passed may = passed.replies.opened conn ∙ goes.within conn may
 
   -- it sent: its ledger has one more send, of which what is due has to be passed
   pub emits_going : {rules : Rules} {image : Image} {began : Since} {seen : Seen} {conn : ℕ} {bytes : List ℕ} {old new : SessionState R} (b : IsBetween rules image began seen old) → HasSameSide old new → new.choices ≡ old.choices
@@ -68,7 +65,7 @@ module _ {R : Type 0} where
       let passed : HasPassed rules story old.replies = b.going.passed in
       record {
         story = on_story story to;
-        told = told_on b.going.told runs.goes.served (still_received to b.going.told runs.goes.taken);
+        told = told_on b.going.told b.due passed.done runs.goes.served (moves_sent story.survivor.now to send runs.goes.taken comes.1) (still_received to b.going.told runs.goes.taken);
         answers = answers_for [] b.going.answers side.recorded (none_more comes.0) (none_more chosen) counted (sym runs.stands);
         goes = goes_with b.going.goes side.log side.events runs.goes comes.5 (sym runs.stands);
         saved = saved_on side (ap (λ (ledger : Ledger). ledger.first) replies) runs.goes.served writing.wrote (let still = runs.goes.taken in omega (arith, still))
@@ -109,7 +106,7 @@ module _ {R : Type 0} where
       (within_after (λ conn. opens conn (heeded rules.bounds (events_in (entries story))) ≡ true) item story.survivor.now.state.machine.connections within opened) in
       record {
         story = on_story story to;
-        told = told_on w.hearing.told t.served (subst (λ n. n ≤ received rules.bounds (entries story)) (sym t.taken) (omega (arith, low)));
+        told = told_on w.hearing.told w.due w.hearing.passed.done t.served (moves_took path to t.taken t.silent.sends) (subst (λ n. n ≤ received rules.bounds (entries story)) (sym t.taken) (omega (arith, low)));
         answers = answers_for [] w.hearing.answers same.side.recorded (none_used t.silent) (none_more chosen) counted stands;
         goes = record {
           lives = t.lives;

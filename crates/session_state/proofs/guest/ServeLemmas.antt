@@ -1,7 +1,8 @@
 -- Where the guest of a session has run to an event.
-use Rattle.run_history.specs.declared.answer.Answer.TheVariants as answer
+use Rattle.session_history.specs.declared.ends.SessionBreak.TheVariants as session_break
+use Rattle.session_history.specs.declared.ends.SessionEnd.TheVariants as session_end
 use Rattle.guest_cpu.specs.declared.event.Event.TheVariants as step
-use Rattle.session_state.proofs.Terms.{Bool, List, Ok, [], ap, subst, sym, ℕ, ◌++◌, ◌∙◌, ◌∷◌, ◌≡◌, Item, Seen, Choice, Ledger, with_send, Image, Cause, Limits, Override, Path, Event, CpuState, live_of, with_live, Live, RunsWriting, Rules, SessionState, keeping_of, IsBetween, IsBrokenOff, IsEnding, IsFailing, IsGoing, IsWaitingFor, Since, HasRun, IsCounted}
+use Rattle.session_state.proofs.Terms.{Bool, List, Ok, [], ap, refl, subst, sym, ℕ, ◌++◌, ◌∙◌, ◌∷◌, ◌≡◌, Item, Seen, Choice, Ledger, with_send, Image, Cause, Limits, Override, Path, Event, CpuState, live_of, with_live, Live, RunsWriting, Rules, SessionState, keeping_of, IsBetween, IsBrokenOff, IsEnding, IsFailing, IsGoing, IsWaitingFor, Since, HasRun, IsCounted}
 use Rattle.session_state.proofs.standing.HeldLemmas.{rings_kept}
 use Rattle.session_state.proofs.standing.CheckpointLemmas.{HasSameSide}
 use Rattle.session_state.proofs.guest.GuestLemmas.{HasSameParts, answers_as, broken_off, chooses_between, asks_waits, exits_ending, fails_failing}
@@ -20,12 +21,12 @@ module _ {R : Type 0} where
 
   -- memory ran out behind the event: the session answers for the run before it
   pub run_breaks : {rules : Rules} {image : Image} {began : Since} {seen : Seen} {happened : Event} {session after : SessionState R} → HasRun rules image began seen happened session → keeping_of after ≡ keeping_of session
-      → after.recorded ≡ session.recorded → after.choices ≡ session.choices → after.taken ≡ session.taken → after.steps ≡ session.steps → IsBrokenOff rules image began seen after answer.Memory
+      → after.recorded ≡ session.recorded → after.choices ≡ session.choices → after.taken ≡ session.taken → after.steps ≡ session.steps → IsBrokenOff rules image began seen after session_break.Memory
   run_breaks {after = after} h kept recorded choices taken steps =
       let going = h.between.going in
       broken_off going.told
       (answers_as (recorded ∙ ap (λ (s : SessionState R). s.recorded) h.same) (choices ∙ ap (λ (s : SessionState R). s.choices) h.same) (taken ∙ ap (λ (s : SessionState R). s.taken) h.same)
-      (steps ∙ ap (λ (s : SessionState R). s.steps) h.same) going.answers) tt (λ is. is) (rings_kept after (kept ∙ run_kept h) going.saved) (λ never. absurd (never tt)) (λ is. absurd is)
+      (steps ∙ ap (λ (s : SessionState R). s.steps) h.same) going.answers) tt (λ some. absurd (some refl)) (rings_kept after (kept ∙ run_kept h) going.saved) (λ never. absurd (never tt)) (λ is. absurd is)
 
   -- all but the replies, the answers of malloc and the counts is the same
   abbrev pub IsSameBut : SessionState R → SessionState R → Type 0
@@ -48,10 +49,7 @@ module _ {R : Type 0} where
 
   run_parts : {rules : Rules} {image : Image} {began : Since} {seen : Seen} {happened : Event} {session after : SessionState R} (h : HasRun rules image began seen happened session) → IsSameBut session after → after.replies ≡ session.replies
       → HasSameParts h.before after
-  run_parts h same replies = record {
-    side = run_side h same;
-    replies = replies ∙ ap (λ (s : SessionState R). s.replies) h.same;
-  }
+  run_parts h same replies = record { side = run_side h same; replies = replies ∙ ap (λ (s : SessionState R). s.replies) h.same }
 
   -- malloc was answered, and noted
   pub run_chooses : {rules : Rules} {image : Image} {began : Since} {seen : Seen} {choice : Choice} {session after : SessionState R} (h : HasRun rules image began seen (step.Chooses choice) session)
@@ -69,7 +67,7 @@ module _ {R : Type 0} where
 
   -- it ended itself
   pub run_exits : {rules : Rules} {image : Image} {began : Since} {seen : Seen} {code : ℕ} {session after : SessionState R} (h : HasRun rules image began seen (step.Exits code) session)
-      → IsSameBut session after → after.replies ≡ session.replies → after.choices ≡ session.choices → IsCounted after → IsEnding rules image began seen after (answer.Exited code)
+      → IsSameBut session after → after.replies ≡ session.replies → after.choices ≡ session.choices → IsCounted after → IsEnding rules image began seen after (session_end.Exited code)
   run_exits h same replies choices counted =
       exits_ending h.between (run_parts h same replies) (choices ∙ ap (λ (s : SessionState R). s.choices) h.same)
       counted (runs_at (ap (λ (s : SessionState R). live_of s.cpu) same) h.runs)

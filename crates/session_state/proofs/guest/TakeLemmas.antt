@@ -1,42 +1,9 @@
 -- What the guest's next item is, and that it may be taken.
 use Rattle.item_log.specs.Log as logs
 use Rattle.link_gate.proofs.ItemLemmas.{item_fits, item_is, opened_items}
+use Rattle.recovery.proofs.Few.{few_items}
 use Rattle.session_state.proofs.Lemmas.{received_is, takes_going}
-use Rattle.session_state.proofs.Terms.{Bool, List, None, Option, Some, [], ap, append-nil, append_assoc, arith, cond, drop, false, if◌then◌else◌, length, refl, subst, sym, true, ℕ, ◌++◌, ◌<◌, ◌^◌, ◌∙◌, ◌∷◌, ◌≡◌, ◌≤◌, ltb-false, true≢false, is_none, nat_le, nat_lt, slice_get, Item, LinkEvent, events_in, Seen, Framing, heard, items_from, items_of, IsItemOf, Image, Wants, does, CpuState, live_of, with_live, live_with_item, Standing, asks_wants, Bounds, LimitEvents, LimitItems, TooLong, Unheeded, heeded, heeded_behind, items_in, received, refusal, Rules, SessionState, IsHandled, IsGoing, IsWaitingFor, Since, entries}
-
--- by three tests
-abbrev refused_by : Bool → Bool → Bool → Option Unheeded
-refused_by many long full = if many then Some LimitEvents else if long then Some TooLong else if full then Some LimitItems else None
-
--- an event that isn't refused brings no item too many
-fits_by : (bounds : Bounds) {number : ℕ} (many long full : Bool) → nat_lt bounds.max_items number ≡ full → is_none (refused_by many long full) ≡ true → number ≤ bounds.max_items
-fits_by bounds true long full is fine = absurd (true≢false (sym fine))
-fits_by bounds false true full is fine = absurd (true≢false (sym fine))
-fits_by bounds false false true is fine = absurd (true≢false (sym fine))
-fits_by bounds {number = number} false false false is fine = ltb-false bounds.max_items number is
-
--- of events that are all heeded there are no more items than may be
-behind_items : (bounds : Bounds) (before events : List LinkEvent) → heeded_behind bounds before events ≡ events → length (items_of bounds.framing before) ≤ bounds.max_items → length (items_of bounds.framing (before ++ events)) ≤ bounds.max_items
-unfolding heeded_behind
-behind_items bounds before [] all h = subst (λ es. length (items_of bounds.framing es) ≤ bounds.max_items) (sym (append-nil before)) h
-behind_items bounds before (event ∷ events) all h = by (is_none (refusal bounds before event)) refl (behind_items bounds (before ++ event ∷ []) events) all
-  where
-    by : (fine : Bool) → is_none (refusal bounds before event) ≡ fine
-        → (heeded_behind bounds (before ++ event ∷ []) events ≡ events → length (items_of bounds.framing (before ++ event ∷ [])) ≤ bounds.max_items → length (items_of bounds.framing ((before ++ event ∷ []) ++ events)) ≤ bounds.max_items)
-        → cond fine (event ∷ heeded_behind bounds (before ++ event ∷ []) events) [] ≡ event ∷ events
-        → length (items_of bounds.framing (before ++ event ∷ events)) ≤ bounds.max_items
-    by false f ih so = absurd (let no : ⊥ = cc in no)
-    by true f ih so =
-        subst (λ es. length (items_of bounds.framing es) ≤ bounds.max_items) (append_assoc before (event ∷ []) events)
-        (ih (ap (drop 1) so) (fits_by bounds (nat_le bounds.max_events (length before)) (is_none (heard bounds.framing (before ++ event ∷ [])))
-        (nat_lt bounds.max_items (length (items_of bounds.framing (before ++ event ∷ [])))) refl f))
-
-no_items : (framing : Framing) → length (items_of framing []) ≤ 0
-unfolding items_from
-no_items framing = omega arith
-
-few_items : (bounds : Bounds) {events : List LinkEvent} → heeded bounds events ≡ events → length (items_of bounds.framing events) ≤ bounds.max_items
-few_items bounds {events = events} all = behind_items bounds [] events all (omega (arith, no_items bounds.framing))
+use Rattle.session_state.proofs.Terms.{None, Some, ap, arith, length, refl, subst, sym, ◌<◌, ◌^◌, ◌∙◌, ◌≡◌, ◌≤◌, slice_get, Item, events_in, Seen, IsItemOf, Image, Wants, does, CpuState, live_of, with_live, live_with_item, Standing, asks_wants, heeded, items_in, received, Rules, SessionState, IsHandled, IsGoing, IsWaitingFor, Since, entries}
 
 module _ {R : Type 0} where
   -- its instruction is a recv whose buffer may be written
@@ -62,8 +29,7 @@ module _ {R : Type 0} where
       let count : logs.received old.log ≡ received rules.bounds (entries h.story) = received_is h.goes.items in
       let of_events : IsItemOf old.log old.taken item = subst (λ (s : SessionState R). IsItemOf s.log s.taken item) same is in
       let found : slice_get (items_in rules.bounds (entries h.story)) old.taken ≡ Some item = item_is rules.bounds (entries h.story) old.log old.taken item h.goes.items of_events in
-      let few : received rules.bounds (entries h.story) ≤ rules.bounds.max_items =
-      subst (λ events. length (items_of rules.bounds.framing events) ≤ rules.bounds.max_items) (sym h.goes.items.all_heeded) (few_items rules.bounds h.goes.items.all_heeded) in
+      let few : received rules.bounds (entries h.story) ≤ rules.bounds.max_items = few_items rules.bounds (entries h.story) in
       subst (λ (s : SessionState R). IsGoing rules image began seen s) (sym becomes)
       (takes_going w
       (record {

@@ -1,7 +1,7 @@
 -- Where what is due was passed, or the session was broken off.
+use Rattle.session_history.specs.declared.ends.Stop.TheVariants as stop
 use Rattle.session_state.proofs.Lemmas.{still_takes, between_on}
-use Rattle.session_state.proofs.Terms.{Err, Ok, Result, subst, sym, true, ℕ, ◌≡◌, Seen, Image, Rules, Stop, SessionState, IsBetween, IsGoing, Since, ComesBetween, PassesDue}
-use Rattle.session_state.specs.declared.stop.Stop.TheVariants as stop
+use Rattle.session_state.proofs.Terms.{Err, Ok, Result, subst, sym, true, ℕ, ◌≡◌, Seen, Image, Stop, Rules, SessionState, IsBetween, IsGoing, Since, ComesBetween, PassesDue}
 
 module _ {R : Type 0} where
   -- the session stands between two events of its guest

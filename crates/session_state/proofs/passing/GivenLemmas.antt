@@ -8,8 +8,7 @@ due_before : (bounds : Bounds) (at : Moment) (conn : ℕ) (bytes : List ℕ) (go
 due_before bounds at conn bytes gone to taken due =
     let e : Entry = entry.Gave conn bytes gone in
     let same : journal (then_entry at e) ≡ journal at ++ e ∷ [] = journal-then at e in
-    let still : is_gone to (journal (then_entry at e)) ≡ false = due_not_gone bounds (then_entry at e) to taken (latest (then_entry at e).since) due in
-    let here : is_gone to (journal at ++ e ∷ []) ≡ false = sym (ap (is_gone to) same) ∙ still in
+    let here : is_gone to (journal at ++ e ∷ []) ≡ false = sym (ap (is_gone to) same) ∙ (due_not_gone bounds (then_entry at e) to taken (latest (then_entry at e).since) due) in
     subst (IsDueBy bounds (place_at at) to taken) (latest-gave at.since conn bytes gone)
     (due_by bounds (then_entry at e) at to taken (latest (then_entry at e).since) refl (sym (ap (λ (es : List Entry). is_open bounds es to) same ∙ is_open-same bounds (journal at) conn bytes gone to here))
     (sym (ap (λ (es : List Entry). closes to (heeded bounds (events_in es))) same ∙ closes-gave bounds (journal at) conn bytes gone to)) (not_gone (journal at) conn bytes gone to here) due)

@@ -1,21 +1,18 @@
 -- What is due is passed, also behind a close and at an end.
+use Rattle.session_history.specs.declared.ends.Stop.TheVariants as stop
 use Rattle.links.specs.declared.journal.Entry.TheVariants as entry
 use Rattle.item_log.specs.Log as logs
 use Rattle.reply_ledger.proofs.ConnectionLemmas.{is_open-marked, closed-falls}
 use Rattle.link_gate.specs.declared.pass_fault.PassFault.TheVariants as pass_fault
-use Rattle.session_state.proofs.Lemmas.{notes_end, close_done, fronts_of, made_by, closed_given, done_given, events_in-story, latest-given, are_given, end_of, ended_account, ended_telling, served_broken, served_end, note_ends, note_no_end}
-use Rattle.session_state.proofs.Terms.{Bool, Err, List, None, Ok, Result, Some, [], ap, append-nil, append_assoc, arith, false, inl, inr, length, refl, subst, sym, true, ℕ, ◌++◌, ◌+◌, ◌<◌, ◌∙◌, ◌∷◌, ◌≡◌, ◌≤◌, true≢false, ◌&&◌, rose_later, Rose, Send, Entry, LinkEvent, Grew, Tells, Told, Seen, but_given, items_of, Ledger, closed_connection, with_change, next_part, rest_part, Image, Answer, EndsBy, IsEnd, AreDuePieces, AreGiven, IsClosing, IsReady, Passes, PassesRest, then_entries, Bounds, heeded, received, KeepsReplies, Chapter, Rules, entries_of, is_closed_by, is_closing, closes, is_gone, is_open, IsDueBy, IsOwed, IsPassed, Moment, OwesNothing, journal, latest, place_at, ending_at, moment_of, PassFault, due_by, due_not_gone, open_not_closed, owed_open, closed_keeps, fronts_stay, nothing_waits, CanGive, Noted, Stop, SessionState, HasWatched, IsNoteFault, Telling, keeping_of, HasPassed, HasPassedDue, IsCloseDone, IsEnding, IsTold, Since, Story, entries, moment, sends, then_story, CanPass, IsAnswerTo, IsFinishing, LinkPasses, PassesDue, PassesStory, StandsClosing, outcome_of}
+use Rattle.session_state.proofs.Lemmas.{notes_end, close_done, fronts_of, made_by, closed_given, done_given, events_in-story, latest-given, are_given, end_of, ended_account, ended_telling, served_broken, served_end, note_ends, note_handed}
+use Rattle.session_state.proofs.Terms.{Bool, Err, List, None, Ok, Result, Some, [], ap, append-nil, append_assoc, arith, false, inl, inr, length, refl, subst, sym, true, ℕ, ◌++◌, ◌+◌, ◌<◌, ◌∙◌, ◌∷◌, ◌≡◌, ◌≤◌, and_parts, true≢false, IsErrOf, rose_later, Rose, Send, Entry, LinkEvent, Grew, Tells, Told, Seen, but_given, items_of, Ledger, closed_connection, with_change, next_part, rest_part, Image, SessionBreak, SessionEnd, Stop, EndsBy, HandedLast, AreDuePieces, AreGiven, IsClosing, IsReady, Passes, PassesRest, then_entries, Bounds, heeded, received, KeepsReplies, Chapter, Rules, entries_of, is_closed_by, is_closing, closes, is_gone, is_open, IsDueBy, IsOwed, IsPassed, Moment, OwesNothing, journal, latest, place_at, ending_at, moment_of, PassFault, due_by, due_not_gone, open_not_closed, owed_open, closed_keeps, fronts_stay, nothing_waits, CanGive, Noted, SessionState, FailsAtChoices, HasWatched, IsNoteFault, Telling, keeping_of, HasPassed, HasPassedDue, IsCloseDone, IsEnding, IsTold, Since, Story, entries, moment, sends, then_story, CanPass, IsAnswerTo, IsFinishing, LinkPasses, PassesDue, PassesStory, StandsClosing, outcome_of}
 use Rattle.session_state.proofs.passing.PassLemmas.{rest_ok}
-
-and_second : (a : Bool) {b : Bool} → (a && b) ≡ true → b ≡ true
-and_second true h = h
-and_second false h = absurd (true≢false (sym h))
 
 -- a connection that closes isn't open
 pub closing_shut : (bounds : Bounds) (at : Moment) (conn : ℕ) → is_closing bounds at conn ≡ true → is_open bounds (journal at) conn ≡ true → ⊥
 closing_shut bounds at conn closing still =
     true≢false
-    (sym (and_second (is_closed_by (latest at.since) conn) closing) ∙ open_not_closed bounds (journal at) conn still)
+    (sym (and_parts (is_closed_by (latest at.since) conn) _ closing).1 ∙ open_not_closed bounds (journal at) conn still)
 
 -- so what is owed to it is due by the latest event
 pub closing_due : (bounds : Bounds) (hold : ℕ) (at : Moment) (send : Send) → is_closing bounds at send.conn ≡ true → IsOwed bounds hold at send → IsDueBy bounds (place_at at) send.conn send.taken (latest at.since)
@@ -77,10 +74,9 @@ end_owes {rules = rules} {story = story} more {until = until} {ledger = ledger} 
     of : (b : Bool) → is_closing rules.bounds (then_entries (end_of story) more) send.conn ≡ b → IsPassed rules.bounds (journal (then_entries (end_of story) more)) (sends story) send stands
     of true is = closed_given rules (moment story) more given done send stands is (due_of_end rules.bounds rules.hold story.earlier (story.since ++ more) send is owed)
     of false is =
-        let few = made_by told send stands in
         nothing_waits rules.bounds (journal (then_entries (end_of story) more)) (sends story) ledger until (subst (λ (es : List Entry). KeepsReplies rules.bounds es None (sends story) ledger) same replies)
         (fronts_stay rules (sends story) (end_of story) more due (fronts_of told)) none send stands
-        (owed_open rules.bounds rules.hold (then_entries (end_of story) more) send is owed) (omega (arith, few, low))
+        (owed_open rules.bounds rules.hold (then_entries (end_of story) more) send is owed) (omega (arith, made_by told send stands, low))
 
 -- pieces behind pieces
 given_join : (xs ys : List Entry) → AreGiven xs → AreGiven ys → AreGiven (xs ++ ys)
@@ -131,15 +127,15 @@ module _ {R : Type 0} where
   }
 
   -- and so it does once that was passed
-  pub closed_can : {seen : Seen} {later : Told} {conn : ℕ} {before after : SessionState R} {ledger : Ledger} {done : Unit {0}} (stands : StandsClosing seen conn before)
+  pub closed_can : {seen : Seen} (later : Seen) {conn : ℕ} {before after : SessionState R} {ledger : Ledger} {done : Unit {0}} (stands : StandsClosing seen conn before)
       → PassesRest {E = PassFault} stands.rules (sends stands.story) (moment stands.story) conn ledger seen.told later (Ok done) → ledger.trial ≡ None → logs.received after.log ≡ logs.received before.log → after.replies ≡ with_change ledger conn closed_connection → CanPass after
-  closed_can {later = later} stands passes no_trial log is =
+  closed_can later stands passes no_trial log is =
       let rules : Rules = stands.rules in
       let story : Story = stands.story in
-      let rest = rest_ok stands.told passes in
+      let rest = rest_ok later stands.told passes in
       let more : List Entry = rest.0 in
       let behind : Story = then_story story more in
-      let told : IsTold rules stands.image stands.began later behind = rest.2 in
+      let told : IsTold rules stands.image stands.began later.told behind = rest.2 in
       record {
         bounds = rules.bounds;
         entries = entries behind;
@@ -183,36 +179,36 @@ module _ {R : Type 0} where
   due_passed image began seen until session (Err why) is passed no_trial passes = passes
 
   -- at an end all is passed
-  pub finish_ok : (P : Telling → Type 0) {rules : Rules} {image : Image} (began : Since) {first before seen : Seen} {session : SessionState R} {end : Answer} {until : ℕ} {ledger : Ledger} {done : Unit {0}} (e : IsEnding rules image (record began { told = first.told }) before session end) → seen ≡ but_given before seen → session.taken ≤ until
-      → Passes {E = PassFault} rules (sends e.story) (end_of e.story) until ledger before.told seen.told (Ok done) → IsFinishing rules first before e.story end → (noted : Noted) → Grew began.noted.choices noted.choices session.choices
-      → noted.episodes ≡ began.noted.episodes → {counted : ℕ} → counted ≡ began.lost + session.steps → ((more broken : List Entry) → P (ended_telling e more broken))
-      → (watched : HasWatched rules image (keeping_of session) first seen (record { end = end; recorded = session.recorded + length session.choices; tail = []; taken = session.taken; steps = session.steps }) began.noted_before noted counted began.tables_before began.tables) × P watched.recovered.telling
-  finish_ok P began {session = session} e same low passes finishing noted choices episodes counts holds =
+  pub finish_ok : (P : Telling → Type 0) {rules : Rules} {image : Image} (began : Since) {first before seen : Seen} {session : SessionState R} {end : SessionEnd} {until : ℕ} {ledger : Ledger} {done : Unit {0}} (e : IsEnding rules image (record began { told = first.told }) before session end) → seen ≡ but_given before seen → session.taken ≤ until
+      → Passes {E = PassFault} rules (sends e.story) (end_of e.story) until ledger before.told seen (Ok done) → IsFinishing rules first before e.story end → (noted : Noted) → Grew began.noted.choices noted.choices session.choices
+      → noted.episodes ≡ began.noted.episodes → noted.unnoted ≡ began.noted.unnoted → {counted : ℕ} → counted ≡ began.lost + session.steps → ((more broken : List Entry) → P (ended_telling e more broken))
+      → (watched : HasWatched rules image (keeping_of session) first seen (record { stop = stop.Ends end; recorded = session.recorded + length session.choices; tail = []; taken = session.taken; steps = session.steps }) began.noted_before noted counted began.tables_before began.tables) × P watched.recovered.telling
+  finish_ok P began {session = session} e same low passes finishing noted choices episodes unnoted counts holds =
       let few = e.answers.taken in
       served_end P began e same passes.1 passes.2
-      (end_owes passes.0 e.told (omega (arith, low, few)) passes.1 passes.3.0 passes.3.1 e.closed) finishing noted (session.recorded + length session.choices) [] (notes_end e choices episodes) refl counts (holds passes.0 [])
+      (end_owes passes.0 e.told (omega (arith, low, few)) passes.1 passes.3.0 passes.3.1 e.closed) finishing noted (session.recorded + length session.choices) [] (notes_end e choices episodes unnoted) refl counts (holds passes.0 [])
 
   -- and noting the rest failed
-  pub finish_unnoted : (P : Telling → Type 0) {rules : Rules} {image : Image} (began : Since) {first before seen : Seen} {session : SessionState R} {end fault : Answer} (until : ℕ) {ledger : Ledger} {done : Unit {0}} (e : IsEnding rules image (record began { told = first.told }) before session end) → seen ≡ but_given before seen
-      → Passes {E = PassFault} rules (sends e.story) (end_of e.story) until ledger before.told seen.told (Ok done) → IsFinishing rules first before e.story end → IsNoteFault fault → (noted : Noted) → noted.choices ≡ began.noted.choices → noted.episodes ≡ began.noted.episodes
+  pub finish_unnoted : (P : Telling → Type 0) {rules : Rules} {image : Image} (began : Since) {first before seen : Seen} {session : SessionState R} {end : SessionEnd} {fault : SessionBreak} (until : ℕ) {ledger : Ledger} {done : Unit {0}} (e : IsEnding rules image (record began { told = first.told }) before session end) → seen ≡ but_given before seen
+      → Passes {E = PassFault} rules (sends e.story) (end_of e.story) until ledger before.told seen (Ok done) → IsFinishing rules first before e.story end → IsNoteFault fault → (noted : Noted) → noted.choices ≡ began.noted.choices → noted.episodes ≡ began.noted.episodes → FailsAtChoices began.noted.unnoted noted.unnoted session.choices
       → {counted : ℕ} → counted ≡ began.lost + session.steps → ((more broken : List Entry) → P (ended_telling e more broken))
-      → (watched : HasWatched rules image (keeping_of session) first seen (outcome_of fault session) began.noted_before noted counted began.tables_before began.tables) × P watched.recovered.telling
-  finish_unnoted P {rules = rules} began {before = before} {seen = seen} {end = end} {fault = fault} until e same passes finishing is noted choices episodes counts holds =
-      served_broken P began e same passes.1 tt (subst (Tells before.told seen.told) (sym (append-nil passes.0)) passes.2) (note_ends rules (ended_account e.story end passes.0 []) fault is) (note_no_end fault is) finishing
-      noted choices episodes counts (holds passes.0 [])
+      → (watched : HasWatched rules image (keeping_of session) first seen (outcome_of (stop.Breaks fault) session) began.noted_before noted counted began.tables_before began.tables) × P watched.recovered.telling
+  finish_unnoted P {rules = rules} began {before = before} {seen = seen} {end = end} {fault = fault} until e same passes finishing is noted choices episodes fails counts holds =
+      served_broken P began e same passes.1 tt (subst (Tells before.told seen.told) (sym (append-nil passes.0)) passes.2) (note_ends rules (ended_account e.story end passes.0 []) fault is) (note_handed rules (ended_account e.story end passes.0 []) seen fault refl is) finishing
+      noted choices episodes (inr (is, inl (fails, refl))) counts (holds passes.0 [])
 
   -- or a fault comes first
-  pub finish_fault : (P : Telling → Type 0) {rules : Rules} {image : Image} (began : Since) {first before seen : Seen} {session : SessionState R} {end : Answer} (until : ℕ) (ledger : Ledger) (why : PassFault) {fault : Answer} (e : IsEnding rules image (record began { told = first.told }) before session end) → seen ≡ but_given before seen
-      → IsAnswerTo why fault → Passes rules (sends e.story) (end_of e.story) until ledger before.told seen.told (Err why) → IsFinishing rules first before e.story end → (noted : Noted) → noted.choices ≡ began.noted.choices → noted.episodes ≡ began.noted.episodes
+  pub finish_fault : (P : Telling → Type 0) {rules : Rules} {image : Image} (began : Since) {first before seen : Seen} {session : SessionState R} {end : SessionEnd} (until : ℕ) (ledger : Ledger) (why : PassFault) {fault : SessionBreak} (e : IsEnding rules image (record began { told = first.told }) before session end) → seen ≡ but_given before seen
+      → IsAnswerTo why fault → (IsErrOf {T = Unit {0}} (Err why) pass_fault.WriteFault → seen.gives ≡ false) → Passes rules (sends e.story) (end_of e.story) until ledger before.told seen (Err why) → IsFinishing rules first before e.story end → (noted : Noted) → noted.choices ≡ began.noted.choices → noted.episodes ≡ began.noted.episodes → noted.unnoted ≡ began.noted.unnoted
       → {counted : ℕ} → counted ≡ began.lost + session.steps → ((more broken : List Entry) → P (ended_telling e more broken))
-      → (watched : HasWatched rules image (keeping_of session) first seen (outcome_of fault session) began.noted_before noted counted began.tables_before began.tables) × P watched.recovered.telling
-  finish_fault P {rules = rules} began {end = end} until ledger pass_fault.WriteFault e same is passes finishing noted choices episodes counts holds =
-      served_broken P began e same passes.2 passes.3 passes.4 (subst (EndsBy rules (ended_account e.story end passes.0 passes.1)) (sym is) tt) (subst (λ (a : Answer). IsEnd a → ⊥) (sym is) (λ never. never)) finishing noted choices episodes counts (holds passes.0 passes.1)
-  finish_fault P {rules = rules} began {end = end} until ledger pass_fault.Memory e same is passes finishing noted choices episodes counts holds =
-      served_broken P began e same passes.2 passes.3 passes.4 (subst (EndsBy rules (ended_account e.story end passes.0 passes.1)) (sym is) tt) (subst (λ (a : Answer). IsEnd a → ⊥) (sym is) (λ never. never)) finishing noted choices episodes counts (holds passes.0 passes.1)
+      → (watched : HasWatched rules image (keeping_of session) first seen (outcome_of (stop.Breaks fault) session) began.noted_before noted counted began.tables_before began.tables) × P watched.recovered.telling
+  finish_fault P {rules = rules} began {seen = seen} {end = end} until ledger pass_fault.WriteFault e same is stops passes finishing noted choices episodes unnoted counts holds =
+      served_broken P began e same passes.2 passes.3 passes.4 (subst (λ (b : SessionBreak). EndsBy rules (ended_account e.story end passes.0 passes.1) (stop.Breaks b)) (sym is) tt) (subst (HandedLast rules (ended_account e.story end passes.0 passes.1) seen) (sym is) (stops refl, passes.5 (stops refl))) finishing noted choices episodes (inl (unnoted, refl)) counts (holds passes.0 passes.1)
+  finish_fault P {rules = rules} began {seen = seen} {end = end} until ledger pass_fault.Memory e same is stops passes finishing noted choices episodes unnoted counts holds =
+      served_broken P began e same passes.2 passes.3 passes.4 (subst (λ (b : SessionBreak). EndsBy rules (ended_account e.story end passes.0 passes.1) (stop.Breaks b)) (sym is) tt) (subst (HandedLast rules (ended_account e.story end passes.0 passes.1) seen) (sym is) (λ some. (passes.6 some, passes.5 (passes.6 some)))) finishing noted choices episodes (inl (unnoted, refl)) counts (holds passes.0 passes.1)
 
   -- a session at an end passes by what it was told
-  pub ending_can : {rules : Rules} {image : Image} {began : Since} {seen : Seen} {session : SessionState R} {end : Answer} → IsEnding rules image began seen session end → CanPass session
+  pub ending_can : {rules : Rules} {image : Image} {began : Since} {seen : Seen} {session : SessionState R} {end : SessionEnd} → IsEnding rules image began seen session end → CanPass session
   ending_can {rules = rules} e = record {
     bounds = rules.bounds;
     entries = entries e.story;
@@ -224,7 +220,7 @@ module _ {R : Type 0} where
     received_are = e.received_are;
   }
 
-  pub ending_ready : {rules : Rules} {image : Image} {began : Since} {seen : Seen} {session : SessionState R} {end : Answer} {until : ℕ} (e : IsEnding rules image began seen session end) → IsReady rules (sends e.story) (end_of e.story) until session.replies
+  pub ending_ready : {rules : Rules} {image : Image} {began : Since} {seen : Seen} {session : SessionState R} {end : SessionEnd} {until : ℕ} (e : IsEnding rules image began seen session end) → IsReady rules (sends e.story) (end_of e.story) until session.replies
   ending_ready e = end_ready e.told e.replies e.closed
 
 -- nothing was passed

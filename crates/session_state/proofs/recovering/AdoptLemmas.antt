@@ -1,19 +1,18 @@
 -- What a failure makes of a session: it goes on as a trial, or gives up.
-use Rattle.std.specs.Prelude.{◌⊎◌}
+use Rattle.session_history.specs.declared.ends.Stop.TheVariants as stop
 use Rattle.std.proofs.lemmas.List.Sums.{sum_by-append}
 use Rattle.reply_ledger.specs.Trials.{discarded}
-use Rattle.run_history.specs.declared.answer.Answer.TheVariants as answer
+use Rattle.session_history.specs.declared.ends.SessionBreak.TheVariants as session_break
+use Rattle.session_history.specs.declared.ends.SessionEnd.TheVariants as session_end
 use Rattle.trials.specs.EpisodeLaws.{GoesOnAs}
 use Rattle.trials.proofs.Recovered.{recovery_adopts}
 use Rattle.recovery.specs.Walking.{HasSameBytes}
-use Rattle.session_state.proofs.Terms.{List, None, Option, Some, [], ap, append-nil, append_assoc, arith, drop, inl, inr, length, map, refl, subst, suc, sym, take, zero, ℕ, ◌++◌, ◌+◌, ◌-◌, ◌<◌, ◌^◌, ◌∙◌, ◌∷◌, ◌≡◌, ◌≤◌, map-append, none-some, option_map, sum, ◌≢◌, Entry, Grew, Tells, Told, events_in, Seen, Choice, Env, Checkpoints, Ledger, Image, Answer, Cause, Fails, Wants, AsksFor, FailsBy, Limits, Override, Path, CpuState, Standing, served_same, serving_account, serving_adopts, heeded, items_in, received, KeepsItems, KeepsPhases, KeepsReplies, Chapter, LeavesNothing, Rules, Survivor, entries_of, opens, first_survivor, Episode, Try, Noted, asks_under_all, steps_later, recovered_then, AreChained, AreRecovered, IsRecovery, Recovery, adopted_by, episode_of, Trial, survivor_in, Recovered, Adopted, handled_adopts, has_ring, stands_up_to, ring_fails, HasHandled, HaveRings, Keeping, keeping_by, stands_of, HasAdoptedRun, HasRecovery, HasToRecover, KeepsSlots, LeavesRun, recovery_of, AreBehind, IsInForce, KeepsRing, Failure, steps_of, TellsMore, TellsTable, SessionState, AreTables, HasGivenUp, IsNoteFault, Walk, last_of, spent, walk_behind, keeping_of, AnswersFor, HasNotedMore, IsBrokenOff, IsEnding, IsFailing, IsGoing, IsTold, Since, Story, entries, sends, unwatched, Adopting, AdoptsTo, end_of}
+use Rattle.session_state.proofs.Terms.{List, None, Option, Some, [], ap, append-nil, arith, drop, inl, inr, length, map, refl, subst, suc, sym, take, zero, ℕ, ◌++◌, ◌+◌, ◌-◌, ◌<◌, ◌^◌, ◌∙◌, ◌∷◌, ◌≡◌, ◌≤◌, ◌⊎◌, map-append, none-some, option_map, sum, ◌≢◌, Entry, grew_more, Grew, Tells, Told, events_in, Seen, Choice, Env, Checkpoints, Ledger, Image, Cause, Fails, Wants, AsksFor, FailsBy, Limits, Override, Path, CpuState, Standing, SessionBreak, SessionEnd, served_same, entries_of-then, serving_account, serving_adopts, heeded, items_in, received, KeepsItems, KeepsPhases, KeepsReplies, LeavesNothing, Rules, Survivor, entries_of, opens, first_survivor, Episode, Try, Noted, noted, asks_under_all, steps_later, recovered_then, AreChained, AreRecovered, IsRecovery, Recovery, adopted_by, episode_of, Trial, survivor_in, Recovered, Adopted, handled_adopts, has_ring, stands_up_to, ring_fails, HasHandled, HaveRings, Keeping, keeping_by, stands_of, HasAdoptedRun, HasRecovery, HasToRecover, KeepsSlots, LeavesRun, recovery_of, AreBehind, IsInForce, KeepsRing, Failure, steps_of, TellsMore, TellsTable, SessionState, AreTables, HasGivenUp, IsNoteFault, Walk, spent, walk_behind, keeping_of, AnswersFor, HasMissed, HasNotedMore, IsBrokenOff, IsEnding, IsFailing, IsGoing, IsTold, Since, Story, entries, sends, unwatched, Adopting, AdoptsTo, end_of}
 use Rattle.session_state.proofs.standing.HeldLemmas.{held_by, held_of, rings_of, rings_kept, note_at_none}
 use Rattle.session_state.proofs.recovering.TableLemmas.{TellsOne, told_unwatched, tables_here, tables_memory, tables_given_up, tables_then}
-use Rattle.session_state.proofs.events.EventLemmas.{owes_nothing}
-use Rattle.session_state.proofs.guest.GuestLemmas.{none_lost, none_noted, answers_as, notes_here, received_is, broken_noting}
-use Rattle.session_state.proofs.standing.StoryLemmas.{account_of, journal_of_story}
-use Rattle.session_state.proofs.guest.NoteLemmas.{grew_on}
-use Rattle.session_state.proofs.ending.FaultLemmas.{note_no_end, note_ends}
+use Rattle.session_state.proofs.guest.GuestLemmas.{none_lost, none_noted, answers_as, notes_here, notes_missed, received_is, broken_noting}
+use Rattle.session_state.proofs.standing.StoryLemmas.{account_of, journal_of_story, owes_nothing}
+use Rattle.session_state.proofs.ending.FaultLemmas.{note_ends, note_handed}
 
 -- the episode of trials behind a survivor that failed by a cause
 abbrev pub told_of : Survivor → Cause → List Trial → Episode
@@ -23,8 +22,7 @@ told_of survivor cause trials = episode_of (record { survivor = survivor; cause 
 spent_more : (recoveries : List Recovery) (recovery : Recovery) → spent (recoveries ++ recovery ∷ []) ≡ spent recoveries + ((recovery.survivor.now.steps - recovery.survivor.begun.steps) + steps_of recovery.trials)
 spent_more recoveries recovery =
     let f : Recovery → ℕ = λ (r : Recovery). (r.survivor.now.steps - r.survivor.begun.steps) + steps_of r.trials in
-    let parts : sum (map f (recoveries ++ recovery ∷ [])) ≡ sum (map f recoveries) + sum (map f (recovery ∷ [])) = ap sum (map-append f recoveries (recovery ∷ [])) ∙ sum_by-append (λ x. x) (map f recoveries) (map f (recovery ∷ [])) in
-    omega (arith, parts)
+    omega (arith, ap sum (map-append f recoveries (recovery ∷ [])) ∙ sum_by-append (λ x. x) (map f recoveries) (map f (recovery ∷ [])))
 
 -- the story behind a recovery that adopted a trial
 abbrev pub adopted_story : Story → Recovery → Trial → Story
@@ -35,15 +33,11 @@ adopted_story story recovery trial = record {
   since = [];
 }
 
-entries_then : (chapters : List Chapter) (chapter : Chapter) → entries_of (chapters ++ chapter ∷ []) ≡ entries_of chapters ++ chapter.entries
-entries_then [] chapter = append-nil chapter.entries
-entries_then (first ∷ chapters) chapter = ap (λ es. first.entries ++ es) (entries_then chapters chapter) ∙ sym (append_assoc first.entries (entries_of chapters) chapter.entries)
-
 -- it has the same entries
 same_entries : (story : Story) (recovery : Recovery) (trial : Trial) → entries (adopted_story story recovery trial) ≡ entries story
 same_entries story recovery trial =
     append-nil (entries_of (story.earlier ++ record { survivor = story.survivor; entries = story.since } ∷ []))
-    ∙ entries_then story.earlier (record { survivor = story.survivor; entries = story.since })
+    ∙ entries_of-then story.earlier (record { survivor = story.survivor; entries = story.since })
 
 -- it is told, where so many instructions were counted
 told_adopted : {rules : Rules} {image : Image} {began : Since} {now : Told} {story : Story} {recovery : Recovery} {trial : Trial} {lost : ℕ} {noted : Noted} {tables : Option (List (List Try))} → IsTold rules image began now story → LeavesNothing rules (entries_of story.earlier) story.since story.survivor → recovery.survivor ≡ story.survivor → IsRecovery rules image (entries story) recovery
@@ -52,33 +46,29 @@ told_adopted : {rules : Rules} {image : Image} {began : Since} {now : Told} {sto
 told_adopted {rules = rules} {image = image} {began = began} {now = now} {story = story} {recovery = recovery} {trial = trial} {noted = noted} {tables = tables} told leaves is was found counts grew one =
     let g : GoesOnAs rules image (entries story) recovery trial = recovery_adopts rules image (entries story) recovery trial was found in
     let early : trial.path.state.machine.taken ≤ story.survivor.now.state.machine.taken = subst (λ (s : Survivor). trial.path.state.machine.taken ≤ s.now.state.machine.taken) is g.early in
-    let enough : story.survivor.now.state.machine.taken ≤ received rules.bounds (entries story) = told.serving.carries.taken in
     let more : spent (story.recoveries ++ recovery ∷ []) ≡ spent story.recoveries + ((story.survivor.now.steps - story.survivor.begun.steps) + steps_of recovery.trials) =
     spent_more story.recoveries recovery ∙ ap (λ (s : Survivor). spent story.recoveries + ((s.now.steps - s.begun.steps) + steps_of recovery.trials)) is in
-    let later : story.survivor.begun.steps ≤ story.survivor.now.steps = steps_later rules.limits (items_in rules.bounds (entries story)) story.survivor.plan story.survivor.begun story.survivor.now told.way in
-    let before : spent story.recoveries ≡ began.lost + story.survivor.begun.steps = told.counted in
     let first = recovered_then rules image [] (first_survivor image) story.earlier story.recoveries recovery story.since trial
     (subst (λ (s : Survivor). AreRecovered rules image [] (first_survivor image) story.earlier story.recoveries s) (sym is) told.recovered) was found in
     record {
       serving =
-          serving_adopts rules image story.earlier story.survivor story.since (adopted_by recovery trial).plan trial.path told.serving leaves g.ran (omega (arith, early, enough)) g.covers g.feasible;
+          serving_adopts rules image story.earlier story.survivor story.since (adopted_by recovery trial).plan trial.path told.serving leaves g.ran (omega (arith, early, told.serving.carries.taken)) g.covers g.feasible;
       way = served_same rules.limits (items_in rules.bounds (entries (adopted_story story recovery trial))) (adopted_by recovery trial).plan trial.path;
       tells = subst (Tells began.told now) (sym (same_entries story recovery trial)) told.tells;
-      counted = omega (arith, more, later, before, counts);
+      counted = omega (arith, more, steps_later rules.limits (items_in rules.bounds (entries story)) story.survivor.plan story.survivor.begun story.survivor.now told.way, told.counted, counts);
       recovered =
           subst
           (λ (s : Survivor). AreRecovered rules image [] (first_survivor image) (story.earlier ++ record { survivor = s; entries = story.since } ∷ []) (story.recoveries ++ recovery ∷ []) (adopted_by recovery trial)) is first;
       episodes =
           subst (Grew began.noted_before.episodes noted.episodes) (sym (map-append episode_of story.recoveries (recovery ∷ [])))
-          (grew_on began.noted_before.episodes began.noted.episodes noted.episodes (map episode_of story.recoveries) (episode_of recovery ∷ []) told.episodes grew);
+          (grew_more began.noted_before.episodes began.noted.episodes noted.episodes (map episode_of story.recoveries) (episode_of recovery ∷ []) told.episodes grew);
       tables = tables_then rules story recovery began.tables_before began.tables tables told.tables one;
     }
 
 -- a run that fails doesn't stand at its request
 pub asks_or_fails : {limits : Limits} {plan : List Override} {path : Path} {cause : Cause} {item : ℕ} → AsksFor limits [] path item → FailsBy limits plan path cause → ⊥
 asks_or_fails {limits = limits} {plan = plan} {path = path} {cause = cause} {item = item} asks fails =
-    let here : AsksFor limits plan path item = asks_under_all limits [] plan path item asks in
-    let never : Wants ≡ Fails cause = sym here.asks ∙ fails.fails in absurd (cc)
+    let never : Wants ≡ Fails cause = sym (asks_under_all limits [] plan path item asks).asks ∙ fails.fails in absurd (cc)
 
 -- the failure of a session
 abbrev pub failure_of : Rules → Image → Story → List Path → Failure
@@ -106,20 +96,21 @@ module _ {R : Type 0} where
   -- the session answers for the run that it adopted, of which the first answers of malloc are those that are noted
   answers_adopted : {began : Since} {noted : Noted} {story next : Story} {old new : SessionState R} → new.recorded ≡ old.recorded → new.recorded ≤ length next.survivor.now.choices → new.choices ≡ drop new.recorded next.survivor.now.choices
       → new.taken ≡ next.survivor.now.state.machine.taken → new.steps ≡ next.survivor.now.steps → take old.recorded next.survivor.now.choices ≡ take old.recorded story.survivor.now.choices → AnswersFor began story old
-      → Grew began.noted.choices noted.choices [] → (lost : ℕ) → AnswersFor (record began { lost = lost; noted = noted }) next new
-  answers_adopted {began = began} {noted = noted} {story = story} {next = next} {old = old} same low chose taken steps front answers grew lost = record {
+      → Grew began.noted.choices noted.choices [] → noted.unnoted ≡ began.noted.unnoted → (lost : ℕ) → AnswersFor (record began { lost = lost; noted = noted }) next new
+  answers_adopted {began = began} {noted = noted} {story = story} {next = next} {old = old} same low chose taken steps front answers grew unnoted lost = record {
     low = low;
     recorded =
         subst (Grew began.noted_before.choices noted.choices) (append-nil (take old.recorded story.survivor.now.choices) ∙ (sym front ∙ ap (λ n. take n next.survivor.now.choices) (sym same)))
-        (grew_on began.noted_before.choices began.noted.choices noted.choices (take old.recorded story.survivor.now.choices) [] answers.recorded grew);
+        (grew_more began.noted_before.choices began.noted.choices noted.choices (take old.recorded story.survivor.now.choices) [] answers.recorded grew);
     choices = chose;
+    unnoted = unnoted ∙ answers.unnoted;
     taken = taken;
     steps = steps;
   }
 
   -- whatever its watch tells
   answers_told : {began : Since} {story : Story} {session : SessionState R} {tables : Option (List (List Try))} → AnswersFor began story session → AnswersFor (record began { tables = tables }) story session
-  answers_told answers = record { low = answers.low; recorded = answers.recorded; choices = answers.choices; taken = answers.taken; steps = answers.steps }
+  answers_told answers = record { low = answers.low; recorded = answers.recorded; choices = answers.choices; unnoted = answers.unnoted; taken = answers.taken; steps = answers.steps }
 
   -- what is asked for before a recovery
   pub to_recover : {rules : Rules} {image : Image} {began : Since} {seen : Seen} {cause : Cause} {session : SessionState R} (f : IsFailing rules image began seen cause session) → rules.limits.budget ≤ 2 ^ 24 → rules.bounds.max_items ≤ 2 ^ 20
@@ -189,7 +180,7 @@ module _ {R : Type 0} where
       (f : IsFailing rules image began seen cause old) {trials : List Trial} {lost : ℕ} (before : ℕ) {after : ℕ} {noted : Noted} {tables : Option (List (List Try))} → cpu.slots.saved ≡ old.cpu.slots.saved → keeping_by ring.capacity old.options.every cpu.slots ≡ keeping_of old → IsRecovery rules image (entries f.going.story) (recovery_of (failure_of rules image f.going.story f.going.saved.paths) f.going.story.survivor.begun cause trials)
       → survivor_in trials ≡ None → replies ≡ discarded old.replies → choices ≡ old.choices → after ≡ before + steps_of trials → lost + old.steps + before ≡ began.lost + old.steps + after
       → HasNotedMore began.noted noted [] (told_of f.going.story.survivor cause trials ∷ []) → TellsOne rules (entries f.going.story) (recovery_of (failure_of rules image f.going.story f.going.saved.paths) f.going.story.survivor.begun cause trials) began.tables tables
-      → IsEnding rules image (record began { lost = lost; noted = noted; tables = tables }) seen (walked old cpu ring replies choices) (answer.GaveUp old.taken cause)
+      → IsEnding rules image (record began { lost = lost; noted = noted; tables = tables }) seen (walked old cpu ring replies choices) (session_end.GaveUp old.taken cause)
   gives_up {rules = rules} {image = image} {began = began} {seen = seen} {cause = cause} {old = old} {cpu = cpu} {ring = ring} {replies = replies} {choices = choices} f {trials = trials} {lost = lost} before {noted = noted} {tables = tables} slots keeping was none ledger chose counted counts more one =
       let g = f.going in
       let story : Story = g.story in
@@ -203,7 +194,7 @@ module _ {R : Type 0} where
         noted = began.noted;
         last_noted = more;
         told = told_unwatched g.told;
-        tables = tables_given_up rules story walk (answer.GaveUp old.taken cause) began.tables_before began.tables tables g.told.tables one;
+        tables = tables_given_up rules story walk (stop.Ends (session_end.GaveUp old.taken cause)) began.tables_before began.tables tables g.told.tables one;
         answers = answers_told (answers_as refl chose refl refl g.answers);
         received_are = received_is g.goes.items;
         replies = subst (λ (l : Ledger). KeepsReplies rules.bounds (entries story) None (sends story) l) (sym same) g.passed.replies;
@@ -212,7 +203,6 @@ module _ {R : Type 0} where
         holds = held_by rules image story.earlier (entries story) story.recoveries story.survivor old (walked old cpu ring replies choices) slots keeping (held_of g.saved);
         handled = λ is. absurd is;
         live = tt;
-        is_end = tt;
         stands = (f.fails, sym g.answers.taken);
         walked = given_up_by rules image began seen cause old (keeping_by ring.capacity old.options.every cpu.slots) f trials keeping was none;
         gave_up = refl;
@@ -232,10 +222,9 @@ module _ {R : Type 0} where
       let recovery : Recovery = recovery_of (failure_of rules image story g.saved.paths) story.survivor.begun cause trials in
       let next : Story = adopted_story story recovery trial in
       let k = g.saved.ring in
-      let before = failed_requests f in
       subst (λ (kept : Keeping). HasHandled rules image kept next.earlier (entries next) (story.recoveries ++ recovery ∷ []) (adopted_by recovery trial) trial.path.state.machine.taken (stands_of cpu.slots.saved)) (sym keeping)
       (handled_adopts rules image (keeping_of old) story.earlier (record { survivor = story.survivor; entries = story.since }) (entries story) (entries next) story.recoveries recovery (adopted_by recovery trial) (stands_of old.cpu.slots.saved) (stands_of cpu.slots.saved) trial adopted.index
-      refl before (has_ring old.cpu.slots.saved g.saved.paths k.as_many k.saved) found run.from (stands_up_to adopted.index old.cpu.slots.saved cpu.slots.saved slots.1))
+      refl (failed_requests f) (has_ring old.cpu.slots.saved g.saved.paths k.as_many k.saved) found run.from (stands_up_to adopted.index old.cpu.slots.saved cpu.slots.saved slots.1))
 
   -- the session goes on as a trial that asks for the next item
   pub adopts_going : {rules : Rules} {image : Image} {began : Since} {seen : Seen} {cause : Cause} {old : SessionState R} {cpu : CpuState R} {ring : Checkpoints} {replies : Ledger} {choices : List Choice} {adopted : Adopted}
@@ -262,7 +251,7 @@ module _ {R : Type 0} where
         story = next;
         told = told_adopted g.told (owes_nothing rules story f.due g.passed.done) refl was found counts more.episodes_more one;
         answers = answers_told (answers_adopted refl run.low run.chose
-            (ap (λ (s : Standing). s.guest.machine.taken) run.stands) (ap (λ (s : Standing). s.steps) run.stands) run.front g.answers more.choices_more lost);
+            (ap (λ (s : Standing). s.guest.machine.taken) run.stands) (ap (λ (s : Standing). s.steps) run.stands) run.front g.answers more.choices_more more.unnoted_same lost);
         goes = record {
           lives = lives;
           guest = run.stands;
@@ -299,7 +288,7 @@ module _ {R : Type 0} where
       → KeepsSlots (Some adopted) old.cpu cpu → keeping_by ring.capacity old.options.every cpu.slots ≡ keeping_of old
       → HasSameBytes old.replies replies → adopted.code ≡ Some code → lost + trial.path.steps ≡ began.lost + f.going.story.survivor.now.steps + steps_of trials
       → (noted : Noted) → HasNotedMore began.noted noted [] (told_of f.going.story.survivor cause trials ∷ []) → (tables : Option (List (List Try))) → TellsOne rules (entries f.going.story) (recovery_of (failure_of rules image f.going.story f.going.saved.paths) f.going.story.survivor.begun cause trials) began.tables tables
-      → IsEnding rules image (record began { lost = lost; noted = noted; tables = tables }) seen (goes_as old cpu ring replies choices adopted.env (old.taken + 4)) (answer.Exited code)
+      → IsEnding rules image (record began { lost = lost; noted = noted; tables = tables }) seen (goes_as old cpu ring replies choices adopted.env (old.taken + 4)) (session_end.Exited code)
   adopts_ending {rules = rules} {image = image} {began = began} {cause = cause} {old = old} {cpu = cpu} {ring = ring} {replies = replies} {adopted = adopted} {code = code} f {trials = trials} {trial = trial} {lost = lost} was found run slots keeping bytes exits counts noted more tables one =
       let g = f.going in
       let story : Story = g.story in
@@ -315,9 +304,9 @@ module _ {R : Type 0} where
         noted = noted;
         last_noted = none_noted;
         told = told_unwatched then;
-        tables = tables_here rules next (answer.Exited code) began.tables_before tables then.tables;
+        tables = tables_here rules next (stop.Ends (session_end.Exited code)) began.tables_before tables then.tables;
         answers = answers_told (answers_adopted refl run.low run.chose
-            (ap (λ (s : Standing). s.guest.machine.taken) run.stands) (ap (λ (s : Standing). s.steps) run.stands) run.front g.answers more.choices_more lost);
+            (ap (λ (s : Standing). s.guest.machine.taken) run.stands) (ap (λ (s : Standing). s.steps) run.stands) run.front g.answers more.choices_more more.unnoted_same lost);
         received_are = received_is g.goes.items ∙ ap (received rules.bounds) (sym same);
         replies = subst (λ es. KeepsReplies rules.bounds es None trial.path.state.sends replies) (sym same) run.replies;
         no_trial = bytes.no_trial;
@@ -333,36 +322,34 @@ module _ {R : Type 0} where
         };
         handled = λ is. absurd is;
         live = run.stands;
-        is_end = tt;
         stands = sym run.code_is ∙ exits;
         walked = tt;
         gave_up = tt;
       }
 
   -- the episode of a recovery that adopted isn't noted: the session is broken off as the trial
-  adopted_unnoted : {rules : Rules} {image : Image} {began : Since} {seen : Seen} {story : Story} {recovery : Recovery} {trial : Trial} {lost : ℕ} {session : SessionState R} {fault : Answer} {tables : Option (List (List Try))} → IsTold rules image began seen.told story → LeavesNothing rules (entries_of story.earlier) story.since story.survivor
+  adopted_unnoted : {rules : Rules} {image : Image} {began : Since} {seen : Seen} {story : Story} {recovery : Recovery} {trial : Trial} {lost : ℕ} {session : SessionState R} {fault : SessionBreak} {tables : Option (List (List Try))} → IsTold rules image began seen.told story → LeavesNothing rules (entries_of story.earlier) story.since story.survivor
       → recovery.survivor ≡ story.survivor → IsRecovery rules image (entries story) recovery → survivor_in recovery.trials ≡ Some trial → lost + trial.path.steps ≡ began.lost + story.survivor.now.steps + steps_of recovery.trials
       → AnswersFor (record began { lost = lost }) (adopted_story story recovery trial) session → HaveRings rules image (keeping_of session) (story.earlier ++ record { survivor = story.survivor; entries = story.since } ∷ []) (story.recoveries ++ recovery ∷ []) → IsNoteFault fault → TellsOne rules (entries story) recovery began.tables tables
-      → IsBrokenOff rules image (record began { lost = lost; tables = tables }) seen session fault
-  adopted_unnoted {rules = rules} {image = image} {began = began} {seen = seen} {story = story} {recovery = recovery} {trial = trial} {session = session} {fault = fault} {tables = tables} told leaves is was found counts answers rings note one =
+      → (noted : Noted) → HasMissed began.noted noted (episode_of recovery) → IsBrokenOff rules image (record began { lost = lost; noted = noted; tables = tables }) seen session fault
+  adopted_unnoted {rules = rules} {image = image} {began = began} {seen = seen} {story = story} {recovery = recovery} {trial = trial} {lost = lost} {session = session} {fault = fault} {tables = tables} told leaves is was found counts answers rings note one now missed =
       let next : Story = adopted_story story recovery trial in
-      let nobody : Noted = record { choices = None; episodes = None } in
+      let nobody : Noted = noted None None None in
       let then = told_adopted {began = unwatched (record began { noted_before = nobody; noted = nobody })}
       (record { serving = told.serving; way = told.way; tells = told.tells; counted = told.counted; recovered = told.recovered; episodes = tt; tables = refl }) leaves is was found counts tt refl in
-      (broken_noting (λ account. Unit {0}) {before = nobody} {noted = nobody} then
-      (tables_here rules next fault began.tables_before tables (tables_then rules story recovery began.tables_before began.tables tables told.tables one))
-      (notes_here (map episode_of story.recoveries) (episode_of recovery ∷ []) told.episodes answers (map-append episode_of story.recoveries (recovery ∷ [])) (omega arith) (λ some. note)
-      (note_no_end fault note)) (λ some. refl) answers.taken answers.steps (note_ends rules (account_of next) fault note) (note_no_end fault note) rings (λ never. absurd (never note)) (λ is. absurd (note_at_none fault note is)) tt).0
+      (broken_noting (λ account. Unit {0}) {began = record began { lost = lost; noted = now; tables = tables }} {before = nobody} {noted = nobody} then
+      (tables_here rules next (stop.Breaks fault) began.tables_before tables (tables_then rules story recovery began.tables_before began.tables tables told.tables one))
+      (notes_missed (map episode_of story.recoveries) (episode_of recovery) told.episodes answers (map-append episode_of story.recoveries (recovery ∷ [])) note missed) (λ some. refl) answers.taken answers.steps (note_ends rules (account_of next) fault note) (note_handed rules (account_of next) seen fault refl note) rings (λ never. absurd (never note)) (λ is. absurd (note_at_none fault note is)) tt).0
 
   -- what is counted otherwise at want of memory isn't counted at all
-  abbrev pub off_lost : (rules : Rules) (image : Image) (began : Since) (seen : Seen) (session : SessionState R) (end : Answer) (lost : ℕ) → (end ≢ answer.Memory → lost ≡ began.lost) → IsBrokenOff rules image began seen session end
-      → IsBrokenOff rules image (record began { lost = lost }) seen session end
-  off_lost rules image began seen session end lost same off = record {
+  abbrev pub off_lost : (rules : Rules) (image : Image) (began : Since) (seen : Seen) (session : SessionState R) (why : SessionBreak) (lost : ℕ) → (why ≢ session_break.Memory → lost ≡ began.lost) → IsBrokenOff rules image began seen session why
+      → IsBrokenOff rules image (record began { lost = lost }) seen session why
+  off_lost rules image began seen session why lost same off = record {
     telling = off.telling;
     is = off.is;
-    no_end = off.no_end;
     none_came = off.none_came;
     tells = off.tells;
+    handed = off.handed;
     holds = off.holds;
     handled = off.handled;
     notes = off.notes;
@@ -377,31 +364,30 @@ module _ {R : Type 0} where
   -- memory ran out: the session answers for the run that failed
   pub adopt_breaks : {rules : Rules} {image : Image} {began : Since} {seen : Seen} {cause : Cause} {old : SessionState R} {cpu : CpuState R} {ring : Checkpoints} {replies : Ledger} {choices : List Choice} {lost : ℕ} {tables : Option (List (List Try))}
       → (f : IsFailing rules image began seen cause old) → keeping_by ring.capacity old.options.every cpu.slots ≡ keeping_of old → choices ≡ old.choices → (tables ≡ began.tables) ⊎ TellsTable (failure_of rules image f.going.story f.going.saved.paths) old.taken began.tables tables
-      → IsBrokenOff rules image (record began { lost = lost; tables = tables }) seen (walked old cpu ring replies choices) answer.Memory
+      → IsBrokenOff rules image (record began { lost = lost; tables = tables }) seen (walked old cpu ring replies choices) session_break.Memory
   adopt_breaks {rules = rules} {image = image} {began = began} {seen = seen} {cause = cause} {old = old} {cpu = cpu} {ring = ring} {replies = replies} {choices = choices} {lost = lost} {tables = tables} f keeping chose looked =
       let story : Story = f.going.story in
       let told = f.going.told in
       let answers = answers_as {new = walked old cpu ring replies choices} refl chose refl refl f.going.answers in
       let all : List Episode = map episode_of story.recoveries in
-      off_lost rules image (record began { tables = tables }) seen (walked old cpu ring replies choices) answer.Memory lost (λ others. absurd (others refl))
+      off_lost rules image (record began { tables = tables }) seen (walked old cpu ring replies choices) session_break.Memory lost (λ others. absurd (others refl))
       (broken_noting (λ account. Unit {0}) (told_unwatched told)
       (elim looked [
-        | inl same ↦ tables_here rules story answer.Memory began.tables_before tables (subst (λ (t : Option (List (List Try))). TellsMore began.tables_before t (AreTables rules [] story.earlier story.recoveries)) (sym same) told.tables)
+        | inl same ↦ tables_here rules story (stop.Breaks session_break.Memory) began.tables_before tables (subst (λ (t : Option (List (List Try))). TellsMore began.tables_before t (AreTables rules [] story.earlier story.recoveries)) (sym same) told.tables)
         | inr more ↦ tables_memory rules story (recovery_of (failure_of rules image story f.going.saved.paths) story.survivor.begun cause []) began.tables_before began.tables tables told.tables (table_of f [] began.tables tables more)
       ])
-      (notes_here all [] told.episodes answers (sym (append-nil all)) (omega arith) (λ some. absurd (omega (arith, some))) (λ is. is)) (λ some. absurd (omega (arith, some))) answers.taken answers.steps tt (λ is. is) (rings_kept (walked old cpu ring replies choices) keeping f.going.saved) (λ never. absurd (never tt)) (λ is. absurd is) tt).0
+      (notes_here all told.episodes answers (sym (append-nil all))) (λ some. absurd (omega (arith, some))) answers.taken answers.steps tt (λ some. absurd (some refl)) (rings_kept (walked old cpu ring replies choices) keeping f.going.saved) (λ never. absurd (never tt)) (λ is. absurd is) tt).0
 
   -- behind a failure the number is higher, up to which an environment is in force
   pub adopted_later : {rules : Rules} {image : Image} {began : Since} {seen : Seen} {cause : Cause} {old : SessionState R} → IsFailing rules image began seen cause old → (old.until < old.taken + 4) × (old.taken ≤ rules.bounds.max_items)
   adopted_later {rules = rules} {old = old} f =
       let g = f.going in
       let taken : old.taken ≡ g.story.survivor.now.state.machine.taken = g.answers.taken in
-      let few : g.story.survivor.now.state.machine.taken ≤ rules.bounds.max_items = g.goes.few in
       let past : old.until < g.story.survivor.now.state.machine.taken + 4 = elim g.saved.past [
         | inl past ↦ past
         | inr there ↦ absurd (asks_or_fails there.1 f.fails)
       ] in
-      (omega (arith, taken, past), omega (arith, taken, few))
+      (omega (arith, taken, past), omega (arith, taken, g.goes.few))
 
   -- a session that is seen in another way fails still
   pub failing_moved : {rules : Rules} {image : Image} {began : Since} {seen : Seen} {cause : Cause} {s t : SessionState R} → s ≡ t → IsFailing rules image began seen cause s → IsFailing rules image began seen cause t
@@ -424,10 +410,11 @@ module _ {R : Type 0} where
       HasRecovery (failure_of rules image f.going.story f.going.saved.paths) f.going.story.survivor.begun cause recovered cpu old.ring ring old.recorded old.choices choices old.log old.replies replies before after
 
   -- no trial survived, and the episode isn't noted
-  gave_up_unnoted : {rules : Rules} {image : Image} {began : Since} {seen : Seen} {story : Story} (walk : Walk) {lost : ℕ} {session : SessionState R} {fault : Answer} {tables : Option (List (List Try))} → IsTold rules image began seen.told story
+  gave_up_unnoted : {rules : Rules} {image : Image} {began : Since} {seen : Seen} {story : Story} (walk : Walk) {lost : ℕ} {session : SessionState R} {fault : SessionBreak} {tables : Option (List (List Try))} → IsTold rules image began seen.told story
       → HasGivenUp rules image (keeping_of session) story walk → lost ≡ began.lost + steps_of walk.trials → AnswersFor began story session → IsNoteFault fault
-      → TellsOne rules (entries story) (walk_behind story.survivor walk) began.tables tables → IsBrokenOff rules image (record began { lost = lost; tables = tables }) seen session fault
-  gave_up_unnoted {rules = rules} {image = image} {began = began} {seen = seen} {story = story} walk {fault = fault} {tables = tables} told given_up counts answers note one =
+      → TellsOne rules (entries story) (walk_behind story.survivor walk) began.tables tables → (noted : Noted) → HasMissed began.noted noted (episode_of (walk_behind story.survivor walk))
+      → IsBrokenOff rules image (record began { lost = lost; noted = noted; tables = tables }) seen session fault
+  gave_up_unnoted {rules = rules} {image = image} {began = began} {seen = seen} {story = story} walk {fault = fault} {tables = tables} told given_up counts answers note one noted missed =
       record {
         telling = record { account = account_of story; recoveries = story.recoveries; walk = Some walk };
         is = record {
@@ -437,14 +424,14 @@ module _ {R : Type 0} where
           walked = given_up;
           gave_up = tt;
         };
-        no_end = note_no_end fault note;
         none_came = refl;
         tells = subst (Tells began.told seen.told) (sym (journal_of_story story)) told.tells;
+        handed = note_handed rules (account_of story) seen fault refl note;
         holds = λ never. absurd (never note);
         handled = λ is. absurd (note_at_none fault note is);
-        notes = notes_here (map episode_of story.recoveries) (last_of story.survivor (Some walk)) told.episodes answers refl (omega arith) (λ some. note) (note_no_end fault note);
+        notes = notes_missed {began = began} (map episode_of story.recoveries) (episode_of (walk_behind story.survivor walk)) told.episodes answers refl note missed;
         unnoted = λ some. ((refl, refl, refl), tt);
-        tables = tables_given_up rules story walk fault began.tables_before began.tables tables told.tables one;
+        tables = tables_given_up rules story walk (stop.Breaks fault) began.tables_before began.tables tables told.tables one;
         taken = answers.taken;
         steps = answers.steps;
         counted = λ others. let before = told.counted in omega (arith, before, counts);
@@ -460,7 +447,7 @@ module _ {R : Type 0} where
       let failure : Failure = failure_of rules image story g.saved.paths in
       let stay : cpu.slots.saved ≡ old.cpu.slots.saved = subst (λ (a : Option Adopted). KeepsSlots a old.cpu cpu) is slots in
       let leaves = subst (λ a. LeavesRun failure (recovery_of failure story.survivor.begun cause h.trials) cpu old.ring ring old.recorded old.choices choices old.log old.replies replies a) is h.leaves in
-      let end : end_of old.taken cause recovered.adopted ≡ Some (answer.GaveUp old.taken cause) = ap (end_of old.taken cause) is in
+      let end : end_of old.taken cause recovered.adopted ≡ Some (session_end.GaveUp old.taken cause) = ap (end_of old.taken cause) is in
       let counted = h.counted in
       let walk : Walk = record { cause = cause; ring = g.saved.paths; trials = h.trials } in
       let given_up : HasGivenUp rules image (keeping_by ring.capacity old.options.every cpu.slots) story walk =
@@ -471,9 +458,9 @@ module _ {R : Type 0} where
             subst (AdoptsTo rules image (record began { lost = lost; noted = noted; tables = tables }) seen (walked old cpu ring replies choices)) (sym end)
             (gives_up f before stay keeping h.recovers leaves.0 leaves.3 leaves.2 h.counted counts
             (subst (λ (e : Episode). HasNotedMore began.noted noted [] (e ∷ [])) h.episode_is more) one);
-        breaks = λ fault note.
+        breaks = λ fault note noted missed.
             gave_up_unnoted walk g.told given_up (omega (arith, counted, counts))
-            (answers_as refl leaves.2 refl refl g.answers) note one;
+            (answers_as refl leaves.2 refl refl g.answers) note one noted (subst (HasMissed began.noted noted) h.episode_is missed);
       }
 
   pub adopt_some : {rules : Rules} {image : Image} {began : Since} {seen : Seen} {cause : Cause} {old : SessionState R} {cpu : CpuState R} {ring : Checkpoints} {replies : Ledger} {choices : List Choice} {recovered : Recovered} {adopted : Adopted}
@@ -495,31 +482,32 @@ module _ {R : Type 0} where
         goes = λ noted more.
             subst (AdoptsTo rules image (record began { lost = lost; noted = noted; tables = tables }) seen new) (sym (ap (end_of old.taken cause) is))
             (of_code adopted.code refl noted (episode noted more));
-        breaks = λ fault note.
+        breaks = λ fault note noted missed.
             adopted_unnoted g.told (owes_nothing rules story f.due g.passed.done) refl h.recovers leaves.1 all
             (record {
               low = run.low;
               recorded = subst (Grew began.noted_before.choices began.noted.choices) (sym run.front) g.answers.recorded;
               choices = run.chose;
+              unnoted = g.answers.unnoted;
               taken = ap (λ (s : Standing). s.guest.machine.taken) run.stands;
               steps = ap (λ (s : Standing). s.steps) run.stands;
             })
             (rings_of
-            (adopted_requests f leaves.1 run (subst (λ (a : Option Adopted). KeepsSlots a old.cpu cpu) is slots) keeping)) note (table_of f h.trials began.tables tables told);
+            (adopted_requests f leaves.1 run (subst (λ (a : Option Adopted). KeepsSlots a old.cpu cpu) is slots) keeping)) note (table_of f h.trials began.tables tables told) noted (subst (HasMissed began.noted noted) h.episode_is missed);
       }
     where
       of_code : (code : Option ℕ) → adopted.code ≡ code → (noted : Noted) → HasNotedMore began.noted noted [] (told_of f.going.story.survivor cause h.trials ∷ [])
-          → AdoptsTo rules image (record began { lost = lost; noted = noted; tables = tables }) seen (goes_as old cpu ring replies choices adopted.env (old.taken + 4)) (option_map answer.Exited adopted.code)
+          → AdoptsTo rules image (record began { lost = lost; noted = noted; tables = tables }) seen (goes_as old cpu ring replies choices adopted.env (old.taken + 4)) (option_map session_end.Exited adopted.code)
       of_code None asks noted more =
           let failure : Failure = failure_of rules image f.going.story f.going.saved.paths in
           let leaves = subst (λ a. LeavesRun failure (recovery_of failure f.going.story.survivor.begun cause h.trials) cpu old.ring ring old.recorded old.choices choices old.log old.replies replies a) is h.leaves in
-          subst (λ code. AdoptsTo rules image (record began { lost = lost; noted = noted; tables = tables }) seen (goes_as old cpu ring replies choices adopted.env (old.taken + 4)) (option_map answer.Exited code)) (sym asks)
+          subst (λ code. AdoptsTo rules image (record began { lost = lost; noted = noted; tables = tables }) seen (goes_as old cpu ring replies choices adopted.env (old.taken + 4)) (option_map session_end.Exited code)) (sym asks)
           (adopts_going f h.recovers leaves.1 leaves.2 (subst (λ (a : Option Adopted). KeepsSlots a old.cpu cpu) is slots) keeping bytes asks
           (some_counts before lost began.lost (steps_of h.trials) h.counted counts (ap (λ (s : Standing). s.steps) leaves.2.stands) f.going.answers.steps) noted more tables (table_of f h.trials began.tables tables told))
       of_code (Some code) exits noted more =
           let failure : Failure = failure_of rules image f.going.story f.going.saved.paths in
           let leaves = subst (λ a. LeavesRun failure (recovery_of failure f.going.story.survivor.begun cause h.trials) cpu old.ring ring old.recorded old.choices choices old.log old.replies replies a) is h.leaves in
-          subst (λ code. AdoptsTo rules image (record began { lost = lost; noted = noted; tables = tables }) seen (goes_as old cpu ring replies choices adopted.env (old.taken + 4)) (option_map answer.Exited code)) (sym exits)
+          subst (λ code. AdoptsTo rules image (record began { lost = lost; noted = noted; tables = tables }) seen (goes_as old cpu ring replies choices adopted.env (old.taken + 4)) (option_map session_end.Exited code)) (sym exits)
           (adopts_ending f h.recovers leaves.1 leaves.2 (subst (λ (a : Option Adopted). KeepsSlots a old.cpu cpu) is slots) keeping bytes exits
           (some_counts before lost began.lost (steps_of h.trials) h.counted counts (ap (λ (s : Standing). s.steps) leaves.2.stands) f.going.answers.steps) noted more tables (table_of f h.trials began.tables tables told))
 
@@ -529,8 +517,4 @@ module _ {R : Type 0} where
   adopt_least {rules = rules} {image = image} {cause = cause} {old = old} {cpu = cpu} {ring = ring} {replies = replies} {choices = choices} f h is =
       let failure : Failure = failure_of rules image f.going.story f.going.saved.paths in
       let leaves = subst (λ a. LeavesRun failure (recovery_of failure f.going.story.survivor.begun cause h.trials) cpu old.ring ring old.recorded old.choices choices old.log old.replies replies a) is h.leaves in
-      let enough : leaves.0.path.steps ≤ f.going.story.survivor.now.steps + steps_of h.trials = leaves.2.enough in
-      let counted = h.counted in
-      let steps : cpu.slots.live.steps ≡ leaves.0.path.steps = ap (λ (s : Standing). s.steps) leaves.2.stands in
-      let same : old.steps ≡ f.going.story.survivor.now.steps = f.going.answers.steps in
-      omega (arith, enough, counted, steps, same)
+      omega (arith, leaves.2.enough, h.counted, ap (λ (s : Standing). s.steps) leaves.2.stands, f.going.answers.steps)

@@ -1,6 +1,7 @@
 -- The tables that a watch tells of a session.
-use Rattle.run_history.specs.declared.answer.Answer.TheVariants as answer
-use Rattle.session_state.proofs.Terms.{List, None, Option, Some, [], ap, append-nil, append_assoc, arith, length, refl, subst, sym, ℕ, ◌++◌, ◌+◌, ◌-◌, ◌∙◌, ◌∷◌, ◌≡◌, ◌≢◌, Entry, Told, Seen, Image, Answer, Chapter, Rules, entries_of, Try, Noted, Recovery, Keeping, TellsMore, AreAllTables, AreLastTables, AreTables, HasRecovered, HasWatched, IsTable, Outcome, Telling, Walk, walk_behind, IsTold, Since, unwatched}
+use Rattle.session_history.specs.declared.ends.Stop.TheVariants as stop
+use Rattle.session_history.specs.declared.ends.SessionBreak.TheVariants as session_break
+use Rattle.session_state.proofs.Terms.{List, None, Option, Some, [], ap, append-nil, append_assoc, arith, length, refl, subst, sym, ℕ, ◌++◌, ◌+◌, ◌-◌, ◌∙◌, ◌∷◌, ◌≡◌, ◌≢◌, Entry, Told, Seen, Image, Answer, Stop, Chapter, Rules, entries_of, Try, Noted, Shown, Recovery, Keeping, TellsMore, SessionState, AreAllTables, AreLastTables, AreTables, HasWatched, IsTable, Outcome, Telling, Walk, walk_behind, IsTold, Since, unwatched, HasServedLink}
 use Rattle.session_state.specs.Recovered.{Story, entries}
 
 -- tables of which something holds
@@ -41,23 +42,23 @@ told_unwatched told = record {
 }
 
 -- no trials were made behind the last survivor
-pub tables_here : (rules : Rules) (story : Story) (end : Answer) (old new : Option (List (List Try))) → TellsMore old new (AreTables rules [] story.earlier story.recoveries) → TellsMore old new (AreAllTables rules story None end)
-tables_here rules story end old new =
-    tells_so old new (AreTables rules [] story.earlier story.recoveries) (AreAllTables rules story None end)
+pub tables_here : (rules : Rules) (story : Story) (why : Stop) (old new : Option (List (List Try))) → TellsMore old new (AreTables rules [] story.earlier story.recoveries) → TellsMore old new (AreAllTables rules story None why)
+tables_here rules story why old new =
+    tells_so old new (AreTables rules [] story.earlier story.recoveries) (AreAllTables rules story None why)
     (λ more are. record { each = more; behind = []; all = sym (append-nil more); each_right = are; behind_right = (omega arith, λ others. refl) })
 
 -- memory ran out while they were made: one table more may be told
 pub tables_memory : (rules : Rules) (story : Story) (recovery : Recovery) (old mid new : Option (List (List Try))) → TellsMore old mid (AreTables rules [] story.earlier story.recoveries)
-    → TellsOne rules (entries story) recovery mid new → TellsMore old new (AreAllTables rules story None answer.Memory)
+    → TellsOne rules (entries story) recovery mid new → TellsMore old new (AreAllTables rules story None (stop.Breaks session_break.Memory))
 tables_memory rules story recovery old mid new =
-    tells_then old mid new (AreTables rules [] story.earlier story.recoveries) (λ more. (tries : List Try) × (more ≡ tries ∷ []) × IsTable rules (entries story) recovery tries) (AreAllTables rules story None answer.Memory)
+    tells_then old mid new (AreTables rules [] story.earlier story.recoveries) (λ more. (tries : List Try) × (more ≡ tries ∷ []) × IsTable rules (entries story) recovery tries) (AreAllTables rules story None (stop.Breaks session_break.Memory))
     (λ first later are one. record { each = first; behind = later; all = refl; each_right = are; behind_right = (let count = ap length one.1 in omega (arith, count), λ others. absurd (others refl)) })
 
 -- none of them survived
-pub tables_given_up : (rules : Rules) (story : Story) (walk : Walk) (end : Answer) (old mid new : Option (List (List Try))) → TellsMore old mid (AreTables rules [] story.earlier story.recoveries)
-    → TellsOne rules (entries story) (walk_behind story.survivor walk) mid new → TellsMore old new (AreAllTables rules story (Some walk) end)
-tables_given_up rules story walk end old mid new =
-    tells_then old mid new (AreTables rules [] story.earlier story.recoveries) (λ more. (tries : List Try) × (more ≡ tries ∷ []) × IsTable rules (entries story) (walk_behind story.survivor walk) tries) (AreAllTables rules story (Some walk) end)
+pub tables_given_up : (rules : Rules) (story : Story) (walk : Walk) (why : Stop) (old mid new : Option (List (List Try))) → TellsMore old mid (AreTables rules [] story.earlier story.recoveries)
+    → TellsOne rules (entries story) (walk_behind story.survivor walk) mid new → TellsMore old new (AreAllTables rules story (Some walk) why)
+tables_given_up rules story walk why old mid new =
+    tells_then old mid new (AreTables rules [] story.earlier story.recoveries) (λ more. (tries : List Try) × (more ≡ tries ∷ []) × IsTable rules (entries story) (walk_behind story.survivor walk) tries) (AreAllTables rules story (Some walk) why)
     (λ first later are one. record { each = first; behind = later; all = refl; each_right = are; behind_right = one })
 
 -- a recovery more, behind these entries
@@ -80,22 +81,15 @@ tables_then rules story recovery old mid new =
     (are_tables_then rules [] story.earlier chapter story.recoveries recovery first are refl one.2))
 
 -- a fault at an end, behind which as many tables are told
-last_fault : (rules : Rules) (story : Story) (walk : Option Walk) {end : Answer} (fault : Answer) (tables : List (List Try)) → end ≢ answer.Memory → AreLastTables rules story walk end tables → AreLastTables rules story walk fault tables
+last_fault : (rules : Rules) (story : Story) (walk : Option Walk) {why : Stop} (fault : Stop) (tables : List (List Try)) → why ≢ (stop.Breaks session_break.Memory) → AreLastTables rules story walk why tables → AreLastTables rules story walk fault tables
 last_fault rules story None fault tables other are = (are.0, λ others. are.1 other)
 last_fault rules story (Some walk) fault tables other are = are
 
-pub tables_fault : (rules : Rules) (story : Story) (walk : Option Walk) {end : Answer} (fault : Answer) (old new : Option (List (List Try))) → end ≢ answer.Memory → TellsMore old new (AreAllTables rules story walk end)
+pub tables_fault : (rules : Rules) (story : Story) (walk : Option Walk) {why : Stop} (fault : Stop) (old new : Option (List (List Try))) → why ≢ (stop.Breaks session_break.Memory) → TellsMore old new (AreAllTables rules story walk why)
     → TellsMore old new (AreAllTables rules story walk fault)
-tables_fault rules story walk {end = end} fault old new other =
-    tells_so old new (AreAllTables rules story walk end) (AreAllTables rules story walk fault)
+tables_fault rules story walk {why = why} fault old new other =
+    tells_so old new (AreAllTables rules story walk why) (AreAllTables rules story walk fault)
     (λ more are. record { each = are.each; behind = are.behind; all = are.all; each_right = are.each_right; behind_right = last_fault rules story walk fault are.behind other are.behind_right })
-
--- where a watch counts nothing, what is counted is the session's
-pub counted_alone : (P : Telling → Type 0) {rules : Rules} {image : Image} {keeping : Keeping} {began seen : Seen} {outcome : Outcome} {noted_before noted_now : Noted} (before after : ℕ)
-    → (recovered : HasRecovered rules image keeping began seen outcome noted_before noted_now ((0 + after) - (0 + before))) × P recovered.telling → (recovered : HasRecovered rules image keeping began seen outcome noted_before noted_now (after - before)) × P recovered.telling
-counted_alone P {rules = rules} {image = image} {keeping = keeping} {began = began} {seen = seen} {outcome = outcome} {noted_before = noted_before} {noted_now = noted_now} before after h =
-    let same : (0 + after) - (0 + before) ≡ after - before = omega arith in
-    subst (λ n. (recovered : HasRecovered rules image keeping began seen outcome noted_before noted_now n) × P recovered.telling) same h
 
 -- by another word for how its checkpoints are kept
 pub watched_kept : (P : Telling → Type 0) {rules : Rules} {image : Image} {began seen : Seen} {outcome : Outcome} {noted_before noted_now : Noted} {counted : ℕ} {tables_before tables : Option (List (List Try))} {first second : Keeping}
@@ -103,3 +97,11 @@ pub watched_kept : (P : Telling → Type 0) {rules : Rules} {image : Image} {beg
     → (watched : HasWatched rules image second began seen outcome noted_before noted_now counted tables_before tables) × P watched.recovered.telling
 watched_kept P {rules = rules} {image = image} {began = began} {seen = seen} {outcome = outcome} {noted_before = noted_before} {noted_now = noted_now} {counted = counted} {tables_before = tables_before} {tables = tables} same h =
     subst (λ (keeping : Keeping). (watched : HasWatched rules image keeping began seen outcome noted_before noted_now counted tables_before tables) × P watched.recovered.telling) same h
+
+module _ {R : Type 0} where
+  -- where a watch counts nothing, what is counted is the session's
+  pub counted_alone : {rules : Rules} {before seen : Seen} {shown now : Shown} {tables_before tables : Option (List (List Try))} {old new : SessionState R} {answered : Answer} (first last : ℕ)
+      → HasServedLink rules before seen shown now ((0 + last) - (0 + first)) tables_before tables old new answered → HasServedLink rules before seen shown now (last - first) tables_before tables old new answered
+  counted_alone {rules = rules} {before = before} {seen = seen} {shown = shown} {now = now} {tables_before = tables_before} {tables = tables} {old = old} {new = new} {answered = answered} first last h =
+      let same : (0 + last) - (0 + first) ≡ last - first = omega arith in
+      subst (λ n. HasServedLink rules before seen shown now n tables_before tables old new answered) same h

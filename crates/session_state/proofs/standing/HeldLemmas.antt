@@ -1,19 +1,20 @@
 -- The checkpoints that a session holds for the run that it answers for, and what it gave up.
-use Rattle.run_history.specs.declared.answer.Answer.TheVariants as answer
+use Rattle.session_history.specs.declared.ends.SessionBreak.TheVariants as session_break
+use Rattle.session_history.specs.declared.ends.SessionEnd.TheVariants as session_end
 use Rattle.circular_buffer.proofs.Places.{slice_get-take}
-use Rattle.session_state.proofs.Terms.{List, None, Option, Some, [], ap, append-nil, arith, false, inl, inr, length, refl, subst, sym, ℕ, ◌++◌, ◌+◌, ◌-◌, ◌∙◌, ◌≡◌, ◌≤◌, IfSome, option_map, slice_get, Item, Entry, LinkEvent, Seen, Checkpoints, from_newest, Saved, count_true, items_of, Log, Ledger, Image, Answer, AsksFor, Path, Served, CpuState, Standing, served_same, AreGiven, heeded, items_in, Chapter, Rules, Survivor, gone_on, asks_under_all, past_request, AreChained, Recovery, Adopted, handled_near, handled_on, handled_save, near_handles, HasHandled, HaveRings, Keeping, Stand, handle, is_far, stands_of, KeepsSlots, KeepsRing, SessionState, IsNoteFault, HandlesRequests, HoldsCheckpoints, IsAtRequest, IsHandled, IsTrimmed, KeepsOldest, UnlessGaveUp, keeping_of, IsWaitingFor, KeepsCheckpoints, Since, Story, entries, then_story, HasSameGuest}
+use Rattle.session_state.proofs.Terms.{List, None, Option, Some, [], ap, append-nil, arith, false, inl, inr, length, refl, subst, sym, ℕ, ◌++◌, ◌+◌, ◌-◌, ◌∙◌, ◌≡◌, ◌≤◌, IfSome, option_map, slice_get, Item, Entry, LinkEvent, Seen, Checkpoints, from_newest, Saved, count_true, items_of, Log, Ledger, Image, AsksFor, Path, Served, CpuState, Standing, SessionBreak, SessionEnd, served_same, AreGiven, heeded, items_in, Chapter, Rules, Survivor, gone_on, asks_under_all, past_request, AreChained, Recovery, Adopted, handled_near, handled_on, handled_save, near_handles, HasHandled, HaveRings, Keeping, Stand, handle, is_far, stands_of, KeepsSlots, KeepsRing, SessionState, IsNoteFault, HandlesRequests, HoldsCheckpoints, IsHandled, IsReadFault, IsTrimmed, KeepsOldest, UnlessGaveUp, keeping_of, IsWaitingFor, KeepsCheckpoints, Since, Story, entries, then_story, HasSameGuest}
 use Rattle.session_state.proofs.passing.GivenLemmas.{events_in-story}
 
 -- what holds anyhow, holds unless a session gave up
-pub unless_gave_up : (end : Answer) (P : Type 0) → P → UnlessGaveUp end P
-unless_gave_up (answer.GaveUp point cause) P holds = tt
-unless_gave_up answer.Finished P holds = holds
+pub unless_gave_up : (end : SessionEnd) (P : Type 0) → P → UnlessGaveUp end P
+unless_gave_up (session_end.GaveUp point cause) P holds = tt
+unless_gave_up session_end.Finished P holds = holds
 unless_gave_up _ P holds = holds
 
 -- a fault of notes comes at no request
-pub note_at_none : (end : Answer) → IsNoteFault end → IsAtRequest end → ⊥
-note_at_none answer.FileFault note is = is
-note_at_none answer.Memory note is = is
+pub note_at_none : (why : SessionBreak) → IsNoteFault why → IsReadFault why → ⊥
+note_at_none session_break.FileFault note is = is
+note_at_none session_break.Memory note is = is
 note_at_none _ note is = absurd note
 
 -- the journal brings more items
@@ -216,5 +217,4 @@ module _ {R : Type 0} where
   pub slots_oldest : (adopted : Option Adopted) (old new : CpuState R) → KeepsSlots adopted old new → slice_get new.slots.saved 0 ≡ slice_get old.slots.saved 0
   slots_oldest None old new same = ap (λ (saved : List (Saved Standing)). slice_get saved 0) same
   slots_oldest (Some adopted) old new slots =
-      let low = slots.0 in
-      ap (λ (saved : List (Saved Standing)). slice_get saved 0) slots.1 ∙ slice_get-take (length old.slots.saved - adopted.index) old.slots.saved 0 (omega (arith, low))
+      ap (λ (saved : List (Saved Standing)). slice_get saved 0) slots.1 ∙ slice_get-take (length old.slots.saved - adopted.index) old.slots.saved 0 (omega (arith, slots.0))

@@ -1,18 +1,7 @@
 -- What the parts of a session ask for, where the session stands.
 use Rattle.guest_cpu.specs.declared.event.Event.TheVariants as step
 use Rattle.session_state.proofs.Lemmas.{held_of, received_is, run_emits}
-use Rattle.session_state.proofs.Terms.{List, None, [], ap, drop, refl, subst, suc, sym, zero, ℕ, ◌∙◌, ◌∷◌, ◌≡◌, Send, Seen, Ledger, NotBefore, times_of, with_send, Image, Rules, AreBetween, SessionState, IsGoing, Since, entries, sends, CanPass, HasRun, IsToldBy}
-
--- no send was made with more items taken than there are
-times_low : (low high : ℕ) (all : List Send) → AreBetween low high all → NotBefore high (times_of all)
-unfolding times_of
-times_low low high [] between = tt
-times_low low high (send ∷ all) between = (between.1, times_low low high all between.2)
-
-between_behind : (n low high : ℕ) (all : List Send) → AreBetween low high all → AreBetween low high (drop n all)
-between_behind zero low high all between = between
-between_behind (suc n) low high [] between = between
-between_behind (suc n) low high (send ∷ all) between = between_behind n low high all between.2
+use Rattle.session_state.proofs.Terms.{List, None, ap, drop, refl, subst, sym, ℕ, ◌∙◌, ◌≡◌, Seen, Ledger, NotBefore, times_of, with_send, Image, Rules, between_behind, times_low, SessionState, IsGoing, Since, entries, sends, CanPass, HasRun, IsToldBy}
 
 module _ {R : Type 0} where
   -- what a ledger asks before it passes something
@@ -32,9 +21,8 @@ module _ {R : Type 0} where
   emits_later {session = session} h =
       let g = h.between.going in
       let taken : session.taken ≡ g.story.survivor.now.state.machine.taken = ap (λ (s : SessionState R). s.taken) h.same ∙ g.answers.taken in
-      let kept : session.replies.kept ≡ drop h.before.replies.first (sends g.story) = ap (λ (s : SessionState R). s.replies.kept) h.same ∙ g.passed.replies.shows.kept in
       subst (λ n. NotBefore n (times_of session.replies.kept)) (sym taken)
-      (subst (λ all. NotBefore g.story.survivor.now.state.machine.taken (times_of all)) (sym kept)
+      (subst (λ all. NotBefore g.story.survivor.now.state.machine.taken (times_of all)) (sym (ap (λ (s : SessionState R). s.replies.kept) h.same ∙ g.passed.replies.shows.kept))
       (times_low 0 g.story.survivor.now.state.machine.taken (drop h.before.replies.first (sends g.story)) (between_behind h.before.replies.first 0 g.story.survivor.now.state.machine.taken (sends g.story) g.told.serving.carries.timed)))
 
   -- a send was noted, and the counts are those of the guest

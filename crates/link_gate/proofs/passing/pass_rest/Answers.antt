@@ -18,13 +18,12 @@ pieces-init g c = record {
 pub returns-in_default-clause-passes : goal.returns-in_default-clause-passes
 returns-in_default-clause-passes g c =
     (λ rules sends moment received closing.
-    rest_ends rules sends moment c.args.conn c.pieces.replies (g.K.Link.seen c.args.link.now).told (g.K.Link.seen c.pieces.link).told (c.pieces.invariant.going rules sends moment received closing)
+    rest_ends rules sends moment c.args.conn c.pieces.replies (g.K.Link.seen c.args.link.now).told (g.K.Link.seen c.pieces.link) (c.pieces.invariant.going rules sends moment received closing)
     (none_found (λ (part : Send). part.bytes) (rest_part c.pieces.replies c.args.conn) c.in_default.ensures))
 
 pub give-given-requires-clause-some : goal.give-given-requires-clause-some
 give-given-requires-clause-some g c =
-    let rest = rest_found c.pieces.replies c.args.conn c.in-Some.bytes.now c.in-Some.ensures in
-    first_some c.pieces.replies c.args.conn c.in-Some.bytes.now rest.first
+    first_some c.pieces.replies c.args.conn c.in-Some.bytes.now (rest_found c.pieces.replies c.args.conn c.in-Some.bytes.now c.in-Some.ensures).first
 
 pub give-given-requires-clause-few : goal.give-given-requires-clause-few
 give-given-requires-clause-few g c =
@@ -33,8 +32,7 @@ give-given-requires-clause-few g c =
 
 pub note-requires-clause-sent : goal.note-requires-clause-sent
 note-requires-clause-sent g c =
-    let rest = rest_found c.pieces.replies c.args.conn c.in-Some.bytes.now c.in-Some.ensures in
-    first_fits c.pieces.replies c.args.conn c.in-Some.bytes.now rest.first
+    first_fits c.pieces.replies c.args.conn c.in-Some.bytes.now (rest_found c.pieces.replies c.args.conn c.in-Some.bytes.now c.in-Some.ensures).first
 
 pub pieces-smaller : goal.pieces-smaller
 pieces-smaller g c =
@@ -45,13 +43,12 @@ pieces-smaller g c =
 
 pub pieces-preserved : goal.pieces-preserved
 pieces-preserved g c =
-    let rest = rest_found c.pieces.replies c.args.conn c.in-Some.bytes.now c.in-Some.ensures in
     let opened : is_open c.pieces.replies.connections c.args.conn ≡ true = sym c.is_open.ensures ∙ c.pieces-test.true in
     let count = length c.in-Some.bytes.now in
     record {
       going = (λ rules sends moment received closing.
           rest_moves rules sends moment c.args.conn c.args.stamp c.pieces.replies c.note.new.replies c.in-Some.bytes.now (g.K.Link.seen c.args.link.now).told (g.K.Link.seen c.pieces.link).told (g.K.Link.seen c.give-given.new.self).told c.give-given.result c.in-Ok.field-0
-          (c.pieces.invariant.going rules sends moment received closing) received rest opened c.give-given.ensures.shows.told c.in-Ok.ensures);
+          (c.pieces.invariant.going rules sends moment received closing) received (rest_found c.pieces.replies c.args.conn c.in-Some.bytes.now c.in-Some.ensures) opened c.give-given.ensures.shows.told c.in-Ok.ensures);
       sends = sends_again c.args.replies.now c.pieces.replies c.note.new.replies c.pieces.invariant.sends (noted_sends c.args.stamp c.args.conn count c.pieces.replies c.note.new.replies c.give-given.result c.note.result c.note.ensures);
       stamped = noted_stamps c.args.stamp c.args.conn count c.pieces.replies c.note.new.replies c.give-given.result c.in-Ok.field-0 c.pieces.invariant.opened c.in-Ok.ensures c.pieces.invariant.stamped;
       opened = noted_known c.args.stamp c.args.conn count c.pieces.replies c.note.new.replies c.give-given.result c.in-Ok.field-0 c.args.conn c.in-Ok.ensures c.pieces.invariant.opened;
@@ -67,13 +64,13 @@ returns-in-Err-clause-passes g c =
     let rest = rest_found c.pieces.replies c.args.conn c.in-Some.bytes.now c.in-Some.ensures in
     let opened : is_open c.pieces.replies.connections c.args.conn ≡ true = sym c.is_open.ensures ∙ c.pieces-test.true in
     (λ rules sends moment received closing.
-    rest_breaks rules sends moment c.args.conn c.pieces.replies c.note.new.replies c.in-Some.bytes.now (g.K.Link.seen c.args.link.now).told (g.K.Link.seen c.pieces.link).told (g.K.Link.seen c.give-given.new.self).told c.give-given.result c.in-Err.fault
-    (c.pieces.invariant.going rules sends moment received closing) rest opened c.give-given.ensures.shows.told)
+    rest_breaks rules sends moment c.args.conn c.pieces.replies c.note.new.replies c.in-Some.bytes.now (g.K.Link.seen c.args.link.now).told (g.K.Link.seen c.pieces.link).told (g.K.Link.seen c.give-given.new.self) c.give-given.result c.in-Err.fault
+    (c.pieces.invariant.going rules sends moment received closing) rest opened c.give-given.ensures.shows.gives c.give-given.ensures.shows.handed c.give-given.ensures.shows.told)
 
 pub returns-clause-passes : goal.returns-clause-passes
 returns-clause-passes g c =
     (λ rules sends moment received closing.
-    rest_gone rules sends moment c.args.conn c.pieces.replies (g.K.Link.seen c.args.link.now).told (g.K.Link.seen c.pieces.link).told (c.pieces.invariant.going rules sends moment received closing) c.pieces.invariant.opened
+    rest_gone rules sends moment c.args.conn c.pieces.replies (g.K.Link.seen c.args.link.now).told (g.K.Link.seen c.pieces.link) (c.pieces.invariant.going rules sends moment received closing) c.pieces.invariant.opened
     (sym c.is_open.ensures ∙ c.pieces-test.false))
 
 pub returns-clause-keeps : goal.returns-clause-keeps

@@ -5,13 +5,11 @@ use Rattle.link_gate.proofs.passing.pass_until.Goals as goal
 
 pub give-given-requires-clause-connected : goal.give-given-requires-clause-connected
 give-given-requires-clause-connected g c =
-    let next = next_found c.pieces.replies c.args.until c.in-Some.conn c.in-Some.bytes.now c.sound.ensures.lawful.times c.in-Some.ensures in
-    c.pieces.invariant.connected c.in-Some.conn next.opened
+    c.pieces.invariant.connected c.in-Some.conn (next_found c.pieces.replies c.args.until c.in-Some.conn c.in-Some.bytes.now c.sound.ensures.lawful.times c.in-Some.ensures).opened
 
 pub give-given-requires-clause-some : goal.give-given-requires-clause-some
 give-given-requires-clause-some g c =
-    let next = next_found c.pieces.replies c.args.until c.in-Some.conn c.in-Some.bytes.now c.sound.ensures.lawful.times c.in-Some.ensures in
-    first_some c.pieces.replies c.in-Some.conn c.in-Some.bytes.now next.first
+    first_some c.pieces.replies c.in-Some.conn c.in-Some.bytes.now (next_found c.pieces.replies c.args.until c.in-Some.conn c.in-Some.bytes.now c.sound.ensures.lawful.times c.in-Some.ensures).first
 
 pub give-given-requires-clause-few : goal.give-given-requires-clause-few
 give-given-requires-clause-few g c =
@@ -20,13 +18,11 @@ give-given-requires-clause-few g c =
 
 pub note-requires-clause-opened : goal.note-requires-clause-opened
 note-requires-clause-opened g c =
-    let next = next_found c.pieces.replies c.args.until c.in-Some.conn c.in-Some.bytes.now c.sound.ensures.lawful.times c.in-Some.ensures in
-    opened_known c.pieces.replies.connections c.in-Some.conn next.opened
+    opened_known c.pieces.replies.connections c.in-Some.conn (next_found c.pieces.replies c.args.until c.in-Some.conn c.in-Some.bytes.now c.sound.ensures.lawful.times c.in-Some.ensures).opened
 
 pub note-requires-clause-sent : goal.note-requires-clause-sent
 note-requires-clause-sent g c =
-    let next = next_found c.pieces.replies c.args.until c.in-Some.conn c.in-Some.bytes.now c.sound.ensures.lawful.times c.in-Some.ensures in
-    first_fits c.pieces.replies c.in-Some.conn c.in-Some.bytes.now next.first
+    first_fits c.pieces.replies c.in-Some.conn c.in-Some.bytes.now (next_found c.pieces.replies c.args.until c.in-Some.conn c.in-Some.bytes.now c.sound.ensures.lawful.times c.in-Some.ensures).first
 
 pub pieces-smaller : goal.pieces-smaller
 pieces-smaller g c =
@@ -56,13 +52,13 @@ pub returns-in-Err-clause-passes : goal.returns-in-Err-clause-passes
 returns-in-Err-clause-passes g c =
     let next = next_found c.pieces.replies c.args.until c.in-Some.conn c.in-Some.bytes.now c.sound.ensures.lawful.times c.in-Some.ensures in
     (λ rules sends moment received ready.
-    until_breaks rules sends moment c.args.until c.in-Some.conn c.pieces.replies c.note.new.replies c.in-Some.bytes.now (g.K.Link.seen c.args.link.now).told (g.K.Link.seen c.pieces.link).told (g.K.Link.seen c.give-given.new.self).told c.give-given.result c.in-Err.fault
-    (c.pieces.invariant.going rules sends moment received ready) next c.give-given.ensures.shows.told)
+    until_breaks rules sends moment c.args.until c.in-Some.conn c.pieces.replies c.note.new.replies c.in-Some.bytes.now (g.K.Link.seen c.args.link.now).told (g.K.Link.seen c.pieces.link).told (g.K.Link.seen c.give-given.new.self) c.give-given.result c.in-Err.fault
+    (c.pieces.invariant.going rules sends moment received ready) next c.give-given.ensures.shows.gives c.give-given.ensures.shows.handed c.give-given.ensures.shows.told)
 
 pub returns-clause-passes : goal.returns-clause-passes
 returns-clause-passes g c =
     (λ rules sends moment received ready.
-    until_ends rules sends moment c.args.until c.pieces.replies (g.K.Link.seen c.args.link.now).told (g.K.Link.seen c.pieces.link).told (c.pieces.invariant.going rules sends moment received ready)
+    until_ends rules sends moment c.args.until c.pieces.replies (g.K.Link.seen c.args.link.now).told (g.K.Link.seen c.pieces.link) (c.pieces.invariant.going rules sends moment received ready)
     (none_found shown_part (next_part c.pieces.replies c.args.until) c.in_default.ensures))
 
 pub returns-clause-keeps : goal.returns-clause-keeps

@@ -1,5 +1,4 @@
 use Rattle.over_trunk.proofs.EndLemmas.{sends_are_written}
-use Rattle.over_trunk.proofs.laws.sends_are_written.Goals as goal
 
-pub returns : goal.returns
+pub returns : Rattle.over_trunk.proofs.laws.sends_are_written.Goals.returns
 returns c = sends_are_written

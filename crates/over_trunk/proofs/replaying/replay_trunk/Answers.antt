@@ -1,4 +1,4 @@
-use Rattle.over_trunk.proofs.Terms.{arith, rules, sym, ℕ, ◌+◌, ◌∙◌, ◌≡◌, handed_by, told_nothing, intake_of, output_of, HasAnswerCause, trunk_counts, ReplaysTrunk}
+use Rattle.over_trunk.proofs.Terms.{arith, rules, sym, ℕ, ◌+◌, ◌∙◌, ◌≡◌, handed_by, told_nothing, intake_of, output_of, ReplaysTrunk}
 use Rattle.over_trunk.proofs.FrontLemmas.{broken_off}
 use Rattle.over_trunk.proofs.TrunkLemmas.{replays}
 use Rattle.over_trunk.proofs.replaying.replay_trunk.Goals as goal
@@ -25,10 +25,8 @@ returns-clause-replayed g c =
 
 pub returns-clause-counted_more : goal.returns-clause-counted_more
 returns-clause-counted_more g c =
-    let all = c.replay_by.ensures.replayed.replayed.counted in
-    omega (arith, all)
+    omega (arith, c.replay_by.ensures.replayed.replayed.counted)
 
 pub returns-clause-cause : goal.returns-clause-cause
 returns-clause-cause g c =
-    let cause : HasAnswerCause (trunk_counts (g.S.Source.faults c.make-link.result.source.now) (g.K.Sink.faults c.make-link.result.sink.now)) (trunk_counts (g.S.Source.faults c.replay_by.new.link.source.now) (g.K.Sink.faults c.replay_by.new.link.sink.now)) c.replay_by.result = c.replay_by.ensures.link.cause in
-    search (rules, cause)
+    search (rules, c.replay_by.ensures.link.cause)

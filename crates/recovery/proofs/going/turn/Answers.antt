@@ -7,8 +7,7 @@ pub run_to_event-requires : goal.run_to_event-requires
 run_to_event-requires g c =
     let w = c.requires.tries in
     let few = trying_room w.failure c.args.point w.checkpoint c.args.env c.args.cpu.now c.args.choices.now.items c.args.items.now c.args.replies.now w.trying in
-    let budget : w.failure.rules.limits.budget ≡ c.args.budget = ap (λ (l : Limits). l.budget) w.under in
-    record { lives = ap (λ (s : Standing). s.ended) w.trying.stands ∙ w.trying.lives; room = omega (arith, few, budget) }
+    record { lives = ap (λ (s : Standing). s.ended) w.trying.stands ∙ w.trying.lives; room = omega (arith, few, ap (λ (l : Limits). l.budget) w.under) }
 
 pub ask-requires : goal.ask-requires
 ask-requires g c =
@@ -85,47 +84,40 @@ pub returns-in-Ok-Asks-clause-least : goal.returns-in-Ok-Asks-clause-least
 returns-in-Ok-Asks-clause-least g c =
     let w = c.requires.tries in
     let low = ran_least w.failure c.args.point w.checkpoint c.args.env c.args.cpu.now c.run_to_event.new.self c.args.choices.now.items c.args.items.now c.args.replies.now c.args.budget (g.R.AccessRule.rule c.args.cpu.now.rule) w.under c.run_to_event.result w.trying c.run_to_event.ensures.event in
-    let counted = c.run_to_event.ensures.counted in
-    omega (arith, low, counted, c.ask.ensures.least)
+    omega (arith, low, c.run_to_event.ensures.counted, c.ask.ensures.least)
 
 pub returns-in-Ok-Emits-clause-least : goal.returns-in-Ok-Emits-clause-least
 returns-in-Ok-Emits-clause-least g c =
     let w = c.requires.tries in
     let low = ran_least w.failure c.args.point w.checkpoint c.args.env c.args.cpu.now c.run_to_event.new.self c.args.choices.now.items c.args.items.now c.args.replies.now c.args.budget (g.R.AccessRule.rule c.args.cpu.now.rule) w.under c.run_to_event.result w.trying c.run_to_event.ensures.event in
-    let counted = c.run_to_event.ensures.counted in
-    omega (arith, low, counted)
+    omega (arith, low, c.run_to_event.ensures.counted)
 
 pub returns-in-Ok-clause-least : goal.returns-in-Ok-clause-least
 returns-in-Ok-clause-least g c =
     let w = c.requires.tries in
     let low = ran_least w.failure c.args.point w.checkpoint c.args.env c.args.cpu.now c.run_to_event.new.self c.args.choices.now.items c.args.items.now c.args.replies.now c.args.budget (g.R.AccessRule.rule c.args.cpu.now.rule) w.under c.run_to_event.result w.trying c.run_to_event.ensures.event in
-    let counted = c.run_to_event.ensures.counted in
-    omega (arith, low, counted)
+    omega (arith, low, c.run_to_event.ensures.counted)
 
 pub returns-in-Err-push-clause-least : goal.returns-in-Err-push-clause-least
 returns-in-Err-push-clause-least g c =
     let w = c.requires.tries in
     let low = ran_least w.failure c.args.point w.checkpoint c.args.env c.args.cpu.now c.run_to_event.new.self c.args.choices.now.items c.args.items.now c.args.replies.now c.args.budget (g.R.AccessRule.rule c.args.cpu.now.rule) w.under c.run_to_event.result w.trying c.run_to_event.ensures.event in
-    let counted = c.run_to_event.ensures.counted in
-    omega (arith, low, counted)
+    omega (arith, low, c.run_to_event.ensures.counted)
 
 pub returns-in-Ok-Exits-clause-least : goal.returns-in-Ok-Exits-clause-least
 returns-in-Ok-Exits-clause-least g c =
     let w = c.requires.tries in
     let low = ran_least w.failure c.args.point w.checkpoint c.args.env c.args.cpu.now c.run_to_event.new.self c.args.choices.now.items c.args.items.now c.args.replies.now c.args.budget (g.R.AccessRule.rule c.args.cpu.now.rule) w.under c.run_to_event.result w.trying c.run_to_event.ensures.event in
-    let counted = c.run_to_event.ensures.counted in
-    omega (arith, low, counted)
+    omega (arith, low, c.run_to_event.ensures.counted)
 
 pub returns-in-Ok-Failed-clause-least : goal.returns-in-Ok-Failed-clause-least
 returns-in-Ok-Failed-clause-least g c =
     let w = c.requires.tries in
     let low = ran_least w.failure c.args.point w.checkpoint c.args.env c.args.cpu.now c.run_to_event.new.self c.args.choices.now.items c.args.items.now c.args.replies.now c.args.budget (g.R.AccessRule.rule c.args.cpu.now.rule) w.under c.run_to_event.result w.trying c.run_to_event.ensures.event in
-    let counted = c.run_to_event.ensures.counted in
-    omega (arith, low, counted)
+    omega (arith, low, c.run_to_event.ensures.counted)
 
 pub returns-in-Err-clause-least : goal.returns-in-Err-clause-least
 returns-in-Err-clause-least g c =
     let w = c.requires.tries in
     let low = ran_least w.failure c.args.point w.checkpoint c.args.env c.args.cpu.now c.run_to_event.new.self c.args.choices.now.items c.args.items.now c.args.replies.now c.args.budget (g.R.AccessRule.rule c.args.cpu.now.rule) w.under c.run_to_event.result w.trying c.run_to_event.ensures.event in
-    let counted = c.run_to_event.ensures.counted in
-    omega (arith, low, counted)
+    omega (arith, low, c.run_to_event.ensures.counted)

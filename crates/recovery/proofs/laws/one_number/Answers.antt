@@ -1,5 +1,4 @@
 use Rattle.recovery.proofs.WrittenOnce.{one_number}
-use Rattle.recovery.proofs.laws.one_number.Goals as goal
 
-pub returns : goal.returns
+pub returns : Rattle.recovery.proofs.laws.one_number.Goals.returns
 returns c = one_number

@@ -1,5 +1,4 @@
 use Rattle.recovery.proofs.WrittenOnce.{one_ring}
-use Rattle.recovery.proofs.laws.one_ring.Goals as goal
 
-pub returns : goal.returns
+pub returns : Rattle.recovery.proofs.laws.one_ring.Goals.returns
 returns c = one_ring

@@ -1,5 +1,4 @@
 use Rattle.recovery.proofs.WrittenOnce.{same_numbers}
-use Rattle.recovery.proofs.laws.same_numbers.Goals as goal
 
-pub returns : goal.returns
+pub returns : Rattle.recovery.proofs.laws.same_numbers.Goals.returns
 returns c = same_numbers

@@ -18,14 +18,12 @@ returns-in-None-clause-recovers g c failure begun under has =
 pub adopt-requires-clause-within : goal.adopt-requires-clause-within
 adopt-requires-clause-within g c =
     let can = c.requires.can in
-    let could = can_adopt can.has (has_survived (c.in-Ok.ensures.walks can.failure can.under can.has.failed) c.in-Some.is) in
-    could.within
+    (can_adopt can.has (has_survived (c.in-Ok.ensures.walks can.failure can.under can.has.failed) c.in-Some.is)).within
 
 pub adopt-requires-clause-base : goal.adopt-requires-clause-base
 adopt-requires-clause-base g c =
     let can = c.requires.can in
-    let could = can_adopt can.has (has_survived (c.in-Ok.ensures.walks can.failure can.under can.has.failed) c.in-Some.is) in
-    could.base
+    (can_adopt can.has (has_survived (c.in-Ok.ensures.walks can.failure can.under can.has.failed) c.in-Some.is)).base
 
 pub adopt-requires-clause-own : goal.adopt-requires-clause-own
 adopt-requires-clause-own g c =

@@ -5,19 +5,16 @@ use Rattle.recovery.proofs.trying.begin.Goals as goal
 pub begin_trial-requires-clause-kept : goal.begin_trial-requires-clause-kept
 begin_trial-requires-clause-kept g c =
     let f = c.requires.failed in
-    let b = restored_sends f.0 f.2 c.args.cpu.now c.restore.new.t f.1 c.args.replies.now c.args.index c.args.ring.now.standing f.3 c.requires.within c.requires.same c.restore.ensures.restored in
     let sends : c.marks.result.sends ≡ c.restore.new.t.slots.live.sends = ap (λ (m : Marks). m.sends) c.marks.ensures in
     let first : c.discard.new.self.first ≡ c.args.replies.now.first = ap (λ (l : Ledger). l.first) c.discard.ensures in
-    omega (arith, sends, first, b.0)
+    omega (arith, sends, first, (restored_sends f.0 f.2 c.args.cpu.now c.restore.new.t f.1 c.args.replies.now c.args.index c.args.ring.now.standing f.3 c.requires.within c.requires.same c.restore.ensures.restored).0)
 
 pub begin_trial-requires-clause-within : goal.begin_trial-requires-clause-within
 begin_trial-requires-clause-within g c =
     let f = c.requires.failed in
     let b = restored_sends f.0 f.2 c.args.cpu.now c.restore.new.t f.1 c.args.replies.now c.args.index c.args.ring.now.standing f.3 c.requires.within c.requires.same c.restore.ensures.restored in
-    let sends : c.marks.result.sends ≡ c.restore.new.t.slots.live.sends = ap (λ (m : Marks). m.sends) c.marks.ensures in
     let first : c.discard.new.self.first ≡ c.args.replies.now.first = ap (λ (l : Ledger). l.first) c.discard.ensures in
-    let kept : length c.discard.new.self.kept ≡ length c.args.replies.now.kept = ap (λ (l : Ledger). length l.kept) c.discard.ensures in
-    omega (arith, sends, first, kept, b.1)
+    omega (arith, ap (λ (m : Marks). m.sends) c.marks.ensures, first, ap (λ (l : Ledger). length l.kept) c.discard.ensures, b.1)
 
 pub returns-clause-begins : goal.returns-clause-begins
 returns-clause-begins g c point items failure checkpoint env failed found =

@@ -20,10 +20,9 @@ try_one-requires-clause-failed g c =
 pub environments-preserved : goal.environments-preserved
 environments-preserved g c =
     let inv = c.environments.invariant in
-    let ledger = subst (λ (o : Option Adopted). LedgerBy c.environments.replies c.try_one.new.replies (Ok o)) c.in-Ok-None.field-0-is c.in-Ok-None.ensures.ledger in
     record {
       saved = saved_on c.args.cpu.now c.environments.cpu c.try_one.new.cpu inv.saved c.in-Ok-None.ensures.saved;
-      ledger = ledger ∙ inv.ledger;
+      ledger = (subst (λ (o : Option Adopted). LedgerBy c.environments.replies c.try_one.new.replies (Ok o)) c.in-Ok-None.field-0-is c.in-Ok-None.ensures.ledger) ∙ inv.ledger;
       tried = λ failure checkpoint under failed found.
           failed_env c.environments.place c.environment-env.ensures (inv.tried failure checkpoint under failed found)
           (subst (λ (o : Option Adopted). OneBy failure c.args.point (record { checkpoint = checkpoint; env = c.environment-env.result }) c.try_one.new.cpu c.try_one.new.choices.items c.try_one.new.replies c.environments.tries.items c.try_one.new.tries.items c.environments.steps c.try_one.new.steps (Ok o)) c.in-Ok-None.field-0-is

@@ -20,13 +20,10 @@ try_all-requires-clause-failed g c =
 pub checkpoints-preserved : goal.checkpoints-preserved
 checkpoints-preserved g c =
     let inv = c.checkpoints.invariant in
-    let test = c.checkpoints-test.true in
-    let end = c.len-count.ensures in
-    let less : c.checkpoints.index < length c.args.ring.now.standing = omega (arith, test, end) in
-    let ledger = subst (λ (o : Option Adopted). LedgerBy c.checkpoints.replies c.try_all.new.replies (Ok o)) c.in-Ok-None.field-0-is c.in-Ok-None.ensures.ledger in
+    let less : c.checkpoints.index < length c.args.ring.now.standing = omega (arith, c.checkpoints-test.true, c.len-count.ensures) in
     record {
       saved = saved_on c.args.cpu.now c.checkpoints.cpu c.try_all.new.cpu inv.saved c.in-Ok-None.ensures.saved;
-      ledger = ledger ∙ inv.ledger;
+      ledger = (subst (λ (o : Option Adopted). LedgerBy c.checkpoints.replies c.try_all.new.replies (Ok o)) c.in-Ok-None.field-0-is c.in-Ok-None.ensures.ledger) ∙ inv.ledger;
       tried = λ failure under failed.
           let f = checkpoint_there c.args.cpu.now.slots.saved c.args.ring.now.standing failure.ring c.checkpoints.index failed.has.as_many c.requires.same less in
           failed_checkpoint c.checkpoints.index f.1 (inv.tried failure under failed)
@@ -39,9 +36,7 @@ checkpoints-preserved g c =
 pub returns-in-Ok-Some-clause-walks : goal.returns-in-Ok-Some-clause-walks
 returns-in-Ok-Some-clause-walks g c failure under failed =
     let inv = c.checkpoints.invariant in
-    let test = c.checkpoints-test.true in
-    let end = c.len-count.ensures in
-    let less : c.checkpoints.index < length c.args.ring.now.standing = omega (arith, test, end) in
+    let less : c.checkpoints.index < length c.args.ring.now.standing = omega (arith, c.checkpoints-test.true, c.len-count.ensures) in
     let f = checkpoint_there c.args.cpu.now.slots.saved c.args.ring.now.standing failure.ring c.checkpoints.index failed.has.as_many c.requires.same less in
     walked_found c.checkpoints.index f.1
     (inv.tried failure under failed)
@@ -56,11 +51,9 @@ returns-in-Ok-Some-clause-ledger g c =
 pub returns-clause-walks : goal.returns-clause-walks
 returns-clause-walks g c failure under failed =
     let inv = c.checkpoints.invariant in
-    let test = c.checkpoints-test.false in
-    let end = c.len-count.ensures in
     let all = ring_length c.args.cpu.now.slots.saved c.args.ring.now.standing failure.ring failed.has.as_many c.requires.same in
     walked_none
-    (failed_all (omega (arith, test, end, all)) (inv.tried failure under failed)) (c.discard.ensures ∙ inv.ledger)
+    (failed_all (omega (arith, c.checkpoints-test.false, c.len-count.ensures, all)) (inv.tried failure under failed)) (c.discard.ensures ∙ inv.ledger)
 
 pub returns-clause-ledger : goal.returns-clause-ledger
 returns-clause-ledger g c = same_bytes_discarded (c.discard.ensures ∙ c.checkpoints.invariant.ledger)

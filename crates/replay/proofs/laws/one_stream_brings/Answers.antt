@@ -1,5 +1,4 @@
 use Rattle.replay.proofs.SessionLemmas.{one_stream_brings}
-use Rattle.replay.proofs.laws.one_stream_brings.Goals as goal
 
-pub returns : goal.returns
+pub returns : Rattle.replay.proofs.laws.one_stream_brings.Goals.returns
 returns c = one_stream_brings

@@ -1,5 +1,4 @@
 use Rattle.replay.proofs.RecordLemmas.{only_faults}
-use Rattle.replay.proofs.laws.only_faults.Goals as goal
 
-pub returns : goal.returns
+pub returns : Rattle.replay.proofs.laws.only_faults.Goals.returns
 returns c = only_faults

@@ -1,5 +1,4 @@
 use Rattle.replay.proofs.RecordLemmas.{record_is_replayed}
-use Rattle.replay.proofs.laws.record_is_replayed.Goals as goal
 
-pub returns : goal.returns
+pub returns : Rattle.replay.proofs.laws.record_is_replayed.Goals.returns
 returns c = record_is_replayed

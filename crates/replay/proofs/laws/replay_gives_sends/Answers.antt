@@ -1,5 +1,4 @@
 use Rattle.replay.proofs.RecordLemmas.{replay_gives_sends}
-use Rattle.replay.proofs.laws.replay_gives_sends.Goals as goal
 
-pub returns : goal.returns
+pub returns : Rattle.replay.proofs.laws.replay_gives_sends.Goals.returns
 returns c = replay_gives_sends

@@ -5,11 +5,10 @@ use Rattle.replay.proofs.replaying.replay_by.Goals as goal
 
 pub turns-init : goal.turns-init
 turns-init g c =
-    let none = starts_at c.args.image.now c.in-Ok.player c.in-Ok.ensures.live in
     record {
       between = starts_between c.requires.link.fresh c.in-Ok.ensures;
       link = gone_nowhere c.requires.link.takes c.requires.link.gives;
-      steps = omega (arith, none);
+      steps = omega (arith, starts_at c.args.image.now c.in-Ok.player c.in-Ok.ensures.live);
       went = g.met.K.Link.went_same c.args.link.now;
     }
 
@@ -28,10 +27,9 @@ returns-in-Err-clause-replayed g c =
 
 pub returns-in-Err-turn-clause-replayed : goal.returns-in-Err-turn-clause-replayed
 returns-in-Err-turn-clause-replayed g c =
-    let before = c.turns.invariant.steps in
     let counted = c.in-Err-turn.ensures.steps.counted in
     replayed_by g.K.Link.seen g.K.Link.Went g.G.Giver.Gave c.args.link.now c.turns.link c.turn.new.link
-    c.turns.invariant.went c.turns.invariant.link.gives (omega (arith, before, counted)) (c.in-Err-turn.ensures.turns c.args.image.now (g.K.Link.seen c.args.link.now).told c.turns.invariant.between)
+    c.turns.invariant.went c.turns.invariant.link.gives (omega (arith, c.turns.invariant.steps, counted)) (c.in-Err-turn.ensures.turns c.args.image.now (g.K.Link.seen c.args.link.now).told c.turns.invariant.between)
 
 pub returns-in-Err-turn-clause-link : goal.returns-in-Err-turn-clause-link
 returns-in-Err-turn-clause-link g c =
@@ -39,11 +37,9 @@ returns-in-Err-turn-clause-link g c =
 
 pub turns-preserved : goal.turns-preserved
 turns-preserved g c =
-    let before = c.turns.invariant.steps in
-    let counted = c.in_default.ensures.steps.counted in
     record {
       between = c.in_default.ensures.turns c.args.image.now (g.K.Link.seen c.args.link.now).told c.turns.invariant.between;
       link = gone_turning c.turns.invariant.link c.in_default.ensures.link;
-      steps = omega (arith, before, counted);
+      steps = omega (arith, c.turns.invariant.steps, c.in_default.ensures.steps.counted);
       went = g.met.K.Link.went_on c.args.link.now c.turns.link c.turn.new.link c.turns.invariant.went c.in_default.ensures.went;
     }

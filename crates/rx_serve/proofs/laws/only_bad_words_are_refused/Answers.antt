@@ -1,5 +1,4 @@
 use Rattle.rx_serve.proofs.EndsLemmas.{only_bad_words}
-use Rattle.rx_serve.proofs.laws.only_bad_words_are_refused.Goals as goal
 
-pub returns : goal.returns
+pub returns : Rattle.rx_serve.proofs.laws.only_bad_words_are_refused.Goals.returns
 returns c = only_bad_words

@@ -3,13 +3,10 @@ use Rattle.schedule_file.specs.declared.recorded.RecordRefusal.{RecordRefusal}
 use Rattle.schedule_file.specs.declared.recorded.RecordRefusal.TheVariants.{Refused}
 use Rattle.rx_serve.proofs.Terms.{List, arith, subst, ℕ, Err}
 use Rattle.rx_serve.proofs.RecordLemmas.{line_few}
-use Rattle.rx_serve.proofs.replaying.load_record.Goals as goal
 
-pub overflow_cast-result : goal.overflow_cast-result
+pub overflow_cast-result : Rattle.rx_serve.proofs.replaying.load_record.Goals.overflow_cast-result
 overflow_cast-result g c =
     let read : ReadsRecord c.in-Ok.text.items (Err (Refused c.in-Err-Refused.line)) =
     subst (λ (text : List ℕ). ReadsRecord text (Err (Refused c.in-Err-Refused.line))) c.as_slice.ensures.value
     (subst (λ (refusal : RecordRefusal). ReadsRecord c.as_slice.result.now (Err refusal)) c.in-Err-Refused.field-0-is c.in-Err-Refused.ensures) in
-    let few = line_few c.in-Ok.text.items c.in-Err-Refused.line read.0 in
-    let small = c.in-Ok.ensures.loads.small in
-    omega (arith, few, small)
+    omega (arith, line_few c.in-Ok.text.items c.in-Err-Refused.line read.0, c.in-Ok.ensures.loads.small)

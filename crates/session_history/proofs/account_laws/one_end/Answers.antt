@@ -1,5 +1,4 @@
 use Rattle.session_history.proofs.Causes.{one_end}
-use Rattle.session_history.proofs.account_laws.one_end.Goals as goal
 
-pub returns : goal.returns
+pub returns : Rattle.session_history.proofs.account_laws.one_end.Goals.returns
 returns c = one_end

@@ -1,5 +1,4 @@
 use Rattle.session_history.proofs.Endings.{broken_account}
-use Rattle.session_history.proofs.laws.break_has_account.Goals as goal
 
-pub returns : goal.returns
+pub returns : Rattle.session_history.proofs.laws.break_has_account.Goals.returns
 returns c = broken_account

@@ -1,5 +1,4 @@
 use Rattle.session_history.proofs.Endings.{ending_account}
-use Rattle.session_history.proofs.laws.end_has_account.Goals as goal
 
-pub returns : goal.returns
+pub returns : Rattle.session_history.proofs.laws.end_has_account.Goals.returns
 returns c = ending_account

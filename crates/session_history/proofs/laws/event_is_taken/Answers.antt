@@ -1,5 +1,4 @@
 use Rattle.session_history.proofs.Sessions.{serving_event}
-use Rattle.session_history.proofs.laws.event_is_taken.Goals as goal
 
-pub returns : goal.returns
+pub returns : Rattle.session_history.proofs.laws.event_is_taken.Goals.returns
 returns c = serving_event

@@ -1,5 +1,4 @@
 use Rattle.session_history.proofs.Endings.{ending_piece}
-use Rattle.session_history.proofs.laws.last_is_passed.Goals as goal
 
-pub returns : goal.returns
+pub returns : Rattle.session_history.proofs.laws.last_is_passed.Goals.returns
 returns c = ending_piece

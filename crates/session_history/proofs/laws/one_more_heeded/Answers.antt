@@ -1,5 +1,4 @@
 use Rattle.session_history.proofs.Heeding.{one_more_heeded}
-use Rattle.session_history.proofs.laws.one_more_heeded.Goals as goal
 
-pub returns : goal.returns
+pub returns : Rattle.session_history.proofs.laws.one_more_heeded.Goals.returns
 returns c = one_more_heeded

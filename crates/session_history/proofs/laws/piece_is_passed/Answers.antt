@@ -1,5 +1,4 @@
 use Rattle.session_history.proofs.Sessions.{serving_piece}
-use Rattle.session_history.proofs.laws.piece_is_passed.Goals as goal
 
-pub returns : goal.returns
+pub returns : Rattle.session_history.proofs.laws.piece_is_passed.Goals.returns
 returns c = serving_piece

@@ -1,5 +1,4 @@
 use Rattle.session_history.proofs.Heeding.{refused_unheeded}
-use Rattle.session_history.proofs.laws.refused_unheeded.Goals as goal
 
-pub returns : goal.returns
+pub returns : Rattle.session_history.proofs.laws.refused_unheeded.Goals.returns
 returns c = refused_unheeded

@@ -1,5 +1,4 @@
 use Rattle.session_history.proofs.Endings.{ending_none}
-use Rattle.session_history.proofs.laws.session_ends.Goals as goal
 
-pub returns : goal.returns
+pub returns : Rattle.session_history.proofs.laws.session_ends.Goals.returns
 returns c = ending_none

@@ -1,5 +1,4 @@
 use Rattle.trials.proofs.Chained.{chained_adopt}
-use Rattle.trials.proofs.laws.chained_adopt.Goals as goal
 
-pub returns : goal.returns
+pub returns : Rattle.trials.proofs.laws.chained_adopt.Goals.returns
 returns c = chained_adopt

@@ -1,5 +1,4 @@
 use Rattle.trials.proofs.Chained.{chained_at}
-use Rattle.trials.proofs.laws.chained_at.Goals as goal
 
-pub returns : goal.returns
+pub returns : Rattle.trials.proofs.laws.chained_at.Goals.returns
 returns c = chained_at

@@ -1,5 +1,4 @@
 use Rattle.trials.proofs.Chained.{chained_drop}
-use Rattle.trials.proofs.laws.chained_drop.Goals as goal
 
-pub returns : goal.returns
+pub returns : Rattle.trials.proofs.laws.chained_drop.Goals.returns
 returns c = chained_drop

@@ -1,5 +1,4 @@
 use Rattle.trials.proofs.Agreeing.{checkpoint_unharmed}
-use Rattle.trials.proofs.laws.checkpoint_unharmed.Goals as goal
 
-pub returns : goal.returns
+pub returns : Rattle.trials.proofs.laws.checkpoint_unharmed.Goals.returns
 returns c = checkpoint_unharmed

@@ -1,5 +1,4 @@
 use Rattle.trials.proofs.Walked.{none_survives}
-use Rattle.trials.proofs.laws.none_survives.Goals as goal
 
-pub returns : goal.returns
+pub returns : Rattle.trials.proofs.laws.none_survives.Goals.returns
 returns c = none_survives

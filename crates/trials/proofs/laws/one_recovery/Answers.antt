@@ -1,5 +1,4 @@
 use Rattle.trials.proofs.Recovered.{one_recovery}
-use Rattle.trials.proofs.laws.one_recovery.Goals as goal
 
-pub returns : goal.returns
+pub returns : Rattle.trials.proofs.laws.one_recovery.Goals.returns
 returns c = one_recovery

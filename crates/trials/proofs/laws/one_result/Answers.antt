@@ -1,5 +1,4 @@
 use Rattle.trials.proofs.Results.{one_result}
-use Rattle.trials.proofs.laws.one_result.Goals as goal
 
-pub returns : goal.returns
+pub returns : Rattle.trials.proofs.laws.one_result.Goals.returns
 returns c = one_result

@@ -1,5 +1,4 @@
 use Rattle.trials.proofs.Walked.{one_walk}
-use Rattle.trials.proofs.laws.one_walk.Goals as goal
 
-pub returns : goal.returns
+pub returns : Rattle.trials.proofs.laws.one_walk.Goals.returns
 returns c = one_walk

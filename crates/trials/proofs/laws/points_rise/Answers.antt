@@ -1,5 +1,4 @@
 use Rattle.trials.proofs.Survivors.{points_rise}
-use Rattle.trials.proofs.laws.points_rise.Goals as goal
 
-pub returns : goal.returns
+pub returns : Rattle.trials.proofs.laws.points_rise.Goals.returns
 returns c = points_rise

@@ -1,5 +1,4 @@
 use Rattle.trials.proofs.Survivors.{recovered_first}
-use Rattle.trials.proofs.laws.recovered_first.Goals as goal
 
-pub returns : goal.returns
+pub returns : Rattle.trials.proofs.laws.recovered_first.Goals.returns
 returns c = recovered_first

@@ -1,5 +1,4 @@
 use Rattle.trials.proofs.Survivors.{recovered_on}
-use Rattle.trials.proofs.laws.recovered_on.Goals as goal
 
-pub returns : goal.returns
+pub returns : Rattle.trials.proofs.laws.recovered_on.Goals.returns
 returns c = recovered_on

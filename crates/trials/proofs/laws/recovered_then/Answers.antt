@@ -1,5 +1,4 @@
 use Rattle.trials.proofs.Survivors.{recovered_then}
-use Rattle.trials.proofs.laws.recovered_then.Goals as goal
 
-pub returns : goal.returns
+pub returns : Rattle.trials.proofs.laws.recovered_then.Goals.returns
 returns c = recovered_then

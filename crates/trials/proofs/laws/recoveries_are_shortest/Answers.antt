@@ -1,5 +1,4 @@
 use Rattle.trials.proofs.Shortest.{recoveries_are_shortest}
-use Rattle.trials.proofs.laws.recoveries_are_shortest.Goals as goal
 
-pub returns : goal.returns
+pub returns : Rattle.trials.proofs.laws.recoveries_are_shortest.Goals.returns
 returns c = recoveries_are_shortest

@@ -1,5 +1,4 @@
 use Rattle.trials.proofs.Recovered.{recovery_adopts}
-use Rattle.trials.proofs.laws.recovery_adopts.Goals as goal
 
-pub returns : goal.returns
+pub returns : Rattle.trials.proofs.laws.recovery_adopts.Goals.returns
 returns c = recovery_adopts

@@ -1,5 +1,4 @@
 use Rattle.trials.proofs.Recovered.{recovery_gives_up}
-use Rattle.trials.proofs.laws.recovery_gives_up.Goals as goal
 
-pub returns : goal.returns
+pub returns : Rattle.trials.proofs.laws.recovery_gives_up.Goals.returns
 returns c = recovery_gives_up

@@ -1,5 +1,4 @@
 use Rattle.trials.proofs.Planned.{trial_comes}
-use Rattle.trials.proofs.laws.trial_comes.Goals as goal
 
-pub returns : goal.returns
+pub returns : Rattle.trials.proofs.laws.trial_comes.Goals.returns
 returns c = trial_comes

@@ -1,5 +1,4 @@
 use Rattle.trials.proofs.Planned.{trial_serves}
-use Rattle.trials.proofs.laws.trial_serves.Goals as goal
 
-pub returns : goal.returns
+pub returns : Rattle.trials.proofs.laws.trial_serves.Goals.returns
 returns c = trial_serves

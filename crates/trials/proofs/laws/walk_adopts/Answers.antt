@@ -1,5 +1,4 @@
 use Rattle.trials.proofs.Walked.{walk_adopts}
-use Rattle.trials.proofs.laws.walk_adopts.Goals as goal
 
-pub returns : goal.returns
+pub returns : Rattle.trials.proofs.laws.walk_adopts.Goals.returns
 returns c = walk_adopts

@@ -1,5 +1,4 @@
 use Rattle.trials.proofs.Walked.{walk_gives_up}
-use Rattle.trials.proofs.laws.walk_gives_up.Goals as goal
 
-pub returns : goal.returns
+pub returns : Rattle.trials.proofs.laws.walk_gives_up.Goals.returns
 returns c = walk_gives_up

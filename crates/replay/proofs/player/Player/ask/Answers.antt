@@ -1,4 +1,4 @@
-use Rattle.replay.proofs.Terms.{ap, subst, ℕ, ◌≡◌, IsItemOf, Marks, taken_standing, Live}
+use Rattle.replay.proofs.Terms.{ap, subst, ℕ, ◌≡◌, IsItemOf, Marks, Live}
 use Rattle.replay.proofs.TakeLemmas.{item_short, takes_item}
 use Rattle.replay.proofs.player.Player.ask.Goals as goal
 
@@ -13,5 +13,4 @@ pub returns-clause-turns : goal.returns-clause-turns
 returns-clause-turns g c image began waiting =
     let item : IsItemOf c.await_item.new.self.log c.await_item.new.self.cpu.slots.live.guest.machine.taken c.item.result.now =
     subst (λ (n : ℕ). IsItemOf c.await_item.new.self.log n c.item.result.now) (ap (λ (marks : Marks). marks.taken) c.marks-taken.ensures) c.item.ensures.of_events in
-    let left : c.take_item.new.self.slots.live ≡ taken_standing c.item.result.now c.await_item.new.self.cpu.slots.live = ap (λ (live : Live). live.standing) c.take_item.ensures.live in
-    takes_item (c.in_default.ensures.hears image c.args.recorded.now began waiting) item left
+    takes_item (c.in_default.ensures.hears image c.args.recorded.now began waiting) item (ap (λ (live : Live). live.standing) c.take_item.ensures.live)

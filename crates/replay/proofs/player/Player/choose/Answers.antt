@@ -23,6 +23,5 @@ returns-then-not-use_choice-clause-turns g c image began seen still wanting =
 pub returns-clause-turns : goal.returns-clause-turns
 returns-clause-turns g c image began seen still wanting =
     let m = c.args.self.now.cpu.slots.live.guest.machine in
-    let found : Some c.in-Some.choice ≡ slice_get c.args.recorded.now.choices m.allocations = c.in-Some.ensures ∙ ap (λ (marks : Marks). slice_get c.args.recorded.now.choices marks.choices) c.marks-number.ensures in
-    with_choice wanting c.sound.ensures.laid_out (sym found)
+    with_choice wanting c.sound.ensures.laid_out (sym (c.in-Some.ensures ∙ ap (λ (marks : Marks). slice_get c.args.recorded.now.choices marks.choices) c.marks-number.ensures))
     (sym c.if-not-use_choice.ensures.usable) (ap (λ (live : Live). live.standing) c.if-not-use_choice.ensures.live) c.use_choice.ensures.bare

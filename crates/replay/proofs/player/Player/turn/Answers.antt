@@ -1,8 +1,9 @@
 use Rattle.guest_cpu.specs.declared.event.Question.TheVariants as question
 use Rattle.replay.proofs.Terms.{arith, subst, sym, ◌+◌, ◌<◌, ◌∙◌, ◌≡◌, Err, Answer, CpuState, live_of, IsLastSend, IsWholeEnd, stage_of}
 use Rattle.replay.proofs.RunLemmas.{same_sends, ComesTo, comes_by}
-use Rattle.replay.proofs.QuestionLemmas.{reached_end, exits_end, failed_end, memory_end, asks_waiting, wants_wanting, emits_sending, comes_to, wants_first, rises_behind, if_ok, ok_always, whole_end, whole_goes}
+use Rattle.replay.proofs.QuestionLemmas.{reached_end, exits_end, failed_end, memory_end, asks_waiting, wants_wanting, emits_sending, comes_to, wants_first, rises_behind, ok_always, whole_end, whole_goes}
 use Rattle.replay.proofs.player.Player.turn.Goals as goal
+use Rattle.std.proofs.lemmas.Result.{IfOk-weaker}
 
 pub ask-requires-clause-waits : goal.ask-requires-clause-waits
 ask-requires-clause-waits g c =
@@ -10,13 +11,7 @@ ask-requires-clause-waits g c =
     let until = c.args.recorded.now.steps in
     let comes : ComesTo until c.args.self.now.cpu.slots.live question.Asks c.run_recorded.new.self.slots.live =
     comes_to until k.is.lives c.in-Ok-Asks.field-0-is c.in-Ok-Asks.ensures.question in
-    record {
-      image = k.image;
-      began = k.began;
-      is = asks_waiting k.is comes;
-      takes = k.takes;
-      gives = k.gives;
-    }
+    record { image = k.image; began = k.began; is = asks_waiting k.is comes; takes = k.takes; gives = k.gives }
 
 pub send-requires : goal.send-requires
 send-requires g c =
@@ -37,10 +32,9 @@ send-requires g c =
 
 pub choose-requires-clause-wants : goal.choose-requires-clause-wants
 choose-requires-clause-wants g c =
-    let k = c.requires.stands in
     let until = c.args.recorded.now.steps in
     let comes : ComesTo until c.args.self.now.cpu.slots.live (question.Wants c.in-Ok-Wants.field-0-0) c.run_recorded.new.self.slots.live =
-    comes_to until k.is.lives c.in-Ok-Wants.field-0-is c.in-Ok-Wants.ensures.question in
+    comes_to until c.requires.stands.is.lives c.in-Ok-Wants.field-0-is c.in-Ok-Wants.ensures.question in
     wants_first comes
 
 pub choose-requires-clause-bare : goal.choose-requires-clause-bare
@@ -53,13 +47,10 @@ choose-requires-clause-bare g c =
 
 pub choose-requires-clause-room : goal.choose-requires-clause-room
 choose-requires-clause-room g c =
-    let k = c.requires.stands in
     let until = c.args.recorded.now.steps in
     let comes : ComesTo until c.args.self.now.cpu.slots.live (question.Wants c.in-Ok-Wants.field-0-0) c.run_recorded.new.self.slots.live =
-    comes_to until k.is.lives c.in-Ok-Wants.field-0-is c.in-Ok-Wants.ensures.question in
-    let low = comes.1 in
-    let short = c.requires.short in
-    omega (arith, low, short)
+    comes_to until c.requires.stands.is.lives c.in-Ok-Wants.field-0-is c.in-Ok-Wants.ensures.question in
+    omega (arith, comes.1, c.requires.short)
 
 pub returns-in-Ok-Reached-clause-turns : goal.returns-in-Ok-Reached-clause-turns
 returns-in-Ok-Reached-clause-turns g c image began between =
@@ -84,12 +75,10 @@ returns-in-Ok-Asks-clause-steps g c =
     let until = c.args.recorded.now.steps in
     let comes : ComesTo until c.args.self.now.cpu.slots.live question.Asks c.run_recorded.new.self.slots.live =
     comes_to until c.requires.stands.is.lives c.in-Ok-Asks.field-0-is c.in-Ok-Asks.ensures.question in
-    let here = c.run_recorded.ensures.counted in
-    let there = c.ask.ensures.steps.counted in
     record {
-      later = if_ok c.ask.result (c.args.self.now.cpu.slots.live.steps < c.ask.new.self.cpu.slots.live.steps) (c.run_recorded.new.self.slots.live.steps < c.ask.new.self.cpu.slots.live.steps)
-          (λ low. rises_behind same_sends same_sends comes.0 low) c.ask.ensures.steps.later;
-      counted = omega (arith, here, there);
+      later = IfOk-weaker c.ask.result (λ _. c.run_recorded.new.self.slots.live.steps < c.ask.new.self.cpu.slots.live.steps) (λ _. c.args.self.now.cpu.slots.live.steps < c.ask.new.self.cpu.slots.live.steps)
+          (λ _ low. rises_behind same_sends same_sends comes.0 low) c.ask.ensures.steps.later;
+      counted = omega (arith, c.run_recorded.ensures.counted, c.ask.ensures.steps.counted);
     }
 
 pub returns-in-Ok-Emits-clause-turns : goal.returns-in-Ok-Emits-clause-turns
@@ -105,11 +94,10 @@ returns-in-Ok-Emits-clause-steps g c =
     let until = c.args.recorded.now.steps in
     let comes : ComesTo until c.args.self.now.cpu.slots.live (question.Emits c.in-Ok-Emits.conn c.in-Ok-Emits.bytes) c.run_recorded.new.self.slots.live =
     comes_to until c.requires.stands.is.lives c.in-Ok-Emits.field-0-is c.in-Ok-Emits.ensures.question in
-    let here = c.run_recorded.ensures.counted in
     record {
       later = ok_always c.send.result (c.args.self.now.cpu.slots.live.steps < c.send.new.self.cpu.slots.live.steps)
           (subst (λ (cpu : CpuState _). c.args.self.now.cpu.slots.live.steps < cpu.slots.live.steps) (sym c.send.ensures.cpu) comes.3);
-      counted = subst (λ (cpu : CpuState _). c.run_recorded.new.steps + c.args.self.now.cpu.slots.live.steps ≡ c.args.steps.now + cpu.slots.live.steps) (sym c.send.ensures.cpu) here;
+      counted = subst (λ (cpu : CpuState _). c.run_recorded.new.steps + c.args.self.now.cpu.slots.live.steps ≡ c.args.steps.now + cpu.slots.live.steps) (sym c.send.ensures.cpu) c.run_recorded.ensures.counted;
     }
 
 pub returns-in-Ok-Wants-clause-turns : goal.returns-in-Ok-Wants-clause-turns
@@ -126,12 +114,10 @@ returns-in-Ok-Wants-clause-steps g c =
     let until = c.args.recorded.now.steps in
     let comes : ComesTo until c.args.self.now.cpu.slots.live (question.Wants c.in-Ok-Wants.field-0-0) c.run_recorded.new.self.slots.live =
     comes_to until c.requires.stands.is.lives c.in-Ok-Wants.field-0-is c.in-Ok-Wants.ensures.question in
-    let here = c.run_recorded.ensures.counted in
-    let there = c.choose.ensures.steps.counted in
     record {
-      later = if_ok c.choose.result (c.args.self.now.cpu.slots.live.steps < c.choose.new.self.cpu.slots.live.steps) (c.run_recorded.new.self.slots.live.steps < c.choose.new.self.cpu.slots.live.steps)
-          (λ low. rises_behind same_sends same_sends comes.0 low) c.choose.ensures.steps.later;
-      counted = omega (arith, here, there);
+      later = IfOk-weaker c.choose.result (λ _. c.run_recorded.new.self.slots.live.steps < c.choose.new.self.cpu.slots.live.steps) (λ _. c.args.self.now.cpu.slots.live.steps < c.choose.new.self.cpu.slots.live.steps)
+          (λ _ low. rises_behind same_sends same_sends comes.0 low) c.choose.ensures.steps.later;
+      counted = omega (arith, c.run_recorded.ensures.counted, c.choose.ensures.steps.counted);
     }
 
 pub returns-in-Ok-Exits-clause-turns : goal.returns-in-Ok-Exits-clause-turns

@@ -7,13 +7,12 @@ use Rattle.rx_engine.proofs.session.Session.adopt.Goals as goal
 pub recover-requires : goal.recover-requires
 recover-requires g c =
     let the_rules = rules_by g.R.AccessRule.rule c.args.self.now in
-    let f = failing_moved (sym c.self.view_is) c.requires.fails.1.is in
+    let f = failing_moved (sym c.self.view_is) c.requires.1.is in
     let under = ap (λ (s : SessionState _). limits_of s.options.budget (g.R.AccessRule.rule s.cpu.rule)) (sym c.self.view_is) in
     let budget = subst (λ (s : SessionState _). s.options.budget ≤ 2 ^ 24) c.self.view_is c.self.invariant.few_budget in
-    let items = subst (λ (s : SessionState _). s.options.max_items ≤ 2 ^ 20) c.self.view_is c.self.invariant.few_items in
-    let has = subst (λ n. HasToRecover (record { point = c.self.inside.taken; cause = c.args.cause; pc = n }) (failure_of the_rules c.requires.fails.1.image f.going.story f.going.saved.paths) c.self.inside.cpu c.self.inside.ring c.self.inside.recorded c.self.inside.choices.items c.self.inside.log c.self.inside.replies) (sym c.pc-pc.ensures)
-    (to_recover f budget items) in
-    record { can = record { failure = failure_of the_rules c.requires.fails.1.image f.going.story f.going.saved.paths; under = under; has = has } }
+    let has = subst (λ n. HasToRecover (record { point = c.self.inside.taken; cause = c.args.cause; pc = n }) (failure_of the_rules c.requires.1.image f.going.story f.going.saved.paths) c.self.inside.cpu c.self.inside.ring c.self.inside.recorded c.self.inside.choices.items c.self.inside.log c.self.inside.replies) (sym c.pc-pc.ensures)
+    (to_recover f budget (subst (λ (s : SessionState _). s.options.max_items ≤ 2 ^ 20) c.self.view_is c.self.invariant.few_items)) in
+    record { can = record { failure = failure_of the_rules c.requires.1.image f.going.story f.going.saved.paths; under = under; has = has } }
 
 pub returns-in-Some-clause-adopts : goal.returns-in-Some-clause-adopts
 returns-in-Some-clause-adopts g c image began seen lost fails counts =
@@ -22,9 +21,8 @@ returns-in-Some-clause-adopts g c image began seen lost fails counts =
     let f = failing_moved (sym c.self.view_is) fails in
     let under = ap (λ (s : SessionState _). limits_of s.options.budget (g.R.AccessRule.rule s.cpu.rule)) (sym c.self.view_is) in
     let budget = subst (λ (s : SessionState _). s.options.budget ≤ 2 ^ 24) c.self.view_is c.self.invariant.few_budget in
-    let items = subst (λ (s : SessionState _). s.options.max_items ≤ 2 ^ 20) c.self.view_is c.self.invariant.few_items in
     let has = subst (λ n. HasToRecover (record { point = c.self.inside.taken; cause = c.args.cause; pc = n }) (failure_of the_rules image f.going.story f.going.saved.paths) c.self.inside.cpu c.self.inside.ring c.self.inside.recorded c.self.inside.choices.items c.self.inside.log c.self.inside.replies) (sym c.pc-pc.ensures)
-    (to_recover f budget items) in
+    (to_recover f budget (subst (λ (s : SessionState _). s.options.max_items ≤ 2 ^ 20) c.self.view_is c.self.invariant.few_items)) in
     let h = c.in-Ok.ensures.recovers (failure_of the_rules image f.going.story f.going.saved.paths) f.going.story.survivor.begun under has in
     let steps : c.count_run.new.self.steps ≡ c.recover.new.cpu.slots.live.steps = ap (λ (s : SessionState _). s.steps) c.count_run.ensures in
     let counted : c.args.self.now.steps ≡ c.self.inside.steps = sym (ap (λ (s : SessionState _). s.steps) c.self.view_is) in
@@ -40,9 +38,8 @@ returns-in-None-clause-adopts g c image began seen lost fails counts =
     let f = failing_moved (sym c.self.view_is) fails in
     let under = ap (λ (s : SessionState _). limits_of s.options.budget (g.R.AccessRule.rule s.cpu.rule)) (sym c.self.view_is) in
     let budget = subst (λ (s : SessionState _). s.options.budget ≤ 2 ^ 24) c.self.view_is c.self.invariant.few_budget in
-    let items = subst (λ (s : SessionState _). s.options.max_items ≤ 2 ^ 20) c.self.view_is c.self.invariant.few_items in
     let has = subst (λ n. HasToRecover (record { point = c.self.inside.taken; cause = c.args.cause; pc = n }) (failure_of the_rules image f.going.story f.going.saved.paths) c.self.inside.cpu c.self.inside.ring c.self.inside.recorded c.self.inside.choices.items c.self.inside.log c.self.inside.replies) (sym c.pc-pc.ensures)
-    (to_recover f budget items) in
+    (to_recover f budget (subst (λ (s : SessionState _). s.options.max_items ≤ 2 ^ 20) c.self.view_is c.self.invariant.few_items)) in
     let h = c.in-Ok.ensures.recovers (failure_of the_rules image f.going.story f.going.saved.paths) f.going.story.survivor.begun under has in
     let counted : c.args.self.now.steps ≡ c.self.inside.steps = sym (ap (λ (s : SessionState _). s.steps) c.self.view_is) in
     adopting_at (ap (λ (s : SessionState _). s.taken) c.self.view_is)
@@ -52,17 +49,14 @@ returns-in-None-clause-adopts g c image began seen lost fails counts =
 pub returns-in-Some-clause-least : goal.returns-in-Some-clause-least
 returns-in-Some-clause-least g c =
     let the_rules = rules_by g.R.AccessRule.rule c.args.self.now in
-    let f = failing_moved (sym c.self.view_is) c.requires.fails.1.is in
+    let f = failing_moved (sym c.self.view_is) c.requires.1.is in
     let under = ap (λ (s : SessionState _). limits_of s.options.budget (g.R.AccessRule.rule s.cpu.rule)) (sym c.self.view_is) in
     let budget = subst (λ (s : SessionState _). s.options.budget ≤ 2 ^ 24) c.self.view_is c.self.invariant.few_budget in
-    let items = subst (λ (s : SessionState _). s.options.max_items ≤ 2 ^ 20) c.self.view_is c.self.invariant.few_items in
-    let has = subst (λ n. HasToRecover (record { point = c.self.inside.taken; cause = c.args.cause; pc = n }) (failure_of the_rules c.requires.fails.1.image f.going.story f.going.saved.paths) c.self.inside.cpu c.self.inside.ring c.self.inside.recorded c.self.inside.choices.items c.self.inside.log c.self.inside.replies) (sym c.pc-pc.ensures)
-    (to_recover f budget items) in
-    let h = c.in-Ok.ensures.recovers (failure_of the_rules c.requires.fails.1.image f.going.story f.going.saved.paths) f.going.story.survivor.begun under has in
-    let least = adopt_least f h c.in-Some.is in
+    let has = subst (λ n. HasToRecover (record { point = c.self.inside.taken; cause = c.args.cause; pc = n }) (failure_of the_rules c.requires.1.image f.going.story f.going.saved.paths) c.self.inside.cpu c.self.inside.ring c.self.inside.recorded c.self.inside.choices.items c.self.inside.log c.self.inside.replies) (sym c.pc-pc.ensures)
+    (to_recover f budget (subst (λ (s : SessionState _). s.options.max_items ≤ 2 ^ 20) c.self.view_is c.self.invariant.few_items)) in
     let steps : c.count_run.new.self.steps ≡ c.recover.new.cpu.slots.live.steps = ap (λ (s : SessionState _). s.steps) c.count_run.ensures in
     let before : c.self.inside.steps ≡ c.args.self.now.steps = ap (λ (s : SessionState _). s.steps) c.self.view_is in
-    omega (arith, least, steps, before)
+    omega (arith, adopt_least f (c.in-Ok.ensures.recovers (failure_of the_rules c.requires.1.image f.going.story f.going.saved.paths) f.going.story.survivor.begun under has) c.in-Some.is, steps, before)
 
 pub returns-in-Err-clause-adopts : goal.returns-in-Err-clause-adopts
 returns-in-Err-clause-adopts g c image began seen lost fails none =
@@ -71,19 +65,16 @@ returns-in-Err-clause-adopts g c image began seen lost fails none =
     let f = failing_moved (sym c.self.view_is) fails in
     let under = ap (λ (s : SessionState _). limits_of s.options.budget (g.R.AccessRule.rule s.cpu.rule)) (sym c.self.view_is) in
     let budget = subst (λ (s : SessionState _). s.options.budget ≤ 2 ^ 24) c.self.view_is c.self.invariant.few_budget in
-    let items = subst (λ (s : SessionState _). s.options.max_items ≤ 2 ^ 20) c.self.view_is c.self.invariant.few_items in
     let has = subst (λ n. HasToRecover (record { point = c.self.inside.taken; cause = c.args.cause; pc = n }) (failure_of the_rules image f.going.story f.going.saved.paths) c.self.inside.cpu c.self.inside.ring c.self.inside.recorded c.self.inside.choices.items c.self.inside.log c.self.inside.replies) (sym c.pc-pc.ensures)
-    (to_recover f budget items) in
+    (to_recover f budget (subst (λ (s : SessionState _). s.options.max_items ≤ 2 ^ 20) c.self.view_is c.self.invariant.few_items)) in
     adopt_breaks f (c.in-Err.ensures.keeping c.self.inside.options.every) c.in-Err.ensures.rest.1
     (c.in-Err.ensures.watched (failure_of the_rules image f.going.story f.going.saved.paths) under has)
 
 pub returns-in-Some-clause-keeps : goal.returns-in-Some-clause-keeps
 returns-in-Some-clause-keeps g c =
-    let later = adopted_later c.requires.fails.1.is in
+    let later = adopted_later c.requires.1.is in
     let until : c.count_run.new.self.until ≡ c.self.inside.taken + 4 = ap (λ (s : SessionState _). s.until) c.count_run.ensures in
     let taken : c.self.inside.taken ≡ c.args.self.now.taken = ap (λ (s : SessionState _). s.taken) c.self.view_is in
-    let past : c.args.self.now.until < c.args.self.now.taken + 4 = later.0 in
-    let few : c.args.self.now.taken ≤ c.args.self.now.options.max_items = later.1 in
     record {
       frame = search rules;
       oldest = record {
@@ -98,7 +89,7 @@ returns-in-Some-clause-keeps g c =
       keeping = ap (λ (s : SessionState _). keeping_of s) c.count_run.ensures ∙ (c.in-Ok.ensures.keeping c.self.inside.options.every ∙ ap (λ (s : SessionState _). keeping_of s) c.self.view_is);
       opened = search rules;
       marked = search rules;
-      later = λ goes. record { past = omega (arith, until, taken, past); most = omega (arith, until, taken, few) };
+      later = λ goes. record { past = omega (arith, until, taken, later.0); most = omega (arith, until, taken, later.1) };
     }
 
 pub returns-in-None-clause-keeps : goal.returns-in-None-clause-keeps

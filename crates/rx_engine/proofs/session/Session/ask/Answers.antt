@@ -22,7 +22,7 @@ pub returns-in-Err-clause-keeps : goal.returns-in-Err-clause-keeps
 returns-in-Err-clause-keeps g c = record {
   link = noting_serves c.in-Err.stop
       (subst (λ (l : Ledger). MayServe (g.K.Link.seen c.args.link.now) l) (sym (ap (λ (s : SessionState _). s.replies) c.note_choices.ensures.keeps.same ∙ ap (λ (s : SessionState _). s.replies) c.save.ensures.keeps.same)) c.requires.may) c.in-Err.ensures.keeps.broken;
-  notes = c.in-Err.ensures.shows;
+  notes = c.in-Err.ensures.keeps.notes;
   until = search rules;
   frame = search rules;
   keeping = ap (λ (s : SessionState _). keeping_of s) c.note_choices.ensures.keeps.same ∙ c.save.ensures.keeps.keeping;
@@ -36,18 +36,18 @@ forget-requires g c =
     let same = same_rules g.R.AccessRule.rule (saved_frame {old = c.args.self.now} c.save.ensures.keeps.same c.save.ensures.keeps.rule) in
     let then = same_rules g.R.AccessRule.rule (noted_frame {old = c.save.new.self} c.in_default.ensures.keeps.same) in
     let w = c.requires.waits in
-    let began : Since = record w.began { noted_before = record { choices = None; episodes = None } } in
+    let began : Since = record w.began { noted_before = record { choices = None; episodes = None; unnoted = (g.N.Notes.shown c.args.notes.now).told.unnoted } } in
     let stood = waits_under (sym same) (c.save.ensures.waits w.image (record began { noted = (g.N.Notes.shown c.args.notes.now).told }) _ (waits_untold w.is)) in
     let after : Since = record began { noted = (g.N.Notes.shown c.note_choices.new.notes).told } in
     let told = waits_under (sym then) (c.in_default.ensures.waits w.image began (g.K.Link.seen c.args.link.now) c.requires.may.takes stood) in
     record { seen = g.K.Link.seen c.args.link.now; waits = record { image = w.image; began = after; is = told } }
 
-pub receive-requires-clause-stands : goal.receive-requires-clause-stands
-receive-requires-clause-stands g c =
+pub receive-requires : goal.receive-requires
+receive-requires g c =
     let same = same_rules g.R.AccessRule.rule (saved_frame {old = c.args.self.now} c.save.ensures.keeps.same c.save.ensures.keeps.rule) in
     let then = same_rules g.R.AccessRule.rule (noted_frame {old = c.save.new.self} c.in_default.ensures.keeps.same) in
     let w = c.requires.waits in
-    let began : Since = record w.began { noted_before = record { choices = None; episodes = None } } in
+    let began : Since = record w.began { noted_before = record { choices = None; episodes = None; unnoted = (g.N.Notes.shown c.args.notes.now).told.unnoted } } in
     let stood = waits_under (sym same) (c.save.ensures.waits w.image (record began { noted = (g.N.Notes.shown c.args.notes.now).told }) _ (waits_untold w.is)) in
     let after : Since = record began { noted = (g.N.Notes.shown c.note_choices.new.notes).told } in
     let told = waits_under (sym then) (c.in_default.ensures.waits w.image began (g.K.Link.seen c.args.link.now) c.requires.may.takes stood) in
@@ -55,6 +55,7 @@ receive-requires-clause-stands g c =
     record {
       waits = record { image = w.image; began = after; is = waits_under (sym last) (c.forget.ensures.waits w.image after _ told) };
       handled = subst (λ (s : SessionState _). IsHandled s) (sym c.forget.ensures.keeps.same) (subst (λ (s : SessionState _). IsHandled s) (sym c.note_choices.ensures.keeps.same) c.save.ensures.handled);
+      marked = search rules;
       may = record {
         takes = c.requires.may.takes;
         gives = gives_same (λ conn. c.forget.ensures.keeps.opened conn
@@ -69,15 +70,14 @@ returns-clause-turns g c image began waits =
     let last = same_rules g.R.AccessRule.rule (forgot_frame {old = c.note_choices.new.self} c.forget.ensures.keeps.same) in
     let after : Since = record began { noted = (g.N.Notes.shown c.note_choices.new.notes).told } in
     let before : Since = record began { noted = (g.N.Notes.shown c.args.notes.now).told } in
-    let stood = waits_under (sym same) (c.save.ensures.waits image before _ waits) in
-    let told = waits_under (sym then) (c.in_default.ensures.waits image began (g.K.Link.seen c.args.link.now) c.requires.may.takes stood) in
+    let told = waits_under (sym then) (c.in_default.ensures.waits image began (g.K.Link.seen c.args.link.now) c.requires.may.takes (waits_under (sym same) (c.save.ensures.waits image before _ waits))) in
     let kept = waits_under (sym last) (c.forget.ensures.waits image after _ told) in
     comes_under image after (g.K.Link.seen c.receive.new.link) c.receive.new.self c.receive.result (last ∙ (then ∙ same)) (c.receive.ensures.turns image after kept)
 
 pub returns-clause-keeps : goal.returns-clause-keeps
 returns-clause-keeps g c = record {
   link = c.receive.ensures.keeps.link;
-  notes = asking_notes c.receive.result c.in_default.ensures.shows c.receive.ensures.keeps.unnoted;
+  notes = asking_notes c.receive.result c.in_default.ensures.keeps.notes c.receive.ensures.keeps.unnoted;
   until = search rules;
   frame = search rules;
   keeping = c.receive.ensures.keeps.oldest.keeping ∙ (ap (λ (s : SessionState _). keeping_of s) c.forget.ensures.keeps.same ∙ (ap (λ (s : SessionState _). keeping_of s) c.note_choices.ensures.keeps.same ∙ c.save.ensures.keeps.keeping));

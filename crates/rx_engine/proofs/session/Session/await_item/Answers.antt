@@ -1,5 +1,5 @@
 use Rattle.session_state.proofs.events.HearingLemmas.{same_rules}
-use Rattle.rx_engine.proofs.Terms.{ap, arith, refl, sym, known_same, known_then, serves_may, serves_then, serves_well, cause_then, handled_same, same_then, stops_under, waits_under}
+use Rattle.rx_engine.proofs.Terms.{ap, arith, refl, rules, sym, counted_same, known_same, known_then, serves_may, serves_then, serves_well, cause_then, handled_same, same_then, stops_under, waits_under}
 use Rattle.rx_engine.proofs.session.Session.await_item.Goals as goal
 
 pub waits-init : goal.waits-init
@@ -14,13 +14,17 @@ waits-init g c = record {
   went = g.met.K.Link.went_same c.args.link.now;
 }
 
-pub hear-requires-clause-stands : goal.hear-requires-clause-stands
-hear-requires-clause-stands g c =
+pub hear-requires : goal.hear-requires
+hear-requires g c =
     let k = c.requires.waits in
     record {
-      waits = record { image = k.image; began = k.began; is = waits_under (sym (same_rules g.R.AccessRule.rule c.waits.invariant.same)) (c.waits.invariant.hears k.image k.began k.is) };
-      handled = c.waits.invariant.handled;
-      may = c.waits.invariant.may;
+      stands = record {
+        waits = record { image = k.image; began = k.began; is = waits_under (sym (same_rules g.R.AccessRule.rule c.waits.invariant.same)) (c.waits.invariant.hears k.image k.began k.is) };
+        handled = c.waits.invariant.handled;
+        marked = counted_same c.waits.invariant.same c.requires.marked;
+        may = c.waits.invariant.may;
+      };
+      none_left = search rules;
     }
 
 pub returns-in-Err-clause-hears : goal.returns-in-Err-clause-hears
@@ -38,10 +42,7 @@ returns-in-Err-clause-keeps g c = record {
 
 pub waits-smaller : goal.waits-smaller
 waits-smaller g c =
-    let later = c.in_default.ensures.later in
-    let most = c.in_default.ensures.most in
-    let same = ap (λ options. options.max_events) c.waits.invariant.same.options in
-    omega (arith, later, most, same)
+    omega (arith, c.in_default.ensures.counts.later, c.in_default.ensures.counts.most, ap (λ options. options.max_events) c.waits.invariant.same.options)
 
 pub waits-preserved : goal.waits-preserved
 waits-preserved g c =

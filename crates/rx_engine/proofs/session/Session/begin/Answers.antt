@@ -1,7 +1,6 @@
 use Rattle.rx_engine.proofs.Terms.{refl, subst, ◌*◌, ◌/◌, IsFreshCpu}
-use Rattle.rx_engine.proofs.session.Session.begin.Goals as goal
 
-pub returns : goal.returns
+pub returns : Rattle.rx_engine.proofs.session.Session.begin.Goals.returns
 returns g c = record {
   options_are = refl;
   in_range = c.requires.in_range;

@@ -1,10 +1,11 @@
+use Rattle.session_history.specs.declared.ends.Stop.TheVariants as stop
 use Rattle.reply_ledger.specs.Trimming as ledgers
-use Rattle.rx_engine.proofs.Terms.{ap, arith, length, refl, subst, sym, ◌+◌, ◌∙◌, ◌≡◌, ◌≤◌, IfSome, slice_get, HasHandled, stands_of, end_of, ending_moved, fault_no_end, can_forget_sends, end_requests, left_end, left_off, note_unless, passing_requests, unless_note, finish_broken, finish_unnoted_link, finish_well, notes_passing, notes_rest_done, notes_rest_failed, ending_few, may_pass, ending_can, ending_ready, finish_fault, finish_ok, finish_unnoted, held_by, trimmed_still, CanForgetSends, HandledAt, HasLeft, IsTrimmed, keeping_of, HasWatched, StandsEnding, UnlessNoteFault, outcome_of, rules_by, SessionState, IsEnding, entries, sends}
+use Rattle.rx_engine.proofs.Terms.{ap, arith, length, refl, subst, sym, ◌+◌, ◌∙◌, ◌≡◌, ◌≤◌, IfSome, slice_get, stands_of, end_of, ending_moved, can_forget_sends, end_requests, left_end, left_off, note_unless, passing_requests, unless_note, finish_broken, finish_unnoted_link, finish_well, notes_passing, notes_rest_done, notes_rest_failed, ending_few, may_pass, ending_can, ending_ready, finish_fault, finish_ok, finish_unnoted, held_by, trimmed_still, CanForgetSends, HandledAt, HasLeft, IsTrimmed, keeping_of, HasWatched, StandsEnding, UnlessNoteFault, outcome_of, rules_by, SessionState, IsEnding, entries, sends}
 use Rattle.rx_engine.proofs.session.Session.finish.Goals as goal
 
 pub pass_until-requires : goal.pass_until-requires
 pass_until-requires g c =
-    let e = subst (λ (s : SessionState _). StandsEnding (rules_by g.R.AccessRule.rule c.args.self.now) (g.K.Link.seen c.args.link.now) c.args.answer s) (sym c.self.view_is) c.requires in
+    let e = subst (λ (s : SessionState _). StandsEnding (rules_by g.R.AccessRule.rule c.args.self.now) (g.K.Link.seen c.args.link.now) c.args.end s) (sym c.self.view_is) c.requires in
     may_pass (record { can = ending_can e.is; gives = e.gives }) c.received-stamp.ensures.count
 
 pub returns-in-Err-clause-served : goal.returns-in-Err-clause-served
@@ -14,17 +15,16 @@ returns-in-Err-clause-served g c image since first ends finishing trimmed =
     let both = ending_moved (sym c.self.view_is) ends finishing in
     let e = both.0 in
     let counts : since.lost + c.args.self.now.steps ≡ since.lost + c.self.inside.steps = ap (λ (s : SessionState _). since.lost + s.steps) (sym c.self.view_is) in
-    finish_fault (λ telling. UnlessNoteFault c.answer_to.result (HasLeft the_rules image telling _ c.answer_to.result)) (record since { noted = here }) 18446744073709551615 c.pass_until.new.replies c.in-Err.fault e c.in-Err.ensures.keeps.shows.rest c.answer_to.ensures
-    (c.in-Err.ensures.passes the_rules (sends e.story) (end_of e.story) (sym e.received_are ∙ sym c.received-stamp.ensures.count) (ending_ready e)) both.1 here refl refl counts
-    (λ more broken. unless_note c.answer_to.result _ (λ never. left_off (fault_no_end c.in-Err.fault c.answer_to.result c.answer_to.ensures)
+    finish_fault (λ telling. UnlessNoteFault (stop.Breaks c.answer_to.result) (HasLeft the_rules image telling _ (stop.Breaks c.answer_to.result))) (record since { noted = here }) 18446744073709551615 c.pass_until.new.replies c.in-Err.fault e c.in-Err.ensures.keeps.shows.rest c.answer_to.ensures c.in-Err.ensures.keeps.shows.stops
+    (c.in-Err.ensures.passes the_rules (sends e.story) (end_of e.story) (sym e.received_are ∙ sym c.received-stamp.ensures.count) (ending_ready e)) both.1 here refl refl refl counts
+    (λ more broken. unless_note c.answer_to.result _ (λ never. left_off
     (trimmed_still (record { oldest = ap (λ (t : SessionState _). slice_get t.cpu.slots.saved 0) c.self.view_is; first = ap (λ (t : SessionState _). t.log.first) c.self.view_is; recorded = ap (λ (t : SessionState _). t.recorded) c.self.view_is; sends = c.in-Err.ensures.keeps.sends.first ∙ ap (λ (t : SessionState _). t.replies.first) c.self.view_is; keeping = ap (λ (t : SessionState _). keeping_of t) c.self.view_is }) trimmed)
     (held_by the_rules image e.story.earlier (entries e.story) e.story.recoveries e.story.survivor _ _ refl refl e.holds)
     (passing_requests c.in-Err.fault c.answer_to.result c.answer_to.ensures never e.holds.requests)))
 
 pub note_rest-requires : goal.note_rest-requires
 note_rest-requires g c =
-    let few = subst (λ (s : SessionState _). s.recorded + length s.choices ≤ s.steps) (sym c.self.view_is) (ending_few c.requires.is) in
-    omega (arith, few, c.self.ranges)
+    omega (arith, subst (λ (s : SessionState _). s.recorded + length s.choices ≤ s.steps) (sym c.self.view_is) (ending_few c.requires.is), c.self.ranges)
 
 pub returns-in-Err-note_rest-clause-served : goal.returns-in-Err-note_rest-clause-served
 returns-in-Err-note_rest-clause-served g c image since first ends finishing trimmed =
@@ -35,10 +35,10 @@ returns-in-Err-note_rest-clause-served g c image since first ends finishing trim
     let e = both.0 in
     let counts : since.lost + c.args.self.now.steps ≡ since.lost + c.self.inside.steps = ap (λ (s : SessionState _). since.lost + s.steps) (sym c.self.view_is) in
     let passes = c.in_default.ensures.passes the_rules (sends e.story) (end_of e.story) (sym e.received_are ∙ sym c.received-stamp.ensures.count) (ending_ready e) in
-    subst (λ (s : SessionState _). (watched : HasWatched the_rules image (keeping_of s) first (g.K.Link.seen c.pass_until.new.link) (outcome_of c.in-Err-note_rest.fault s) since.noted_before told (since.lost + c.args.self.now.steps) since.tables_before since.tables)
-    × UnlessNoteFault c.in-Err-note_rest.fault (HasLeft the_rules image watched.recovered.telling c.note_rest.new.self c.in-Err-note_rest.fault)) (sym c.in-Err-note_rest.ensures.noted.1)
-    (finish_unnoted (λ telling. UnlessNoteFault c.in-Err-note_rest.fault (HasLeft the_rules image telling c.note_rest.new.self c.in-Err-note_rest.fault)) (record since { noted = here }) 18446744073709551615 e c.in_default.ensures.keeps.shows.rest
-    passes both.1 c.in-Err-note_rest.ensures.noted.2 told c.in-Err-note_rest.ensures.noted.0 c.in-Err-note_rest.ensures.shows.episodes counts (λ more broken. note_unless c.in-Err-note_rest.fault _ c.in-Err-note_rest.ensures.noted.2))
+    subst (λ (s : SessionState _). (watched : HasWatched the_rules image (keeping_of s) first (g.K.Link.seen c.pass_until.new.link) (outcome_of (stop.Breaks c.in-Err-note_rest.fault) s) since.noted_before told (since.lost + c.args.self.now.steps) since.tables_before since.tables)
+    × UnlessNoteFault (stop.Breaks c.in-Err-note_rest.fault) (HasLeft the_rules image watched.recovered.telling c.note_rest.new.self (stop.Breaks c.in-Err-note_rest.fault))) (sym c.in-Err-note_rest.ensures.noted.1)
+    (finish_unnoted (λ telling. UnlessNoteFault (stop.Breaks c.in-Err-note_rest.fault) (HasLeft the_rules image telling c.note_rest.new.self (stop.Breaks c.in-Err-note_rest.fault))) (record since { noted = here }) 18446744073709551615 e c.in_default.ensures.keeps.shows.rest
+    passes both.1 c.in-Err-note_rest.ensures.noted.2 told c.in-Err-note_rest.ensures.noted.0 c.in-Err-note_rest.ensures.shows.episodes c.in-Err-note_rest.ensures.noted.3 counts (λ more broken. note_unless c.in-Err-note_rest.fault _ c.in-Err-note_rest.ensures.noted.2))
 
 pub returns-clause-served : goal.returns-clause-served
 returns-clause-served g c image since first ends finishing trimmed =
@@ -51,47 +51,44 @@ returns-clause-served g c image since first ends finishing trimmed =
     let passes = c.in_default.ensures.passes the_rules (sends e.story) (end_of e.story) (sym e.received_are ∙ sym c.received-stamp.ensures.count) (ending_ready e) in
     let low : c.self.inside.taken ≤ 18446744073709551615 = omega (arith, c.self.ranges) in
     let last_session = c.forget_sends.new.self in
-    let Whole : SessionState _ → Type 0 = λ (s : SessionState _). (watched : HasWatched the_rules image (keeping_of s) first (g.K.Link.seen c.pass_until.new.link) (outcome_of c.args.answer s) since.noted_before told (since.lost + c.args.self.now.steps) since.tables_before since.tables)
-    × UnlessNoteFault c.args.answer (HasLeft the_rules image watched.recovered.telling last_session c.args.answer) in
+    let Whole : SessionState _ → Type 0 = λ (s : SessionState _). (watched : HasWatched the_rules image (keeping_of s) first (g.K.Link.seen c.pass_until.new.link) (outcome_of (stop.Ends c.args.end) s) since.noted_before told (since.lost + c.args.self.now.steps) since.tables_before since.tables)
+    × HasLeft the_rules image watched.recovered.telling last_session (stop.Ends c.args.end) in
     let stood = subst (λ (s : SessionState _). IsTrimmed s) (sym c.self.view_is) trimmed in
     subst Whole (sym c.forget_sends.ensures.same)
     (subst Whole (sym c.in_default-note_rest.ensures.noted.1)
-    (finish_ok (λ telling. UnlessNoteFault c.args.answer (HasLeft the_rules image telling last_session c.args.answer)) (record since { noted = here }) e c.in_default.ensures.keeps.shows.rest low
-    passes both.1 told c.in_default-note_rest.ensures.noted.0 c.in_default-note_rest.ensures.shows.episodes counts
-    (λ more broken. unless_note c.args.answer _ (λ never.
-    left_end c.pass_until.new.replies e.is_end stood e.holds
-    (subst (λ (t : SessionState _). HandledAt c.args.answer (HasHandled the_rules image (keeping_of t) e.story.earlier (entries e.story) e.story.recoveries e.story.survivor e.story.survivor.now.state.machine.taken (stands_of t.cpu.slots.saved)) (HasHandled the_rules image (keeping_of t) e.story.earlier (entries e.story) e.story.recoveries e.story.survivor (e.story.survivor.now.state.machine.taken + 1) (stands_of t.cpu.slots.saved)))
+    (finish_ok (λ telling. HasLeft the_rules image telling last_session (stop.Ends c.args.end)) (record since { noted = here }) e c.in_default.ensures.keeps.shows.rest low
+    passes both.1 told c.in_default-note_rest.ensures.noted.0 c.in_default-note_rest.ensures.shows.episodes c.in_default-note_rest.ensures.shows.unnoted counts
+    (λ more broken.
+    left_end c.pass_until.new.replies stood e.holds
+    (subst (λ (t : SessionState _). HandledAt (stop.Ends c.args.end) the_rules image (keeping_of t) e.story.earlier (entries e.story) e.story.recoveries e.story.survivor (stands_of t.cpu.slots.saved))
     (sym (c.forget_sends.ensures.same ∙ ap (λ (t : SessionState _). record t { replies = last_session.replies }) c.in_default-note_rest.ensures.noted.1))
-    (end_requests _ c.args.answer e.is_end e.stands e.holds.requests e.handled)) e.live
+    (end_requests _ c.args.end e.stands e.holds.requests e.handled)) e.live
     (ap (λ (s : SessionState _). s.cpu) c.forget_sends.ensures.same ∙ ap (λ (s : SessionState _). s.cpu) c.in_default-note_rest.ensures.noted.1)
     (ap (λ (s : SessionState _). keeping_of s) c.forget_sends.ensures.same ∙ ap (λ (s : SessionState _). keeping_of s) c.in_default-note_rest.ensures.noted.1)
     (ap (λ (s : SessionState _). s.log) c.forget_sends.ensures.same ∙ ap (λ (s : SessionState _). s.log) c.in_default-note_rest.ensures.noted.1)
     c.in_default.ensures.keeps.sends.first passes.3.0.shows.kept passes.3.0.shows.counted e.told.serving.carries.timed (let same = e.answers.taken in omega (arith, low, same)) passes.3.1
-    (subst (λ (s : SessionState _). IfSome (slice_get s.cpu.slots.saved 0) (λ oldest. last_session.replies ≡ ledgers.trimmed s.replies oldest.state.sends)) c.in_default-note_rest.ensures.noted.1 c.forget_sends.ensures.trimmed)))))
+    (subst (λ (s : SessionState _). IfSome (slice_get s.cpu.slots.saved 0) (λ oldest. last_session.replies ≡ ledgers.trimmed s.replies oldest.state.sends)) c.in_default-note_rest.ensures.noted.1 c.forget_sends.ensures.trimmed))))
 
 pub forget_sends-requires : goal.forget_sends-requires
 forget_sends-requires g c =
     let the_rules = rules_by g.R.AccessRule.rule c.args.self.now in
     let ends = c.requires in
-    let e = subst (λ (s : SessionState _). IsEnding the_rules ends.image ends.began (g.K.Link.seen c.args.link.now) s c.args.answer) (sym c.self.view_is) ends.is in
+    let e = subst (λ (s : SessionState _). IsEnding the_rules ends.image ends.began (g.K.Link.seen c.args.link.now) s c.args.end) (sym c.self.view_is) ends.is in
     let passes = c.in_default.ensures.passes the_rules (sends e.story) (end_of e.story) (sym e.received_are ∙ sym c.received-stamp.ensures.count) (ending_ready e) in
     let can = can_forget_sends e.holds {ledger = c.pass_until.new.replies} passes.3.0.shows.kept passes.3.0.shows.counted (c.in_default.ensures.keeps.sends.trial ∙ e.no_trial) in
     record { can = subst (λ (s : SessionState _). CanForgetSends s) (sym c.in_default-note_rest.ensures.noted.1) (record { some = can.some; trial = can.trial; sends = can.sends }) }
 
 pub returns-in-Err-clause-shows : goal.returns-in-Err-clause-shows
-returns-in-Err-clause-shows g c = finish_broken c.args.answer c.in-Err.fault c.answer_to.result c.in-Err.ensures.keeps c.answer_to.ensures
+returns-in-Err-clause-shows g c = record {
+  link = finish_broken c.args.end c.in-Err.fault c.answer_to.result c.in-Err.ensures.keeps c.answer_to.ensures;
+  notes = notes_passing c.in-Err.fault c.answer_to.result c.answer_to.ensures;
+}
 
 pub returns-in-Err-note_rest-clause-shows : goal.returns-in-Err-note_rest-clause-shows
-returns-in-Err-note_rest-clause-shows g c = finish_unnoted_link c.args.answer c.in-Err-note_rest.fault c.in_default.ensures.keeps c.in-Err-note_rest.ensures.noted.2
+returns-in-Err-note_rest-clause-shows g c = record {
+  link = finish_unnoted_link c.args.end c.in-Err-note_rest.fault c.in_default.ensures.keeps c.in-Err-note_rest.ensures.noted.2;
+  notes = notes_rest_failed c.in-Err-note_rest.fault c.in-Err-note_rest.ensures.shows c.in-Err-note_rest.ensures.noted.2;
+}
 
 pub returns-clause-shows : goal.returns-clause-shows
-returns-clause-shows g c = finish_well c.args.answer c.in_default.ensures.keeps c.requires.is.is_end
-
-pub returns-in-Err-clause-notes : goal.returns-in-Err-clause-notes
-returns-in-Err-clause-notes g c = notes_passing c.in-Err.fault c.answer_to.result c.answer_to.ensures
-
-pub returns-in-Err-note_rest-clause-notes : goal.returns-in-Err-note_rest-clause-notes
-returns-in-Err-note_rest-clause-notes g c = notes_rest_failed c.in-Err-note_rest.fault c.in-Err-note_rest.ensures.shows c.in-Err-note_rest.ensures.noted.2
-
-pub returns-clause-notes : goal.returns-clause-notes
-returns-clause-notes g c = notes_rest_done c.args.answer c.in_default-note_rest.ensures.shows c.requires.is.is_end
+returns-clause-shows g c = record { link = finish_well c.args.end c.in_default.ensures.keeps; notes = notes_rest_done c.args.end c.in_default-note_rest.ensures.shows }

@@ -16,12 +16,11 @@ pub returns-clause-keeps : goal.returns-clause-keeps
 returns-clause-keeps g c =
     let w = moved (sym c.self.view_is) c.requires.waits.is in
     let story = w.hearing.story in
-    let k = w.hearing.saved in
     let old : SessionState _ = record c.args.self.now { cpu = c.self.inside.cpu; ring = c.self.inside.ring; log = c.self.inside.log; replies = c.self.inside.replies; recorded = c.self.inside.recorded } in
     record {
       same = search rules;
       trimmed = λ recorded.
-          (let up = forgot_up {old = old} k.ring c.forget.ensures.first c.forget.ensures.first_send (subst (λ (s : SessionState _). IsRecorded s) (sym c.self.view_is) recorded) in
+          (let up = forgot_up {old = old} w.hearing.saved.ring c.forget.ensures.first c.forget.ensures.first_send (subst (λ (s : SessionState _). IsRecorded s) (sym c.self.view_is) recorded) in
           record { items = up.items; recorded = up.recorded; sends = up.sends });
       opened = search rules;
     }

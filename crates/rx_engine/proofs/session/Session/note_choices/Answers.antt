@@ -1,21 +1,20 @@
 use Rattle.recovery.proofs.ForgetLemmas.{behind_marks}
-use Rattle.session_state.specs.declared.stop.Stop.TheVariants as stop
+use Rattle.session_history.specs.declared.ends.Stop.TheVariants as stop
 use Rattle.session_state.proofs.guest.RecordingLemmas.{up_to_safe, waits_up_to, waits_same}
-use Rattle.rx_engine.proofs.Terms.{Err, rules, subst, sym, ◌≡◌, IfSome, slice_get, note_answered, noted_low, noted_up, notes_noted, notes_stopped, moved, waits_left, waits_told, waits_unnoted, rules_by, Since, entries}
+use Rattle.rx_engine.proofs.Terms.{Err, rules, subst, sym, ◌≡◌, IfSome, slice_get, note_answered, noted_low, noted_up, notes_noted, notes_stopped, moved, waits_left, waits_unnoted, rules_by, Since, entries}
 use Rattle.rx_engine.proofs.session.Session.note_choices.Goals as goal
 
 pub note_up_to-requires : goal.note_up_to-requires
 note_up_to-requires g c =
     let w = moved (sym c.self.view_is) c.requires.waits.is in
     let h = w.hearing in
-    let marks = behind_marks _ c.requires.waits.image (entries h.story) h.story.survivor.plan h.story.survivor.now h.saved.paths _ _ _ _ c.oldest_marks-safe.result c.oldest_marks-safe.ensures h.saved.ring in
-    waits_left w marks.1
+    waits_left w (behind_marks _ c.requires.waits.image (entries h.story) h.story.survivor.plan h.story.survivor.now h.saved.paths _ _ _ _ c.oldest_marks-safe.result c.oldest_marks-safe.ensures h.saved.ring).1
 
 pub returns-in-Err-clause-waits : goal.returns-in-Err-clause-waits
 returns-in-Err-clause-waits g c image began seen takes waits =
     let told : Since = record began { noted = (g.N.Notes.shown c.note_up_to.new.notes).told } in
     waits_same (rules_by g.R.AccessRule.rule c.args.self.now) image told seen _ (Err (stop.Breaks c.note_answer.result)) c.in-Err.ensures.noted.1 c.in-Err.ensures.noted.2
-    (waits_unnoted (moved (sym c.self.view_is) (waits_told began c.in-Err.ensures.noted.0 c.in-Err.ensures.keeps.episodes waits)) takes (note_answered c.in-Err.fault c.note_answer.result c.note_answer.ensures))
+    (waits_unnoted began (g.N.Notes.shown c.args.notes.now) (g.N.Notes.shown c.note_up_to.new.notes) (moved (sym c.self.view_is) waits) takes (note_answered c.in-Err.fault c.note_answer.result c.note_answer.ensures) c.in-Err.ensures.noted.0 c.in-Err.ensures.keeps.episodes c.in-Err.ensures.noted.3)
 
 pub returns-clause-waits : goal.returns-clause-waits
 returns-clause-waits g c image began seen takes waits =
@@ -24,7 +23,7 @@ returns-clause-waits g c image began seen takes waits =
     let marks = behind_marks (rules_by g.R.AccessRule.rule c.args.self.now) image (entries h.story) h.story.survivor.plan h.story.survivor.now h.saved.paths _ _ _ _ c.oldest_marks-safe.result c.oldest_marks-safe.ensures h.saved.ring in
     waits_up_to began (g.N.Notes.shown c.args.notes.now) (g.N.Notes.shown c.note_up_to.new.notes) w marks.0 marks.1
     (noted_low c.oldest_marks-safe.result c.oldest_marks-safe.ensures h.saved.ring h.saved.early)
-    c.in_default.ensures.noted c.in_default.ensures.keeps.episodes
+    c.in_default.ensures.noted c.in_default.ensures.keeps
 
 pub returns-clause-keeps : goal.returns-clause-keeps
 returns-clause-keeps g c =
@@ -33,16 +32,11 @@ returns-clause-keeps g c =
     let up = noted_up c.oldest_marks-safe.result c.oldest_marks-safe.ensures h.saved.ring in
     let low = noted_low c.oldest_marks-safe.result c.oldest_marks-safe.ensures h.saved.ring h.saved.early in
     record {
+      notes = notes_noted c.in_default.ensures.keeps;
       same = search rules;
       recorded = subst (λ n. IfSome (slice_get c.self.inside.cpu.slots.saved 0) (λ oldest. n ≡ oldest.state.guest.machine.allocations)) (up_to_safe low c.in_default.ensures.noted.1) up;
       broken = search rules;
     }
 
 pub returns-in-Err-clause-keeps : goal.returns-in-Err-clause-keeps
-returns-in-Err-clause-keeps g c = record { same = search rules; recorded = search rules; broken = note_answered c.in-Err.fault c.note_answer.result c.note_answer.ensures }
-
-pub returns-clause-shows : goal.returns-clause-shows
-returns-clause-shows g c = notes_noted c.in_default.ensures.keeps
-
-pub returns-in-Err-clause-shows : goal.returns-in-Err-clause-shows
-returns-in-Err-clause-shows g c = notes_stopped c.in-Err.fault c.note_answer.result c.in-Err.ensures.keeps c.note_answer.ensures
+returns-in-Err-clause-keeps g c = record { notes = notes_stopped c.in-Err.fault c.note_answer.result c.in-Err.ensures.keeps c.note_answer.ensures; same = search rules; recorded = search rules; broken = note_answered c.in-Err.fault c.note_answer.result c.note_answer.ensures }

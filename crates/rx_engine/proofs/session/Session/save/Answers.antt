@@ -1,5 +1,4 @@
-use Rattle.session_state.proofs.guest.SaveLemmas.{waits_goes, waits_asks, waits_whole, waits_counted, waits_saved, waits_live, saves_keeping, behind_saved}
-use Rattle.rx_engine.proofs.Terms.{ap, rules, sym, ◌∙◌, keeping_by, moved, keeping_of, rules_by, SessionState, entries}
+use Rattle.rx_engine.proofs.Terms.{ap, rules, sym, ◌∙◌, keeping_by, moved, behind_saved, saves_keeping, waits_asks, waits_counted, waits_goes, waits_live, waits_saved, waits_whole, keeping_of, rules_by, SessionState, entries}
 use Rattle.rx_engine.proofs.session.Session.save.Goals as goal
 
 pub returns-clause-waits : goal.returns-clause-waits

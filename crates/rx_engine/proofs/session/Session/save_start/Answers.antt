@@ -16,8 +16,7 @@ returns-clause-rings g c any image begun =
 
 pub returns-clause-first : goal.returns-clause-first
 returns-clause-first g c =
-    let b = c.requires in
-    let none : taken_in c.self.inside.cpu.slots.live ≡ 0 = ap (λ (s : SessionState _). taken_in s.cpu.slots.live) c.self.view_is ∙ starts_none b.begun in
+    let none : taken_in c.self.inside.cpu.slots.live ≡ 0 = ap (λ (s : SessionState _). taken_in s.cpu.slots.live) c.self.view_is ∙ starts_none c.requires.begun in
     c.begin_ring.ensures.first ∙ (ap (λ n. alone n c.self.inside.cpu.slots.pages) none ∙ ap (λ (slots : Slots Standing). alone 0 slots.pages) (sym c.begin_ring.ensures.saved.1))
 
 pub returns-clause-keeps : goal.returns-clause-keeps

@@ -1,5 +1,5 @@
 use Rattle.session_state.proofs.standing.NeedLemmas.{emits_later}
-use Rattle.rx_engine.proofs.Terms.{ap, subst, sym, ◌∙◌, Seen, Ledger, NotBefore, is_open, times_of, nothing_passed, run_breaks, comes_between, gives_same, going_can, going_told, sent_going, still_takes, keeping_of, rules_by, SessionState}
+use Rattle.rx_engine.proofs.Terms.{ap, rules, subst, sym, ◌∙◌, Seen, Ledger, NotBefore, is_open, times_of, nothing_passed, run_breaks, comes_between, gives_same, going_can, going_told, sent_going, still_takes, keeping_of, rules_by, SessionState}
 use Rattle.rx_engine.proofs.session.Session.send.Goals as goal
 
 pub sent-requires-clause-later : goal.sent-requires-clause-later
@@ -10,8 +10,11 @@ pub returns-in-Err-clause-turns : goal.returns-in-Err-clause-turns
 returns-in-Err-clause-turns g c image began takes h =
     (run_breaks h (ap (λ (s : SessionState _). keeping_of s) c.self.view_is) (ap (λ (s : SessionState _). s.recorded) c.self.view_is) (ap (λ (s : SessionState _). s.choices) c.self.view_is) (ap (λ (s : SessionState _). s.taken) c.self.view_is) (ap (λ (s : SessionState _). s.steps) c.self.view_is), λ none. still_takes _ takes none)
 
-pub returns-in-Err-clause-shows : goal.returns-in-Err-clause-shows
-returns-in-Err-clause-shows g c = nothing_passed
+pub returns-in-Err-clause-keeps : goal.returns-in-Err-clause-keeps
+returns-in-Err-clause-keeps g c = record { link = nothing_passed; until = search rules; options = search rules; cpu = search rules; oldest = search rules; keeping = search rules; marked = search rules; low = search rules }
+
+pub returns-clause-keeps : goal.returns-clause-keeps
+returns-clause-keeps g c = record { link = search rules; until = search rules; options = search rules; cpu = search rules; oldest = search rules; keeping = search rules; marked = search rules; low = search rules }
 
 pub pass_due-requires : goal.pass_due-requires
 pass_due-requires g c = record {
@@ -24,5 +27,5 @@ pub returns-clause-turns : goal.returns-clause-turns
 returns-clause-turns g c image began takes h =
     let going = sent_going h c.self.view_is c.in_default.ensures.ok c.count_run.ensures in
     let hold = sym (ap (λ (s : SessionState _). s.options.hold) c.count_run.ensures ∙ ap (λ (s : SessionState _). s.options.hold) c.self.view_is) in
-    comes_between _ going _ c.pass_due.ensures.only.same c.pass_due.ensures.only.first (λ conn. ap (λ (s : Seen). s.phases conn) c.pass_due.ensures.shows.rest) (ap (λ (s : Seen). s.takes) c.pass_due.ensures.shows.rest ∙ takes)
+    comes_between _ going _ c.pass_due.ensures.keeps.only.same c.pass_due.ensures.keeps.only.first (λ conn. ap (λ (s : Seen). s.phases conn) c.pass_due.ensures.keeps.link.rest) (ap (λ (s : Seen). s.takes) c.pass_due.ensures.keeps.link.rest ∙ takes)
     (c.pass_due.ensures.passes (rules_by g.R.AccessRule.rule c.args.self.now) image began going.story hold (going_told going) going.passed)

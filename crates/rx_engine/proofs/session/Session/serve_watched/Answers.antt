@@ -1,7 +1,7 @@
-use Rattle.session_state.specs.declared.stop.Stop.TheVariants.{Breaks, Ends}
-use Rattle.session_state.specs.declared.stop.Stop.{Stop}
+use Rattle.session_history.specs.declared.ends.Stop.TheVariants.{Breaks, Ends}
+use Rattle.session_history.specs.declared.ends.Stop.{Stop}
 use Rattle.session_history.specs.Ends.{StaysKnown}
-use Rattle.rx_engine.proofs.Terms.{Err, ap, arith, refl, subst, sym, ℕ, ◌+◌, ◌-◌, ◌∙◌, ◌≡◌, Ledger, Rules, CanGive, served_off, known_same, known_then, left_off, of_link, off_requests, trimmed_unless, unless_note, answers_broken, answers_finished, notes_broken, notes_finished, begun_keeping, between_under, frame_then, lost_all, lost_counts, lost_then, starts_between, starts_counted, starts_giving, starts_trimmed, cause_then, stops_under, watched_kept, same_rules, HasLeft, IsTrimmed, keeping_of, HasWatched, IsCounted, IsFinishing, StopsBy, TakesBy, UnlessBroken, UnlessNoteFault, UnlessNoteStop, outcome_of, rules_by, SessionState, IsBrokenOff, Since, told_since}
+use Rattle.rx_engine.proofs.Terms.{Err, ap, arith, refl, subst, sym, ℕ, ◌+◌, ◌-◌, ◌∙◌, ◌≡◌, Ledger, Rules, CanGive, served_off, known_same, known_then, left_off, off_requests, trimmed_unless, unless_note, answers_broken, answers_finished, notes_broken, notes_finished, begun_keeping, between_under, frame_then, lost_all, lost_counts, lost_then, starts_between, starts_counted, starts_giving, starts_trimmed, cause_then, stops_under, watched_kept, same_rules, HasLeft, IsTrimmed, keeping_of, keeping_for, HasWatched, IsCounted, IsFinishing, StopsBy, TakesBy, UnlessBroken, UnlessNoteFault, UnlessNoteStop, outcome_of, rules_by, IsBegun, SessionState, Since, told_since}
 use Rattle.rx_engine.proofs.session.Session.serve_watched.Goals as goal
 
 pub turns-init : goal.turns-init
@@ -25,7 +25,6 @@ turns-init g c =
       no_takes_fell = omega arith;
       no_gives_fell = omega arith;
       no_faults_fell = omega arith;
-      works = refl;
       outside = (g.met.K.Link.went_same c.args.link.now, refl);
     }
 
@@ -58,25 +57,36 @@ turns-preserved g c =
       no_takes_fell = cause.takes;
       no_gives_fell = cause.gives;
       no_faults_fell = let fell = c.turns.invariant.no_faults_fell in let more = c.in-Ok.ensures.keeps.notes.cause.later in omega (arith, fell, more);
-      works = c.in-Ok.ensures.keeps.notes.works ∙ c.turns.invariant.works;
       outside = (g.met.K.Link.went_on c.args.link.now c.turns.link c.turn.new.link c.turns.invariant.outside.0 c.in-Ok.ensures.outside.0, c.in-Ok.ensures.outside.1 ∙ c.turns.invariant.outside.1);
     }
 
 pub returns-in-Err-Breaks-clause-served : goal.returns-in-Err-Breaks-clause-served
-returns-in-Err-Breaks-clause-served g c image is =
-    let the_rules : Rules = rules_by g.R.AccessRule.rule c.args.self.now in
-    let here : Rules = rules_by g.R.AccessRule.rule c.turns.self in
-    let same = same_rules g.R.AccessRule.rule c.turns.invariant.frame in
-    let off = stops_under image (told_since (g.K.Link.seen c.args.link.now).told (g.N.Notes.shown c.args.notes.now).told (g.N.Notes.shown c.turn.new.notes).told (g.W.Watch.tables c.args.watch.now) (g.W.Watch.tables c.turn.new.watch) (lost_then c.turns.invariant.lost c.turns.self.cpu.slots.live.steps c.turn.new.self.steps (g.W.Watch.ran c.turn.new.watch + c.turns.steps) (g.W.Watch.ran c.turns.watch + c.turn.new.steps))) (g.K.Link.seen c.turn.new.link) c.turn.new.self (Breaks c.in-Err-Breaks.answer) same
-    (subst (λ why. StopsBy here image (told_since (g.K.Link.seen c.args.link.now).told (g.N.Notes.shown c.args.notes.now).told (g.N.Notes.shown c.turn.new.notes).told (g.W.Watch.tables c.args.watch.now) (g.W.Watch.tables c.turn.new.watch) (lost_then c.turns.invariant.lost c.turns.self.cpu.slots.live.steps c.turn.new.self.steps (g.W.Watch.ran c.turn.new.watch + c.turns.steps) (g.W.Watch.ran c.turns.watch + c.turn.new.steps))) (g.K.Link.seen c.turn.new.link) c.turn.new.self why) c.in-Err-Breaks.field-0-is
-    (c.in-Err-Breaks.ensures.turns image (told_since (g.K.Link.seen c.args.link.now).told (g.N.Notes.shown c.args.notes.now).told (g.N.Notes.shown c.turns.notes).told (g.W.Watch.tables c.args.watch.now) (g.W.Watch.tables c.turns.watch) c.turns.invariant.lost) (lost_then c.turns.invariant.lost c.turns.self.cpu.slots.live.steps c.turn.new.self.steps (g.W.Watch.ran c.turn.new.watch + c.turns.steps) (g.W.Watch.ran c.turns.watch + c.turn.new.steps)) (between_under (sym same) (c.turns.invariant.stands image is)) (λ others. lost_counts c.turns.invariant.lost c.turns.self.cpu.slots.live.steps c.turn.new.self.steps (g.W.Watch.ran c.turn.new.watch + c.turns.steps) (g.W.Watch.ran c.turns.watch + c.turn.new.steps) c.in-Err-Breaks.ensures.least))) in
-    let all = lost_all c.args.steps.now c.turns.invariant.lost c.turns.self.cpu.slots.live.steps c.turn.new.self.steps c.turns.steps c.turn.new.steps (g.W.Watch.ran c.args.watch.now) (g.W.Watch.ran c.turns.watch) (g.W.Watch.ran c.turn.new.watch) c.turns.invariant.counted c.in-Err-Breaks.ensures.least in
-    watched_kept (λ telling. UnlessNoteFault c.in-Err-Breaks.answer (HasLeft the_rules image telling c.turn.new.self c.in-Err-Breaks.answer)) (c.in-Err-Breaks.ensures.keeps.keeping ∙ (c.turns.invariant.keeping ∙ begun_keeping is))
-    (served_off (λ telling. UnlessNoteFault c.in-Err-Breaks.answer (HasLeft the_rules image telling c.turn.new.self c.in-Err-Breaks.answer)) (told_since (g.K.Link.seen c.args.link.now).told (g.N.Notes.shown c.args.notes.now).told (g.N.Notes.shown c.turn.new.notes).told (g.W.Watch.tables c.args.watch.now) (g.W.Watch.tables c.turn.new.watch) (lost_then c.turns.invariant.lost c.turns.self.cpu.slots.live.steps c.turn.new.self.steps (g.W.Watch.ran c.turn.new.watch + c.turns.steps) (g.W.Watch.ran c.turns.watch + c.turn.new.steps))) {first = g.K.Link.seen c.args.link.now} off.0 off.1 (λ others. omega (arith, all))
-    (unless_note c.in-Err-Breaks.answer _ (λ never.
-    left_off off.0.no_end
-    (trimmed_unless c.in-Err-Breaks.answer (IsTrimmed c.turn.new.self) never (subst (λ (why : Stop). UnlessNoteStop (Err why) (IsTrimmed c.turn.new.self)) c.in-Err-Breaks.field-0-is (c.in-Err-Breaks.ensures.keeps.trimmed c.turns.invariant.trimmed))) (off.0.holds never)
-    (off_requests c.in-Err-Breaks.answer off.0.no_end (off.0.holds never).requests off.0.handled never (of_link the_rules off.0.telling.account c.in-Err-Breaks.answer off.0.is.ended.ends off.0.none_came off.0.no_end never)))))
+returns-in-Err-Breaks-clause-served g c = record {
+  why = Breaks c.in-Err-Breaks.why;
+  is = c.answer.ensures;
+  served = by;
+  keeping = c.in-Err-Breaks.ensures.keeps.keeping ∙ (c.turns.invariant.keeping ∙ begun_keeping c.requires.begun.begun);
+  link = answers_broken {ledger = c.turn.new.self.replies} c.turns.invariant.known c.turns.invariant.no_takes_fell c.turns.invariant.no_gives_fell c.in-Err-Breaks.field-0-is c.in-Err-Breaks.ensures.keeps.link;
+  notes = notes_broken c.turns.invariant.no_faults_fell c.in-Err-Breaks.field-0-is c.in-Err-Breaks.ensures.keeps.notes;
+}
+  where
+    by : (image : _) (is : IsBegun image c.args.self.now.options c.args.self.now.cpu.rule c.args.self.now)
+        → (watched : HasWatched (rules_by g.R.AccessRule.rule c.args.self.now) image (keeping_for c.args.self.now.options) (g.K.Link.seen c.args.link.now) (g.K.Link.seen c.turn.new.link) (outcome_of (Breaks c.in-Err-Breaks.why) c.turn.new.self) (g.N.Notes.shown c.args.notes.now).told (g.N.Notes.shown c.turn.new.notes).told ((g.W.Watch.ran c.args.watch.now + c.turn.new.steps) - (g.W.Watch.ran c.turn.new.watch + c.args.steps.now)) (g.W.Watch.tables c.args.watch.now) (g.W.Watch.tables c.turn.new.watch))
+        × UnlessNoteFault (Breaks c.in-Err-Breaks.why) (HasLeft (rules_by g.R.AccessRule.rule c.args.self.now) image watched.recovered.telling c.turn.new.self (Breaks c.in-Err-Breaks.why))
+    by image is =
+        let the_rules : Rules = rules_by g.R.AccessRule.rule c.args.self.now in
+        let here : Rules = rules_by g.R.AccessRule.rule c.turns.self in
+        let same = same_rules g.R.AccessRule.rule c.turns.invariant.frame in
+        let off = stops_under image (told_since (g.K.Link.seen c.args.link.now).told (g.N.Notes.shown c.args.notes.now).told (g.N.Notes.shown c.turn.new.notes).told (g.W.Watch.tables c.args.watch.now) (g.W.Watch.tables c.turn.new.watch) (lost_then c.turns.invariant.lost c.turns.self.cpu.slots.live.steps c.turn.new.self.steps (g.W.Watch.ran c.turn.new.watch + c.turns.steps) (g.W.Watch.ran c.turns.watch + c.turn.new.steps))) (g.K.Link.seen c.turn.new.link) c.turn.new.self (Breaks c.in-Err-Breaks.why) same
+        (subst (λ why. StopsBy here image (told_since (g.K.Link.seen c.args.link.now).told (g.N.Notes.shown c.args.notes.now).told (g.N.Notes.shown c.turn.new.notes).told (g.W.Watch.tables c.args.watch.now) (g.W.Watch.tables c.turn.new.watch) (lost_then c.turns.invariant.lost c.turns.self.cpu.slots.live.steps c.turn.new.self.steps (g.W.Watch.ran c.turn.new.watch + c.turns.steps) (g.W.Watch.ran c.turns.watch + c.turn.new.steps))) (g.K.Link.seen c.turn.new.link) c.turn.new.self why) c.in-Err-Breaks.field-0-is
+        (c.in-Err-Breaks.ensures.turns image (told_since (g.K.Link.seen c.args.link.now).told (g.N.Notes.shown c.args.notes.now).told (g.N.Notes.shown c.turns.notes).told (g.W.Watch.tables c.args.watch.now) (g.W.Watch.tables c.turns.watch) c.turns.invariant.lost) (lost_then c.turns.invariant.lost c.turns.self.cpu.slots.live.steps c.turn.new.self.steps (g.W.Watch.ran c.turn.new.watch + c.turns.steps) (g.W.Watch.ran c.turns.watch + c.turn.new.steps)) (between_under (sym same) (c.turns.invariant.stands image is)) (λ others. lost_counts c.turns.invariant.lost c.turns.self.cpu.slots.live.steps c.turn.new.self.steps (g.W.Watch.ran c.turn.new.watch + c.turns.steps) (g.W.Watch.ran c.turns.watch + c.turn.new.steps) c.in-Err-Breaks.ensures.least))) in
+        let all = lost_all c.args.steps.now c.turns.invariant.lost c.turns.self.cpu.slots.live.steps c.turn.new.self.steps c.turns.steps c.turn.new.steps (g.W.Watch.ran c.args.watch.now) (g.W.Watch.ran c.turns.watch) (g.W.Watch.ran c.turn.new.watch) c.turns.invariant.counted c.in-Err-Breaks.ensures.least in
+        watched_kept (λ telling. UnlessNoteFault (Breaks c.in-Err-Breaks.why) (HasLeft the_rules image telling c.turn.new.self (Breaks c.in-Err-Breaks.why))) (c.in-Err-Breaks.ensures.keeps.keeping ∙ (c.turns.invariant.keeping ∙ begun_keeping is))
+        (served_off (λ telling. UnlessNoteFault (Breaks c.in-Err-Breaks.why) (HasLeft the_rules image telling c.turn.new.self (Breaks c.in-Err-Breaks.why))) (told_since (g.K.Link.seen c.args.link.now).told (g.N.Notes.shown c.args.notes.now).told (g.N.Notes.shown c.turn.new.notes).told (g.W.Watch.tables c.args.watch.now) (g.W.Watch.tables c.turn.new.watch) (lost_then c.turns.invariant.lost c.turns.self.cpu.slots.live.steps c.turn.new.self.steps (g.W.Watch.ran c.turn.new.watch + c.turns.steps) (g.W.Watch.ran c.turns.watch + c.turn.new.steps))) {first = g.K.Link.seen c.args.link.now} off.0 off.1 (λ others. omega (arith, all))
+        (unless_note c.in-Err-Breaks.why _ (λ never.
+        left_off
+        (trimmed_unless c.in-Err-Breaks.why (IsTrimmed c.turn.new.self) never (subst (λ (why : Stop). UnlessNoteStop (Err why) (IsTrimmed c.turn.new.self)) c.in-Err-Breaks.field-0-is (c.in-Err-Breaks.ensures.keeps.trimmed c.turns.invariant.trimmed))) (off.0.holds never)
+        (off_requests c.in-Err-Breaks.why (off.0.holds never).requests off.0.handled never))))
 
 pub finish-requires : goal.finish-requires
 finish-requires g c =
@@ -90,41 +100,53 @@ finish-requires g c =
     record {
       image = image;
       began = began;
-      is = (stops_under image began (g.K.Link.seen c.turn.new.link) c.turn.new.self (Ends c.in-Err-Ends.answer) (sym then)
+      is = (stops_under image began (g.K.Link.seen c.turn.new.link) c.turn.new.self (Ends c.in-Err-Ends.end) (sym then)
           (subst (λ why. StopsBy here image began (g.K.Link.seen c.turn.new.link) c.turn.new.self why) c.in-Err-Ends.field-0-is
           (c.in-Err-Ends.ensures.turns image (told_since (g.K.Link.seen c.args.link.now).told (g.N.Notes.shown c.args.notes.now).told (g.N.Notes.shown c.turns.notes).told (g.W.Watch.tables c.args.watch.now) (g.W.Watch.tables c.turns.watch) c.turns.invariant.lost) (lost_then c.turns.invariant.lost c.turns.self.cpu.slots.live.steps c.turn.new.self.steps (g.W.Watch.ran c.turn.new.watch + c.turns.steps) (g.W.Watch.ran c.turns.watch + c.turn.new.steps)) (between_under (sym same) (c.turns.invariant.stands image c.requires.begun.begun)) (λ others. lost_counts c.turns.invariant.lost c.turns.self.cpu.slots.live.steps c.turn.new.self.steps (g.W.Watch.ran c.turn.new.watch + c.turns.steps) (g.W.Watch.ran c.turns.watch + c.turn.new.steps) c.in-Err-Ends.ensures.least)))).0;
       gives = subst (λ (why : Stop). UnlessBroken {X = Unit {0}} (Err why) (CanGive (g.K.Link.seen c.turn.new.link) c.turn.new.self.replies)) c.in-Err-Ends.field-0-is c.in-Err-Ends.ensures.keeps.link.gives;
     }
 
 pub returns-in-Err-Ends-clause-served : goal.returns-in-Err-Ends-clause-served
-returns-in-Err-Ends-clause-served g c image is =
-    let the_rules : Rules = rules_by g.R.AccessRule.rule c.args.self.now in
-    let here : Rules = rules_by g.R.AccessRule.rule c.turns.self in
-    let later : Rules = rules_by g.R.AccessRule.rule c.turn.new.self in
-    let same = same_rules g.R.AccessRule.rule c.turns.invariant.frame in
-    let then = same_rules g.R.AccessRule.rule c.in-Err-Ends.ensures.keeps.frame in
-    let began : Since = told_since (g.K.Link.seen c.args.link.now).told (g.N.Notes.shown c.args.notes.now).told (g.N.Notes.shown c.turn.new.notes).told (g.W.Watch.tables c.args.watch.now) (g.W.Watch.tables c.turn.new.watch) (lost_then c.turns.invariant.lost c.turns.self.cpu.slots.live.steps c.turn.new.self.steps (g.W.Watch.ran c.turn.new.watch + c.turns.steps) (g.W.Watch.ran c.turns.watch + c.turn.new.steps)) in
-    let stops = stops_under image began (g.K.Link.seen c.turn.new.link) c.turn.new.self (Ends c.in-Err-Ends.answer) (sym then)
-    (subst (λ why. StopsBy here image began (g.K.Link.seen c.turn.new.link) c.turn.new.self why) c.in-Err-Ends.field-0-is
-    (c.in-Err-Ends.ensures.turns image (told_since (g.K.Link.seen c.args.link.now).told (g.N.Notes.shown c.args.notes.now).told (g.N.Notes.shown c.turns.notes).told (g.W.Watch.tables c.args.watch.now) (g.W.Watch.tables c.turns.watch) c.turns.invariant.lost) (lost_then c.turns.invariant.lost c.turns.self.cpu.slots.live.steps c.turn.new.self.steps (g.W.Watch.ran c.turn.new.watch + c.turns.steps) (g.W.Watch.ran c.turns.watch + c.turn.new.steps)) (between_under (sym same) (c.turns.invariant.stands image is)) (λ others. lost_counts c.turns.invariant.lost c.turns.self.cpu.slots.live.steps c.turn.new.self.steps (g.W.Watch.ran c.turn.new.watch + c.turns.steps) (g.W.Watch.ran c.turns.watch + c.turn.new.steps) c.in-Err-Ends.ensures.least))) in
-    let first = g.K.Link.seen c.args.link.now in
-    let finishing : IsFinishing later first (g.K.Link.seen c.turn.new.link) stops.0.story c.in-Err-Ends.answer = record {
-      asked = stops.1;
-      takes = subst (λ (why : Stop). TakesBy {X = Unit {0}} (g.K.Link.seen c.turn.new.link).takes (Err why)) c.in-Err-Ends.field-0-is c.in-Err-Ends.ensures.keeps.link.takes;
-      known = known_then first.coming (g.K.Link.seen c.turns.link).coming (g.K.Link.seen c.turn.new.link).coming c.turns.invariant.known (subst (λ (why : Stop). UnlessBroken {X = Unit {0}} (Err why) (StaysKnown (g.K.Link.seen c.turns.link).coming (g.K.Link.seen c.turn.new.link).coming)) c.in-Err-Ends.field-0-is c.in-Err-Ends.ensures.keeps.link.known);
-    } in
-    let all = lost_all c.args.steps.now c.turns.invariant.lost c.turns.self.cpu.slots.live.steps c.turn.new.self.steps c.turns.steps c.turn.new.steps (g.W.Watch.ran c.args.watch.now) (g.W.Watch.ran c.turns.watch) (g.W.Watch.ran c.turn.new.watch) c.turns.invariant.counted c.in-Err-Ends.ensures.least in
-    let counts : began.lost + c.turn.new.self.steps ≡ (g.W.Watch.ran c.args.watch.now + c.turn.new.steps) - (g.W.Watch.ran c.turn.new.watch + c.args.steps.now) = omega (arith, all) in
-    watched_kept (λ telling. UnlessNoteFault c.finish.result (HasLeft the_rules image telling c.finish.new.self c.finish.result))
-    (ap (λ (s : SessionState _). keeping_of s) c.finish.ensures.same ∙ (c.in-Err-Ends.ensures.keeps.keeping ∙ (c.turns.invariant.keeping ∙ begun_keeping is)))
-    (subst
-    (λ (r : Rules). (watched : HasWatched r image (keeping_of c.finish.new.self) first (g.K.Link.seen c.finish.new.link) (outcome_of c.finish.result c.finish.new.self) (g.N.Notes.shown c.args.notes.now).told (g.N.Notes.shown c.finish.new.notes).told ((g.W.Watch.ran c.args.watch.now + c.turn.new.steps) - (g.W.Watch.ran c.turn.new.watch + c.args.steps.now)) (g.W.Watch.tables c.args.watch.now) (g.W.Watch.tables c.turn.new.watch))
-    × UnlessNoteFault c.finish.result (HasLeft r image watched.recovered.telling c.finish.new.self c.finish.result))
-    (then ∙ same)
-    (subst (λ n. (watched : HasWatched later image (keeping_of c.finish.new.self) first (g.K.Link.seen c.finish.new.link) (outcome_of c.finish.result c.finish.new.self) (g.N.Notes.shown c.args.notes.now).told (g.N.Notes.shown c.finish.new.notes).told n (g.W.Watch.tables c.args.watch.now) (g.W.Watch.tables c.turn.new.watch))
-    × UnlessNoteFault c.finish.result (HasLeft later image watched.recovered.telling c.finish.new.self c.finish.result)) counts
-    (c.finish.ensures.served image began first stops.0 finishing
-    (subst (λ (why : Stop). UnlessNoteStop (Err why) (IsTrimmed c.turn.new.self)) c.in-Err-Ends.field-0-is (c.in-Err-Ends.ensures.keeps.trimmed c.turns.invariant.trimmed)))))
+returns-in-Err-Ends-clause-served g c = record {
+  why = c.finish.result;
+  is = c.answer-in-Err-Ends.ensures;
+  served = by;
+  keeping = ap (λ (s : SessionState _). keeping_of s) c.finish.ensures.same ∙ (c.in-Err-Ends.ensures.keeps.keeping ∙ (c.turns.invariant.keeping ∙ begun_keeping c.requires.begun.begun));
+  link = answers_finished {ledger = c.turn.new.self.replies} c.turns.invariant.known c.turns.invariant.no_takes_fell c.turns.invariant.no_gives_fell c.in-Err-Ends.field-0-is c.in-Err-Ends.ensures.keeps.link c.finish.ensures.shows.link;
+  notes = notes_finished c.turns.invariant.no_faults_fell c.in-Err-Ends.field-0-is c.in-Err-Ends.ensures.keeps.notes c.finish.ensures.shows.notes;
+}
+  where
+    by : (image : _) (is : IsBegun image c.args.self.now.options c.args.self.now.cpu.rule c.args.self.now)
+        → (watched : HasWatched (rules_by g.R.AccessRule.rule c.args.self.now) image (keeping_for c.args.self.now.options) (g.K.Link.seen c.args.link.now) (g.K.Link.seen c.finish.new.link) (outcome_of c.finish.result c.finish.new.self) (g.N.Notes.shown c.args.notes.now).told (g.N.Notes.shown c.finish.new.notes).told ((g.W.Watch.ran c.args.watch.now + c.turn.new.steps) - (g.W.Watch.ran c.turn.new.watch + c.args.steps.now)) (g.W.Watch.tables c.args.watch.now) (g.W.Watch.tables c.turn.new.watch))
+        × UnlessNoteFault c.finish.result (HasLeft (rules_by g.R.AccessRule.rule c.args.self.now) image watched.recovered.telling c.finish.new.self c.finish.result)
+    by image is =
+        let the_rules : Rules = rules_by g.R.AccessRule.rule c.args.self.now in
+        let here : Rules = rules_by g.R.AccessRule.rule c.turns.self in
+        let later : Rules = rules_by g.R.AccessRule.rule c.turn.new.self in
+        let same = same_rules g.R.AccessRule.rule c.turns.invariant.frame in
+        let then = same_rules g.R.AccessRule.rule c.in-Err-Ends.ensures.keeps.frame in
+        let began : Since = told_since (g.K.Link.seen c.args.link.now).told (g.N.Notes.shown c.args.notes.now).told (g.N.Notes.shown c.turn.new.notes).told (g.W.Watch.tables c.args.watch.now) (g.W.Watch.tables c.turn.new.watch) (lost_then c.turns.invariant.lost c.turns.self.cpu.slots.live.steps c.turn.new.self.steps (g.W.Watch.ran c.turn.new.watch + c.turns.steps) (g.W.Watch.ran c.turns.watch + c.turn.new.steps)) in
+        let stops = stops_under image began (g.K.Link.seen c.turn.new.link) c.turn.new.self (Ends c.in-Err-Ends.end) (sym then)
+        (subst (λ why. StopsBy here image began (g.K.Link.seen c.turn.new.link) c.turn.new.self why) c.in-Err-Ends.field-0-is
+        (c.in-Err-Ends.ensures.turns image (told_since (g.K.Link.seen c.args.link.now).told (g.N.Notes.shown c.args.notes.now).told (g.N.Notes.shown c.turns.notes).told (g.W.Watch.tables c.args.watch.now) (g.W.Watch.tables c.turns.watch) c.turns.invariant.lost) (lost_then c.turns.invariant.lost c.turns.self.cpu.slots.live.steps c.turn.new.self.steps (g.W.Watch.ran c.turn.new.watch + c.turns.steps) (g.W.Watch.ran c.turns.watch + c.turn.new.steps)) (between_under (sym same) (c.turns.invariant.stands image is)) (λ others. lost_counts c.turns.invariant.lost c.turns.self.cpu.slots.live.steps c.turn.new.self.steps (g.W.Watch.ran c.turn.new.watch + c.turns.steps) (g.W.Watch.ran c.turns.watch + c.turn.new.steps) c.in-Err-Ends.ensures.least))) in
+        let first = g.K.Link.seen c.args.link.now in
+        let finishing : IsFinishing later first (g.K.Link.seen c.turn.new.link) stops.0.story c.in-Err-Ends.end = record {
+          asked = stops.1;
+          takes = subst (λ (why : Stop). TakesBy {X = Unit {0}} (g.K.Link.seen c.turn.new.link).takes (Err why)) c.in-Err-Ends.field-0-is c.in-Err-Ends.ensures.keeps.link.takes;
+          known = known_then first.coming (g.K.Link.seen c.turns.link).coming (g.K.Link.seen c.turn.new.link).coming c.turns.invariant.known (subst (λ (why : Stop). UnlessBroken {X = Unit {0}} (Err why) (StaysKnown (g.K.Link.seen c.turns.link).coming (g.K.Link.seen c.turn.new.link).coming)) c.in-Err-Ends.field-0-is c.in-Err-Ends.ensures.keeps.link.known);
+        } in
+        let all = lost_all c.args.steps.now c.turns.invariant.lost c.turns.self.cpu.slots.live.steps c.turn.new.self.steps c.turns.steps c.turn.new.steps (g.W.Watch.ran c.args.watch.now) (g.W.Watch.ran c.turns.watch) (g.W.Watch.ran c.turn.new.watch) c.turns.invariant.counted c.in-Err-Ends.ensures.least in
+        let counts : began.lost + c.turn.new.self.steps ≡ (g.W.Watch.ran c.args.watch.now + c.turn.new.steps) - (g.W.Watch.ran c.turn.new.watch + c.args.steps.now) = omega (arith, all) in
+        watched_kept (λ telling. UnlessNoteFault c.finish.result (HasLeft the_rules image telling c.finish.new.self c.finish.result))
+        (ap (λ (s : SessionState _). keeping_of s) c.finish.ensures.same ∙ (c.in-Err-Ends.ensures.keeps.keeping ∙ (c.turns.invariant.keeping ∙ begun_keeping is)))
+        (subst
+        (λ (r : Rules). (watched : HasWatched r image (keeping_of c.finish.new.self) first (g.K.Link.seen c.finish.new.link) (outcome_of c.finish.result c.finish.new.self) (g.N.Notes.shown c.args.notes.now).told (g.N.Notes.shown c.finish.new.notes).told ((g.W.Watch.ran c.args.watch.now + c.turn.new.steps) - (g.W.Watch.ran c.turn.new.watch + c.args.steps.now)) (g.W.Watch.tables c.args.watch.now) (g.W.Watch.tables c.turn.new.watch))
+        × UnlessNoteFault c.finish.result (HasLeft r image watched.recovered.telling c.finish.new.self c.finish.result))
+        (then ∙ same)
+        (subst (λ n. (watched : HasWatched later image (keeping_of c.finish.new.self) first (g.K.Link.seen c.finish.new.link) (outcome_of c.finish.result c.finish.new.self) (g.N.Notes.shown c.args.notes.now).told (g.N.Notes.shown c.finish.new.notes).told n (g.W.Watch.tables c.args.watch.now) (g.W.Watch.tables c.turn.new.watch))
+        × UnlessNoteFault c.finish.result (HasLeft later image watched.recovered.telling c.finish.new.self c.finish.result)) counts
+        (c.finish.ensures.served image began first stops.0 finishing
+        (subst (λ (why : Stop). UnlessNoteStop (Err why) (IsTrimmed c.turn.new.self)) c.in-Err-Ends.field-0-is (c.in-Err-Ends.ensures.keeps.trimmed c.turns.invariant.trimmed)))))
 
 pub returns-in-Err-Breaks-clause-counted_at_least : goal.returns-in-Err-Breaks-clause-counted_at_least
 returns-in-Err-Breaks-clause-counted_at_least g c =
@@ -134,38 +156,7 @@ returns-in-Err-Breaks-clause-counted_at_least g c =
 
 pub returns-in-Err-Ends-clause-counted_at_least : goal.returns-in-Err-Ends-clause-counted_at_least
 returns-in-Err-Ends-clause-counted_at_least g c =
-    let least = c.in-Err-Ends.ensures.least in
-    let before = c.turns.invariant.counted in
-    let same : c.finish.new.self.steps ≡ c.turn.new.self.steps = ap (λ (s : SessionState _). s.steps) c.finish.ensures.same in
-    omega (arith, least, before, same)
-
-pub returns-in-Err-Breaks-clause-keeping : goal.returns-in-Err-Breaks-clause-keeping
-returns-in-Err-Breaks-clause-keeping g c image begun = c.in-Err-Breaks.ensures.keeps.keeping ∙ (c.turns.invariant.keeping ∙ begun_keeping begun)
-
-pub returns-in-Err-Ends-clause-keeping : goal.returns-in-Err-Ends-clause-keeping
-returns-in-Err-Ends-clause-keeping g c image begun =
-    ap (λ (s : SessionState _). keeping_of s) c.finish.ensures.same ∙ (c.in-Err-Ends.ensures.keeps.keeping ∙ (c.turns.invariant.keeping ∙ begun_keeping begun))
-
-pub returns-in-Err-Breaks-clause-shows : goal.returns-in-Err-Breaks-clause-shows
-returns-in-Err-Breaks-clause-shows g c =
-    let here : Rules = rules_by g.R.AccessRule.rule c.turns.self in
-    let same = same_rules g.R.AccessRule.rule c.turns.invariant.frame in
-    let image = c.requires.begun.image in
-    let more : ℕ = lost_then c.turns.invariant.lost c.turns.self.cpu.slots.live.steps c.turn.new.self.steps (g.W.Watch.ran c.turn.new.watch + c.turns.steps) (g.W.Watch.ran c.turns.watch + c.turn.new.steps) in
-    let off : IsBrokenOff here image (told_since (g.K.Link.seen c.args.link.now).told (g.N.Notes.shown c.args.notes.now).told (g.N.Notes.shown c.turn.new.notes).told (g.W.Watch.tables c.args.watch.now) (g.W.Watch.tables c.turn.new.watch) more) (g.K.Link.seen c.turn.new.link) c.turn.new.self c.in-Err-Breaks.answer =
-    (subst (λ why. StopsBy here image (told_since (g.K.Link.seen c.args.link.now).told (g.N.Notes.shown c.args.notes.now).told (g.N.Notes.shown c.turn.new.notes).told (g.W.Watch.tables c.args.watch.now) (g.W.Watch.tables c.turn.new.watch) more) (g.K.Link.seen c.turn.new.link) c.turn.new.self why) c.in-Err-Breaks.field-0-is
-    (c.in-Err-Breaks.ensures.turns image (told_since (g.K.Link.seen c.args.link.now).told (g.N.Notes.shown c.args.notes.now).told (g.N.Notes.shown c.turns.notes).told (g.W.Watch.tables c.args.watch.now) (g.W.Watch.tables c.turns.watch) c.turns.invariant.lost) more (between_under (sym same) (c.turns.invariant.stands image c.requires.begun.begun)) (λ others. lost_counts c.turns.invariant.lost c.turns.self.cpu.slots.live.steps c.turn.new.self.steps (g.W.Watch.ran c.turn.new.watch + c.turns.steps) (g.W.Watch.ran c.turns.watch + c.turn.new.steps) c.in-Err-Breaks.ensures.least))).0 in
-    answers_broken {ledger = c.turn.new.self.replies} c.turns.invariant.known c.turns.invariant.no_takes_fell c.turns.invariant.no_gives_fell c.in-Err-Breaks.field-0-is off.no_end c.in-Err-Breaks.ensures.keeps.link
-
-pub returns-in-Err-Ends-clause-shows : goal.returns-in-Err-Ends-clause-shows
-returns-in-Err-Ends-clause-shows g c =
-    answers_finished {ledger = c.turn.new.self.replies} c.turns.invariant.known c.turns.invariant.no_takes_fell c.turns.invariant.no_gives_fell c.in-Err-Ends.field-0-is c.in-Err-Ends.ensures.keeps.link c.finish.ensures.shows
-
-pub returns-in-Err-Breaks-clause-notes : goal.returns-in-Err-Breaks-clause-notes
-returns-in-Err-Breaks-clause-notes g c = notes_broken c.turns.invariant.no_faults_fell c.turns.invariant.works c.in-Err-Breaks.field-0-is c.in-Err-Breaks.ensures.keeps.notes
-
-pub returns-in-Err-Ends-clause-notes : goal.returns-in-Err-Ends-clause-notes
-returns-in-Err-Ends-clause-notes g c = notes_finished c.turns.invariant.no_faults_fell c.turns.invariant.works c.in-Err-Ends.field-0-is c.in-Err-Ends.ensures.keeps.notes c.finish.ensures.notes
+    omega (arith, c.in-Err-Ends.ensures.least, c.turns.invariant.counted, ap (λ (s : SessionState _). s.steps) c.finish.ensures.same)
 
 pub returns-in-Err-Breaks-clause-outside : goal.returns-in-Err-Breaks-clause-outside
 returns-in-Err-Breaks-clause-outside g c =

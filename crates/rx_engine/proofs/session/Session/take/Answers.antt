@@ -1,11 +1,11 @@
 use Rattle.run_history.specs.Machine.{Wants}
 use Rattle.run_history.specs.Run.{does}
 use Rattle.session_state.proofs.guest.TakeLemmas.{waits_wants, waits_short, taken_going}
-use Rattle.rx_engine.proofs.Terms.{None, subst, sym, ◌≡◌, ◌≤◌, IsItemOf, waits_kept, SessionState}
+use Rattle.rx_engine.proofs.Terms.{None, subst, sym, ◌≡◌, ◌≤◌, IsItemOf, waits_whole, SessionState}
 use Rattle.rx_engine.proofs.session.Session.take.Goals as goal
 
 pub item-requires-clause-kept : goal.item-requires-clause-kept
-item-requires-clause-kept g c = subst (λ (s : SessionState _). s.log.first ≤ s.taken) (sym c.self.view_is) (waits_kept c.requires.waits.waits.is)
+item-requires-clause-kept g c = subst (λ (s : SessionState _). s.log.first ≤ s.taken) (sym c.self.view_is) (waits_whole c.requires.waits.waits.is)
 
 pub take_item-requires-clause-asks : goal.take_item-requires-clause-asks
 take_item-requires-clause-asks g c =

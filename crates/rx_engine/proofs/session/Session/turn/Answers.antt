@@ -1,7 +1,7 @@
-use Rattle.session_state.specs.Options.{rules_of}
-use Rattle.run_history.specs.declared.answer.Answer.TheVariants as answer
-use Rattle.session_state.specs.declared.stop.Stop.TheVariants as stop
-use Rattle.rx_engine.proofs.Terms.{Err, ap, arith, refl, rules, subst, sym, ◌+◌, ◌<◌, ◌∙◌, ◌≡◌, ◌≤◌, Ledger, CpuState, Rules, CanGive, unnoted_passing, chosen_serves, exited_serves, memory_serves, passing_serves, unnoted_chosen, unnoted_serves, asks_now, breaks_now, chooses_later, comes_under, emits_later, exits_now, fails_now, fails_under, further_adopted, further_ok, has_run, later_ok, lost_failed, lost_none, ran_frame, ran_keeping, ran_later, ran_low, run_under, steps_unless, if_ok, waits_under, comes_lost, same_rules, still_takes, MayServe, rules_by, SessionState, Since}
+use Rattle.session_history.specs.declared.ends.SessionBreak.TheVariants as session_break
+use Rattle.session_history.specs.declared.ends.SessionEnd.TheVariants as session_end
+use Rattle.session_history.specs.declared.ends.Stop.TheVariants as stop
+use Rattle.rx_engine.proofs.Terms.{Err, ap, arith, refl, rules, subst, sym, ◌+◌, ◌<◌, ◌∙◌, ◌≡◌, ◌≤◌, Ledger, CpuState, Rules, CanGive, unnoted_passing, chosen_serves, exited_serves, memory_serves, passing_serves, unnoted_chosen, unnoted_serves, asks_now, breaks_now, chooses_later, comes_under, emits_later, exits_now, fails_now, fails_under, further_adopted, further_ok, has_run, later_ok, lost_failed, lost_none, ran_frame, ran_keeping, ran_later, ran_low, run_under, steps_unless, if_ok, waits_under, comes_lost, same_rules, still_takes, rules_of, MayServe, rules_by, SessionState, Since}
 use Rattle.rx_engine.proofs.session.Session.turn.Goals as goal
 
 pub ask-requires : goal.ask-requires
@@ -83,7 +83,7 @@ returns-in-Ok-Exits-clause-turns g c image began lost b counts =
     let run_counts : c.run_to_event.new.steps + c.args.self.now.cpu.slots.live.steps ≡ c.args.steps.now + c.run_to_event.new.self.slots.live.steps = omega (arith, view, counted) in
     let the_rules : Rules = rules_by g.R.AccessRule.rule c.args.self.now in
     let run = has_run g.R.AccessRule.rule c.env_now-env.ensures c.self.view_is c.in-Ok-Exits.field-0-is c.run_to_event.ensures.kept b c.in-Ok-Exits.ensures.event in
-    comes_lost the_rules image before (g.K.Link.seen c.args.link.now) c.count_run-in-Ok-Exits.new.self (Err (stop.Ends (answer.Exited c.in-Ok-Exits.code)))
+    comes_lost the_rules image before (g.K.Link.seen c.args.link.now) c.count_run-in-Ok-Exits.new.self (Err (stop.Ends (session_end.Exited c.in-Ok-Exits.code)))
     (λ others. lost_none (g.W.Watch.ran c.args.watch.now) c.args.steps.now c.run_to_event.new.steps c.args.self.now.cpu.slots.live.steps c.run_to_event.new.steps c.run_to_event.new.self.slots.live.steps (counts others) refl run_counts
     (ap (λ (s : SessionState _). s.steps) c.count_run-in-Ok-Exits.ensures))
     (exits_now c.self.view_is c.count_run-in-Ok-Exits.ensures run, λ none. still_takes _ c.requires.may.takes none)
@@ -92,11 +92,11 @@ pub returns-in-Err-clause-turns : goal.returns-in-Err-clause-turns
 returns-in-Err-clause-turns g c image began lost b counts =
     let before : Since = record began { tables = g.W.Watch.tables c.args.watch.now; noted = (g.N.Notes.shown c.args.notes.now).told } in
     let the_rules : Rules = rules_by g.R.AccessRule.rule c.args.self.now in
-    comes_lost the_rules image before (g.K.Link.seen c.args.link.now) _ (Err (stop.Breaks answer.Memory)) (λ others. absurd (others refl))
+    comes_lost the_rules image before (g.K.Link.seen c.args.link.now) _ (Err (stop.Breaks session_break.Memory)) (λ others. absurd (others refl))
     (breaks_now c.self.view_is (ran_keeping c.self.view_is c.run_to_event.ensures.kept) b, λ none. still_takes _ c.requires.may.takes none)
 
-pub recover-requires-clause-fails : goal.recover-requires-clause-fails
-recover-requires-clause-fails g c =
+pub recover-requires : goal.recover-requires
+recover-requires g c =
     let the_rules : Rules = rules_by g.R.AccessRule.rule c.args.self.now in
     let here : Rules = rules_by g.R.AccessRule.rule c.count_run-in-Ok-Failed.new.self in
     let same = same_rules g.R.AccessRule.rule (ran_frame {after = c.count_run-in-Ok-Failed.new.self} c.self.view_is c.run_to_event.ensures.kept (ap (λ (s : SessionState _). s.options) c.count_run-in-Ok-Failed.ensures) (ap (λ (s : SessionState _). s.cpu) c.count_run-in-Ok-Failed.ensures)) in
@@ -106,6 +106,7 @@ recover-requires-clause-fails g c =
       began = c.requires.began;
       tables_are = c.requires.tables_are;
       is = fails_under (sym same) (fails_now c.self.view_is c.count_run-in-Ok-Failed.ensures run);
+      marked = search rules;
       may = subst (λ (l : Ledger). MayServe (g.K.Link.seen c.args.link.now) l) (sym (ap (λ (s : SessionState _). s.replies) c.count_run-in-Ok-Failed.ensures ∙ ap (λ (s : SessionState _). s.replies) c.self.view_is)) c.requires.may;
     }
 
@@ -163,8 +164,8 @@ returns-in-Ok-Asks-clause-keeps g c = record {
 
 pub returns-in-Ok-Emits-clause-keeps : goal.returns-in-Ok-Emits-clause-keeps
 returns-in-Ok-Emits-clause-keeps g c = record {
-  link = passing_serves c.send.result c.requires.may.takes c.send.ensures.shows;
-  notes = unnoted_serves c.send.result (unnoted_passing c.send.result c.send.ensures.shows.broken);
+  link = passing_serves c.send.result c.requires.may.takes c.send.ensures.keeps.link;
+  notes = unnoted_serves c.send.result (unnoted_passing c.send.result c.send.ensures.keeps.link.broken);
   frame = search rules;
   keeping = search rules;
   trimmed = search rules;
@@ -192,7 +193,7 @@ returns-in-Ok-Chooses-clause-keeps g c = record {
 pub returns-in-Ok-Exits-clause-keeps : goal.returns-in-Ok-Exits-clause-keeps
 returns-in-Ok-Exits-clause-keeps g c = record {
   link = exited_serves c.in-Ok-Exits.code (subst (λ (l : Ledger). MayServe (g.K.Link.seen c.args.link.now) l) (sym (ap (λ (s : SessionState _). s.replies) c.count_run-in-Ok-Exits.ensures ∙ ap (λ (s : SessionState _). s.replies) c.self.view_is)) c.requires.may);
-  notes = unnoted_serves (Err (stop.Ends (answer.Exited c.in-Ok-Exits.code))) tt;
+  notes = unnoted_serves (Err (stop.Ends (session_end.Exited c.in-Ok-Exits.code))) tt;
   frame = search rules;
   keeping = search rules;
   trimmed = search rules;
@@ -216,7 +217,7 @@ returns-in-Ok-Failed-clause-keeps g c = record {
 pub returns-in-Err-clause-keeps : goal.returns-in-Err-clause-keeps
 returns-in-Err-clause-keeps g c = record {
   link = memory_serves c.requires.may.gives.gives_still;
-  notes = unnoted_serves (Err (stop.Breaks answer.Memory)) tt;
+  notes = unnoted_serves (Err (stop.Breaks session_break.Memory)) tt;
   frame = search rules;
   keeping = ran_keeping c.self.view_is c.run_to_event.ensures.kept;
   trimmed = search rules;

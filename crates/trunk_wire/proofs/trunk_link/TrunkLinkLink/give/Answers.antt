@@ -19,5 +19,5 @@ returns-clause-went g c = record {
   sink = c.write_frame-answer.ensures.fixed;
   taken = takes_same c.args.self.now.takes (intake_of g.S.Source.told c.args.self.now) refl;
   given = rw c.requires.may
-      (give_wrote _ _ c.args.conn c.args.bytes.now c.write_frame-answer.result (ltb-true c.args.conn CONNECTIONS c.requires.connected) c.requires.some c.requires.few c.is_ok-self.ensures.value c.write_frame-answer.ensures.frame);
+      (give_wrote _ _ c.args.conn c.args.bytes.now c.write_frame-answer.result (ltb-true c.args.conn CONNECTIONS c.requires.connected) c.requires.some c.requires.few c.is_ok-self.ensures.value refl c.write_frame-answer.ensures.frame);
 }
