@@ -4,7 +4,8 @@
 `gate_cost.py gate` runs `rt ci --anew` at the top of the repository, looks at its processes in /proc while it runs, and
 prints a table in Markdown: minutes of processor time for the proof of each crate, for the proof of its tests, and for
 its wrong bodies, with the sums. Wrong bodies begin with one more proof of their crate, and end with a look at it: that is
-"before them". With names it runs `rt ci --anew NAME..`: those crates and the ones below them.
+"before them". With names it runs `rt ci --anew NAME..`: those crates and the ones below them. With --kept it runs the same without `--anew`, so that
+only what wasn't passed on this machine is in the table: a gate is then measured in parts.
 `gate_cost.py edits NAME..` runs `rt must-fail --anew NAME..` and prints the seconds of each wrong body.
 `gate_cost.py lines` prints the table of lines, without running anything.
 
@@ -12,7 +13,7 @@ The times are those of the operating system for each process and all that it sta
 a process can be short of up to one interval. "Else" is what isn't a proof: linking, running tests and programs, rt
 itself. The last line compares the sum with what the system says of the whole run.
 
-usage: gate_cost.py gate [--log FILE] [--interval SECONDS] [NAME ..]
+usage: gate_cost.py gate [--log FILE] [--interval SECONDS] [--kept] [NAME ..]
        gate_cost.py edits [--log FILE] [--interval SECONDS] [--kept] NAME ..
        gate_cost.py lines
 """
@@ -170,8 +171,8 @@ def table(head, rows):
 # The three tables.
 
 
-def print_gate(names, log, interval):
-    status, sums, clock, used = measure(["rt", "ci", "--anew", *names], log, interval)
+def print_gate(names, log, interval, kept):
+    status, sums, clock, used = measure(["rt", "ci", *([] if kept else ["--anew"]), *names], log, interval)
     rows, whole, begun, bodies = [], dict.fromkeys((PROOF, TESTS, EDITS), 0.0), 0.0, 0
     for name in crates():
         cost = dict.fromkeys(whole, 0.0)
@@ -272,7 +273,7 @@ def main():
     parser.add_argument("names", nargs="*", metavar="NAME", help="crates of crates.txt")
     parser.add_argument("--log", default="/tmp/gate_cost.log", help="where the output of rt goes")
     parser.add_argument("--interval", type=float, default=0.1, help="seconds between two looks at /proc")
-    parser.add_argument("--kept", action="store_true", help="edits: begin with what rt check kept, and try only what changed")
+    parser.add_argument("--kept", action="store_true", help="prove and try only what changed: gate: since a run on this machine passed it; edits: since rt check")
     given = parser.parse_intermixed_args()
     unknown = [it for it in given.names if it not in crates()]
     if unknown:
@@ -283,7 +284,7 @@ def main():
         if not given.names:
             parser.error("edits wants the names of crates")
         return print_edits(given.names, given.log, given.interval, given.kept)
-    return print_gate(given.names, given.log, given.interval)
+    return print_gate(given.names, given.log, given.interval, given.kept)
 
 
 if __name__ == "__main__":

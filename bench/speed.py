@@ -3,7 +3,9 @@
 
 A program does a loop of nine instructions, a load and a store among them, 100,000 times for each of 112 messages. That
 is 100.8 million instructions. It is run twice: with the words that it loads and stores in a data segment, and on the stack.
-A third program does eleven in its loop, two loads and two stores, by turns in both places. Each run's replies are checked.
+A third program does eleven in its loop, two loads and two stores, by turns in both places. Then come three programs in C of
+guests/suite: sha256, sort and calculator. For each message they do all their work 6, 3 and 70 times, some 870,000
+instructions, and send their results once. Each run's replies are checked, and that both do as many instructions.
 
 It tells how many instructions of the host each of the two does for one of the guest, as valgrind's callgrind counts them:
 that doesn't move with what else the machine does. It is the difference between a run of six messages and one of two.
@@ -12,9 +14,10 @@ follows it: of these ratios it tells the middle one, the lowest and the highest.
 
 usage: speed.py [--runs N] [--messages N] [--count] [RX] [OPTION ..]
 
-RX is the built rx, crates/rx/out/rx unless it is given. The options are further ones of `rx run`, such as `--window 1`.
-The interpreter is compiled by `rustc -O`; where there is no rustc, rx is measured alone, and where there is no valgrind,
-nothing is counted. Programs and input are made in a temporary folder.
+RX is the built rx, crates/rx/out/rx unless it is given; where it isn't there, the interpreter is measured alone. The options
+are further ones of `rx run`, such as `--window 1`. The interpreter is compiled by `rustc -O`; where there is no rustc, rx is
+measured alone, and where there is no valgrind, nothing is counted. A program of the suite that isn't shipped is built by
+guests/suite/compare.py, with what that needs, or else left out. Programs and input are made in a temporary folder.
 """
 
 import argparse
@@ -28,6 +31,7 @@ import sys
 import tempfile
 
 HERE = os.path.dirname(os.path.abspath(__file__))
+SUITE = os.path.join(HERE, "..", "guests", "suite")
 
 TURNS = 100_000
 BUDGET = 2_000_000  # instructions between two items
@@ -115,6 +119,24 @@ LOOP = loop([lw(T0, 0, S0)])
 BY_WAY_OF_THE_STACK = loop([lw(T0, 0, S0), sw(T0, -8, SP), lw(T0, -8, SP)])
 
 
+# A segment's kind, and what may be done with it.
+LOAD = 1
+READ_EXECUTE, READ_WRITE = 5, 6
+
+BUILDERS = ["riscv64-unknown-elf-gcc", "qemu-riscv32"]
+
+
+def executable(entry, segments):
+    """An executable of segments, as a linker would make it. Each has its address, its bytes, its size in memory and its flags."""
+    ident = b"\x7fELF\1\1\1" + bytes(9)
+    at = 52 + 32 * len(segments)
+    headers = ident + struct.pack("<HHIIIIIHHHHHH", 2, 243, 1, entry, 52, 0, 0, 52, 32, len(segments), 0, 0, 0)
+    for start, content, size, flags in segments:
+        headers += struct.pack("<8I", LOAD, at, start, start, len(content), size, flags, 4)
+        at += len(content)
+    return headers + b"".join(content for _, content, _, _ in segments)
+
+
 def reply_to(seed):
     """What the program replies to a message."""
     value = 0
@@ -143,14 +165,11 @@ class Program:
         return self.at_start + messages * self.per_message + self.at_end
 
     def file(self):
-        """The executable: a segment of code and one of data, as a linker would make them."""
         text = struct.pack("<%dI" % len(self.code), *self.code)
-        ident = b"\x7fELF\1\1\1" + bytes(9)
-        first = 52 + 2 * 32
-        header = ident + struct.pack("<HHIIIIIHHHHHH", 2, 243, 1, TEXT, 52, 0, 0, 52, 32, 2, 0, 0, 0)
-        text_header = struct.pack("<8I", 1, first, TEXT, TEXT, len(text), len(text), 5, 4)
-        data_header = struct.pack("<8I", 1, first + len(text), DATA, DATA, 8, 4096, 6, 4)
-        return header + text_header + data_header + text + bytes(8)
+        return executable(TEXT, [(TEXT, text, len(text), READ_EXECUTE), (DATA, bytes(8), 4096, READ_WRITE)])
+
+    def conversation(self, messages):
+        return conversation(messages)
 
 
 PROGRAMS = [
@@ -158,6 +177,9 @@ PROGRAMS = [
     ("stack", Program([addi(S0, SP, -16)], LOOP)),
     ("both", Program(li(S0, DATA), BY_WAY_OF_THE_STACK)),
 ]
+
+# Of guests/suite, and how often each does its work for a message.
+OF_THE_SUITE = [("sha256", 6), ("sort", 3), ("calculator", 70)]
 
 
 def frame(kind, payload=b""):
@@ -173,6 +195,63 @@ def conversation(messages):
         frame(1) + b"".join(frame(2, asked[k]) for k in turns),
         b"".join(frame(2, replied[k]) for k in turns),
     )
+
+
+class Server:
+    """A program of the suite that answers each message. By its own start (start_rx.S) it does its work once, sends the results
+    and exits. Here the words before the send go by way of new ones behind the code, which count in s1, and the exit goes to the
+    start."""
+
+    RECEIVING = 4 * 6  # bytes of the start, up to where the work begins
+    ENDING = struct.pack("<5I", addi(A0, ZERO, 0), addi(A7, ZERO, 2), ECALL, addi(A7, ZERO, 5), ECALL)
+
+    def __init__(self, path, often):
+        with open(path, "rb") as file:
+            self.given = file.read()
+        with open(path + ".results", "rb") as file:
+            self.results = file.read()
+        self.often = often
+
+    def segments(self):
+        first, count = struct.unpack_from("<I", self.given, 28)[0], struct.unpack_from("<H", self.given, 44)[0]
+        for number in range(count):
+            kind, offset, start, _, filled, size, flags, _ = struct.unpack_from("<8I", self.given, first + 32 * number)
+            if kind == LOAD and size:
+                yield start, self.given[offset : offset + filled], size, flags
+
+    def turned(self, code, begin):
+        """The code that goes on after its work; its start is so far behind its first byte."""
+        ending, behind = code.index(self.ENDING), len(code)
+        counting = [addi(S1, S1, 1), addi(T0, ZERO, self.often)]
+        counting += [bne(S1, T0, begin + self.RECEIVING - (behind + 4 * 2)), addi(S1, ZERO, 0), addi(A0, ZERO, 0)]
+        counting += [jal(ZERO, ending + 4 - (behind + 4 * 5))]
+        words = list(struct.unpack("<%dI" % (behind // 4), code))
+        words[ending // 4] = jal(ZERO, behind - ending)
+        words[ending // 4 + 3] = jal(ZERO, begin - (ending + 4 * 3))
+        return struct.pack("<%dI" % (len(words) + len(counting)), *words, *counting)
+
+    def file(self):
+        entry = struct.unpack_from("<I", self.given, 24)[0]
+        (start, code, _, flags), *others = self.segments()
+        code = self.turned(code, entry - start)
+        return executable(entry, [(start, code, len(code), flags)] + others)
+
+    def conversation(self, messages):
+        return frame(1) + messages * frame(2, b"go"), messages * frame(2, self.results)
+
+
+def of_the_suite(folder):
+    """The programs of the suite that are shipped or can be built."""
+    for name, often in OF_THE_SUITE:
+        path = os.path.join(SUITE, "shipped", name)
+        if not os.path.exists(path):
+            path = os.path.join(folder, name)
+            if not all(map(shutil.which, BUILDERS)):
+                print("%s: it isn't shipped, and %s aren't there" % (name, " and ".join(BUILDERS)))
+                continue
+            build = [sys.executable, os.path.join(SUITE, "compare.py"), "--random", "0", "--write", folder, name]
+            subprocess.run(build, check=True)
+        yield name, Server(path, often)
 
 
 def timed(words, frames, output):
@@ -205,7 +284,7 @@ def compare(name, of_rx, of_interpreter):
 
 
 class Engines:
-    """Both, and the folder in which they run."""
+    """Both, and the folder in which they run. One that isn't there is None."""
 
     def __init__(self, rx, options, interpreter, folder):
         self.rx, self.options, self.interpreter, self.folder = rx, options, interpreter, folder
@@ -219,23 +298,42 @@ class Engines:
         options = ["--frame", "whole"] + ["--budget", str(BUDGET)] * ("--budget" not in self.options) + self.options
         return [self.rx, "run", path] + names + options, [self.interpreter, path]
 
+    def by_name(self, program):
+        """Those that are there, by their names: the words, and what tells after a run how many instructions it did."""
+        of_rx, of_interpreter = self.words(program)
+        if self.rx:
+            yield "rx", of_rx, lambda note: self.reported()
+        if self.interpreter:
+            yield "interpreter", of_interpreter, int
+
+    def reported(self):
+        """How many instructions the report says that rx did."""
+        with open(self.folder + "/report", encoding="ascii") as file:
+            return int(re.search(r"steps\D+(\d+)", file.readlines()[-1]).group(1))
+
+
+def agreed(name, told):
+    """How many instructions a run did, which everyone tells alike."""
+    if len(set(told)) > 1:
+        sys.exit("%s: instructions are told as %s" % (name, " and as ".join(map(str, sorted(set(told))))))
+    return told[0]
+
 
 def measure(name, program, runs, messages, engines):
-    rx_words, interpreter_words = engines.words(program)
-    frames, output = conversation(messages)
-    steps = program.steps(messages)
-    of_rx, of_interpreter = [], []
+    frames, output = program.conversation(messages)
+    seconds, told = {}, []
     for _ in range(runs):
-        of_rx.append(timed(rx_words, frames, output)[0])
-        if engines.interpreter:
-            seconds, note = timed(interpreter_words, frames, output)
-            of_interpreter.append(seconds)
-            if note != str(steps):
-                sys.exit("the interpreter did %s instructions, not %d" % (note, steps))
-    report(name, "rx", steps, of_rx)
-    if engines.interpreter:
-        report(name, "interpreter", steps, of_interpreter)
-        compare(name, of_rx, of_interpreter)
+        for what, words, steps_of in engines.by_name(program):
+            spent, note = timed(words, frames, output)
+            seconds.setdefault(what, []).append(spent)
+            told.append(steps_of(note))
+    if isinstance(program, Program):
+        told.append(program.steps(messages))
+    steps = agreed(name, told)
+    for what, of_one in seconds.items():
+        report(name, what, steps, of_one)
+    if len(seconds) > 1:
+        compare(name, seconds["rx"], seconds["interpreter"])
 
 
 def host_instructions(words, frames):
@@ -249,12 +347,11 @@ def host_instructions(words, frames):
 
 
 def count(name, program, engines):
-    few, many = 2, 6
-    steps = program.steps(many) - program.steps(few)
-    for what, words in zip(("rx", "interpreter"), engines.words(program)):
-        if words[0]:
-            host = host_instructions(words, conversation(many)[0]) - host_instructions(words, conversation(few)[0])
-            print("%-13s %-12s %7.1f host instructions for one of the guest" % (name, what, host / steps))
+    few, many = program.conversation(2), program.conversation(6)
+    for what, words, steps_of in engines.by_name(program):
+        steps = [steps_of(timed(words, *talk)[1]) for talk in (few, many)]
+        host = host_instructions(words, many[0]) - host_instructions(words, few[0])
+        print("%-13s %-12s %7.1f host instructions for one of the guest" % (name, what, host / (steps[1] - steps[0])))
 
 
 def compiled(folder):
@@ -274,9 +371,10 @@ def main():
     parser.add_argument("rx", nargs="?", default=os.path.join(HERE, "..", "crates", "rx", "out", "rx"))
     parser.add_argument("options", nargs=argparse.REMAINDER)
     words = parser.parse_args()
+    rx = os.path.abspath(words.rx) if os.path.exists(words.rx) else None
     with tempfile.TemporaryDirectory() as folder:
-        engines = Engines(os.path.abspath(words.rx), words.options, compiled(folder), folder)
-        for name, program in PROGRAMS:
+        engines = Engines(rx, words.options, compiled(folder), folder)
+        for name, program in PROGRAMS + list(of_the_suite(folder)):
             if shutil.which("valgrind"):
                 count(name, program, engines)
             if not words.count:

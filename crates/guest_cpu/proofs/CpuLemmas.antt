@@ -119,6 +119,9 @@ pub record Goes {R E : Type 0} (next : Standing → Option (Turn E)) (rule : R) 
   pub base_stays : space.base ≡ before.base
   pub kept : cpu_state rule now space saved line ≡ with_live (live_of (cpu_state rule now space saved line)) (cpu_state rule first before saved line)
 
+pub goes_none : {R E : Type 0} (next : Standing → Option (Turn E)) (rule : R) (core : Core) (space : GuestPages) (saved : List Core) (line : Line) → IsCpu core space saved line → IsLawfulSpace space → Goes next rule core core space space saved line
+goes_none next rule core space saved line fits lawful = record { count = 0; quiet = refl; fits = fits; lawful = lawful; base_stays = refl; kept = refl }
+
 -- a turn that is no event
 quiet_turn : {E : Type 0} (next : Standing → Option (Turn E)) (base : ℕ) (live : Live) (t : Turn E) → next live.standing ≡ Some t → t.event ≡ None → quiet_next next base live ≡ Some (live_after base live t)
 unfolding quiet_next

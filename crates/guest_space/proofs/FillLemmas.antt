@@ -5,7 +5,7 @@ use Rattle.guest_space.proofs.FlatLemmas.{meet_comm}
 use Rattle.cow_pages.proofs.Frames.{length-put_at, get_or-put_before, get_or-put_inside, get_or-put_behind}
 
 -- a part of a list outside of what was put
-area-put_out : (first n place : ℕ) (bytes xs : List ℕ) → place + length bytes ≤ length xs → first + n ≤ length xs → (first + n ≤ place) ⊎ (place + length bytes ≤ first) → take n (drop first (put_at place bytes xs)) ≡ take n (drop first xs)
+pub area-put_out : (first n place : ℕ) (bytes xs : List ℕ) → place + length bytes ≤ length xs → first + n ≤ length xs → (first + n ≤ place) ⊎ (place + length bytes ≤ first) → take n (drop first (put_at place bytes xs)) ≡ take n (drop first xs)
 area-put_out first n place bytes xs room inside out =
     let ys = put_at place bytes xs in
     let size : length ys ≡ length xs = length-put_at place bytes xs room in

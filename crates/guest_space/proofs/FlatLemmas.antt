@@ -1,6 +1,5 @@
 -- Flat memory whose areas stand in one window of bytes.
-use Rattle.std.proofs.lemmas.Option.{slice_get-get_or}
-use Rattle.guest_space.proofs.Terms.{List, None, Some, [], add-one, add-zero, ap, arith, cond, drop, false, get_or, if◌then◌else◌, inl, inr, is_some, length, map, nat_le, nat_lt, refl, set, slice_get, slice_set, subst, suc, sym, take, true, unwrap_or, zero, ℕ, ◌%◌, ◌&&◌, ◌*◌, ◌++◌, ◌+◌, ◌-◌, ◌/◌, ◌<◌, ◌==◌, ◌^◌, ◌||◌, ◌∙◌, ◌∷◌, ◌≡◌, ◌≤◌, ◌⊎◌, and_parts, cases_Bool, cases_lt, false≢true, le-leb, leb-true, lt-leb, or_cases, nat_tests, append-nil, append_assoc, at_drop_all, at_drop_more, drop-set-add, drop-set-lt, get_or-drop, get_or-take, length-drop, length-set, length-take-le, take-append-drop, take-set-le, take_more, take_more_set, All-head, All-tail, All-weaker, All, PAGE, put_at, Area, byte_at, bytes_at, covers, each_covered, permitted, put_byte, put_bytes, AreApart, LiesIn, Span, area_of, flat_of, meet, AreHeld, has_address, has_range, some_has}
+use Rattle.guest_space.proofs.Terms.{List, None, Some, [], add-one, add-zero, ap, arith, cond, drop, false, get_or, if◌then◌else◌, inl, inr, is_some, length, map, nat_le, nat_lt, refl, set, slice_get, slice_set, subst, suc, sym, take, true, unwrap_or, zero, ℕ, ◌%◌, ◌&&◌, ◌*◌, ◌++◌, ◌+◌, ◌-◌, ◌/◌, ◌<◌, ◌==◌, ◌^◌, ◌||◌, ◌∙◌, ◌∷◌, ◌≡◌, ◌≤◌, ◌⊎◌, and_parts, cases_Bool, cases_lt, false≢true, le-leb, leb-true, lt-leb, or_cases, nat_tests, append-nil, append_assoc, at_drop_all, at_drop_more, drop-set-add, drop-set-lt, get_or-drop, get_or-take, length-drop, length-set, length-take-le, take-append-drop, take-set-le, take_more, take_more_set, All-head, All-tail, All-weaker, slice_get-get_or, All, PAGE, put_at, Area, byte_at, bytes_at, covers, each_covered, permitted, put_byte, put_bytes, AreApart, LiesIn, Span, area_of, flat_of, meet, AreHeld, has_address, has_range, some_has}
 
 -- a span's area has all of its addresses
 bytes_size : (base pages : ℕ) (xs : List ℕ) (span : Span) → LiesIn base pages span → length xs ≡ PAGE * pages → length (take (span.end - span.start) (drop (span.start - base) xs)) ≡ span.end - span.start
@@ -244,7 +243,7 @@ put_byte-flat base pages (span ∷ spans) xs at byte lies apart size h =
     ]
 
 -- bytes that are put one after another
-put-none : (at : ℕ) (xs : List ℕ) → put_at at [] xs ≡ xs
+pub put-none : (at : ℕ) (xs : List ℕ) → put_at at [] xs ≡ xs
 put-none at xs =
     let e : at + 0 ≡ at = omega arith in
     ap (λ n. take at xs ++ [] ++ drop n xs) e ∙ ap (λ ys. ys ++ drop at xs) (append-nil (take at xs)) ∙ take-append-drop at xs

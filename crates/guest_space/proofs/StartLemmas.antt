@@ -2,7 +2,7 @@
 use Rattle.std.proofs.lemmas.List.Quantifiers.{all_pairs_push}
 use Rattle.std.proofs.Math.Bool.{and-false}
 use Rattle.elf_image.proofs.Valid.{stack_top_below, heap_has_page, heap_ends, segments_above, segments_below, segments_apart, some_segment}
-use Rattle.guest_space.proofs.Terms.{List, None, [], ap, ap₂, arith, cond, drop, false, get_or, length, map, refl, replicate, subst, suc, sym, take, zero, ℕ, ◌&&◌, ◌*◌, ◌++◌, ◌+◌, ◌-◌, ◌/◌, ◌<◌, ◌^◌, ◌∙◌, ◌∷◌, ◌≡◌, ◌≤◌, nat_tests, append_assoc, at_drop_more, drop-replicate, get_or-map, length-map, length-replicate, map-append, take-replicate, All-append, All-cons, All-head, All-map, All-nil, All-push, All-weaker, All, AllPairs, PAGE, IsLawful, IsMade, Pages, has, saved_numbers, used_of, Writes, copied_pages, is_shared, reaches, Image, STACK, Segment, base, blank_area, heap_end, heap_start, memory_of, segment_area, stack_top, zeros, IsPlaced, share_byte, Area, AreApart, IsLawfulSpace, LiesIn, Span, area_of, blank_span, flat_of, guest_pages, meet, segment_span, spans_of, IsStart, FilesIn, Fills, filled_bytes}
+use Rattle.guest_space.proofs.Terms.{List, None, [], ap, ap₂, arith, cond, drop, false, get_or, length, map, refl, replicate, subst, suc, sym, take, zero, ℕ, ◌&&◌, ◌*◌, ◌++◌, ◌+◌, ◌-◌, ◌/◌, ◌<◌, ◌^◌, ◌∙◌, ◌∷◌, ◌≡◌, ◌≤◌, nat_tests, append_assoc, at_drop_more, drop-replicate, get_or-map, length-map, length-replicate, map-append, take-replicate, All-append, All-cons, All-head, All-map, All-nil, All-push, All-weaker, All, AllPairs, PAGE, IsLawful, IsMade, Pages, has, saved_numbers, used_of, Writes, copied_pages, is_shared, reaches, Table, Image, STACK, Segment, base, blank_area, heap_end, heap_start, memory_of, segment_area, stack_top, zeros, IsPlaced, share_byte, Area, AreApart, IsLawfulSpace, LiesIn, Span, area_of, blank_span, flat_of, guest_pages, meet, segment_span, spans_of, IsStart, HasCode, FilesIn, Fills, IsFilled, filled_bytes}
 use Rattle.guest_space.proofs.FillLemmas.{IsThere, IsBlank, keeps, segments_flat, span_lies}
 
 -- nothing is shared where nothing is saved
@@ -174,8 +174,8 @@ start_flat image xs is =
     ∙ ap (λ a. map segment_area image.segments ++ a ∷ area (stack_of image) ∷ []) heap
     ∙ ap (λ a. map segment_area image.segments ++ blank_area (heap_start image) (heap_end image) ∷ a ∷ []) stack
 
-pub is_start : (image : Image) (pages slots frames start : ℕ) (spans : List Span) (made filled : Pages) → pages ≡ image.window / PAGE → start ≡ base image → IsMade pages slots frames made → Fills made start image.segments filled → spans ≡ spans_of image → IsStart image (image.window / PAGE) slots frames (guest_pages start spans filled)
-is_start image pages slots frames start spans made filled count at made_so fill_so are = record {
+pub is_start : (image : Image) (pages slots frames start : ℕ) (spans : List Span) (made filled : Pages) (code : Table) → pages ≡ image.window / PAGE → start ≡ base image → IsMade pages slots frames made → Fills made start image.segments filled → spans ≡ spans_of image → IsStart image (image.window / PAGE) slots frames (guest_pages start spans filled code)
+is_start image pages slots frames start spans made filled code count at made_so fill_so are = record {
   base_is = at;
   spans_are = are;
   pages_are = fill_so.pages ∙ made_so.pages_are ∙ count;
@@ -188,15 +188,21 @@ is_start image pages slots frames start spans made filled count at made_so fill_
   used = fill_so.used ∙ made_so.used ∙ count;
 }
 
-pub start_lawful : (image : Image) (pages slots frames start : ℕ) (spans : List Span) (made filled : Pages) → pages ≡ image.window / PAGE → start ≡ base image → IsMade pages slots frames made → Fills made start image.segments filled → spans ≡ spans_of image → IsLawfulSpace (guest_pages start spans filled)
-start_lawful image pages slots frames start spans made filled count at made_so fill_so are =
+-- the window of an image that is filled, and its spans
+pub start_filled : (image : Image) (pages slots frames start : ℕ) (spans : List Span) (made filled : Pages) → pages ≡ image.window / PAGE → start ≡ base image → IsMade pages slots frames made → Fills made start image.segments filled → spans ≡ spans_of image → IsFilled start spans filled
+start_filled image pages slots frames start spans made filled count at made_so fill_so are =
     let many : filled.pages ≡ image.window / PAGE = fill_so.pages ∙ made_so.pages_are ∙ count in
+    let none : filled.slots ≡ replicate slots None = fill_so.slots ∙ made_so.empty in
     record {
       below = omega (arith, many, at, window_pages image, stack_top_below image);
       within = subst (λ b. All (LiesIn b filled.pages) spans) (sym at) (subst (λ n. All (LiesIn (base image) n) spans) (sym many) (subst (All (LiesIn (base image) (image.window / PAGE))) (sym are) (all_lie image)));
       apart = subst AreApart (sym are) (all_apart image);
-      store = fill_so.lawful;
+      empty = none ∙ ap (λ n. replicate n None) (sym (ap length none ∙ length-replicate slots None));
+      lawful = fill_so.lawful;
     }
+
+pub start_lawful : (start : ℕ) (spans : List Span) (filled : Pages) (code : Table) → IsFilled start spans filled → HasCode start spans filled code → IsLawfulSpace (guest_pages start spans filled code)
+start_lawful start spans filled code so has = record { below = so.below; within = so.within; apart = so.apart; store = so.lawful; code = has }
 
 pub seen_end : (image : Image) (seen : List Segment) (i : ℕ) (segment : Segment) → seen ≡ image.segments → i < length seen → segment ≡ get_or seen i segment → segment.vaddr + segment.memsz < 2 ^ 32
 seen_end image seen i segment e less is = segment_end image i segment (subst (λ xs. i < length xs) e less) (subst (λ xs. segment ≡ get_or xs i segment) e is)

@@ -1,6 +1,6 @@
 -- Stretches of spans.
 use Rattle.std.specs.Bool.{OnTrue}
-use Rattle.guest_space.proofs.Terms.{Bool, List, arith, false, get_or, length, subst, sym, true, ℕ, ◌+◌, ◌-◌, ◌<◌, ◌^◌, ◌≡◌, ◌≤◌, nat_tests, Pages, Stretch, GuestPages, Span, guest_pages, AreHeld, has_range, IsOpen}
+use Rattle.guest_space.proofs.Terms.{Bool, List, arith, false, get_or, length, subst, sym, true, ℕ, ◌+◌, ◌-◌, ◌<◌, ◌^◌, ◌≡◌, ◌≤◌, nat_tests, Pages, Table, Stretch, GuestPages, Span, guest_pages, AreHeld, has_range, IsOpen}
 use Rattle.guest_space.proofs.FlatLemmas.{range_held}
 
 -- what one span has
@@ -23,8 +23,8 @@ stretch_open flag at i spans span stretch less is h end made =
     }
 
 -- a stretch of a space that is seen as its parts
-pub parts_open : (flag base : ℕ) (spans seen : List Span) (store : Pages) (space : GuestPages) (stretch : Stretch) → guest_pages base spans store ≡ space → seen ≡ spans → IsOpen flag seen stretch → IsOpen flag space.spans stretch
-parts_open flag base spans seen store space stretch is same h =
+pub parts_open : (flag base : ℕ) (spans seen : List Span) (store : Pages) (code : Table) (space : GuestPages) (stretch : Stretch) → guest_pages base spans store code ≡ space → seen ≡ spans → IsOpen flag seen stretch → IsOpen flag space.spans stretch
+parts_open flag base spans seen store code space stretch is same h =
     subst (λ (s : GuestPages). IsOpen flag s.spans stretch) is (subst (λ xs. IsOpen flag xs stretch) same h)
 
 -- an address of a stretch

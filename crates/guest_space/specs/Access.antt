@@ -23,6 +23,7 @@ Reads flag memory at size (Err e) = permitted flag memory at size ≡ false
 pub record Puts (old : GuestPages) (at : ℕ) (bytes : List ℕ) (new : GuestPages) : Type 0 where
   pub base_stays : new.base ≡ old.base
   pub spans_stay : new.spans ≡ old.spans
+  pub code_stays : new.code ≡ old.code
   pub memory : flat new ≡ put_bytes (flat old) at bytes
   pub pages : Writes old.store new.store (at - old.base) bytes
   pub lawful : IsLawfulSpace new

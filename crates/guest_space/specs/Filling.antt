@@ -1,6 +1,8 @@
 -- The bytes of segments in a window.
-use Rattle.std.specs.Prelude.{◌≡◌, ℕ, ◌+◌, ◌-◌, ◌*◌, ◌≤◌, List, [], ◌∷◌, length}
-use Rattle.guest_space.specs.Terms.{PAGE, IsLawful, Pages, used_of, put_at, Segment}
+use Rattle.std.specs.Prelude.{◌≡◌, ℕ, ◌+◌, ◌-◌, ◌*◌, ◌^◌, ◌≤◌, List, [], ◌∷◌, length, replicate, None}
+use Rattle.guest_space.specs.Terms.{All, PAGE, IsLawful, Pages, used_of, put_at, Segment}
+use Rattle.guest_space.specs.Spans.{Span}
+use Rattle.guest_space.specs.Space.{AreApart, LiesIn}
 
 -- a window of bytes after the file's bytes of segments were put into it, one segment after the other
 abbrev pub filled_bytes : ℕ → List Segment → List ℕ → List ℕ
@@ -19,3 +21,11 @@ pub record Fills (old : Pages) (base : ℕ) (segments : List Segment) (new : Pag
   pub bytes : new.live.bytes ≡ filled_bytes base segments old.live.bytes
   pub used : used_of new ≡ used_of old
   pub lawful : IsLawful new
+
+-- a window below 2 ^ 32 whose spans lie in it apart, on a store in which nothing is saved
+pub record IsFilled (start : ℕ) (spans : List Span) (store : Pages) : Type 0 where
+  pub below : start + PAGE * store.pages ≤ 2 ^ 32
+  pub within : All (LiesIn start store.pages) spans
+  pub apart : AreApart spans
+  pub empty : store.slots ≡ replicate (length store.slots) None
+  pub lawful : IsLawful store

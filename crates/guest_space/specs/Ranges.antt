@@ -1,6 +1,6 @@
 -- Addresses of a span.
 use Rattle.std.specs.Prelude.{◌≡◌, ℕ, ◌+◌, ◌/◌, ◌%◌, ◌<◌, Bool, true, false, ◌&&◌, ◌||◌, nat_le, nat_lt, ◌==◌, List, [], ◌∷◌}
-use Rattle.guest_space.specs.Space.{Span}
+use Rattle.guest_space.specs.Spans.{Span}
 
 -- the span has the address and permits this
 abbrev pub has_address : ℕ → ℕ → Span → Bool
@@ -18,3 +18,9 @@ some_has flag at (span ∷ spans) = has_address flag at span || some_has flag at
 -- each of so many addresses from one on is in a span that permits this
 abbrev pub AreHeld : ℕ → List Span → ℕ → ℕ → Type 0
 AreHeld flag spans at size = (k : ℕ) → k < size → some_has flag (at + k) spans ≡ true
+
+-- the span may be executed and not written, and begins at a multiple of 4
+pub record IsCode (span : Span) : Type 0 where
+  pub executed : span.flags / 1 % 2 ≡ 1
+  pub unwritten : span.flags / 2 % 2 ≡ 0
+  pub whole : span.start % 4 ≡ 0

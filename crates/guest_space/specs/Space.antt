@@ -1,23 +1,19 @@
 -- A guest's memory on shared pages: a window of pages, and the spans of it that may be touched.
 use Rattle.std.specs.Prelude.{◌≡◌, ℕ, ◌+◌, ◌-◌, ◌*◌, ◌^◌, ◌≤◌, Bool, false, nat_lt, min, max, Option, option_map, List, [], ◌∷◌, ◌++◌, map, take, drop}
-use Rattle.guest_space.specs.Terms.{All, AllPairs, PAGE, IsLawful, Pages, Space, slot_at, Image, STACK, Segment, heap_end, heap_start, stack_top, Area}
+use Rattle.guest_space.specs.Terms.{All, AllPairs, PAGE, IsLawful, Pages, Space, slot_at, Table, Image, STACK, Segment, heap_end, heap_start, stack_top, Area}
+pub use Rattle.guest_space.specs.Spans.{Span}
+use Rattle.guest_space.specs.Code.{HasCode}
 
--- Addresses from one up to another, which isn't part of it, and what may be done with their bytes: the flags of a
--- program header (System V ABI, "Segment Permissions").
-pub record Span : Type 0 where
-  pub flags : ℕ
-  pub start : ℕ
-  pub end : ℕ
-
--- a window from a base on, its spans, and the pages on which it stands
+-- a window from a base on, its spans, the pages on which it stands, and the table of its code
 pub record GuestPages : Type 0 where
   pub base : ℕ
   pub spans : List Span
   pub store : Pages
+  pub code : Table
 
--- the memory of a window that begins here, with these spans, on these pages
-abbrev pub guest_pages : ℕ → List Span → Pages → GuestPages
-guest_pages base spans store = record { base = base; spans = spans; store = store }
+-- the memory of a window that begins here, with these spans, on these pages, with this table
+abbrev pub guest_pages : ℕ → List Span → Pages → Table → GuestPages
+guest_pages base spans store code = record { base = base; spans = spans; store = store; code = code }
 
 -- the area of a span, whose bytes stand among those of the window
 abbrev pub area_of : ℕ → List ℕ → Span → Area
@@ -47,12 +43,14 @@ meet a b = nat_lt (max a.start b.start) (min a.end b.end)
 abbrev pub AreApart : List Span → Type 0
 AreApart spans = AllPairs (λ (a b : Span). meet a b ≡ false) spans
 
--- what holds of every guest's memory: the window lies below 2 ^ 32, the spans lie in it apart, and the pages are lawful
+-- what holds of every guest's memory: the window lies below 2 ^ 32, the spans lie in it apart, the pages are lawful, and the table is
+-- of code that stands there and that nothing changes
 pub record IsLawfulSpace (space : GuestPages) : Type 0 where
   pub below : space.base + PAGE * space.store.pages ≤ 2 ^ 32
   pub within : All (LiesIn space.base space.store.pages) space.spans
   pub apart : AreApart space.spans
   pub store : IsLawful space.store
+  pub code : HasCode space.base space.spans space.store space.code
 
 -- the span of a segment
 abbrev pub segment_span : Segment → Span

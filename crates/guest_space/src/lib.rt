@@ -5,11 +5,13 @@
 //! Who calls them asks `allows` before.
 //! `fetch_by`, `load_by` and `store_by` are quick ways that may find nothing. `fetch`, `load` and `store` decide.
 //! An `AccessRule` says what else has to hold of an access, by the blocks of the heap. `AllMapped` refuses nothing.
+//! `make` makes a table of the words of the first span that may be executed and not written, and no call changes these.
 //! Only `make` and `read_bytes` take memory.
 #![tactic(auto)]
 
 mod access_rule;
 mod bad_access;
+mod code;
 mod filling;
 mod space;
 mod span;

@@ -1,5 +1,5 @@
 // The memory of a guest: spans of a window of pages.
-ghost use Rattle.std.specs.Prelude.{◌≡◌, ◌==◌, ◌+◌, ◌-◌, ◌*◌, ◌/◌, ◌%◌, ◌^◌, ◌<◌, ◌≤◌, length, take, drop, replicate, true, None, is_some, IsSome, IfOk, Ok, IfSome, MatchBool, slice_set, if◌then◌else◌};
+ghost use Rattle.std.specs.Prelude.{◌≡◌, ◌==◌, ◌+◌, ◌-◌, ◌*◌, ◌/◌, ◌%◌, ◌^◌, ◌<◌, ◌≤◌, length, take, drop, replicate, true, Some, None, is_some, IsSome, IfOk, Ok, IfSome, MatchBool, slice_get, slice_set, if◌then◌else◌};
 ghost use Rattle.std.specs.Bool.{OnFalse, OnTrue};
 ghost use Rattle.rv_isa.specs.Words.{little_bytes, little_number};
 ghost use Rattle.elf_image.specs.Memory.{permitted, bytes_at};
@@ -9,9 +9,11 @@ ghost use Rattle.guest_space.specs.Access.{IsStart, Reads, Puts, Stores, Saves, 
 ghost use Rattle.guest_space.specs.Ranges.{AreHeld};
 ghost use Rattle.guest_space.specs.Stretches.{IsOpen};
 
+use crate::code::code_of;
 use crate::filling::{fill, spans_of};
 use crate::span::{EXECUTE, READ, Span, WRITE, are_held, each_has, one_has, stretch_at};
 use crate::{BadAccess, Stretch};
+use code_table::{CodeTable, Entry};
 use cow_pages::{MAX_FRAMES_PER_PAGE, MAX_SLOTS, PAGE, PageStore};
 use elf_image::Image;
 use std::alloc::{AllocError, Global};
@@ -29,6 +31,7 @@ pub struct GuestSpace {
     base: u32,
     spans: Vec<Span>,
     store: PageStore,
+    code: CodeTable,
 }
 
 impl Model for GuestSpace {
@@ -36,14 +39,14 @@ impl Model for GuestSpace {
 
     ghost Value = { GuestPages };
 
-    ghost view = { λ s. guest_pages s.base s.spans.items s.store };
+    ghost view = { λ s. guest_pages s.base s.spans.items s.store s.code };
 
-    ghost invariant = { λ s. IsLawfulSpace (guest_pages s.base s.spans.items s.store) };
+    ghost invariant = { λ s. IsLawfulSpace (guest_pages s.base s.spans.items s.store s.code) };
 }
 
 impl GuestSpace {
-    /// The memory at a program's start: its segments, its heap and its stack, with nothing saved. The window has a page for
-    /// each `PAGE` of its bytes: 1 to `MAX_SLOTS` slots, and 2 to `MAX_FRAMES_PER_PAGE` frames for each page.
+    /// The memory at a program's start: its segments, its heap and its stack, with nothing saved, and the table of its code.
+    /// The window has a page for each `PAGE` of its bytes: 1 to `MAX_SLOTS` slots, and 2 to `MAX_FRAMES_PER_PAGE` frames for each page.
     pub fn make(
         alloc: Global,
         image: &Image,
@@ -60,7 +63,13 @@ impl GuestSpace {
         let spans = spans_of(alloc, image)?;
         let mut store = PageStore::make(alloc, pages, slots, frames)?;
         fill(&mut store, base, image.segments.as_slice());
-        Ok(GuestSpace { base, spans, store })
+        let code = code_of(alloc, base, &spans, &store)?;
+        Ok(GuestSpace {
+            base,
+            spans,
+            store,
+            code,
+        })
     }
 
     /// What holds of every guest's memory.
@@ -69,6 +78,31 @@ impl GuestSpace {
         ensures { IsLawfulSpace self.now }
     {
         let _base = self.base;
+    }
+
+    /// The address of the first word that the table has an entry of.
+    #[inline(always)]
+    pub fn code_start(&self) -> u32
+        ensures { result ≡ self.now.code.start }
+    {
+        self.code.start()
+    }
+
+    /// How many entries the table has, with the last one, which stops.
+    #[inline(always)]
+    pub fn code_len(&self) -> usize
+        ensures { result ≡ length self.now.code.entries }
+    {
+        self.code.len()
+    }
+
+    /// The entry of the word with this number.
+    #[inline(always)]
+    pub fn entry(&self, number: usize) -> &Entry
+        requires { number < length self.now.code.entries }
+        ensures { slice_get self.now.code.entries number ≡ Some result.now }
+    {
+        self.code.entry(number)
     }
 
     /// Whether so many bytes from an address on may be written, or read.

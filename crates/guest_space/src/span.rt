@@ -1,8 +1,8 @@
 // One span of a guest's memory.
-ghost use Rattle.std.specs.Prelude.{◌≡◌, ◌<◌, ◌+◌, ◌-◌, ◌^◌, ◌≤◌, MatchBool};
+ghost use Rattle.std.specs.Prelude.{◌≡◌, ◌<◌, ◌+◌, ◌-◌, ◌*◌, ◌/◌, ◌^◌, ◌≤◌, MatchBool};
 ghost use Rattle.std.specs.Bool.{OnTrue};
 ghost use Rattle.guest_space.specs.Space.{blank_span, segment_span};
-ghost use Rattle.guest_space.specs.Ranges.{has_address, has_range, some_has, AreHeld};
+ghost use Rattle.guest_space.specs.Ranges.{has_address, has_range, some_has, AreHeld, IsCode};
 ghost use Rattle.guest_space.specs.Stretches.{IsOpen};
 
 use crate::Stretch;
@@ -51,6 +51,28 @@ impl Span {
         self.flags / flag % 2 == 1
             && self.start <= at
             && u64::from(at) + u64::from(size) <= u64::from(self.end)
+    }
+
+    /// Whether it may be executed and not written, and begins at a multiple of 4.
+    pub fn is_code(&self) -> bool
+        ensures { OnTrue result (IsCode self.now) }
+    {
+        self.flags / EXECUTE % 2 == 1 && self.flags / WRITE % 2 == 0 && self.start % 4 == 0
+    }
+
+    /// Its first address.
+    pub fn start(&self) -> u32
+        ensures { result ≡ self.now.start }
+    {
+        self.start
+    }
+
+    /// How many bytes its whole words have.
+    pub fn words_len(&self) -> u32
+        requires { self.now.start ≤ self.now.end }
+        ensures { result ≡ (self.now.end - self.now.start) / 4 * 4 }
+    {
+        (self.end - self.start) / 4 * 4
     }
 
     /// The addresses from each of which on it has four bytes.

@@ -2,6 +2,8 @@
 #![tactic(auto)]
 
 #[cfg(test)]
+mod code_table_tests;
+#[cfg(test)]
 mod elf_image_tests;
 #[cfg(test)]
 mod run_history_tests;

@@ -53,6 +53,64 @@ impl Input for Interrupted {
     }
 }
 
+// A reader that has so many bytes left, and gives up to five at a time. Each is the number of those that were left.
+#[derive(Clone, Copy)]
+struct Fives(u8);
+
+impl Read for Fives {
+    fn read(&mut self, buf: &mut [u8]) -> io::Result<usize> {
+        let count = self.0.min(5).min(buf.len().min(5) as u8);
+        buf[..count as usize].fill(self.0);
+        self.0 -= count;
+        Ok(count as usize)
+    }
+}
+
+impl BufRead for Fives {
+    fn fill_buf(&mut self) -> io::Result<&[u8]> {
+        Ok(&[])
+    }
+
+    fn consume(&mut self, _amount: usize) {}
+}
+
+// A standard input whose readers are all like that.
+impl Input for Fives {
+    type Reader = Fives;
+
+    fn read_line<A: Allocator + Clone>(&self, _buf: &mut String<A>) -> io::Result<usize> {
+        Ok(0)
+    }
+
+    fn lines<A: Allocator>(&self, alloc: A) -> Lines<Fives, A> {
+        self.reader().lines(alloc)
+    }
+
+    fn reader(&self) -> Fives {
+        *self
+    }
+}
+
+#[test]
+fn standard_input_is_read_ahead(rt: HostRuntime) {
+    let mut source = StdSource::make(&Fives(7));
+    let mut buf = [0u8; 3];
+    assert_eq!(rt; source.take(&mut buf), Ok(3));
+    assert_eq!(rt; buf, [7, 7, 7]);
+    // The other two of the first read, before the second one.
+    assert_eq!(rt; source.take(&mut buf), Ok(2));
+    assert_eq!(rt; source.take(&mut buf), Ok(2));
+    assert_eq!(rt; buf, [2, 2, 7]);
+    assert_eq!(rt; source.take(&mut buf), Ok(0));
+    // As long as the buffer itself: straight from the reader.
+    let mut source = StdSource::make(&Fives(7));
+    let mut long = [0u8; 4096];
+    assert_eq!(rt; source.take(&mut long), Ok(5));
+    assert_eq!(rt; long[4], 7);
+    assert_eq!(rt; source.take(&mut long), Ok(2));
+    assert_eq!(rt; source.take(&mut long), Ok(0));
+}
+
 #[test]
 fn standard_streams_answer(rt: HostRuntime) {
     let mut buf = [0u8; 2];

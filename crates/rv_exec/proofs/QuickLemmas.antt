@@ -1,9 +1,5 @@
 -- Instructions that are decoded and done at once.
-use Rattle.std.proofs.lemmas.Bool.{cases_Bool}
-use Rattle.rv_isa.specs.declared.instr.BranchOp.{BranchOp}
-use Rattle.rv_isa.specs.declared.instr.ImmOp.{ImmOp}
-use Rattle.rv_isa.specs.declared.instr.RegOp.{RegOp}
-use Rattle.rv_exec.proofs.Terms.{Bool, List, None, Ok, Option, Some, add-one, ap, arith, eqb, false, inl, inr, refl, subst, sym, true, ℕ, ◌%◌, ◌+◌, ◌^◌, ◌∙◌, ◌≡◌, IfSome, MatchBool, option_map, pos, ℤ, ◌==◌, ◌||◌, Heap, Auipc, Branch, Jal, Jalr, Load, Lui, Op, OpImm, Store, LoadOp, StoreOp, branch_result, imm_result, op_result, displaced, imm_value_of, indirect_target, is_taken, load_size, loaded, store_size, to_word, value_of, branch_op, branch_row, imm_op, imm_row, jalr_row, load_op, load_row, op_row, reg_op, row, shift_op, shift_row, store_op, store_row, funct3, funct7, imm_b, imm_i, imm_j, imm_s, imm_u, little_bytes, little_number, opcode, rd, rs1, rs2, Area, bytes_at, permitted, Regs, with_register, instruction, Puts, Reads, GuestPages, flat, IsDone, IsStep, Ran, register_in, regs_of}
+use Rattle.rv_exec.proofs.Terms.{Bool, List, None, Ok, Option, Some, add-one, ap, arith, eqb, false, inl, inr, refl, subst, sym, true, ℕ, ◌%◌, ◌+◌, ◌^◌, ◌∙◌, ◌≡◌, cases_Bool, IfSome, MatchBool, option_map, pos, ℤ, ◌==◌, ◌||◌, Heap, BranchOp, ImmOp, Auipc, Branch, Jal, Jalr, Load, Lui, Op, OpImm, Store, LoadOp, RegOp, StoreOp, branch_result, imm_result, op_result, displaced, imm_value_of, indirect_target, is_taken, load_size, loaded, store_size, to_word, value_of, branch_op, branch_row, imm_op, imm_row, jalr_row, load_op, load_row, op_row, reg_op, row, shift_op, shift_row, store_op, store_row, funct3, funct7, imm_b, imm_i, imm_j, imm_s, imm_u, little_bytes, little_number, opcode, rd, rs1, rs2, Area, bytes_at, permitted, Regs, with_register, instruction, Puts, Reads, GuestPages, flat, IsDone, IsStep, Ran, register_in, regs_of}
 
 -- the program counter behind an instruction
 abbrev behind : ℕ → ℕ

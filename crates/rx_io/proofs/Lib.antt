@@ -1,3 +1,4 @@
 pub mod Terms
 pub mod Composing
 mod Places
+mod AheadLemmas

@@ -12,6 +12,7 @@ pub mod Kept
 pub mod Listening
 pub mod Connections
 pub mod Reading
+pub mod Ahead
 pub mod Laws
 pub mod Prefix
 pub mod Sends

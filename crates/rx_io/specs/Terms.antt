@@ -1,6 +1,6 @@
 -- The words that this crate's definitions are written in: those of crates below, and types of its code.
 pub use Rattle.std.specs.declared.alloc.Global.{Global}
-pub use Rattle.std.specs.Io.KnownBytes.{Appends, Consumes, Keeps}
+pub use Rattle.std.specs.Io.KnownBytes.{Appends, Consumes, Keeps, prepend_known}
 pub use Rattle.std.specs.Str.{bytes_eq}
 pub use Rattle.rx_io.specs.declared.fault.IoFault.{IoFault}
 pub use Rattle.rx_io.specs.declared.fault.IoFault.TheVariants.{Failed, Memory}

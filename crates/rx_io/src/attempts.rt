@@ -1,17 +1,18 @@
 // Calls of std that are tried again where they were interrupted, a bounded number of times.
-ghost use Rattle.std.specs.Prelude.{◌≡◌, ℕ, ◌<◌, ◌≤◌, List, [], length, take, Option, IfSome};
-ghost use Rattle.std.specs.Io.KnownBytes.{Appends, Consumes, IsAtEnd};
+ghost use Rattle.std.specs.Prelude.{◌≡◌, ℕ, ◌<◌, ◌≤◌, List, [], length, take, Option, None, IfSome};
+ghost use Rattle.std.specs.Io.KnownBytes.{Appends, Consumes, IsAtEnd, Keeps};
 
 use std::io::{ErrorKind, Read, Write};
 
 /// How often a call is tried before its interruption is a fault.
 pub const TRIES: u32 = 1000;
 
-/// One read, or none where it failed.
+/// One read, or none where it failed, which took no byte.
 pub fn read_some<R: Read>(reader: &mut R, buf: &mut [u8]) -> Option<usize>
     ensures count { IfSome result (λ n. n ≤ length buf.old) }
     ensures bytes { IfSome result (λ n. Consumes (R.remaining reader.old) (R.remaining reader.new) (take n buf.new)) }
     ensures end { IfSome result (λ n. n ≡ 0 → 0 < length buf.old → IsAtEnd (R.remaining reader.new)) }
+    ensures kept { result ≡ None → Keeps (R.remaining reader.old) (R.remaining reader.new) }
 {
     'tries: for _ in 0..TRIES {
         match reader.read(buf) {

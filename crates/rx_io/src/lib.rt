@@ -20,6 +20,7 @@ mod listener_calls;
 mod memory_files;
 mod memory_sink;
 mod memory_source;
+mod read_ahead;
 mod shelf;
 mod sink;
 mod source;

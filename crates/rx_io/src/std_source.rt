@@ -1,25 +1,32 @@
 // The standard input as a source.
 ghost use Rattle.std.specs.Prelude.{◌≡◌, None};
 
-use crate::attempts::read_some;
+use crate::read_ahead::ReadAhead;
 use crate::{IoFault, Source};
 
-/// The standard input, of which nothing is told. Each call is one system read, and takes no more than is asked for.
+/// The standard input, of which nothing is told. It reads ahead of what is asked for, up to 4096 bytes by one system read, and
+/// reads again only where all of them were given. What isn't given in the end is lost to a later reader.
 #[derive(Drop)]
-pub struct StdSource<'a, R: Input> {
-    rt: &'a R,
+pub struct StdSource<R: Input> {
+    reader: R::Reader,
+    ahead: ReadAhead,
     faults: u64,
 }
 
-impl<'a, R: Input> StdSource<'a, R> {
-    pub fn make(rt: &'a R) -> StdSource<'a, R>
-        ensures { ⟦<StdSource<'a, R> as Source>⟧.faults result ≡ 0 }
+impl<R: Input> StdSource<R> {
+    /// The standard input as it stands. Nothing is read before the first call.
+    pub fn make(rt: &R) -> StdSource<R>
+        ensures { ⟦<StdSource<R> as Source>⟧.faults result ≡ 0 }
     {
-        StdSource { rt, faults: 0 }
+        StdSource {
+            reader: rt.reader(),
+            ahead: ReadAhead::new(),
+            faults: 0,
+        }
     }
 }
 
-impl<R: Input> Source for StdSource<'_, R> {
+impl<R: Input> Source for StdSource<R> {
     ghost told = { λ _. None };
 
     ghost faults = { λ s. s.faults };
@@ -31,8 +38,7 @@ impl<R: Input> Source for StdSource<'_, R> {
     ghost countable = { λ _. tt };
 
     fn take(&mut self, buf: &mut [u8]) -> Result<usize, IoFault> {
-        // A reader of its own for each call: what it would read ahead is put back when it is dropped.
-        match read_some(&mut self.rt.reader(), buf) {
+        match self.ahead.read(&mut self.reader, buf) {
             Some(count) => Ok(count),
             None => {
                 self.faults = self.faults.saturating_add(1);

@@ -9,7 +9,7 @@ pub use Rattle.run_history.proofs.Runs.{allocated_keeps, next_parts, received_ke
 pub use Rattle.session_history.proofs.Ended.{at_its_end, came_to, holds_at_end, is_end_answer}
 pub use Rattle.session_history.proofs.Growing.{ByChoice, ByEnd, ByItem, ByItself, BySend, Moved, moved}
 pub use Rattle.file_notes.proofs.CallingLemmas.{calls_then, front_all, front_behind, front_first}
-pub use Rattle.rx_serve.specs.Terms.{Added, AddsAlone, Answer, AreInRange, AreTwo, AtEnd, Calls, CallsFront, Choice, Chooses, Contents, Effect, Emits, Ends, EndsAt, EndsBy, Episode, Fails, FileCall, Form, Goes, HasComeTo, HasNoted, HasPassedAll, Heap, Image, InRecord, InReport, IoFault, IsAccount, IsChoice, IsComplete, IsDrained, IsEnd, IsHandedLast, IsImage, IsNoteStop, IsRecord, Item, Keeping, Left, Loaded, MAX_TAKEN, Machine, Names, NoOtherEnd, NoneFailed, Nothing, Options, Outcome, Parts, Prefix, Recorded, ReplayValue, ReplaysTrunk, Rules, Run, RunValue, SendsAreWritten, ServesTrunk, Session, Stands, Started, State, Stop, Stream, Unnoted, Wants, WritesSends, after, answer_of, asm, bounds_of, command_of, differ, effect, end_answer, entries_of, fits, heap_end, heap_start, items_in, journal_of, keeping_for, lines_of, noted, onto, output, positional, refused_behind, refused_from, refused_line, refused_lines, register, replay, replay_shown, rules_of, run, run_shown, starting, starts_of, text_of, texts_of, unnoted_of, written}
+pub use Rattle.rx_serve.specs.Terms.{Added, AddsAlone, Answer, AreInRange, AreTwo, AtEnd, Calls, CallsFront, Choice, Chooses, Contents, Effect, Emits, Ends, EndsAt, EndsBy, Episode, Fails, FileCall, Form, Goes, HasComeTo, HasNoted, HasPassedAll, Heap, Image, InRecord, InReport, IoFault, IsAccount, IsChoice, IsComplete, IsDrained, IsEnd, IsHandedLast, IsImage, IsNoteStop, IsRecord, Item, Keeping, Left, Loaded, MAX_TAKEN, Machine, Names, NoOtherEnd, NoneFailed, Nothing, Options, Outcome, Parts, Prefix, Recorded, ReplayValue, ReplaysTrunk, Rose, Rules, Run, RunValue, SendsAreWritten, ServesTrunk, Session, Stands, Started, State, Stop, Stream, Unnoted, Wants, WritesSends, after, answer_of, asm, bounds_of, command_of, differ, effect, end_answer, entries_of, fits, heap_end, heap_start, items_in, journal_of, keeping_for, lines_of, noted, onto, output, positional, refused_behind, refused_from, refused_line, refused_lines, register, replay, replay_shown, rules_of, run, run_shown, starting, starts_of, text_of, texts_of, unnoted_of, written}
 unfoldable pub use Rattle.rx_serve.specs.Terms.{allocated, does, is_run, next, received, refusal, run_form, run_value, start, start_machine}
 pub use Rattle.rx_serve.specs.declared.ending.End.{End}
 pub use Rattle.rx_serve.specs.Limits.{program_limit}

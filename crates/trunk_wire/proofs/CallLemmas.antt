@@ -2,7 +2,7 @@
 use borrow.Rule.Slice.PartMut.{put_mid, post_of}
 use Rattle.rx_io.specs.declared.fault.IoFault.TheVariants as io
 use Rattle.links.specs.declared.journal.LinkEvent.TheVariants as event
-use Rattle.trunk_wire.proofs.Terms.{Err, List, None, Ok, Option, Result, Some, [], ap, append_assoc, arith, drop, inl, inr, length, length-append, refl, subst, sym, take, ℕ, ◌++◌, ◌+◌, ◌<◌, ◌∙◌, ◌≡◌, ◌≤◌, take-append-add, length-take-le, take-append-drop, take-append-le, Appends, IoFault, Stream, Took, Prefix, LinkEvent, LinkFault, Memory, ReadFault, Refused, WriteFault, Phases, Header, FitsTwoBytes, IsFrameOf, header_bytes, piece_frame, Part, event_of, front, header_refusal, Behind, Brings, IsRefused, Reads, TakesBy, Writes, WritesBy, count_after, read_fault, write_fault, reads_more}
+use Rattle.trunk_wire.proofs.Terms.{Err, List, None, Ok, Option, Result, Some, [], ap, append_assoc, arith, drop, inl, inr, length, length-append, refl, subst, sym, take, ℕ, ◌++◌, ◌+◌, ◌<◌, ◌∙◌, ◌≡◌, ◌≤◌, take-append-add, length-take-le, take-append-drop, take-append-le, Appends, IoFault, Stream, Took, Prefix, LinkEvent, LinkFault, Memory, ReadFault, Refused, WriteFault, Phases, Header, FitsTwoBytes, IsFrameOf, header_bytes, piece_frame, Part, event_of, front, header_refusal, Behind, Brings, IsRefused, Reads, TakesBy, Writes, WritesAll, WritesBy, count_after, read_fault, write_fault, reads_more, writes_more}
 use Rattle.trunk_wire.proofs.GrammarLemmas.{front-refused, front-cut, frame-passes, passes_all}
 
 -- what stands in a buffer once its part from a on was filled up to n
@@ -84,7 +84,9 @@ Prefix-append front first second (rest, e) = (rest ++ second, sym (append_assoc 
 pub Prefix-behind : (first front second : List ℕ) → Prefix front second → Prefix (first ++ front) (first ++ second)
 Prefix-behind first front second (rest, e) = (rest, append_assoc first front rest ∙ ap (λ l. first ++ l) e)
 
--- after a fault of the sink a front of the frame was written
-pub writes_fault : (Written : List ℕ → Type 0) (conn : ℕ) (bytes : List ℕ) (fault : IoFault) → (front : List ℕ) × Prefix front (piece_frame conn bytes) × Written front → WritesBy Written conn bytes (Err (write_fault fault))
-writes_fault Written conn bytes io.Failed front = front
-writes_fault Written conn bytes io.Memory front = front
+-- a first part was written whole, and then a second one, or after a fault some of it
+pub writes_all_behind : (old mid new : Option (List ℕ)) (before between now : ℕ) (first second : List ℕ) (result : Result (Unit {0}) IoFault)
+    → Writes old mid before between first → WritesAll (Writes mid new between now) second result → WritesAll (Writes old new before now) (first ++ second) result
+writes_all_behind old mid new before between now first second (Ok done) wrote rest = writes_more old mid new before between now first second wrote rest
+writes_all_behind old mid new before between now first second (Err fault) wrote (front, is, rest) =
+    (first ++ front, Prefix-behind first front second is, writes_more old mid new before between now first front wrote rest)

@@ -14,7 +14,7 @@ pub use Rattle.trunk_wire.specs.Frames.{FitsTwoBytes, IsFrame, IsFrameOf, frame,
 pub use Rattle.trunk_wire.specs.Grammar.{Bad, Part, Whole, coming_of, event_at, event_of, front, front_accepted, front_behind, front_by, header_refusal, is_extra, is_known, is_not_open, is_reopened}
 pub use Rattle.trunk_wire.specs.Parts.{Progress, Reader, last_bytes, put_byte, put_bytes, put_part}
 pub use Rattle.trunk_wire.specs.Pieces.{cut_piece, event_reader, events, fresh, piece_reader, pieces, read_from, whole_event, whole_piece, written}
-pub use Rattle.trunk_wire.specs.Calls.{Behind, Brings, HasOffset, IsRefused, Reads, TakesBy, Writes, WritesBy, count_after, read_fault, write_fault}
+pub use Rattle.trunk_wire.specs.Calls.{Behind, Brings, HasOffset, IsRefused, Reads, TakesBy, Writes, WritesAll, WritesBy, count_after, read_fault, write_fault}
 pub use Rattle.trunk_wire.specs.CallLaws.{count_nothing, reads_more, reads_nothing, writes_more}
 pub use Rattle.trunk_wire.specs.Tellings.{is_empty, is_in_step, is_whole, refusal_in, same_phase, told_coming, told_events, told_nothing, told_pieces, trunk_told}
 unfoldable pub use Rattle.trunk_wire.specs.Tellings.{same_phases}

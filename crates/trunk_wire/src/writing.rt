@@ -1,11 +1,14 @@
 // One frame is written to a sink.
-ghost use Rattle.std.specs.Prelude.{◌≡◌, ◌^◌, ◌<◌, ◌≤◌, length, IsErrOf};
+ghost use Rattle.std.specs.Prelude.{◌≡◌, ◌+◌, ◌^◌, ◌<◌, ◌≤◌, ◌++◌, length, take, IsErrOf};
 ghost use Rattle.rx_io.specs.Faults.{HasCause, Rose};
 ghost use Rattle.trunk_wire.specs.Calls.{Writes, WritesAll, WritesBy, write_fault};
 
 use crate::header::{BYTES, Header, bytes_from};
 use links::{Given, LinkFault};
 use rx_io::{IoFault, Sink};
+
+// How many bytes of a frame, its header among them, go by one write.
+const JOINED: usize = 4096;
 
 // The fault of a sink, as that of a link.
 fn write_fault(fault: IoFault) -> LinkFault
@@ -35,6 +38,50 @@ fn write_all<K: Sink>(sink: &mut K, wrote: &mut u64, bytes: &[u8]) -> Result<(),
     Ok(())
 }
 
+// Puts bytes behind the first ones of a buffer.
+fn put_behind(all: &mut [u8], at: usize, bytes: &[u8])
+    requires { at + length bytes.now ≤ length all.old }
+    ensures length { length all.new ≡ length all.old }
+    ensures bytes { take (at + length bytes.now) all.new ≡ take at all.old ++ bytes.now }
+{
+    all[at..at + bytes.len()].copy_from_slice(bytes);
+}
+
+// A header and the payload behind it, at the front of an array.
+fn joined(header: [u8; 5], bytes: &[u8]) -> [u8; JOINED]
+    requires { 5 + length bytes.now ≤ 4096 }
+    ensures { take (5 + length bytes.now) result ≡ header ++ bytes.now }
+{
+    let mut all = [0u8; JOINED];
+    put_behind(&mut all, 0, &header);
+    put_behind(&mut all, 5, bytes);
+    all
+}
+
+// Gives a header and the payload behind it: at once, where an array holds them.
+fn write_behind<K: Sink>(
+    sink: &mut K,
+    wrote: &mut u64,
+    header: [u8; 5],
+    bytes: &[u8],
+) -> Result<(), IoFault>
+    requires { length bytes.now < 2 ^ 16 }
+    ensures bytes { WritesAll (Writes (K.told sink.old) (K.told sink.new) wrote.old wrote.new) (header ++ bytes.now) result }
+    ensures fixed { K.fixed sink.new ≡ K.fixed sink.old }
+    ensures cause { HasCause (K.faults sink.old) (K.faults sink.new) result }
+{
+    let whole = 5 + bytes.len();
+    if whole <= JOINED {
+        let all = joined(header, bytes);
+        return write_all(sink, wrote, &all[..whole]);
+    }
+    match write_all(sink, wrote, &header) {
+        Ok(()) => {}
+        Err(fault) => return Err(fault),
+    }
+    write_all(sink, wrote, bytes)
+}
+
 /// Gives a piece as a frame.
 pub fn write_frame<K: Sink>(
     sink: &mut K,
@@ -53,11 +100,7 @@ pub fn write_frame<K: Sink>(
         conn,
         length: bytes.len() as u16,
     });
-    match write_all(sink, wrote, &header) {
-        Ok(()) => {}
-        Err(fault) => return Err(write_fault(fault)),
-    }
-    match write_all(sink, wrote, bytes) {
+    match write_behind(sink, wrote, header, bytes) {
         Ok(()) => Ok(Given::All),
         Err(fault) => Err(write_fault(fault)),
     }

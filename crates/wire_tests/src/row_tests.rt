@@ -126,12 +126,12 @@ fn frames_come_in_and_go_out(rt: HostRuntime) -> Result<(), Fail> {
         trunk 1 6 04050100000102010000 > Ok(Settles) Err(ReadFault)
         trunk 1 11 04050100000102010000 > Ok(Settles) Ok(Opens(258)) Err(ReadFault)
         trunk 1 12 04050100000102010000 > Ok(Settles) Ok(Opens(258)) Ok(Ends)
-        # A piece goes out as a frame.
+        # A piece goes out as a frame, header and payload at once.
         out 3 2 > Err(WriteFault) [2, 2, 1]
         out 3 1 > Err(WriteFault) []
-        out 4 3 > Err(WriteFault) [2, 2, 1, 3, 0]
-        out 2 5 > Err(WriteFault) [2, 2, 1, 3, 0, 104, 105]
-        out 2 6 > Ok(All) [2, 2, 1, 3, 0, 104, 105, 10]
+        out 5 2 > Err(WriteFault) [2, 2, 1, 3, 0]
+        out 2 4 > Err(WriteFault) [2, 2, 1, 3, 0, 104]
+        out 2 5 > Ok(All) [2, 2, 1, 3, 0, 104, 105, 10]
         out 100 9 > Ok(All) [2, 2, 1, 3, 0, 104, 105, 10]
     ",
     )

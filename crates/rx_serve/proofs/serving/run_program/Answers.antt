@@ -1,4 +1,4 @@
-use Rattle.rx_serve.proofs.Terms.{Ok, ap, refl, rules, subst, sym, ◌<◌, ◌^◌, ◌∙◌, ◌≤◌, MAX_TAKEN, front_all, run_shown, outside, ClosesFiles, StartsFiles, CallsServed, before_session}
+use Rattle.rx_serve.proofs.Terms.{Ok, ap, arith, inl, inr, refl, subst, sym, ℕ, ◌<◌, ◌^◌, ◌∙◌, ◌≤◌, Rose, MAX_TAKEN, front_all, run_shown, outside, ClosesFiles, StartsFiles, CallsServed, before_session}
 use Rattle.rx_serve.proofs.RunLemmas.{not_loaded, not_begun, no_memory, begun_own, ready, run_ends, counts_fit}
 use Rattle.rx_serve.proofs.CallingLemmas.{run_none, run_part, run_all, run_served}
 use Rattle.rx_engine.specs.declared.left.Left.{Left as Leaves}
@@ -61,9 +61,17 @@ returns-clause-ends g c =
     c.of_session.ensures.answer (c.of_session.ensures.recorded ∙ ap (λ (left : Leaves _). left.recorded) c.into_end.ensures) (c.of_session.ensures.tail ∙ ap (λ (left : Leaves _). left.tail) c.into_end.ensures)
     (c.of_session.ensures.taken ∙ ap (λ (left : Leaves _). left.taken) c.into_end.ensures) (c.of_session.ensures.steps ∙ ap (λ (left : Leaves _). left.steps) c.into_end.ensures)
 
+-- a count that rose within a call rose in all of it
+rose_within : {start from to end : ℕ} → start ≤ from → to ≤ end → Rose from to → Rose start end
+rose_within before behind (inl risen) = inl (omega (arith, before, behind, risen))
+rose_within before behind (inr last) = inr (omega (arith, behind, last))
+
 pub returns-clause-faults : goal.returns-clause-faults
 returns-clause-faults g c = record {
-  file_fault = search rules;
+  file_fault = λ is. elim (c.end_notes-answer.ensures.file_fault (sym c.of_session.ensures.answer ∙ is)) [
+    | inl served ↦ rose_within (omega (arith, c.in-Ok.ensures.later, c.in_default.ensures.cause.later)) c.end_notes-answer.ensures.later (c.serve_noted-ended.ensures.faults.file_fault served)
+    | inr ended ↦ rose_within (omega (arith, c.in-Ok.ensures.later, c.in_default.ensures.cause.later, c.serve_noted-ended.ensures.later)) (omega arith) ended
+  ];
   read_fault = λ is. c.serve_noted-ended.ensures.faults.read_fault (closes_other (run_shown c.args.run.now) _ _ _ _ _ _ not_read c.end_notes-answer.ensures.closes (sym c.of_session.ensures.answer ∙ is));
   write_fault = λ is. c.serve_noted-ended.ensures.faults.write_fault (closes_other (run_shown c.args.run.now) _ _ _ _ _ _ not_write c.end_notes-answer.ensures.closes (sym c.of_session.ensures.answer ∙ is));
 }

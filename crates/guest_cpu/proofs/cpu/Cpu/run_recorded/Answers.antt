@@ -1,6 +1,6 @@
-use Rattle.guest_cpu.proofs.Terms.{None, arith, subst, sym, ◌∙◌, ◌≡◌, recorded, CpuState, cpu_state, live_of, with_live, Breaks, Reaches}
+use Rattle.guest_cpu.proofs.Terms.{None, arith, refl, subst, sym, ◌∙◌, ◌≡◌, recorded, CpuState, cpu_state, live_of, with_live, Breaks, Reaches}
 use Rattle.guest_cpu.specs.declared.event.Question.TheVariants as question
-use Rattle.guest_cpu.proofs.CpuLemmas.{recorded_lives_by, goes_on, reaches, breaks, same_cpu}
+use Rattle.guest_cpu.proofs.CpuLemmas.{goes_none, recorded_lives_by, goes_on, reaches, breaks, same_cpu}
 use Rattle.guest_cpu.proofs.QuietLemmas.{goes_recorded, ran_counts}
 use Rattle.guest_cpu.proofs.cpu.Cpu.run_recorded.Goals as goal
 
@@ -26,14 +26,14 @@ pub returns-in-Ok-Some-clause-question : goal.returns-in-Ok-Some-clause-question
 returns-in-Ok-Some-clause-question g c =
     subst (λ (state : CpuState _). Reaches (recorded c.args.until) state.base (live_of state) c.in-Ok-Some.question
     (live_of (cpu_state c.run.self-inside.rule c.advance_as_recorded.new.core c.advance_as_recorded.new.space c.run.self-inside.saved.items c.run.self-inside.line)))
-    (same_cpu _ _ _ _ _ _ _ _ c.run.invariant.3 c.run.invariant.1 c.run.invariant.2 ∙ c.self.view_is)
+    (same_cpu _ _ _ c.self.inside.space _ _ _ _ c.run.invariant.3 c.run.invariant.1 c.run.invariant.2 ∙ c.self.view_is)
     (reaches _ _ _ _ _ _ _ _ _ _ c.in-Ok-Some.question (goes_recorded c.args.until _ _ _ _ _ _ _ _ _ _ c.run.invariant.0 c.go_quietly.ensures.ran c.saturating_sub-most.ensures) (rw c.in-Ok-Some.field-0-is at c.in-Ok-Some.ensures.turned) c.advance_as_recorded.ensures.keeps).0
 
 pub returns-in-Ok-Some-clause-kept : goal.returns-in-Ok-Some-clause-kept
 returns-in-Ok-Some-clause-kept g c =
     subst (λ (state : CpuState _). cpu_state c.run.self-inside.rule c.advance_as_recorded.new.core c.advance_as_recorded.new.space c.run.self-inside.saved.items c.run.self-inside.line
     ≡ with_live (live_of (cpu_state c.run.self-inside.rule c.advance_as_recorded.new.core c.advance_as_recorded.new.space c.run.self-inside.saved.items c.run.self-inside.line)) state)
-    (same_cpu _ _ _ _ _ _ _ _ c.run.invariant.3 c.run.invariant.1 c.run.invariant.2 ∙ c.self.view_is)
+    (same_cpu _ _ _ c.self.inside.space _ _ _ _ c.run.invariant.3 c.run.invariant.1 c.run.invariant.2 ∙ c.self.view_is)
     (reaches _ _ _ _ _ _ _ _ _ _ c.in-Ok-Some.question (goes_recorded c.args.until _ _ _ _ _ _ _ _ _ _ c.run.invariant.0 c.go_quietly.ensures.ran c.saturating_sub-most.ensures) (rw c.in-Ok-Some.field-0-is at c.in-Ok-Some.ensures.turned) c.advance_as_recorded.ensures.keeps).1
 
 pub returns-in-Ok-Some-clause-lives : goal.returns-in-Ok-Some-clause-lives
@@ -52,12 +52,15 @@ pub returns-in-Err-clause-question : goal.returns-in-Err-clause-question
 returns-in-Err-clause-question g c =
     subst (λ (state : CpuState _). Breaks question.Emits (recorded c.args.until) state.base (live_of state)
     (live_of (cpu_state c.run.self-inside.rule c.advance_as_recorded.new.core c.advance_as_recorded.new.space c.run.self-inside.saved.items c.run.self-inside.line)))
-    (same_cpu _ _ _ _ _ _ _ _ c.run.invariant.3 c.run.invariant.1 c.run.invariant.2 ∙ c.self.view_is)
+    (same_cpu _ _ _ c.self.inside.space _ _ _ _ c.run.invariant.3 c.run.invariant.1 c.run.invariant.2 ∙ c.self.view_is)
     (breaks question.Emits _ _ _ _ _ _ _ _ _ _ (goes_recorded c.args.until _ _ _ _ _ _ _ _ _ _ c.run.invariant.0 c.go_quietly.ensures.ran c.saturating_sub-most.ensures) c.in-Err.ensures.turned.0 c.in-Err.ensures.turned.1 c.in-Err.ensures.turned.2).0
 
 pub returns-in-Err-clause-kept : goal.returns-in-Err-clause-kept
 returns-in-Err-clause-kept g c =
     subst (λ (state : CpuState _). cpu_state c.run.self-inside.rule c.advance_as_recorded.new.core c.advance_as_recorded.new.space c.run.self-inside.saved.items c.run.self-inside.line
     ≡ with_live (live_of (cpu_state c.run.self-inside.rule c.advance_as_recorded.new.core c.advance_as_recorded.new.space c.run.self-inside.saved.items c.run.self-inside.line)) state)
-    (same_cpu _ _ _ _ _ _ _ _ c.run.invariant.3 c.run.invariant.1 c.run.invariant.2 ∙ c.self.view_is)
+    (same_cpu _ _ _ c.self.inside.space _ _ _ _ c.run.invariant.3 c.run.invariant.1 c.run.invariant.2 ∙ c.self.view_is)
     (breaks question.Emits _ _ _ _ _ _ _ _ _ _ (goes_recorded c.args.until _ _ _ _ _ _ _ _ _ _ c.run.invariant.0 c.go_quietly.ensures.ran c.saturating_sub-most.ensures) c.in-Err.ensures.turned.0 c.in-Err.ensures.turned.1 c.in-Err.ensures.turned.2).1
+
+pub run-init : goal.run-init
+run-init g c = (goes_none _ _ _ _ _ _ c.self.invariant c.sound.ensures, refl, refl, refl, refl, refl)

@@ -1,7 +1,6 @@
 use Rattle.std.specs.Prelude.{Ok}
-use Rattle.guest_space.specs.Stretches.{AreOpen}
-use Rattle.rv_exec.proofs.Terms.{◌%◌, ◌+◌, ◌-◌, ◌≡◌, ◌≤◌, IfSome, slice_index, Reads, flat, Ran, regs_of}
-use Rattle.rv_exec.proofs.quick.run_on.Given as goal
+use Rattle.rv_exec.proofs.Terms.{◌%◌, ◌+◌, ◌-◌, ◌≡◌, ◌≤◌, IfSome, slice_index, Reads, flat, AreOpen, Ran, regs_of}
+use Rattle.rv_exec.proofs.quick.run_words.Given as goal
 
 -- so many instructions were done, each counted
 abbrev pub invariant-run : goal.invariant-run

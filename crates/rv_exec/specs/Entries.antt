@@ -1,0 +1,59 @@
+-- Instructions that are done by the entries of a table.
+use Rattle.std.specs.Prelude.{◌≡◌, ℕ, ◌+◌, ◌%◌, ◌^◌, ◌<◌, ◌≤◌, ℤ, Bool, List, take, slice_index}
+use Rattle.rv_exec.specs.Terms.{Heap, Entry, EntryOp, IsEntryOf, address, Regs, word_count, GuestPages}
+use Rattle.rv_exec.specs.declared.entries.Next.{Next}
+use Rattle.rv_exec.specs.declared.entries.Next.TheVariants.{Behind, To, Stops}
+use Rattle.rv_exec.specs.Quick.{IsDone, IsStep, regs_of}
+
+-- the registers that a guest sees: the last one takes what is written to register 0
+abbrev pub seen : List ℕ → List ℕ
+seen x = take 32 x
+
+-- the program counter of a word, by its number among those from a start on, or behind the last one
+abbrev pub counter : ℕ → ℕ → ℕ
+counter start number = address start number % 2 ^ 32
+
+-- the number of the entry that comes next
+abbrev pub number_of : ℕ → Next → ℕ
+number_of number Behind = number + 1
+number_of number (To other) = other
+number_of number Stops = number
+
+-- the word that an entry was made of was done, and register 0 holds 0
+pub record IsEntryDone (rule : Heap → ℕ → ℕ → Bool) (heap : Heap) (start number word : ℕ) (x : List ℕ) (space : GuestPages) (next : Next) (new_x : List ℕ) (new_space : GuestPages) : Type 0 where
+  pub zero : slice_index new_x 0 ≡ 0
+  pub done : IsDone rule heap word (regs_of (address start number) (seen x)) space (regs_of (counter start (number_of number next)) (seen new_x)) new_space
+
+-- an entry was done, of whatever word it is; or nothing changed
+abbrev pub EntryDone : (Heap → ℕ → ℕ → Bool) → Heap → ℕ → ℕ → Entry → List ℕ → GuestPages → Next → List ℕ → GuestPages → Type 0
+EntryDone rule heap start number entry x space Stops new_x new_space = (new_x ≡ x) × (new_space ≡ space)
+EntryDone rule heap start number entry x space next new_x new_space = (word : ℕ) → IsEntryOf start number word entry → IsEntryDone rule heap start number word x space next new_x new_space
+
+-- an entry that is gone to is one of so many
+abbrev pub IsAmong : ℕ → Next → Type 0
+IsAmong count (To other) = other < count
+IsAmong count _ = Unit
+
+-- an entry of an operation with these operands
+pub record IsWritten (op : EntryOp) (rs1 rs2 : ℕ) (imm : ℤ) (entry : Entry) : Type 0 where
+  pub kind : entry.op ≡ op
+  pub first : entry.rs1 ≡ rs1
+  pub second : entry.rs2 ≡ rs2
+  pub offset : entry.imm ≡ imm
+
+-- a number among those of a memory's code, of so many words from a start on, or the one behind them
+pub record IsAt (start count number : ℕ) (space : GuestPages) : Type 0 where
+  pub start_is : start ≡ space.code.start
+  pub count_is : count ≡ word_count space.code
+  pub within : number ≤ count
+
+-- the instruction at the program counter was done, or nothing changed
+abbrev pub StepsOrStays : (Heap → ℕ → ℕ → Bool) → Heap → Regs → GuestPages → Next → Regs → GuestPages → Type 0
+StepsOrStays rule heap regs space Stops new_regs new_space = (new_regs ≡ regs) × (new_space ≡ space)
+StepsOrStays rule heap regs space next new_regs new_space = IsStep rule heap regs space new_regs new_space
+
+-- the entry of a number was done, or nothing changed
+pub record Entered (rule : Heap → ℕ → ℕ → Bool) (heap : Heap) (start count number : ℕ) (x : List ℕ) (space : GuestPages) (next : Next) (new_x : List ℕ) (new_space : GuestPages) : Type 0 where
+  pub zero : slice_index new_x 0 ≡ 0
+  pub place : IsAt start count (number_of number next) new_space
+  pub done : StepsOrStays rule heap (regs_of (counter start number) (seen x)) space next (regs_of (counter start (number_of number next)) (seen new_x)) new_space

@@ -1,0 +1,368 @@
+// Instructions that are done by the entries of a table. What none of these functions does is left to `step`.
+ghost use Rattle.std.specs.Prelude.{◌≡◌, ◌+◌, ◌*◌, ◌%◌, ◌^◌, ◌<◌, ◌≤◌, ℕ, Bool, IfSome, slice_index};
+ghost use Rattle.block_book.specs.Heap.{Heap};
+ghost use Rattle.guest_space.specs.Space.{GuestPages};
+ghost use Rattle.guest_space.specs.Stretches.{IsOpen, AreOpen};
+ghost use Rattle.code_table.specs.Entries.{address, of_reg, of_imm, of_branch, of_load, of_store, IsLinked};
+ghost use Rattle.code_table.specs.declared.entry.Entry.{Entry};
+ghost use Rattle.guest_space.specs.Code.{word_count};
+ghost use Rattle.rv_exec.specs.Quick.{KeepsAreas, Ran};
+ghost use Rattle.rv_exec.specs.Entries.{counter, number_of, seen, IsWritten, EntryDone, IsAmong, IsAt, Entered};
+
+use block_book::Book;
+use code_table::{Entry, EntryOp};
+use guest_space::{AccessRule, GuestSpace, Stretch, Stretches};
+use run_history::Regs;
+use rv_isa::{
+    BranchOp, ImmOp, LoadOp, RegOp, StoreOp, alu, alu_imm, bytes_loaded, bytes_stored, compare,
+    displace, extend, target_of_jalr, upper_word,
+};
+use rx_io::Steps;
+use std::sync::ledger::Ledger;
+
+/// What comes after an entry: the one behind it, or another one by its number; or it wasn't done, and nothing changed.
+#[derive(Clone, Copy, Debug)]
+pub enum Next {
+    Behind,
+    To(usize),
+    Stops,
+}
+
+/// The program counter of a word, by its number.
+#[inline(always)]
+pub fn counter_of(start: u32, number: usize) -> u32
+    requires { address start number ≤ 2 ^ 32 }
+    ensures { result ≡ counter start number }
+{
+    start.wrapping_add((number as u32).wrapping_mul(4))
+}
+
+/// The number of the word at an address, where that is one of so many words from a start on.
+#[inline(always)]
+pub fn number_at(start: u32, count: usize, at: u32) -> Option<usize>
+    requires { address start count ≤ 2 ^ 32 }
+    ensures { IfSome result (λ number. (number < count) × (address start number ≡ at)) }
+{
+    let away = at.wrapping_sub(start);
+    if away % 4 != 0 {
+        return None;
+    }
+    let number = (away / 4) as usize;
+    if number >= count {
+        return None;
+    }
+    Some(number)
+}
+
+/// LUI and AUIPC.
+#[inline(always)]
+fn enter_set(x: &mut [u32; 33], e: &Entry) -> Next
+    requires kind { e.now.op ≡ EntryOp.Set }
+    requires zero { slice_index x.old 0 ≡ 0 }
+    ensures done { (rule : Heap → ℕ → ℕ → Bool) (heap : Heap) (space : GuestPages) (start number : ℕ) → EntryDone rule heap start number e.now x.old space result x.new space }
+    ensures among { (count : ℕ) → IsAmong count result }
+{
+    x[e.rd as usize] = upper_word(e.imm);
+    Next::Behind
+}
+
+/// JAL.
+#[inline(always)]
+fn enter_jal(x: &mut [u32; 33], e: &Entry, start: u32, number: usize) -> Next
+    requires kind { e.now.op ≡ EntryOp.Jal }
+    requires whole { start % 4 ≡ 0 }
+    requires below { address start number ≤ 2 ^ 32 }
+    requires zero { slice_index x.old 0 ≡ 0 }
+    ensures done { (rule : Heap → ℕ → ℕ → Bool) (heap : Heap) (space : GuestPages) → EntryDone rule heap start number e.now x.old space result x.new space }
+    ensures among { (count : ℕ) → IsLinked count e.now → IsAmong count result }
+{
+    x[e.rd as usize] = counter_of(start, number).wrapping_add(4);
+    Next::To(upper_word(e.imm) as usize)
+}
+
+/// JALR to one of so many words: the base is read before the register is written, which may be the same one.
+#[inline(always)]
+fn enter_jalr(x: &mut [u32; 33], e: &Entry, start: u32, count: usize, number: usize) -> Next
+    requires kind { e.now.op ≡ EntryOp.Jalr }
+    requires whole { start % 4 ≡ 0 }
+    requires below { address start count ≤ 2 ^ 32 }
+    requires within { number ≤ count }
+    requires zero { slice_index x.old 0 ≡ 0 }
+    ensures done { (rule : Heap → ℕ → ℕ → Bool) (heap : Heap) (space : GuestPages) → EntryDone rule heap start number e.now x.old space result x.new space }
+    ensures among { IsAmong count result }
+{
+    let target = target_of_jalr(x[e.rs1 as usize], e.imm);
+    let Some(other) = number_at(start, count, target) else {
+        return Next::Stops;
+    };
+    x[e.rd as usize] = counter_of(start, number).wrapping_add(4);
+    Next::To(other)
+}
+
+/// A conditional branch of one kind.
+#[inline(always)]
+fn enter_branch(x: &[u32; 33], e: &Entry, op: BranchOp) -> Next
+    requires kind { e.now.op ≡ of_branch op }
+    requires zero { slice_index x.now 0 ≡ 0 }
+    ensures done { (rule : Heap → ℕ → ℕ → Bool) (heap : Heap) (space : GuestPages) (start number : ℕ) → start % 4 ≡ 0 → EntryDone rule heap start number e.now x.now space result x.now space }
+    ensures among { (count : ℕ) → IsLinked count e.now → IsAmong count result }
+{
+    if compare(op, x[e.rs1 as usize], x[e.rs2 as usize]) {
+        return Next::To(upper_word(e.imm) as usize);
+    }
+    Next::Behind
+}
+
+/// A load of one kind.
+#[inline(always)]
+fn enter_load<R: AccessRule>(
+    x: &mut [u32; 33],
+    e: &Entry,
+    space: &GuestSpace,
+    book: &Book,
+    rule: &R,
+    stretch: &mut Stretch,
+    op: LoadOp,
+) -> Next
+    requires kind { e.now.op ≡ of_load op }
+    requires zero { slice_index x.old 0 ≡ 0 }
+    requires holds { IsOpen 4 space.now.spans stretch.old }
+    ensures holds { IsOpen 4 space.now.spans stretch.new }
+    ensures done { (start number : ℕ) → EntryDone (R.rule rule.now) book.now start number e.now x.old space.now result x.new space.now }
+    ensures among { (count : ℕ) → IsAmong count result }
+{
+    let at = displace(x[e.rs1 as usize], e.imm);
+    let size = bytes_loaded(op);
+    if !rule.permits(book, at, size) {
+        return Next::Stops;
+    }
+    let Some(value) = space.load_by(stretch, at, size) else {
+        return Next::Stops;
+    };
+    x[e.rd as usize] = extend(op, value);
+    Next::Behind
+}
+
+/// A store of one kind. Its entry is one of the memory, so it comes in parts.
+#[inline(always)]
+fn enter_store<R: AccessRule>(
+    x: &[u32; 33],
+    rs1: u8,
+    rs2: u8,
+    imm: i32,
+    space: &mut GuestSpace,
+    book: &Book,
+    rule: &R,
+    stretch: &mut Stretch,
+    op: StoreOp,
+) -> Next
+    requires first { rs1 < 32 }
+    requires second { rs2 < 32 }
+    requires zero { slice_index x.now 0 ≡ 0 }
+    requires holds { IsOpen 2 space.old.spans stretch.old }
+    ensures holds { IsOpen 2 space.old.spans stretch.new }
+    ensures stays { KeepsAreas space.old space.new }
+    ensures done { (start number : ℕ) (entry : Entry) → IsWritten (of_store op) rs1 rs2 imm entry → EntryDone (R.rule rule.now) book.now start number entry x.now space.old result x.now space.new }
+    ensures among { (count : ℕ) → IsAmong count result }
+{
+    let at = displace(x[rs1 as usize], imm);
+    let size = bytes_stored(op);
+    if !rule.permits(book, at, size) {
+        return Next::Stops;
+    }
+    if !space.store_by(stretch, at, size, x[rs2 as usize]) {
+        return Next::Stops;
+    }
+    Next::Behind
+}
+
+/// An operation of one kind on a register and an immediate.
+#[inline(always)]
+fn enter_op_imm(x: &mut [u32; 33], e: &Entry, op: ImmOp) -> Next
+    requires kind { e.now.op ≡ of_imm op }
+    requires zero { slice_index x.old 0 ≡ 0 }
+    ensures done { (rule : Heap → ℕ → ℕ → Bool) (heap : Heap) (space : GuestPages) (start number : ℕ) → EntryDone rule heap start number e.now x.old space result x.new space }
+    ensures among { (count : ℕ) → IsAmong count result }
+{
+    x[e.rd as usize] = alu_imm(op, x[e.rs1 as usize], e.imm);
+    Next::Behind
+}
+
+/// An operation of one kind on two registers.
+#[inline(always)]
+fn enter_op(x: &mut [u32; 33], e: &Entry, op: RegOp) -> Next
+    requires kind { e.now.op ≡ of_reg op }
+    requires zero { slice_index x.old 0 ≡ 0 }
+    ensures done { (rule : Heap → ℕ → ℕ → Bool) (heap : Heap) (space : GuestPages) (start number : ℕ) → EntryDone rule heap start number e.now x.old space result x.new space }
+    ensures among { (count : ℕ) → IsAmong count result }
+{
+    x[e.rd as usize] = alu(op, x[e.rs1 as usize], x[e.rs2 as usize]);
+    Next::Behind
+}
+
+/// Does the entry of a number.
+#[inline(always)]
+fn enter<R: AccessRule>(
+    x: &mut [u32; 33],
+    start: u32,
+    count: usize,
+    number: usize,
+    space: &mut GuestSpace,
+    book: &Book,
+    rule: &R,
+    stretches: &mut Stretches,
+) -> Next
+    requires place { IsAt start count number space.old }
+    requires zero { slice_index x.old 0 ≡ 0 }
+    requires holds { AreOpen space.old.spans stretches.old }
+    ensures holds { AreOpen space.new.spans stretches.new }
+    ensures done { Entered (R.rule rule.now) book.now start count number x.old space.old result x.new space.new }
+{
+    space.sound();
+    let e = space.entry(number);
+    match e.op {
+        EntryOp::Stop => Next::Stops,
+        EntryOp::Set => enter_set(x, e),
+        EntryOp::Jal => enter_jal(x, e, start, number),
+        EntryOp::Jalr => enter_jalr(x, e, start, count, number),
+        EntryOp::Beq => enter_branch(x, e, BranchOp::Beq),
+        EntryOp::Bne => enter_branch(x, e, BranchOp::Bne),
+        EntryOp::Blt => enter_branch(x, e, BranchOp::Blt),
+        EntryOp::Bge => enter_branch(x, e, BranchOp::Bge),
+        EntryOp::Bltu => enter_branch(x, e, BranchOp::Bltu),
+        EntryOp::Bgeu => enter_branch(x, e, BranchOp::Bgeu),
+        EntryOp::Lb => {
+            let stretch = &mut stretches.loads[e.rs1 as usize];
+            enter_load(x, e, space, book, rule, stretch, LoadOp::Lb)
+        }
+        EntryOp::Lh => {
+            let stretch = &mut stretches.loads[e.rs1 as usize];
+            enter_load(x, e, space, book, rule, stretch, LoadOp::Lh)
+        }
+        EntryOp::Lw => {
+            let stretch = &mut stretches.loads[e.rs1 as usize];
+            enter_load(x, e, space, book, rule, stretch, LoadOp::Lw)
+        }
+        EntryOp::Lbu => {
+            let stretch = &mut stretches.loads[e.rs1 as usize];
+            enter_load(x, e, space, book, rule, stretch, LoadOp::Lbu)
+        }
+        EntryOp::Lhu => {
+            let stretch = &mut stretches.loads[e.rs1 as usize];
+            enter_load(x, e, space, book, rule, stretch, LoadOp::Lhu)
+        }
+        EntryOp::Sb => {
+            let (rs1, rs2, imm) = (e.rs1, e.rs2, e.imm);
+            let stretch = &mut stretches.stores[rs1 as usize];
+            enter_store(x, rs1, rs2, imm, space, book, rule, stretch, StoreOp::Sb)
+        }
+        EntryOp::Sh => {
+            let (rs1, rs2, imm) = (e.rs1, e.rs2, e.imm);
+            let stretch = &mut stretches.stores[rs1 as usize];
+            enter_store(x, rs1, rs2, imm, space, book, rule, stretch, StoreOp::Sh)
+        }
+        EntryOp::Sw => {
+            let (rs1, rs2, imm) = (e.rs1, e.rs2, e.imm);
+            let stretch = &mut stretches.stores[rs1 as usize];
+            enter_store(x, rs1, rs2, imm, space, book, rule, stretch, StoreOp::Sw)
+        }
+        EntryOp::Addi => enter_op_imm(x, e, ImmOp::Addi),
+        EntryOp::Slti => enter_op_imm(x, e, ImmOp::Slti),
+        EntryOp::Sltiu => enter_op_imm(x, e, ImmOp::Sltiu),
+        EntryOp::Xori => enter_op_imm(x, e, ImmOp::Xori),
+        EntryOp::Ori => enter_op_imm(x, e, ImmOp::Ori),
+        EntryOp::Andi => enter_op_imm(x, e, ImmOp::Andi),
+        EntryOp::Slli => enter_op_imm(x, e, ImmOp::Slli),
+        EntryOp::Srli => enter_op_imm(x, e, ImmOp::Srli),
+        EntryOp::Srai => enter_op_imm(x, e, ImmOp::Srai),
+        EntryOp::Add => enter_op(x, e, RegOp::Add),
+        EntryOp::Sub => enter_op(x, e, RegOp::Sub),
+        EntryOp::Sll => enter_op(x, e, RegOp::Sll),
+        EntryOp::Slt => enter_op(x, e, RegOp::Slt),
+        EntryOp::Sltu => enter_op(x, e, RegOp::Sltu),
+        EntryOp::Xor => enter_op(x, e, RegOp::Xor),
+        EntryOp::Srl => enter_op(x, e, RegOp::Srl),
+        EntryOp::Sra => enter_op(x, e, RegOp::Sra),
+        EntryOp::Or => enter_op(x, e, RegOp::Or),
+        EntryOp::And => enter_op(x, e, RegOp::And),
+        EntryOp::Mul => enter_op(x, e, RegOp::Mul),
+        EntryOp::Mulh => enter_op(x, e, RegOp::Mulh),
+        EntryOp::Mulhsu => enter_op(x, e, RegOp::Mulhsu),
+        EntryOp::Mulhu => enter_op(x, e, RegOp::Mulhu),
+        EntryOp::Div => enter_op(x, e, RegOp::Div),
+        EntryOp::Divu => enter_op(x, e, RegOp::Divu),
+        EntryOp::Rem => enter_op(x, e, RegOp::Rem),
+        EntryOp::Remu => enter_op(x, e, RegOp::Remu),
+    }
+}
+
+/// The registers with one more, which takes what is written to register 0.
+#[inline(always)]
+fn with_last(x: &[u32; 32]) -> [u32; 33]
+    ensures { seen result ≡ x.now }
+{
+    let mut all = [0; 33];
+    let (front, _) = all.split_at_mut(32);
+    front.copy_from_slice(x);
+    all
+}
+
+/// The registers without the last one.
+#[inline(always)]
+fn without_last(all: &[u32; 33]) -> [u32; 32]
+    ensures { result ≡ seen all.now }
+{
+    let mut x = [0; 32];
+    let (front, _) = all.split_at(32);
+    x.copy_from_slice(front);
+    x
+}
+
+/// Does instructions that are no calls one after another by their entries, from the one of a number on, and counts a step for
+/// each. The answer is how many were done, at most so many as are given. It may stop before any instruction.
+#[inline(never)]
+pub fn run_entries<R: AccessRule, L: Ledger>(
+    regs: &mut Regs,
+    first: usize,
+    space: &mut GuestSpace,
+    book: &Book,
+    rule: &R,
+    most: u64,
+    steps: &mut Steps<L>,
+) -> u64
+    requires place { IsAt space.old.code.start (word_count space.old.code) first space.old }
+    requires counter { regs.old.pc ≡ counter space.old.code.start first }
+    requires zero { slice_index regs.old.x 0 ≡ 0 }
+    ensures ran { Ran (R.rule rule.now) book.now result regs.old space.old regs.new space.new }
+    ensures within { result ≤ most }
+    ensures counted { steps.new ≡ steps.old + result }
+{
+    space.sound();
+    let start = space.code_start();
+    let count = space.code_len() - 1;
+    let mut x = with_last(&regs.x);
+    let mut stretches = Stretches::none();
+    let mut number = first;
+    let mut left = most;
+    'run: while left > 0 {
+        match enter(
+            &mut x,
+            start,
+            count,
+            number,
+            space,
+            book,
+            rule,
+            &mut stretches,
+        ) {
+            Next::Behind => number += 1,
+            Next::To(other) => number = other,
+            Next::Stops => break 'run,
+        }
+        steps.tick();
+        left -= 1;
+    }
+    regs.x = without_last(&x);
+    regs.pc = counter_of(start, number);
+    most - left
+}
