@@ -11,9 +11,12 @@ the record and the report. An rx that recovers and writes neither of them yet is
 recover either, --no-recovery takes each first failure for the end. With --wild all programs are of pseudo-random words, and
 with --long sessions have up to 250 messages or more, a ring and frames of any size, and a wider hold and --every.
 
+With --code the sessions are those of a few programs that go where code and memory meet: they write their own code, jump into a second
+segment of code or to half of an instruction, load and store across pages, and store into pages that a checkpoint shares.
+
 With --self no rx is run: whole sessions of the second engine are checked against what each of them promises, and counted.
 
-usage: compare_runs.py (--sessions [--no-files | --no-recovery] [--wild] [--long] | --self) [--runs N] [--seed N] [RX]
+usage: compare_runs.py (--sessions [--no-files | --no-recovery] [--wild] [--long] | --code | --self) [--runs N] [--seed N] [RX]
 RX is the built rx, crates/rx/out/rx unless it is given.
 """
 
@@ -21,7 +24,7 @@ import argparse
 import os
 import sys
 
-from second import beside_rx, self_check
+from second import beside_rx, code_programs, self_check
 
 HERE = os.path.dirname(os.path.abspath(__file__))
 
@@ -30,6 +33,7 @@ def words_of(words):
     parser = argparse.ArgumentParser(description=__doc__, formatter_class=argparse.RawDescriptionHelpFormatter)
     what = parser.add_mutually_exclusive_group(required=True)
     what.add_argument("--sessions", action="store_true")
+    what.add_argument("--code", action="store_true")
     what.add_argument("--self", action="store_true", dest="alone")
     lacks = parser.add_mutually_exclusive_group()
     lacks.add_argument("--no-files", action="store_true")
@@ -47,6 +51,8 @@ def main(words):
     if asked.alone:
         return self_check.check(asked.runs, asked.seed)
     rx = beside_rx.Rx(os.path.abspath(asked.rx), not asked.no_recovery, not asked.no_recovery and not asked.no_files)
+    if asked.code:
+        return code_programs.compare(rx)
     return beside_rx.compare(rx, asked.runs, asked.seed, asked.wild, asked.long)
 
 

@@ -71,6 +71,14 @@ impl CodeTable {
         self.entries.len()
     }
 
+    /// The entries, with the last one, which stops.
+    #[inline(always)]
+    pub fn entries(&self) -> &[Entry]
+        ensures { result.now ≡ self.now.entries }
+    {
+        self.entries.as_slice()
+    }
+
     /// The entry of this number.
     #[inline(always)]
     pub fn entry(&self, number: usize) -> &Entry

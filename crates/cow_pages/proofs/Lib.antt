@@ -11,4 +11,6 @@ pub mod SlotSteps
 pub mod RunSteps
 pub mod Making
 pub mod SavingOver
+pub mod Moving
 pub mod PutThere
+pub mod Lemmas

@@ -1,29 +1,11 @@
 -- A table that becomes the live one, entry by entry.
-use Rattle.cow_pages.proofs.Terms.{List, [], ap, arith, cond, drop, false, get_or, inl, inr, length, nat_lt, set, subst, sym, take, true, ℕ, ◌++◌, ◌+◌, ◌-◌, ◌<◌, ◌||◌, ◌∙◌, ◌∷◌, ◌≡◌, ◌≤◌, ◌⊎◌, cases_eq, cases_lt, le-ltb, lt-ltb, or_right, drop_more, ext_get_or, get_or-append-add, get_or-drop, get_or-set_other, get_or-set_same, get_or-take, length-append, length-set, different, has, IsRenewed, IsStack, Recounts, places}
+use Rattle.cow_pages.proofs.Terms.{List, [], ap, arith, cond, drop, false, get_or, inl, inr, length, nat_lt, refl, set, subst, sym, take, true, ℕ, ◌%◌, ◌++◌, ◌+◌, ◌-◌, ◌<◌, ◌||◌, ◌∙◌, ◌∷◌, ◌≡◌, ◌≤◌, ◌⊎◌, cases_eq, cases_lt, le-ltb, lt-ltb, or_right, drop_more, ext_get_or, get_or-append-add, get_or-drop, get_or-set_other, get_or-set_same, get_or-take, length-append, length-set, different, has, IsRenewed, IsStack, Recounts, RECENT, SameUpTo, StandFrom, StaySame, places}
 use Rattle.cow_pages.proofs.Counting.{AreBelow, places-append, places-take-drop, has-get_or, places-set}
 use Rattle.cow_pages.proofs.Walks.{below_append, below_front, below_take, below_drop, places-here, places-there, different-front, in_use, stack_same, uncount_kept, uncount_free, counted_room, not-live, small}
 use Rattle.cow_pages.proofs.Slots.{same_different}
 
--- entries that are those of the live table already
-pub renewed_on : (i j : ℕ) (counts table live free : List ℕ) → IsRenewed i counts table live free → i ≤ j → ((k : ℕ) → i ≤ k → k < j → get_or table k 0 ≡ get_or live k 0) → IsRenewed j counts table live free
-renewed_on i j counts table live free so order same = record {
-  size = so.size;
-  below = so.below;
-  live_below = so.live_below;
-  home = so.home;
-  once = so.once;
-  same = λ k less.
-      elim (cases_lt k i) [
-        | inl before ↦ so.same k before
-        | inr later ↦ same k later less
-      ];
-  counted = so.counted;
-  few = λ k from inside. so.few k (omega arith) inside;
-  stack = so.stack;
-}
-
 -- the frame that a table has at a place is counted
-pub renewed_some : (i : ℕ) (counts table live free : List ℕ) (x : ℕ) → IsRenewed i counts table live free → i < length table → x ≡ get_or table i 0 → 0 < get_or counts x 0
+pub renewed_some : (i : ℕ) (counts table live free : List ℕ) (x : ℕ) → IsRenewed counts table live free → i < length table → x ≡ get_or table i 0 → 0 < get_or counts x 0
 renewed_some i counts table live free x so less is =
     let near : x < length counts = subst (λ n. n < length counts) (sym is) (so.below i less) in
     let front : places x table ≡ places x (take i table) + places x (drop i table) = sym (places-take-drop x i table) in
@@ -32,11 +14,11 @@ renewed_some i counts table live free x so less is =
     omega (arith, so.counted x near)
 
 -- and it isn't live, where the live table has another one there
-pub renewed_gone : (i : ℕ) (counts table live free : List ℕ) (x y : ℕ) → IsRenewed i counts table live free → i < length table → x ≡ get_or table i 0 → y ≡ get_or live i 0 → (x ≡ y → ⊥) → has x live ≡ false
+pub renewed_gone : (i : ℕ) (counts table live free : List ℕ) (x y : ℕ) → IsRenewed counts table live free → i < length table → x ≡ get_or table i 0 → y ≡ get_or live i 0 → (x ≡ y → ⊥) → has x live ≡ false
 renewed_gone i counts table live free x y so less is live_is other =
     not-live table live i x so.home less is (λ e. other (sym e ∙ sym live_is))
 
-pub renewed_room : (i : ℕ) (counts table live free : List ℕ) (x : ℕ) → IsRenewed i counts table live free → i < length table → x ≡ get_or table i 0 → length free < length counts
+pub renewed_room : (i : ℕ) (counts table live free : List ℕ) (x : ℕ) → IsRenewed counts table live free → i < length table → x ≡ get_or table i 0 → length free < length counts
 renewed_room i counts table live free x so less is =
     let near : x < length counts = subst (λ n. n < length counts) (sym is) (so.below i less) in
     counted_room counts live free x so.stack near (renewed_some i counts table live free x so less is)
@@ -93,8 +75,8 @@ turned-at counts x y n near inside differ some =
           ]
     ]
 
--- one more entry becomes the live one
-pub renewed_more : (i : ℕ) (counts table live free : List ℕ) (x y : ℕ) → IsRenewed i counts table live free → i < length table → x ≡ get_or table i 0 → y ≡ get_or live i 0 → (x ≡ y → ⊥) → IsRenewed (i + 1) (turned_counts counts x y) (set table i y) live (cond (nat_lt 0 (get_or counts x 0 - 1)) free (free ++ x ∷ []))
+-- an entry becomes the live one
+pub renewed_more : (i : ℕ) (counts table live free : List ℕ) (x y : ℕ) → IsRenewed counts table live free → i < length table → x ≡ get_or table i 0 → y ≡ get_or live i 0 → (x ≡ y → ⊥) → IsRenewed (turned_counts counts x y) (set table i y) live (cond (nat_lt 0 (get_or counts x 0 - 1)) free (free ++ x ∷ []))
 renewed_more i counts table live free x y so less is live_is differ =
     let within : i < length live = omega (arith, so.size) in
     let near : x < length counts = subst (λ n. n < length counts) (sym is) (so.below i less) in
@@ -125,18 +107,18 @@ renewed_more i counts table live free x y so less is live_is differ =
             | inr f ↦ so.home k j old lj (sym f ∙ e)
           ];
       once = so.once;
-      same = λ k under.
-          elim (cases_eq i k) [
-            | inl here ↦ subst (λ m. get_or (set table i y) m 0 ≡ get_or live m 0) here (get_or-set_same table i y 0 less ∙ live_is)
-            | inr other ↦ get_or-set_other table i k y 0 (λ e. other (sym e)) ∙ so.same k (omega arith)
-          ];
       counted = λ n under.
           let a : places n (set table i y) + places n (x ∷ []) ≡ places n table + places n (y ∷ []) = subst (λ m. places n (set table i y) + places n (m ∷ []) ≡ places n table + places n (y ∷ [])) (sym is) (places-set n table i y less) in
           omega (arith, a, turned-at counts x y n near inside differ some, so.counted n (omega arith));
-      few = λ k from under.
-          let n = get_or live k 0 in
-          let apart : y ≡ n → ⊥ = λ e. let e' : i ≡ k = so.once i k within under (sym live_is ∙ e) in omega arith in
-          omega (arith, turned-at counts x y n near inside differ some, places-there n y [] apart, so.few k (omega arith) under);
+      few = λ k under other.
+          elim (cases_eq i k) [
+            | inl here ↦ absurd (other (subst (λ m. get_or (set table i y) m 0 ≡ get_or live m 0) here (get_or-set_same table i y 0 less ∙ live_is)))
+            | inr away ↦
+                (let n = get_or live k 0 in
+                let apart : y ≡ n → ⊥ = λ e. away (so.once i k within under (sym live_is ∙ e)) in
+                let was : get_or table k 0 ≡ n → ⊥ = λ e. other (get_or-set_other table i k y 0 (λ f. away (sym f)) ∙ e) in
+                omega (arith, turned-at counts x y n near inside differ some, places-there n y [] apart, so.few k under was))
+          ];
       stack = stack_more mid live (cond (nat_lt 0 (get_or counts x 0 - 1)) free (free ++ x ∷ [])) y
           (stack_less counts live free x so.stack near some gone)
           (subst (λ n. y < n) (sym (length-set counts x (get_or counts x 0 - 1))) inside)
@@ -151,7 +133,7 @@ places-out n table numbers i x less is =
     omega (arith, a, places-append n table numbers, places-take-drop n i table, places-append n (take i table ++ drop (i + 1) table) numbers, places-append n (take i table) (drop (i + 1) table))
 
 -- the counts of a table with another entry
-pub recounts_more : (i : ℕ) (counts table live free : List ℕ) (x y : ℕ) → IsRenewed i counts table live free → i < length table → x ≡ get_or table i 0 → y ≡ get_or live i 0 → (x ≡ y → ⊥) → Recounts counts table (turned_counts counts x y) (set table i y) (cond (nat_lt 0 (get_or (set counts x (get_or counts x 0 - 1)) y 0)) 0 1) (cond (nat_lt 0 (get_or counts x 0 - 1)) 0 1)
+pub recounts_more : (i : ℕ) (counts table live free : List ℕ) (x y : ℕ) → IsRenewed counts table live free → i < length table → x ≡ get_or table i 0 → y ≡ get_or live i 0 → (x ≡ y → ⊥) → Recounts counts table (turned_counts counts x y) (set table i y) (cond (nat_lt 0 (get_or (set counts x (get_or counts x 0 - 1)) y 0)) 0 1) (cond (nat_lt 0 (get_or counts x 0 - 1)) 0 1)
 recounts_more i counts table live free x y so less is live_is differ numbers all =
     let within : i < length live = omega (arith, so.size) in
     let near : x < length counts = subst (λ n. n < length counts) (sym is) (so.below i less) in
@@ -190,18 +172,69 @@ recounts_on counts table mid other after next added removed more less first seco
     (b.0, omega (arith, a.1, b.1))
 
 -- the whole table is the live one
-pub renewed_all : (i : ℕ) (counts table live free : List ℕ) → IsRenewed i counts table live free → length table ≤ i → table ≡ live
-renewed_all i counts table live free so end = ext_get_or 0 table live (sym so.size) (λ k less. so.same k (omega arith))
+pub renewed_all : (i : ℕ) (counts table live free : List ℕ) → IsRenewed counts table live free → SameUpTo i table live → length table ≤ i → table ≡ live
+renewed_all i counts table live free so same end = ext_get_or 0 table live (sym so.size) (λ k less. same k (omega arith))
+
+-- one more entry is the live one
+pub same_more : (i : ℕ) (table after live : List ℕ) → SameUpTo i table live → StaySame table after live → get_or after i 0 ≡ get_or live i 0 → SameUpTo (i + 1) after live
+same_more i table after live same stay here k less =
+    elim (cases_eq i k) [
+      | inl is ↦ subst (λ m. get_or after m 0 ≡ get_or live m 0) is here
+      | inr other ↦ stay k (same k (omega arith))
+    ]
+
+-- entries from one place up to another one are the live ones too
+pub same_on : (i j : ℕ) (table live : List ℕ) → SameUpTo i table live → ((k : ℕ) → i ≤ k → k < j → get_or table k 0 ≡ get_or live k 0) → SameUpTo j table live
+same_on i j table live same rest k less =
+    elim (cases_lt k i) [
+      | inl before ↦ same k before
+      | inr later ↦ rest k later less
+    ]
+
+-- an entry that becomes the live one leaves those that are
+pub stay_set : (i : ℕ) (table after live : List ℕ) (y : ℕ) → i < length table → y ≡ get_or live i 0 → after ≡ set table i y → StaySame table after live
+stay_set i table after live y less is made k same =
+    subst (λ xs. get_or xs k 0 ≡ get_or live k 0) (sym made)
+    (elim (cases_eq i k) [
+      | inl here ↦ subst (λ m. get_or (set table i y) m 0 ≡ get_or live m 0) here (get_or-set_same table i y 0 less ∙ is)
+      | inr other ↦ get_or-set_other table i k y 0 (λ e. other (sym e)) ∙ same
+    ])
+
+pub stay_here : (i : ℕ) (table after live : List ℕ) (y : ℕ) → i < length table → y ≡ get_or live i 0 → after ≡ set table i y → get_or after i 0 ≡ get_or live i 0
+stay_here i table after live y less is made = ap (λ xs. get_or xs i 0) made ∙ get_or-set_same table i y 0 less ∙ is
+
+-- a table whose entry at a move's page is the live one
+pub stand_more : (n end : ℕ) (recent table after live : List ℕ) → StandFrom n end recent table live → StaySame table after live → get_or after (get_or recent (n % RECENT) 0) 0 ≡ get_or live (get_or recent (n % RECENT) 0) 0 → StandFrom (n + 1) end recent after live
+stand_more n end recent table after live so stay here k inside other =
+    let found = so k inside (λ e. other (stay k e)) in
+    elim (cases_eq n found.0) [
+      | inl is ↦ absurd (other (subst (λ m. get_or after m 0 ≡ get_or live m 0) (ap (λ m. get_or recent (m % RECENT) 0) is ∙ found.3) here))
+      | inr away ↦ (found.0, omega (arith, found.1, away), found.2, found.3)
+    ]
+
+-- no move is left
+pub stand_all : (n end : ℕ) (recent counts table live free : List ℕ) → IsRenewed counts table live free → StandFrom n end recent table live → end ≤ n → table ≡ live
+stand_all n end recent counts table live free so stand past =
+    ext_get_or 0 table live (sym so.size)
+    (λ k less.
+    elim (cases_eq (get_or table k 0) (get_or live k 0)) [
+      | inl is ↦ is
+      | inr other ↦ (let found = stand k (omega (arith, so.size)) other in absurd (omega (arith, found.1, found.2)))
+    ])
+
+-- counts that stay as they are
+pub recounts_none : (counts table : List ℕ) → Recounts counts table counts table 0 0
+recounts_none counts table numbers all = (all, refl)
 
 -- what the walk leaves behind an entry, by its parts
-pub walked : (i : ℕ) (counts table live free mid after next left : List ℕ) (x y : ℕ) → IsRenewed i counts table live free → i < length table → x ≡ get_or table i 0 → y ≡ get_or live i 0 → (x ≡ y → ⊥) → mid ≡ set counts x (get_or counts x 0 - 1) → left ≡ cond (nat_lt 0 (get_or counts x 0 - 1)) free (free ++ x ∷ []) → after ≡ set mid y (get_or mid y 0 + 1) → next ≡ set table i y → IsRenewed (i + 1) after next live left
+pub walked : (i : ℕ) (counts table live free mid after next left : List ℕ) (x y : ℕ) → IsRenewed counts table live free → i < length table → x ≡ get_or table i 0 → y ≡ get_or live i 0 → (x ≡ y → ⊥) → mid ≡ set counts x (get_or counts x 0 - 1) → left ≡ cond (nat_lt 0 (get_or counts x 0 - 1)) free (free ++ x ∷ []) → after ≡ set mid y (get_or mid y 0 + 1) → next ≡ set table i y → IsRenewed after next live left
 walked i counts table live free mid after next left x y so less is live_is differ first stack second third =
     let e : after ≡ turned_counts counts x y = second ∙ ap (λ xs. set xs y (get_or xs y 0 + 1)) first in
-    subst (λ xs. IsRenewed (i + 1) xs next live left) (sym e)
-    (subst (λ xs. IsRenewed (i + 1) (turned_counts counts x y) xs live left) (sym third)
-    (subst (λ xs. IsRenewed (i + 1) (turned_counts counts x y) (set table i y) live xs) (sym stack) (renewed_more i counts table live free x y so less is live_is differ)))
+    subst (λ xs. IsRenewed xs next live left) (sym e)
+    (subst (λ xs. IsRenewed (turned_counts counts x y) xs live left) (sym third)
+    (subst (λ xs. IsRenewed (turned_counts counts x y) (set table i y) live xs) (sym stack) (renewed_more i counts table live free x y so less is live_is differ)))
 
-pub walked_counts : (i : ℕ) (start counts begun table live free mid after next : List ℕ) (added removed x y come gone more less : ℕ) → IsRenewed i counts table live free → Recounts start begun counts table added removed → i < length table → x ≡ get_or table i 0 → y ≡ get_or live i 0 → (x ≡ y → ⊥) → mid ≡ set counts x (get_or counts x 0 - 1) → after ≡ set mid y (get_or mid y 0 + 1) → next ≡ set table i y → gone ≡ cond (nat_lt 0 (get_or counts x 0 - 1)) 0 1 → come ≡ cond (nat_lt 0 (get_or mid y 0)) 0 1 → more ≡ added + come → less ≡ removed + gone → Recounts start begun after next more less
+pub walked_counts : (i : ℕ) (start counts begun table live free mid after next : List ℕ) (added removed x y come gone more less : ℕ) → IsRenewed counts table live free → Recounts start begun counts table added removed → i < length table → x ≡ get_or table i 0 → y ≡ get_or live i 0 → (x ≡ y → ⊥) → mid ≡ set counts x (get_or counts x 0 - 1) → after ≡ set mid y (get_or mid y 0 + 1) → next ≡ set table i y → gone ≡ cond (nat_lt 0 (get_or counts x 0 - 1)) 0 1 → come ≡ cond (nat_lt 0 (get_or mid y 0)) 0 1 → more ≡ added + come → less ≡ removed + gone → Recounts start begun after next more less
 walked_counts i start counts begun table live free mid after next added removed x y come gone more less so before inside is live_is differ first second third down up rise fall =
     let e : after ≡ turned_counts counts x y = second ∙ ap (λ xs. set xs y (get_or xs y 0 + 1)) first in
     let u : more ≡ added + cond (nat_lt 0 (get_or (set counts x (get_or counts x 0 - 1)) y 0)) 0 1 = rise ∙ ap (λ n. added + n) (up ∙ ap (λ xs. cond (nat_lt 0 (get_or xs y 0)) 0 1) first) in

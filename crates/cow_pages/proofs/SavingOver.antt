@@ -21,7 +21,7 @@ different-le top xs ys bx by among = omega (arith, different-occupied top xs bx,
 
 -- a slot in which nothing is saved, with its table
 abbrev pub emptied : Slot → Slot
-emptied slot = record { saved = false; table = slot.table }
+emptied slot = record { saved = false; seen = slot.seen; table = slot.table }
 
 -- the numbers of all slots once the live table is saved over one: it, and those of the others
 over_places : (n : ℕ) (live : List ℕ) (slots : List Slot) (i : ℕ) (slot next : Slot) → i < length slots → slot ≡ get_or slots i slot → slot.saved ≡ true → next.saved ≡ true → next.table.items ≡ live → places n (table_numbers (set slots i next)) ≡ places n (live ++ table_numbers (set slots i (emptied slot)))
@@ -52,28 +52,27 @@ same_as top live rest numbers mine below over =
     ])
 
 -- what the walk asks
-pub over_fits : (pages frames held : ℕ) (pool live counts free : List ℕ) (reserved : ℕ) (slots : List Slot) (store : Pages) (i : ℕ) (was table line : List ℕ) (slot : Slot) → IsSound pages frames held pool live counts free reserved slots → pages_of pages frames pool live slots ≡ store → IsSome (slot_at store i) → was ≡ counts → table ≡ slot.table.items → line ≡ live → slot ≡ get_or slots i slot → IsRenewed 0 was table line free
+pub over_fits : (pages frames held : ℕ) (pool live counts free : List ℕ) (reserved : ℕ) (slots : List Slot) (store : Pages) (i : ℕ) (was table line : List ℕ) (slot : Slot) → IsSound pages frames held pool live counts free reserved slots → pages_of pages frames pool live slots ≡ store → IsSome (slot_at store i) → was ≡ counts → table ≡ slot.table.items → line ≡ live → slot ≡ get_or slots i slot → IsRenewed was table line free
 over_fits pages frames held pool live counts free reserved slots store i was table line slot so seen some first second third is =
     let here : IsSome (slot_at (pages_of pages frames pool live slots) i) = subst (λ s. IsSome (slot_at s i)) (sym seen) some in
     let less : i < length slots = slot_within pages frames pool live slots i here in
     let saved : slot.saved ≡ true = slot_saved pages frames pool live slots i slot is here in
     let one : IsTable pages so.homes slot.table.items = (slot_table pages so.homes slots i slot so.slot_tables less is).table saved in
     let own : IsTable pages so.homes live = so.live_table in
-    let plain : IsRenewed 0 counts slot.table.items live free =
+    let plain : IsRenewed counts slot.table.items live free =
     record {
       size = own.size ∙ sym one.size;
       below = λ k under. subst (λ n. get_or slot.table.items k 0 < n) (sym so.counts_size) (table_below pages frames so.homes slot.table.items one so.homes_size k under);
       live_below = λ k under. subst (λ n. get_or live k 0 < n) (sym so.counts_size) (table_below pages frames so.homes live own so.homes_size k under);
       home = table_home pages so.homes slot.table.items live one own;
       once = table_once pages so.homes live own;
-      same = λ k under. absurd (omega arith);
       counted = λ n under. slot_counted pages frames held pool live counts free reserved slots i slot so less is saved n under;
-      few = λ k from under. omega (arith, over_few pages frames held pool live counts free reserved slots so (get_or live k 0));
+      few = λ k under other. omega (arith, over_few pages frames held pool live counts free reserved slots so (get_or live k 0));
       stack = so.stack;
     } in
-    subst (λ xs. IsRenewed 0 xs table line free) (sym first)
-    (subst (λ xs. IsRenewed 0 counts xs line free) (sym second)
-    (subst (λ xs. IsRenewed 0 counts slot.table.items xs free) (sym third) plain))
+    subst (λ xs. IsRenewed xs table line free) (sym first)
+    (subst (λ xs. IsRenewed counts xs line free) (sym second)
+    (subst (λ xs. IsRenewed counts slot.table.items xs free) (sym third) plain))
 
 -- what `save_over` is called with, and what its parts say
 pub record SavingOver (pages frames held : ℕ) (pool live counts free : List ℕ) (reserved : ℕ) (slots : List Slot) (store : Pages) (i added removed : ℕ) (after left : List ℕ) (reserve : ℕ) (next : Slot) : Type 0 where

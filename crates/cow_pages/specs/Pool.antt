@@ -1,8 +1,9 @@
 -- How the pages of a store stand in its pool of frames.
-use Rattle.std.specs.Prelude.{◌≡◌, ℕ, ◌+◌, ◌-◌, ◌*◌, ◌<◌, ◌≤◌, true, false, ◌||◌, ◌==◌, nat_lt, if◌then◌else◌, Option, Some, None, List, [], ◌∷◌, ◌++◌, length, take, drop, map, All, slice_index}
+use Rattle.std.specs.Prelude.{◌≡◌, ℕ, ◌+◌, ◌-◌, ◌*◌, ◌%◌, ◌<◌, ◌≤◌, true, false, ◌||◌, ◌==◌, nat_lt, if◌then◌else◌, Option, Some, None, List, [], ◌∷◌, ◌++◌, length, take, drop, map, All, slice_index}
 use Rattle.cow_pages.specs.Pages.{Space, Pages, has, different}
 use Rattle.cow_pages.specs.declared.slot.Slot.{Slot}
 use Rattle.cow_pages.specs.declared.frame_copy.TheConstants.{PAGE}
+use Rattle.cow_pages.specs.declared.moves.TheConstants.{MOST, RECENT}
 use Rattle.cow_pages.specs.declared.store.TheConstants.{MAX_FRAMES_PER_PAGE, MAX_PAGES, MAX_SLOTS}
 
 -- the bytes of frames, one after the other
@@ -54,17 +55,37 @@ pub record CanUncount (counts table live : List ℕ) : Type 0 where
   pub home : (k j : ℕ) → k < length table → j < length live → slice_index table k ≡ slice_index live j → k ≡ j
 
 -- counts, a table, the live one and free frames that fit together: a number that both tables have stands at one place in both,
--- the first so many numbers of the table are the live ones, and each other live one can be counted once more
-pub record IsRenewed (done : ℕ) (counts table live free : List ℕ) : Type 0 where
+-- and a live one that the table hasn't can be counted once more
+pub record IsRenewed (counts table live free : List ℕ) : Type 0 where
   pub size : length live ≡ length table
   pub below : (k : ℕ) → k < length table → slice_index table k < length counts
   pub live_below : (k : ℕ) → k < length live → slice_index live k < length counts
   pub home : (k j : ℕ) → k < length table → j < length live → slice_index table k ≡ slice_index live j → k ≡ j
   pub once : (k j : ℕ) → k < length live → j < length live → slice_index live k ≡ slice_index live j → k ≡ j
-  pub same : (k : ℕ) → k < done → slice_index table k ≡ slice_index live k
   pub counted : (n : ℕ) → n < length counts → places n table ≤ slice_index counts n
-  pub few : (k : ℕ) → done ≤ k → k < length live → slice_index counts (slice_index live k) < 255
+  pub few : (k : ℕ) → k < length live → (slice_index table k ≡ slice_index live k → ⊥) → slice_index counts (slice_index live k) < 255
   pub stack : IsStack counts live free
+
+-- the first so many entries of a table are the live ones
+abbrev pub SameUpTo : ℕ → List ℕ → List ℕ → Type 0
+SameUpTo count table live = (k : ℕ) → k < count → slice_index table k ≡ slice_index live k
+
+-- entries of a table that are the live ones stay so
+abbrev pub StaySame : List ℕ → List ℕ → List ℕ → Type 0
+StaySame old new live = (k : ℕ) → slice_index old k ≡ slice_index live k → slice_index new k ≡ slice_index live k
+
+-- the pages at which a table isn't the live one are those of moves from one on, up to another one
+abbrev pub StandFrom : ℕ → ℕ → List ℕ → List ℕ → List ℕ → Type 0
+StandFrom from end recent table live = (k : ℕ) → k < length live → (slice_index table k ≡ slice_index live k → ⊥) → (n : ℕ) × (from ≤ n) × (n < end) × (slice_index recent (n % RECENT) ≡ k)
+
+-- where the moves since a table was the live one are kept, they are those of the pages at which it isn't
+abbrev pub AreMoved : ℕ → List ℕ → ℕ → List ℕ → List ℕ → Type 0
+AreMoved count recent seen table live = count < MOST → count ≤ seen + RECENT → StandFrom seen count recent table live
+
+-- the last moves are kept, and each is that of a page
+pub record AreInside (pages : ℕ) (recent : List ℕ) : Type 0 where
+  pub size : length recent ≡ RECENT
+  pub below : (k : ℕ) → k < length recent → slice_index recent k < pages
 
 -- two places of a list of this length, the first at or before the second
 pub record AreInOrder (start end size : ℕ) : Type 0 where
@@ -103,6 +124,21 @@ pub record IsSound (pages frames held : ℕ) (pool live counts free : List ℕ) 
   pub stack : IsStack counts live free
   pub held_count : held ≡ different (table_numbers slots)
   pub room : held + pages ≤ frames
+
+-- a saved slot knows since which move its table is behind the live one
+pub record IsLogged (count : ℕ) (recent live : List ℕ) (slot : Slot) : Type 0 where
+  pub seen : slot.saved ≡ true → slot.seen ≤ count
+  pub moved : slot.saved ≡ true → AreMoved count recent slot.seen slot.table.items live
+
+-- the moves of pages are kept for all slots
+pub record AreLogged (pages count : ℕ) (recent live : List ℕ) (slots : List Slot) : Type 0 where
+  pub inside : AreInside pages recent
+  pub each : All (IsLogged count recent live) slots
+
+-- what is kept of a store
+pub record IsKept (pages frames held : ℕ) (pool live counts free : List ℕ) (reserved : ℕ) (slots : List Slot) (count : ℕ) (recent : List ℕ) : Type 0 where
+  pub sound : IsSound pages frames held pool live counts free reserved slots
+  pub logged : AreLogged pages count recent live slots
 
 -- the numbers from one on, in order
 pub record IsRow (start end : ℕ) (row : List ℕ) : Type 0 where

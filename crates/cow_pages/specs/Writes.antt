@@ -1,5 +1,5 @@
 -- What a write to the live space of a store leaves.
-use Rattle.std.specs.Prelude.{◌≡◌, ℕ, zero, suc, ◌+◌, ◌-◌, ◌/◌, ◌<◌, Bool, false, ◌&&◌, nat_le, nat_lt, if◌then◌else◌, List, ◌++◌, length, take, drop, slice_index, MatchBool}
+use Rattle.std.specs.Prelude.{◌≡◌, ℕ, zero, suc, ◌+◌, ◌-◌, ◌*◌, ◌/◌, ◌%◌, ◌<◌, ◌≤◌, Bool, false, ◌&&◌, nat_le, nat_lt, if◌then◌else◌, List, ◌++◌, length, take, drop, slice_index, MatchBool}
 use Rattle.cow_pages.specs.Pages.{Pages, has, saved_numbers, used_of}
 use Rattle.cow_pages.specs.declared.frame_copy.TheConstants.{PAGE}
 
@@ -47,3 +47,9 @@ pub record Owns (old new : Pages) (page : ℕ) : Type 0 where
   pub others : (place : ℕ) → place < old.pages → (place ≡ page → ⊥) → slice_index new.live.numbers place ≡ slice_index old.live.numbers place
   pub number : NumberAfter (is_shared old page) old page (slice_index new.live.numbers page)
   pub used : used_of new ≡ used_of old + (if is_shared old page then 1 else 0)
+
+-- so many bytes of the live space from an address on lie within one page, and stand from this place on among the bytes of all frames
+pub record StandsAt (store : Pages) (at size place : ℕ) : Type 0 where
+  pub inside : at < PAGE * store.pages
+  pub within : at % PAGE + size ≤ PAGE
+  pub place_is : place ≡ PAGE * slice_index store.live.numbers (at / PAGE) + at % PAGE

@@ -8,6 +8,7 @@
 
 mod frame_copy;
 mod little;
+mod moves;
 mod slot;
 mod store;
 mod tables;

@@ -4,10 +4,11 @@ ghost use Rattle.cow_pages.specs.Pool.{AreBlank};
 
 use std::alloc::{AllocError, Global};
 
-// A table of frames, and whether it is in use.
+// A table of frames, and whether it is in use. Pages that moved before this number did so before it was saved.
 #[derive(Debug, Drop)]
 pub struct Slot {
     pub saved: bool,
+    pub seen: u64,
     pub table: Vec<u32>,
 }
 
@@ -19,6 +20,7 @@ pub fn blank_slots(alloc: Global, count: u32, pages: u32) -> Result<Vec<Slot>, A
     'slots: for _ in 0..count {
         slots.push(Slot {
             saved: false,
+            seen: 0,
             table: vec![in alloc; 0; pages as usize]?,
         })?;
     }

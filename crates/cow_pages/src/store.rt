@@ -1,12 +1,13 @@
 // Pages that are shared by copy on write.
-ghost use Rattle.std.specs.Prelude.{◌≡◌, ℕ, ◌+◌, ◌-◌, ◌*◌, ◌/◌, ◌%◌, ◌<◌, ◌≤◌, length, take, drop, replicate, true, Some, None, is_some, IsSome, IfSome, IfOk, slice_get, slice_set, slice_index, if◌then◌else◌, [], ◌∷◌};
+ghost use Rattle.std.specs.Prelude.{◌≡◌, ℕ, ◌+◌, ◌-◌, ◌*◌, ◌/◌, ◌%◌, ◌<◌, ◌≤◌, ◌^◌, length, take, drop, replicate, true, false, Some, None, is_some, IsSome, IfSome, IfOk, slice_get, slice_set, slice_index, if◌then◌else◌, [], ◌∷◌};
 ghost use Rattle.std.specs.Bool.{OnFalse};
 ghost use Rattle.cow_pages.specs.Pages.{held_of, used_of, slot_at, IsLawful, IsMade};
-ghost use Rattle.cow_pages.specs.Writes.{is_shared, Writes, Owns};
+ghost use Rattle.cow_pages.specs.Writes.{is_shared, Writes, Owns, StandsAt};
 ghost use Rattle.cow_pages.specs.Little.{little_number, little_bytes};
 
 use crate::frame_copy::{PAGE, copy_frame};
 use crate::little::{half_bytes, half_of, word_bytes, word_of};
+use crate::moves::Moves;
 use crate::slot::{Slot, blank_slots};
 use crate::tables::{count_table, give_up, renew_table, row, uncount_table};
 use std::alloc::{AllocError, Global};
@@ -38,19 +39,21 @@ pub struct PageStore {
     counts: Vec<u8>,
     // The frames that no table has, with room for all.
     free: Vec<u32>,
+    // The pages that moved to another frame last.
+    moves: Moves,
     slots: Vec<Slot>,
 }
 
 impl Model for PageStore {
     ghost use Rattle.std.specs.Prelude.{vec_capacity};
     ghost use Rattle.cow_pages.specs.Pages.{Pages};
-    ghost use Rattle.cow_pages.specs.Pool.{pages_of, IsSound};
+    ghost use Rattle.cow_pages.specs.Pool.{pages_of, IsKept};
 
     ghost Value = { Pages };
 
     ghost view = { λ a. pages_of a.pages a.frames a.pool.items a.live.items a.slots.items };
 
-    ghost invariant = { λ a. IsSound a.pages a.frames a.held a.pool.items a.live.items a.counts.items a.free.items (vec_capacity a.free) a.slots.items };
+    ghost invariant = { λ a. IsKept a.pages a.frames a.held a.pool.items a.live.items a.counts.items a.free.items (vec_capacity a.free) a.slots.items a.moves.count a.moves.recent.items };
 }
 
 impl PageStore {
@@ -72,6 +75,7 @@ impl PageStore {
             live: row(alloc, pages, 0, pages)?,
             counts: vec![in alloc; 0; frames as usize]?,
             free: row(alloc, frames, pages, frames)?,
+            moves: Moves::make(alloc)?,
             slots: blank_slots(alloc, slots, pages)?,
         })
     }
@@ -199,6 +203,87 @@ impl PageStore {
         self.pool[place..place + 4].copy_from_slice(&bytes);
     }
 
+    /// Where the byte at an address of the live space stands among the bytes of all frames.
+    #[inline(always)]
+    pub fn place(&self, at: u32) -> u32
+        requires { at < PAGE * self.now.pages }
+        ensures place { result ≡ PAGE * slice_index self.now.live.numbers (at / PAGE) + at % PAGE }
+        ensures small { result < 2 ^ 30 }
+    {
+        self.live[(at / PAGE) as usize] * PAGE + at % PAGE
+    }
+
+    /// The byte at an address of the live space, which stands at this place.
+    #[inline(always)]
+    pub fn byte_from(&self, at: u32, place: usize) -> u8
+        requires { StandsAt self.now at 1 place }
+        ensures { slice_get self.now.live.bytes at ≡ Some result }
+    {
+        let _at = at;
+        self.pool[place]
+    }
+
+    /// The number of the two bytes from an address on, the lowest first, which stand from this place on.
+    #[inline(always)]
+    pub fn half_from(&self, at: u32, place: usize) -> u16
+        requires { StandsAt self.now at 2 place }
+        ensures { result ≡ little_number (take 2 (drop at self.now.live.bytes)) }
+    {
+        let _at = at;
+        half_of(&self.pool[place..place + 2])
+    }
+
+    /// The number of the four bytes from an address on, the lowest first, which stand from this place on.
+    #[inline(always)]
+    pub fn word_from(&self, at: u32, place: usize) -> u32
+        requires { StandsAt self.now at 4 place }
+        ensures { result ≡ little_number (take 4 (drop at self.now.live.bytes)) }
+    {
+        let _at = at;
+        word_of(&self.pool[place..place + 4])
+    }
+
+    /// Puts a byte at an address of the live space, which stands at this place, in a frame that no slot has.
+    #[inline(always)]
+    pub fn put_byte_from(&mut self, at: u32, place: usize, value: u8)
+        requires stands { StandsAt self.old at 1 place }
+        requires own { is_shared self.old (at / PAGE) ≡ false }
+        ensures writes { Writes self.old self.new at (value ∷ []) }
+        ensures numbers { self.new.live.numbers ≡ self.old.live.numbers }
+        ensures lawful { IsLawful self.new }
+    {
+        let _at = at;
+        self.pool[place] = value;
+    }
+
+    /// Puts a number of two bytes from an address on, the lowest byte first, which stand from this place on, in a frame that no slot has.
+    #[inline(always)]
+    pub fn put_half_from(&mut self, at: u32, place: usize, value: u16)
+        requires stands { StandsAt self.old at 2 place }
+        requires own { is_shared self.old (at / PAGE) ≡ false }
+        ensures writes { Writes self.old self.new at (little_bytes 2 value) }
+        ensures numbers { self.new.live.numbers ≡ self.old.live.numbers }
+        ensures lawful { IsLawful self.new }
+    {
+        let _at = at;
+        let bytes = half_bytes(value);
+        self.pool[place..place + 2].copy_from_slice(&bytes);
+    }
+
+    /// Puts a number of four bytes from an address on, the lowest byte first, which stand from this place on, in a frame that no slot has.
+    #[inline(always)]
+    pub fn put_word_from(&mut self, at: u32, place: usize, value: u32)
+        requires stands { StandsAt self.old at 4 place }
+        requires own { is_shared self.old (at / PAGE) ≡ false }
+        ensures writes { Writes self.old self.new at (little_bytes 4 value) }
+        ensures numbers { self.new.live.numbers ≡ self.old.live.numbers }
+        ensures lawful { IsLawful self.new }
+    {
+        let _at = at;
+        let bytes = word_bytes(value);
+        self.pool[place..place + 4].copy_from_slice(&bytes);
+    }
+
     /// Reads the bytes from an address of the live space on.
     pub fn read_run(&self, at: u32, buf: &mut [u8])
         requires { at + length buf.old ≤ PAGE * self.now.pages }
@@ -268,6 +353,7 @@ impl PageStore {
             .as_mut_slice()
             .copy_from_slice(self.live.as_slice());
         saved.saved = true;
+        saved.seen = self.moves.count;
     }
 
     /// Gives up what is saved in a slot.
@@ -300,7 +386,10 @@ impl PageStore {
             saved.table.as_mut_slice(),
             self.live.as_slice(),
             &mut self.free,
+            &self.moves,
+            saved.seen,
         );
+        saved.seen = self.moves.count;
         self.held = self.held + recount.added - recount.removed;
     }
 
@@ -310,6 +399,7 @@ impl PageStore {
         ensures restored { IfSome (slot_at self.old slot) (λ space. self.new ≡ record self.old { live = space }) }
         ensures lawful { IsLawful self.new }
     {
+        self.moves.add_all();
         give_up(self.counts.as_slice(), self.live.as_slice(), &mut self.free);
         let saved = &self.slots[slot as usize];
         self.live
@@ -359,6 +449,7 @@ impl PageStore {
         let to = fresh as usize * PAGE as usize;
         copy_frame(self.pool.as_mut_slice(), from, to);
         self.live[page] = fresh;
+        self.moves.add(page as u32);
         fresh
     }
 

@@ -1,8 +1,9 @@
 // Walks over a table of frames, which change counts and free frames.
 ghost use Rattle.std.specs.Prelude.{◌≡◌, ◌≢◌, ℕ, ◌+◌, ◌-◌, ◌*◌, ◌^◌, ◌<◌, ◌≤◌, List, [], ◌∷◌, ◌++◌, length, true, nat_lt, if◌then◌else◌, slice_index, slice_set, vec_capacity, IfOk};
 ghost use Rattle.cow_pages.specs.Pages.{different};
-ghost use Rattle.cow_pages.specs.Pool.{places, Counts, IsStack, IsRow, CanUncount, IsRenewed, Recounts, AreInOrder};
+ghost use Rattle.cow_pages.specs.Pool.{places, Counts, IsStack, IsRow, CanUncount, IsRenewed, Recounts, AreInOrder, AreInside, AreMoved, StandFrom, SameUpTo, StaySame};
 
+use crate::moves::{Moves, RECENT};
 use std::alloc::{AllocError, Global};
 
 // The numbers from one up to another, with room for so many.
@@ -74,13 +75,68 @@ pub struct Recount {
 }
 
 // Makes a table that is counted the live one, and the counts those of it. Frames that then have no count are given back.
+// It looks at the entries of the pages that moved since a move, where these are kept, and else at all.
 pub fn renew_table(
     counts: &mut [u8],
     table: &mut [u32],
     live: &[u32],
     free: &mut Vec<u32>,
+    moves: &Moves,
+    seen: u64,
 ) -> Recount
-    requires fits { IsRenewed 0 counts.old table.old live.now free.old.items }
+    requires fits { IsRenewed counts.old table.old live.now free.old.items }
+    requires reserved { length counts.old ≤ vec_capacity free.old }
+    requires short { length table.old < 2 ^ 31 }
+    requires moves { AreInside (length table.old) moves.now.recent.items }
+    requires order { seen ≤ moves.now.count }
+    requires moved { AreMoved moves.now.count moves.now.recent.items seen table.old live.now }
+    ensures table { table.new ≡ live.now }
+    ensures counts { Recounts counts.old table.old counts.new live.now result.added result.removed }
+    ensures few { result.added < 2 ^ 31 }
+    ensures stack { IsStack counts.new live.now free.new.items }
+    ensures reserved { vec_capacity free.new ≡ vec_capacity free.old }
+{
+    if moves.has_all_since(seen) {
+        return renew_moved(counts, table, live, free, moves, seen);
+    }
+    renew_all(counts, table, live, free)
+}
+
+// The same by the pages that moved since a move.
+fn renew_moved(
+    counts: &mut [u8],
+    table: &mut [u32],
+    live: &[u32],
+    free: &mut Vec<u32>,
+    moves: &Moves,
+    seen: u64,
+) -> Recount
+    requires fits { IsRenewed counts.old table.old live.now free.old.items }
+    requires reserved { length counts.old ≤ vec_capacity free.old }
+    requires moves { AreInside (length table.old) moves.now.recent.items }
+    requires range { (seen ≤ moves.now.count) × (moves.now.count ≤ seen + RECENT) }
+    requires moved { StandFrom seen moves.now.count moves.now.recent.items table.old live.now }
+    ensures table { table.new ≡ live.now }
+    ensures counts { Recounts counts.old table.old counts.new live.now result.added result.removed }
+    ensures few { result.added ≤ RECENT }
+    ensures stack { IsStack counts.new live.now free.new.items }
+    ensures reserved { vec_capacity free.new ≡ vec_capacity free.old }
+{
+    let mut added = 0;
+    let mut removed = 0;
+    let end = moves.count;
+    'moves: for n in seen..end {
+        let page = moves.recent[(n % RECENT) as usize];
+        let entry = renew_entry(counts, table, live, free, page as usize);
+        added += entry.added;
+        removed += entry.removed;
+    }
+    Recount { added, removed }
+}
+
+// The same by a look at all entries.
+fn renew_all(counts: &mut [u8], table: &mut [u32], live: &[u32], free: &mut Vec<u32>) -> Recount
+    requires fits { IsRenewed counts.old table.old live.now free.old.items }
     requires reserved { length counts.old ≤ vec_capacity free.old }
     requires short { length table.old < 2 ^ 31 }
     ensures table { table.new ≡ live.now }
@@ -131,11 +187,12 @@ fn renew_part(
     start: usize,
     end: usize,
 ) -> Recount
-    requires fits { IsRenewed start counts.old table.old live.now free.old.items }
+    requires fits { IsRenewed counts.old table.old live.now free.old.items }
     requires range { AreInOrder start end (length table.old) }
     requires reserved { length counts.old ≤ vec_capacity free.old }
     requires short { length table.old < 2 ^ 31 }
-    ensures renewed { IsRenewed end counts.new table.new live.now free.new.items }
+    ensures renewed { IsRenewed counts.new table.new live.now free.new.items }
+    ensures same { SameUpTo start table.old live.now → SameUpTo end table.new live.now }
     ensures counts { Recounts counts.old table.old counts.new table.new result.added result.removed }
     ensures few { (result.added ≤ end - start) × (result.removed ≤ end - start) }
     ensures reserved { vec_capacity free.new ≡ vec_capacity free.old }
@@ -143,14 +200,43 @@ fn renew_part(
     let mut added = 0;
     let mut removed = 0;
     'entries: for k in start..end {
-        let frame = live[k];
-        let other = table[k];
-        if other != frame {
-            removed += uncount_frame(counts, other, free);
-            added += count_frame(counts, frame);
-            table[k] = frame;
-        }
+        let entry = renew_entry(counts, table, live, free, k);
+        added += entry.added;
+        removed += entry.removed;
     }
+    Recount { added, removed }
+}
+
+// Makes an entry of a table that of the live one, and the counts those of the table.
+#[inline(always)]
+fn renew_entry(
+    counts: &mut [u8],
+    table: &mut [u32],
+    live: &[u32],
+    free: &mut Vec<u32>,
+    k: usize,
+) -> Recount
+    requires fits { IsRenewed counts.old table.old live.now free.old.items }
+    requires inside { k < length table.old }
+    requires reserved { length counts.old ≤ vec_capacity free.old }
+    ensures renewed { IsRenewed counts.new table.new live.now free.new.items }
+    ensures same { slice_index table.new k ≡ slice_index live.now k }
+    ensures kept { StaySame table.old table.new live.now }
+    ensures counts { Recounts counts.old table.old counts.new table.new result.added result.removed }
+    ensures few { (result.added ≤ 1) × (result.removed ≤ 1) }
+    ensures reserved { vec_capacity free.new ≡ vec_capacity free.old }
+{
+    let frame = live[k];
+    let other = table[k];
+    if other == frame {
+        return Recount {
+            added: 0,
+            removed: 0,
+        };
+    }
+    let removed = uncount_frame(counts, other, free);
+    let added = count_frame(counts, frame);
+    table[k] = frame;
     Recount { added, removed }
 }
 

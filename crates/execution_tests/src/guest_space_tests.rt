@@ -117,6 +117,23 @@ fn memory_is_as_the_file_says(rt: HostRuntime) -> Result<(), Fail> {
     try_memory(&rt, rt.alloc(), &mut space)
 }
 
+// Where the table of code begins, and how many entries it has: one for each word of the text, and a last one. Of text that may be
+// written, as the flags say, there is a table of no word.
+fn code_of(alloc: Global, flags: u8) -> Result<(u32, usize), Fail> {
+    let mut file = TEXT_AND_DATA;
+    file[76] = flags;
+    let space = space_of(alloc, &file)?;
+    Ok((space.code_start(), space.code_len()))
+}
+
+#[test]
+fn each_word_of_text_has_an_entry(rt: HostRuntime) -> Result<(), Fail> {
+    assert_eq!(&rt; code_of(rt.alloc(), 5)?, (0x10000, 3));
+    assert_eq!(&rt; code_of(rt.alloc(), 1)?, (0x10000, 3));
+    assert_eq!(&rt; code_of(rt.alloc(), 7)?, (0, 1));
+    Ok(())
+}
+
 // A store across two pages copies both of what was saved, and is undone.
 fn try_saving(rt: &impl Abort, image: &Image, space: &mut GuestSpace)
     requires { IsStart image.now (image.now.window / 4096) 1 (2 * (image.now.window / 4096)) space.old }

@@ -6,3 +6,4 @@ pub mod SpaceLemmas
 pub mod EntryLemmas
 pub mod StartLemmas
 pub mod StretchLemmas
+pub mod WindowLemmas

@@ -1,7 +1,6 @@
 -- A guest's memory: what its spans and its pages say of the flat memory.
 use Rattle.cow_pages.specs.Little as pages
-use Rattle.cow_pages.proofs.RunSteps.{writes_nothing}
-use Rattle.guest_space.proofs.Terms.{Bool, IfSome, IsSome, List, MatchBool, None, Option, Some, [], ap, arith, drop, false, inl, inr, length, refl, slice_get, subst, suc, sym, take, true, zero, ℕ, ◌%◌, ◌*◌, ◌+◌, ◌-◌, ◌/◌, ◌<◌, ◌^◌, ◌∙◌, ◌∷◌, ◌≡◌, ◌≤◌, cases_Bool, false≢true, All, PAGE, IsLawful, Pages, Space, slot_at, Writes, little_bytes, little_number, Table, bytes_at, permitted, GuestPages, IsLawfulSpace, LiesIn, Span, flat, flat_of, guest_pages, Puts, AreHeld, HasCode}
+use Rattle.guest_space.proofs.Terms.{Bool, IfSome, IsSome, List, MatchBool, None, Option, Some, [], ap, arith, drop, false, inl, inr, length, refl, slice_get, subst, suc, sym, take, true, zero, ℕ, ◌%◌, ◌*◌, ◌+◌, ◌-◌, ◌/◌, ◌<◌, ◌^◌, ◌∙◌, ◌∷◌, ◌≡◌, ◌≤◌, cases_Bool, false≢true, All, PAGE, writes_nothing, IsLawful, Pages, Space, slot_at, Writes, little_bytes, little_number, Table, bytes_at, permitted, GuestPages, IsLawfulSpace, LiesIn, Span, flat, flat_of, guest_pages, Puts, AreHeld, HasCode}
 use Rattle.guest_space.proofs.CodeLemmas.{restores_keep_code, writes_keep_code}
 use Rattle.guest_space.proofs.FlatLemmas.{permitted-held, held-permitted, range_inside, bytes_at-flat, put_bytes-flat}
 

@@ -6,3 +6,4 @@ pub mod Ranges
 pub mod Code
 pub mod Filling
 pub mod Stretches
+pub mod Windows

@@ -2,7 +2,7 @@
 pub use Rattle.std.specs.List.{All, AllPairs}
 pub use Rattle.cow_pages.specs.declared.frame_copy.TheConstants.{PAGE}
 pub use Rattle.cow_pages.specs.Pages.{IsLawful, IsMade, Pages, Space, has, held_of, saved_numbers, slot_at, used_of}
-pub use Rattle.cow_pages.specs.Writes.{Writes, copied_pages, is_shared, put_at, reaches}
+pub use Rattle.cow_pages.specs.Writes.{NumberAfter, StandsAt, Writes, copied_pages, is_shared, put_at, reaches}
 pub use Rattle.rv_isa.specs.Words.{little_bytes, little_number}
 pub use Rattle.code_table.specs.Tables.{IsTableOf, Table, word_in}
 pub use Rattle.elf_image.specs.declared.image.Image.{Image}

@@ -1,23 +1,26 @@
 // The memory of a guest: spans of a window of pages.
-ghost use Rattle.std.specs.Prelude.{◌≡◌, ◌==◌, ◌+◌, ◌-◌, ◌*◌, ◌/◌, ◌%◌, ◌^◌, ◌<◌, ◌≤◌, length, take, drop, replicate, true, Some, None, is_some, IsSome, IfOk, Ok, IfSome, MatchBool, slice_get, slice_set, if◌then◌else◌};
+ghost use Rattle.std.specs.Prelude.{◌≡◌, ◌==◌, ◌+◌, ◌-◌, ◌*◌, ◌/◌, ◌%◌, ◌^◌, ◌<◌, ◌≤◌, length, take, drop, replicate, true, false, Some, None, is_some, IsSome, IfOk, Ok, IfSome, MatchBool, slice_get, slice_set, if◌then◌else◌};
 ghost use Rattle.std.specs.Bool.{OnFalse, OnTrue};
 ghost use Rattle.rv_isa.specs.Words.{little_bytes, little_number};
 ghost use Rattle.elf_image.specs.Memory.{permitted, bytes_at};
 ghost use Rattle.cow_pages.specs.Pages.{slot_at, used_of, held_of};
+ghost use Rattle.cow_pages.specs.Writes.{StandsAt, is_shared};
 ghost use Rattle.guest_space.specs.Space.{flat, IsLawfulSpace};
 ghost use Rattle.guest_space.specs.Access.{IsStart, Reads, Puts, Stores, Saves, SavesOver, Releases, Restores};
 ghost use Rattle.guest_space.specs.Ranges.{AreHeld};
 ghost use Rattle.guest_space.specs.Stretches.{IsOpen};
+ghost use Rattle.guest_space.specs.Windows.{IsWindow, IsOfPage, AreWindows, HasAddress, load_window};
 
 use crate::code::code_of;
 use crate::filling::{fill, spans_of};
 use crate::span::{EXECUTE, READ, Span, WRITE, are_held, each_has, one_has, stretch_at};
-use crate::{BadAccess, Stretch};
-use code_table::{CodeTable, Entry};
+use crate::{BadAccess, Stretch, Window, Windows};
+use code_table::CodeTable;
 use cow_pages::{MAX_FRAMES_PER_PAGE, MAX_SLOTS, PAGE, PageStore};
 use elf_image::Image;
 use std::alloc::{AllocError, Global};
 use std::marker::Model;
+use std::rc::Rc;
 
 // A store's pages are those by which an image is laid out.
 const _: () = prove!(cow_pages::PAGE == elf_image::PAGE);
@@ -31,7 +34,7 @@ pub struct GuestSpace {
     base: u32,
     spans: Vec<Span>,
     store: PageStore,
-    code: CodeTable,
+    code: Rc<CodeTable>,
 }
 
 impl Model for GuestSpace {
@@ -39,9 +42,9 @@ impl Model for GuestSpace {
 
     ghost Value = { GuestPages };
 
-    ghost view = { λ s. guest_pages s.base s.spans.items s.store s.code };
+    ghost view = { λ s. guest_pages s.base s.spans.items s.store s.code.value };
 
-    ghost invariant = { λ s. IsLawfulSpace (guest_pages s.base s.spans.items s.store s.code) };
+    ghost invariant = { λ s. IsLawfulSpace (guest_pages s.base s.spans.items s.store s.code.value) };
 }
 
 impl GuestSpace {
@@ -63,7 +66,8 @@ impl GuestSpace {
         let spans = spans_of(alloc, image)?;
         let mut store = PageStore::make(alloc, pages, slots, frames)?;
         fill(&mut store, base, image.segments.as_slice());
-        let code = code_of(alloc, base, &spans, &store)?;
+        let table = code_of(alloc, base, &spans, &store)?;
+        let code = Rc::new(alloc, table)?;
         Ok(GuestSpace {
             base,
             spans,
@@ -96,13 +100,12 @@ impl GuestSpace {
         self.code.len()
     }
 
-    /// The entry of the word with this number.
+    /// The table, which outlives a loan of the memory for writing. An error where it has too many owners.
     #[inline(always)]
-    pub fn entry(&self, number: usize) -> &Entry
-        requires { number < length self.now.code.entries }
-        ensures { slice_get self.now.code.entries number ≡ Some result.now }
+    pub fn code(&self) -> Result<Rc<CodeTable>, AllocError>
+        ensures { IfOk result (λ code. code.value ≡ self.now.code) }
     {
-        self.code.entry(number)
+        self.code.clone()
     }
 
     /// Whether so many bytes from an address on may be written, or read.
@@ -200,6 +203,54 @@ impl GuestSpace {
             return false;
         }
         self.put_number(at, size, value)
+    }
+
+    /// The number of one, two or four bytes from an address on, the lowest first, found by the window of a register, which is moved
+    /// there where it doesn't have the address. None where four bytes from there may not be read, or are in two pages.
+    #[inline(always)]
+    pub fn load_from(&self, windows: &mut Windows, register: u8, at: u32, size: u32) -> Option<u32>
+        requires register { register < 32 }
+        requires some { 0 < size }
+        requires small { size ≤ 4 }
+        requires holds { AreWindows self.now windows.old }
+        ensures holds { AreWindows self.now windows.new }
+        ensures value { IfSome result (λ value. Reads 4 (flat self.now) at size (Ok value)) }
+        ensures few { IfSome result (λ value. value < 2 ^ (8 * size)) }
+    {
+        if !self.finds(windows, register, at) {
+            return None;
+        }
+        let window = windows.loads[register as usize];
+        self.number_from(at, size, (window.place + (at - window.start)) as usize)
+    }
+
+    /// Puts the low bytes of a number, one, two or four, from an address on, the lowest first, found by the window of a register,
+    /// which is moved there where it doesn't have the address. Else nothing changed.
+    #[inline(always)]
+    pub fn store_from(
+        &mut self,
+        windows: &mut Windows,
+        register: u8,
+        at: u32,
+        size: u32,
+        value: u32,
+    ) -> bool
+        requires register { register < 32 }
+        requires small { size ≤ 4 }
+        requires holds { AreWindows self.old windows.old }
+        ensures holds { AreWindows self.new windows.new }
+        ensures stored { MatchBool result ((permitted 2 (flat self.old) at size ≡ true) × Puts self.old at (little_bytes size value) self.new) (self.new ≡ self.old) }
+    {
+        let window = windows.stores[register as usize];
+        if !window.has(at) {
+            return self.store_elsewhere(windows, register, at, size, value);
+        }
+        self.put_from(
+            at,
+            size,
+            value,
+            (window.place + (at - window.start)) as usize,
+        )
     }
 
     /// So many bytes from an address on. It requires that they may be read, which `allows` tests, and refuses nothing: the
@@ -445,6 +496,148 @@ impl GuestSpace {
             }
             4 => {
                 self.store.put_word(place, value);
+                true
+            }
+            _ => false,
+        }
+    }
+
+    // The window of the addresses of one page around an address; of none where it isn't one of a stretch, or too near the page's end.
+    #[cold]
+    #[inline(never)]
+    fn window_at(&self, flag: u32, at: u32) -> Window
+        requires { 0 < flag }
+        ensures window { IsWindow flag self.now.base self.now.spans self.now.store result }
+        ensures page { IsOfPage self.now at result }
+    {
+        let stretch = stretch_at(&self.spans, flag, at);
+        if !stretch.has(at) {
+            return Window::none();
+        }
+        let near = at - self.base;
+        let offset = near % PAGE;
+        if offset + 4 > PAGE {
+            return Window::none();
+        }
+        let back = offset.min(at - stretch.start);
+        let room = PAGE - 3 - (offset - back);
+        let held = stretch.count - (at - back - stretch.start);
+        Window {
+            start: at - back,
+            count: room.min(held),
+            place: self.store.place(near) - back,
+        }
+    }
+
+    // Whether the window of a register for loads has an address. It is moved there where it doesn't.
+    #[inline(always)]
+    fn finds(&self, windows: &mut Windows, register: u8, at: u32) -> bool
+        requires register { register < 32 }
+        requires holds { AreWindows self.now windows.old }
+        ensures holds { AreWindows self.now windows.new }
+        ensures has { OnTrue result (HasAddress (load_window windows.new register) at) }
+    {
+        if windows.loads[register as usize].has(at) {
+            return true;
+        }
+        self.finds_elsewhere(windows, register, at)
+    }
+
+    // Moves the window of a register for loads to an address, and says whether it has it then.
+    #[cold]
+    #[inline(never)]
+    fn finds_elsewhere(&self, windows: &mut Windows, register: u8, at: u32) -> bool
+        requires register { register < 32 }
+        requires holds { AreWindows self.now windows.old }
+        ensures holds { AreWindows self.now windows.new }
+        ensures has { OnTrue result (HasAddress (load_window windows.new register) at) }
+    {
+        windows.loads[register as usize] = self.window_at(READ, at);
+        windows.loads[register as usize].has(at)
+    }
+
+    // The number of one, two or four bytes that stand from a place on.
+    #[inline(always)]
+    fn number_from(&self, at: u32, size: u32, place: usize) -> Option<u32>
+        requires some { 0 < size }
+        requires small { size ≤ 4 }
+        requires held { AreHeld 4 self.now.spans at 4 }
+        requires stands { StandsAt self.now.store (at - self.now.base) 4 place }
+        ensures value { IfSome result (λ value. Reads 4 (flat self.now) at size (Ok value)) }
+        ensures few { IfSome result (λ value. value < 2 ^ (8 * size)) }
+    {
+        let near = at - self.base;
+        match size {
+            1 => Some(u32::from(self.store.byte_from(near, place))),
+            2 => Some(u32::from(self.store.half_from(near, place))),
+            4 => Some(self.store.word_from(near, place)),
+            _ => None,
+        }
+    }
+
+    // Puts one, two or four bytes of a number where the window of a register doesn't have the address, which is moved there. Where the
+    // page was moved to another frame, the windows of loads are forgotten.
+    #[cold]
+    #[inline(never)]
+    fn store_elsewhere(
+        &mut self,
+        windows: &mut Windows,
+        register: u8,
+        at: u32,
+        size: u32,
+        value: u32,
+    ) -> bool
+        requires register { register < 32 }
+        requires small { size ≤ 4 }
+        requires holds { AreWindows self.old windows.old }
+        ensures holds { AreWindows self.new windows.new }
+        ensures stored { MatchBool result ((permitted 2 (flat self.old) at size ≡ true) × Puts self.old at (little_bytes size value) self.new) (self.new ≡ self.old) }
+    {
+        let mut stretch = Stretch::none();
+        if !self.reaches(WRITE, &mut stretch, at) {
+            return false;
+        }
+        let near = at - self.base;
+        if size == 0 {
+            return false;
+        }
+        if near % PAGE + size > PAGE {
+            return false;
+        }
+        let before = self.store.place(near);
+        if !self.put_number(at, size, value) {
+            return false;
+        }
+        if self.store.place(near) != before {
+            windows.loads = [Window::none(); 32];
+        }
+        windows.stores[register as usize] = self.window_at(WRITE, at);
+        true
+    }
+
+    // Puts one, two or four bytes of a number that stand from a place on, in a frame that no slot has. Else nothing changed.
+    #[inline(always)]
+    fn put_from(&mut self, at: u32, size: u32, value: u32, place: usize) -> bool
+        requires small { size ≤ 4 }
+        requires held { AreHeld 2 self.old.spans at 4 }
+        requires stands { StandsAt self.old.store (at - self.old.base) 4 place }
+        requires own { is_shared self.old.store ((at - self.old.base) / PAGE) ≡ false }
+        ensures stored { MatchBool result ((permitted 2 (flat self.old) at size ≡ true) × Puts self.old at (little_bytes size value) self.new) (self.new ≡ self.old) }
+        ensures numbers { self.new.store.live.numbers ≡ self.old.store.live.numbers }
+    {
+        let near = at - self.base;
+        match size {
+            1 => {
+                self.store.put_byte_from(near, place, (value % 256) as u8);
+                true
+            }
+            2 => {
+                self.store
+                    .put_half_from(near, place, (value % 65536) as u16);
+                true
+            }
+            4 => {
+                self.store.put_word_from(near, place, value);
                 true
             }
             _ => false,

@@ -14,6 +14,10 @@ no_zero rule heap start number x space next new_x new_space does = let none : ro
 pub entry_there : (start count number : ℕ) (space : GuestPages) → IsLawfulSpace space → IsAt start count number space → number < length space.code.entries
 entry_there start count number space so place = let c = place.count_is in let w = place.within in omega (arith, code_count space so, c, w)
 
+-- an element of a list that is the same
+pub got_in : (xs ys : List Entry) (number : ℕ) (entry : Entry) → xs ≡ ys → slice_get xs number ≡ Some entry → slice_get ys number ≡ Some entry
+got_in xs ys number entry same got = subst (λ zs. slice_get zs number ≡ Some entry) same got
+
 -- the first word is at a multiple of 4
 pub start_whole : (start count number : ℕ) (space : GuestPages) → IsLawfulSpace space → IsAt start count number space → start % 4 ≡ 0
 start_whole start count number space so place = ap (λ n. n % 4) place.start_is ∙ so.code.whole

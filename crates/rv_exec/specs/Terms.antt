@@ -27,4 +27,3 @@ pub use Rattle.run_history.specs.Served.{Limits, is_refused}
 pub use Rattle.guest_space.specs.Access.{Puts, Reads}
 pub use Rattle.guest_space.specs.Code.{word_count}
 pub use Rattle.guest_space.specs.Space.{GuestPages, IsLawfulSpace, flat}
-pub use Rattle.guest_space.specs.Stretches.{AreOpen}

@@ -1,8 +1,8 @@
 // Instructions that are done by the entries of a table. What none of these functions does is left to `step`.
-ghost use Rattle.std.specs.Prelude.{◌≡◌, ◌+◌, ◌*◌, ◌%◌, ◌^◌, ◌<◌, ◌≤◌, ℕ, Bool, IfSome, slice_index};
+ghost use Rattle.std.specs.Prelude.{◌≡◌, ◌+◌, ◌*◌, ◌%◌, ◌^◌, ◌<◌, ◌≤◌, ℕ, Bool, IfSome, Some, length, slice_get, slice_index};
 ghost use Rattle.block_book.specs.Heap.{Heap};
 ghost use Rattle.guest_space.specs.Space.{GuestPages};
-ghost use Rattle.guest_space.specs.Stretches.{IsOpen, AreOpen};
+ghost use Rattle.guest_space.specs.Windows.{AreWindows};
 ghost use Rattle.code_table.specs.Entries.{address, of_reg, of_imm, of_branch, of_load, of_store, IsLinked};
 ghost use Rattle.code_table.specs.declared.entry.Entry.{Entry};
 ghost use Rattle.guest_space.specs.Code.{word_count};
@@ -11,7 +11,7 @@ ghost use Rattle.rv_exec.specs.Entries.{counter, number_of, seen, IsWritten, Ent
 
 use block_book::Book;
 use code_table::{Entry, EntryOp};
-use guest_space::{AccessRule, GuestSpace, Stretch, Stretches};
+use guest_space::{AccessRule, GuestSpace, Windows};
 use run_history::Regs;
 use rv_isa::{
     BranchOp, ImmOp, LoadOp, RegOp, StoreOp, alu, alu_imm, bytes_loaded, bytes_stored, compare,
@@ -121,13 +121,13 @@ fn enter_load<R: AccessRule>(
     space: &GuestSpace,
     book: &Book,
     rule: &R,
-    stretch: &mut Stretch,
+    windows: &mut Windows,
     op: LoadOp,
 ) -> Next
     requires kind { e.now.op ≡ of_load op }
     requires zero { slice_index x.old 0 ≡ 0 }
-    requires holds { IsOpen 4 space.now.spans stretch.old }
-    ensures holds { IsOpen 4 space.now.spans stretch.new }
+    requires holds { AreWindows space.now windows.old }
+    ensures holds { AreWindows space.now windows.new }
     ensures done { (start number : ℕ) → EntryDone (R.rule rule.now) book.now start number e.now x.old space.now result x.new space.now }
     ensures among { (count : ℕ) → IsAmong count result }
 {
@@ -136,7 +136,7 @@ fn enter_load<R: AccessRule>(
     if !rule.permits(book, at, size) {
         return Next::Stops;
     }
-    let Some(value) = space.load_by(stretch, at, size) else {
+    let Some(value) = space.load_from(windows, e.rs1, at, size) else {
         return Next::Stops;
     };
     x[e.rd as usize] = extend(op, value);
@@ -153,14 +153,14 @@ fn enter_store<R: AccessRule>(
     space: &mut GuestSpace,
     book: &Book,
     rule: &R,
-    stretch: &mut Stretch,
+    windows: &mut Windows,
     op: StoreOp,
 ) -> Next
     requires first { rs1 < 32 }
     requires second { rs2 < 32 }
     requires zero { slice_index x.now 0 ≡ 0 }
-    requires holds { IsOpen 2 space.old.spans stretch.old }
-    ensures holds { IsOpen 2 space.old.spans stretch.new }
+    requires holds { AreWindows space.old windows.old }
+    ensures holds { AreWindows space.new windows.new }
     ensures stays { KeepsAreas space.old space.new }
     ensures done { (start number : ℕ) (entry : Entry) → IsWritten (of_store op) rs1 rs2 imm entry → EntryDone (R.rule rule.now) book.now start number entry x.now space.old result x.now space.new }
     ensures among { (count : ℕ) → IsAmong count result }
@@ -170,7 +170,7 @@ fn enter_store<R: AccessRule>(
     if !rule.permits(book, at, size) {
         return Next::Stops;
     }
-    if !space.store_by(stretch, at, size, x[rs2 as usize]) {
+    if !space.store_from(windows, rs1, at, size, x[rs2 as usize]) {
         return Next::Stops;
     }
     Next::Behind
@@ -200,26 +200,38 @@ fn enter_op(x: &mut [u32; 33], e: &Entry, op: RegOp) -> Next
     Next::Behind
 }
 
+// The entry of a number.
+#[inline(always)]
+fn entry_of(entries: &[Entry], number: usize) -> &Entry
+    requires { number < length entries.now }
+    ensures { slice_get entries.now number ≡ Some result.now }
+{
+    &entries[number]
+}
+
 /// Does the entry of a number.
 #[inline(always)]
 fn enter<R: AccessRule>(
     x: &mut [u32; 33],
+    entries: &[Entry],
     start: u32,
     count: usize,
     number: usize,
     space: &mut GuestSpace,
     book: &Book,
     rule: &R,
-    stretches: &mut Stretches,
+    windows: &mut Windows,
 ) -> Next
+    requires entries { entries.now ≡ space.old.code.entries }
     requires place { IsAt start count number space.old }
     requires zero { slice_index x.old 0 ≡ 0 }
-    requires holds { AreOpen space.old.spans stretches.old }
-    ensures holds { AreOpen space.new.spans stretches.new }
+    requires holds { AreWindows space.old windows.old }
+    ensures code { space.new.code ≡ space.old.code }
+    ensures holds { AreWindows space.new windows.new }
     ensures done { Entered (R.rule rule.now) book.now start count number x.old space.old result x.new space.new }
 {
     space.sound();
-    let e = space.entry(number);
+    let e = entry_of(entries, number);
     match e.op {
         EntryOp::Stop => Next::Stops,
         EntryOp::Set => enter_set(x, e),
@@ -231,40 +243,22 @@ fn enter<R: AccessRule>(
         EntryOp::Bge => enter_branch(x, e, BranchOp::Bge),
         EntryOp::Bltu => enter_branch(x, e, BranchOp::Bltu),
         EntryOp::Bgeu => enter_branch(x, e, BranchOp::Bgeu),
-        EntryOp::Lb => {
-            let stretch = &mut stretches.loads[e.rs1 as usize];
-            enter_load(x, e, space, book, rule, stretch, LoadOp::Lb)
-        }
-        EntryOp::Lh => {
-            let stretch = &mut stretches.loads[e.rs1 as usize];
-            enter_load(x, e, space, book, rule, stretch, LoadOp::Lh)
-        }
-        EntryOp::Lw => {
-            let stretch = &mut stretches.loads[e.rs1 as usize];
-            enter_load(x, e, space, book, rule, stretch, LoadOp::Lw)
-        }
-        EntryOp::Lbu => {
-            let stretch = &mut stretches.loads[e.rs1 as usize];
-            enter_load(x, e, space, book, rule, stretch, LoadOp::Lbu)
-        }
-        EntryOp::Lhu => {
-            let stretch = &mut stretches.loads[e.rs1 as usize];
-            enter_load(x, e, space, book, rule, stretch, LoadOp::Lhu)
-        }
+        EntryOp::Lb => enter_load(x, e, space, book, rule, windows, LoadOp::Lb),
+        EntryOp::Lh => enter_load(x, e, space, book, rule, windows, LoadOp::Lh),
+        EntryOp::Lw => enter_load(x, e, space, book, rule, windows, LoadOp::Lw),
+        EntryOp::Lbu => enter_load(x, e, space, book, rule, windows, LoadOp::Lbu),
+        EntryOp::Lhu => enter_load(x, e, space, book, rule, windows, LoadOp::Lhu),
         EntryOp::Sb => {
             let (rs1, rs2, imm) = (e.rs1, e.rs2, e.imm);
-            let stretch = &mut stretches.stores[rs1 as usize];
-            enter_store(x, rs1, rs2, imm, space, book, rule, stretch, StoreOp::Sb)
+            enter_store(x, rs1, rs2, imm, space, book, rule, windows, StoreOp::Sb)
         }
         EntryOp::Sh => {
             let (rs1, rs2, imm) = (e.rs1, e.rs2, e.imm);
-            let stretch = &mut stretches.stores[rs1 as usize];
-            enter_store(x, rs1, rs2, imm, space, book, rule, stretch, StoreOp::Sh)
+            enter_store(x, rs1, rs2, imm, space, book, rule, windows, StoreOp::Sh)
         }
         EntryOp::Sw => {
             let (rs1, rs2, imm) = (e.rs1, e.rs2, e.imm);
-            let stretch = &mut stretches.stores[rs1 as usize];
-            enter_store(x, rs1, rs2, imm, space, book, rule, stretch, StoreOp::Sw)
+            enter_store(x, rs1, rs2, imm, space, book, rule, windows, StoreOp::Sw)
         }
         EntryOp::Addi => enter_op_imm(x, e, ImmOp::Addi),
         EntryOp::Slti => enter_op_imm(x, e, ImmOp::Slti),
@@ -340,20 +334,26 @@ pub fn run_entries<R: AccessRule, L: Ledger>(
     space.sound();
     let start = space.code_start();
     let count = space.code_len() - 1;
+    let code = match space.code() {
+        Ok(code) => code,
+        Err(_) => return 0,
+    };
+    let entries = code.entries();
     let mut x = with_last(&regs.x);
-    let mut stretches = Stretches::none();
+    let mut windows = Windows::none();
     let mut number = first;
     let mut left = most;
     'run: while left > 0 {
         match enter(
             &mut x,
+            entries,
             start,
             count,
             number,
             space,
             book,
             rule,
-            &mut stretches,
+            &mut windows,
         ) {
             Next::Behind => number += 1,
             Next::To(other) => number = other,

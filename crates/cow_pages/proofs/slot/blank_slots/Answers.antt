@@ -1,5 +1,5 @@
+use Rattle.cow_pages.proofs.Lemmas.{blank_more, blank_none}
 use Rattle.cow_pages.proofs.Terms.{ap, length, refl, ◌∙◌, length-replicate}
-use Rattle.cow_pages.proofs.Making.{blank_none, blank_more}
 use Rattle.cow_pages.proofs.slot.blank_slots.Goals as goal
 
 pub slots-init : goal.slots-init

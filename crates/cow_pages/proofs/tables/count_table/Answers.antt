@@ -1,5 +1,5 @@
+use Rattle.cow_pages.proofs.Lemmas.{counting_added, counting_all, counting_fits, counting_more, rise_none, rise_some}
 use Rattle.cow_pages.proofs.Terms.{arith, refl}
-use Rattle.cow_pages.proofs.Walks.{counting_fits, counting_more, counting_all, counting_added, rise_none, rise_some}
 use Rattle.cow_pages.proofs.tables.count_table.Goals as goal
 use Rattle.cow_pages.proofs.tables.count_table.Goals.{then-count-eq0, else-count-eq0}
 

@@ -1,4 +1,4 @@
-use Rattle.cow_pages.proofs.Walks.{Counting}
+use Rattle.cow_pages.proofs.Lemmas.{Counting}
 use Rattle.cow_pages.proofs.tables.count_table.Given as goal
 
 abbrev pub invariant-entries : goal.invariant-entries

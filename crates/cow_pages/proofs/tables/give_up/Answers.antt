@@ -1,5 +1,5 @@
+use Rattle.cow_pages.proofs.Lemmas.{give_all, give_free, give_kept, give_room}
 use Rattle.cow_pages.proofs.Terms.{arith, refl, ◌∙◌}
-use Rattle.cow_pages.proofs.Walks.{give_kept, give_free, give_room, give_all}
 use Rattle.cow_pages.proofs.tables.give_up.Goals as goal
 use Rattle.cow_pages.proofs.tables.give_up.Goals.{then-counts-number-eq0, else-counts-number-eq0}
 

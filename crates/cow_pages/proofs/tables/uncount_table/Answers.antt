@@ -1,6 +1,5 @@
+use Rattle.cow_pages.proofs.Lemmas.{has-get_or, counted_room, not-live, rise_none, rise_some, uncount_free, uncount_kept, uncount_live, uncounting_all, uncounting_more, uncounting_removed, uncounting_some}
 use Rattle.cow_pages.proofs.Terms.{arith, false, get_or, length, refl, subst, true, ◌<◌, ◌∙◌, ◌≡◌, has, IsStack}
-use Rattle.cow_pages.proofs.Counting.{has-get_or}
-use Rattle.cow_pages.proofs.Walks.{uncounting_some, uncounting_more, uncounting_all, uncounting_removed, uncount_kept, uncount_live, uncount_free, counted_room, not-live, rise_none, rise_some}
 use Rattle.cow_pages.proofs.tables.uncount_table.Goals as goal
 use Rattle.cow_pages.proofs.tables.uncount_table.Goals.{then-count-eq0+then-live-k, then-count-eq0+else-live-k, else-count-eq0}
 

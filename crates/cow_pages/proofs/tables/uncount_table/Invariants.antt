@@ -1,5 +1,5 @@
+use Rattle.cow_pages.proofs.Lemmas.{Uncounting}
 use Rattle.cow_pages.proofs.Terms.{vec_capacity, ◌≡◌}
-use Rattle.cow_pages.proofs.Walks.{Uncounting}
 use Rattle.cow_pages.proofs.tables.uncount_table.Given as goal
 
 abbrev pub invariant-entries : goal.invariant-entries

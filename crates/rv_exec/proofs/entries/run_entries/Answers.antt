@@ -1,4 +1,5 @@
-use Rattle.rv_exec.proofs.Terms.{arith, subst, sym, ◌+◌, ◌-◌, ◌≡◌, Ran, regs_of, counter, seen}
+use Rattle.code_table.specs.Tables.{Table}
+use Rattle.rv_exec.proofs.Terms.{ap, arith, rules, subst, sym, ◌+◌, ◌-◌, ◌∙◌, ◌≡◌, Ran, regs_of, counter, seen}
 use Rattle.rv_exec.proofs.QuickLemmas.{ran_none}
 use Rattle.rv_exec.proofs.EntryLoop.{IsRunTo, first_regs, first_zero, ran_behind, ran_to}
 use Rattle.rv_exec.proofs.entries.run_entries.Goals as goal
@@ -17,7 +18,8 @@ run-init g c =
           (ran_none (g.R.AccessRule.rule c.args.rule.now) c.args.book.now c.args.regs.now c.args.space.now));
       zero = first_zero c.with_last-x.result c.args.regs.now.x c.with_last-x.ensures c.requires.zero;
       place = record { start_is = c.code_start-start.ensures; count_is = omega (arith, many); within = let w = place.within in omega (arith, many, w) };
-      holds = c.none-stretches.ensures c.args.space.now.spans;
+      entries = search rules;
+      holds = c.none-windows.ensures c.args.space.now;
       counts = omega arith;
       within = omega arith;
     }
@@ -33,7 +35,11 @@ run-preserved g c =
       ran = subst (λ n. Ran (g.R.AccessRule.rule c.args.rule.now) c.args.book.now n c.args.regs.now c.args.space.now (regs_of (counter c.code_start-start.result c.match-enter.number) (seen c.enter.new.x)) c.enter.new.space) one after.ran;
       zero = after.zero;
       place = after.place;
+      entries = c.run.invariant.entries ∙ ap (λ (t : Table). t.entries) (sym c.enter.ensures.code);
       holds = c.enter.ensures.holds;
       counts = omega arith;
       within = omega arith;
     }
+
+pub returns-in-Err-clause-ran : goal.returns-in-Err-clause-ran
+returns-in-Err-clause-ran g c = ran_none (g.R.AccessRule.rule c.args.rule.now) c.args.book.now c.args.regs.now c.args.space.now

@@ -1,6 +1,5 @@
+use Rattle.cow_pages.proofs.Lemmas.{lawful, run_is}
 use Rattle.cow_pages.proofs.Terms.{ap, arith, drop, take, ◌+◌, ◌-◌, ◌∙◌, ◌≡◌, little_number}
-use Rattle.cow_pages.proofs.Stores.{lawful}
-use Rattle.cow_pages.proofs.Runs.{run_is}
 use Rattle.cow_pages.proofs.store.PageStore.half_at.Goals as goal
 
 pub returns-clause-half : goal.returns-clause-half
@@ -11,7 +10,7 @@ returns-clause-half c =
     ∙ ap little_number
     (ap (λ n. take n (drop place c.deref.result.now)) size
     ∙ ap (λ xs. take 2 (drop place xs)) c.deref.ensures.value
-    ∙ run_is _ _ _ _ _ _ _ _ _ _ _ _ _ c.self.invariant c.self.view_is c.requires.inside c.requires.within c.place_of-place.ensures)
+    ∙ run_is _ _ _ _ _ _ _ _ _ _ _ _ _ c.self.invariant.sound c.self.view_is c.requires.inside c.requires.within c.place_of-place.ensures)
 
 pub returns-clause-lawful : goal.returns-clause-lawful
-returns-clause-lawful c = lawful _ _ _ _ _ _ _ _ _ _ c.self.invariant c.self.view_is
+returns-clause-lawful c = lawful _ _ _ _ _ _ _ _ _ _ c.self.invariant.sound c.self.view_is

@@ -1,10 +1,12 @@
+use Rattle.cow_pages.proofs.Lemmas.{lawful, logged_made, made_is, made_sound}
 use Rattle.cow_pages.proofs.Terms.{refl}
-use Rattle.cow_pages.proofs.Stores.{lawful}
-use Rattle.cow_pages.proofs.Making.{made_sound, made_is}
 use Rattle.cow_pages.proofs.store.PageStore.make.Goals as goal
 
 pub invariant_of-result : goal.invariant_of-result
-invariant_of-result c = made_sound _ _ _ _ _ _ _ _ _ c.requires.few c.requires.numbered c.requires.enough (c.in_ok-vec.ensures.items_if_clones_equal (λ x h. h)) c.in_ok-row.ensures.row (c.in_ok-vec-2.ensures.items_if_clones_equal (λ x h. h)) c.in_ok-row-2.ensures.row c.in_ok-row-2.ensures.room c.in_ok-blank_slots.ensures
+invariant_of-result c = record {
+  sound = made_sound _ _ _ _ _ _ _ _ _ c.requires.few c.requires.numbered c.requires.enough (c.in_ok-vec.ensures.items_if_clones_equal (λ x h. h)) c.in_ok-row.ensures.row (c.in_ok-vec-2.ensures.items_if_clones_equal (λ x h. h)) c.in_ok-row-2.ensures.row c.in_ok-row-2.ensures.room c.in_ok-blank_slots.ensures;
+  logged = logged_made _ _ _ _ _ _ c.requires.few.0 c.in_ok-make.ensures.recent c.in_ok-blank_slots.ensures;
+}
 
 pub returns-clause-made : goal.returns-clause-made
 returns-clause-made c = made_is _ _ _ _ _ _ _ _ _ (made_sound _ _ _ _ _ _ _ _ _ c.requires.few c.requires.numbered c.requires.enough (c.in_ok-vec.ensures.items_if_clones_equal (λ x h. h)) c.in_ok-row.ensures.row (c.in_ok-vec-2.ensures.items_if_clones_equal (λ x h. h)) c.in_ok-row-2.ensures.row c.in_ok-row-2.ensures.room c.in_ok-blank_slots.ensures) (c.in_ok-vec.ensures.items_if_clones_equal (λ x h. h)) c.in_ok-row-2.ensures.row c.in_ok-blank_slots.ensures

@@ -10,19 +10,19 @@ returns-then-is_empty c =
 pub overflow_sub-at : goal.overflow_sub-at
 overflow_sub-at c =
     let some : 0 < length c.args.bytes.now = search rules in
-    (parts_run 2 c.self.inside.base c.self.inside.spans.items c.self.inside.store c.self.inside.code c.args.self.now c.args.at (length c.args.bytes.now) c.self.invariant c.self.view_is some c.requires).0
+    (parts_run 2 c.self.inside.base c.self.inside.spans.items c.self.inside.store c.self.inside.code.value c.args.self.now c.args.at (length c.args.bytes.now) c.self.invariant c.self.view_is some c.requires).0
 
 pub write_run-requires : goal.write_run-requires
 write_run-requires c =
     let some : 0 < length c.args.bytes.now = search rules in
-    (parts_run 2 c.self.inside.base c.self.inside.spans.items c.self.inside.store c.self.inside.code c.args.self.now c.args.at (length c.args.bytes.now) c.self.invariant c.self.view_is some c.requires).1
+    (parts_run 2 c.self.inside.base c.self.inside.spans.items c.self.inside.store c.self.inside.code.value c.args.self.now c.args.at (length c.args.bytes.now) c.self.invariant c.self.view_is some c.requires).1
 
 pub invariant_of-self : goal.invariant_of-self
 invariant_of-self c =
-    parts_wrote c.self.inside.base c.self.inside.spans.items c.self.inside.store _ c.self.inside.code c.args.self.now c.args.at c.args.bytes.now c.self.invariant c.self.view_is c.write_run.ensures.writes c.write_run.ensures.lawful
+    parts_wrote c.self.inside.base c.self.inside.spans.items c.self.inside.store _ c.self.inside.code.value c.args.self.now c.args.at c.args.bytes.now c.self.invariant c.self.view_is c.write_run.ensures.writes c.write_run.ensures.lawful
     (is_held 2 c.args.self.now c.args.at (length c.args.bytes.now) (subst IsLawfulSpace c.self.view_is c.self.invariant) c.requires)
 
 pub returns : goal.returns
 returns c =
-    parts_put c.self.inside.base c.self.inside.spans.items c.self.inside.store _ c.self.inside.code c.args.self.now c.args.at c.args.bytes.now c.self.invariant c.self.view_is c.write_run.ensures.writes c.write_run.ensures.lawful
+    parts_put c.self.inside.base c.self.inside.spans.items c.self.inside.store _ c.self.inside.code.value c.args.self.now c.args.at c.args.bytes.now c.self.invariant c.self.view_is c.write_run.ensures.writes c.write_run.ensures.lawful
     (is_held 2 c.args.self.now c.args.at (length c.args.bytes.now) (subst IsLawfulSpace c.self.view_is c.self.invariant) c.requires)

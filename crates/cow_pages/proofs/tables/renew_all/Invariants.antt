@@ -1,9 +1,10 @@
-use Rattle.cow_pages.proofs.Terms.{length, vec_capacity, ◌-◌, ◌≡◌, ◌≤◌, IsRenewed, Recounts}
-use Rattle.cow_pages.proofs.tables.renew_table.Given as goal
+use Rattle.cow_pages.proofs.Terms.{length, vec_capacity, ◌-◌, ◌≡◌, ◌≤◌, IsRenewed, Recounts, SameUpTo}
+use Rattle.cow_pages.proofs.tables.renew_all.Given as goal
 
 abbrev pub invariant-blocks-2 : goal.invariant-blocks-2
 invariant-blocks-2 l = record {
-  renewed : IsRenewed l.start l.counts l.table l.live l.free.items;
+  renewed : IsRenewed l.counts l.table l.live l.free.items;
+  same : SameUpTo l.start l.table l.live;
   counts : Recounts l.fn.counts l.fn.table l.counts l.table l.added l.removed;
   inside : l.start ≤ length l.table;
   added : l.added ≤ l.start;

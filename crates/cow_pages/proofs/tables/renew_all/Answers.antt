@@ -1,6 +1,6 @@
+use Rattle.cow_pages.proofs.Lemmas.{recounts_on, renewed_all, same_on, same_part}
 use Rattle.cow_pages.proofs.Terms.{arith, drop, subst, take, ◌+◌, ◌-◌, ◌≡◌, Recounts}
-use Rattle.cow_pages.proofs.Renewals.{renewed_on, same_part, renewed_all, recounts_on}
-use Rattle.cow_pages.proofs.tables.renew_table.Goals as goal
+use Rattle.cow_pages.proofs.tables.renew_all.Goals as goal
 use Rattle.cow_pages.specs.declared.tables.TheConstants.{BLOCK}
 
 pub blocks-2-preserved : goal.blocks-2-preserved
@@ -9,7 +9,8 @@ blocks-2-preserved c =
     let wide : start + BLOCK - start ≡ BLOCK = omega arith in
     let e : take BLOCK (drop start c.blocks-2.table) ≡ take BLOCK (drop start c.args.live.now) = subst (λ n. take n (drop start c.blocks-2.table) ≡ take n (drop start c.args.live.now)) wide (c.is_same.ensures c.if-not-is_same.false) in
     record {
-      renewed = renewed_on _ _ _ _ _ _ c.blocks-2.invariant.renewed (omega arith) (same_part _ _ _ _ e);
+      renewed = c.blocks-2.invariant.renewed;
+      same = same_on _ _ _ _ c.blocks-2.invariant.same (same_part _ _ _ _ e);
       counts = c.blocks-2.invariant.counts;
       inside = omega (arith, c.blocks-2-test.true, c.blocks-2.invariant.inside);
       added = omega (arith, c.blocks-2.invariant.added);
@@ -18,10 +19,10 @@ blocks-2-preserved c =
     }
 
 pub returns-clause-table : goal.returns-clause-table
-returns-clause-table c = renewed_all _ _ _ _ _ c.renew_part-rest.ensures.renewed (omega (arith, c.renew_part-rest.auto.table))
+returns-clause-table c = renewed_all _ _ _ _ _ c.renew_part-rest.ensures.renewed (c.renew_part-rest.ensures.same c.blocks-2.invariant.same) (omega (arith, c.renew_part-rest.auto.table))
 
 pub returns-clause-counts : goal.returns-clause-counts
 returns-clause-counts c =
-    let is = renewed_all _ _ _ _ _ c.renew_part-rest.ensures.renewed (omega (arith, c.renew_part-rest.auto.table)) in
+    let is = renewed_all _ _ _ _ _ c.renew_part-rest.ensures.renewed (c.renew_part-rest.ensures.same c.blocks-2.invariant.same) (omega (arith, c.renew_part-rest.auto.table)) in
     subst (λ xs. Recounts c.args.counts.now c.args.table.now c.renew_part-rest.new.counts xs (c.blocks-2.added + c.renew_part-rest.result.added) (c.blocks-2.removed + c.renew_part-rest.result.removed)) is
     (recounts_on _ _ _ _ _ _ _ _ _ _ c.blocks-2.invariant.counts c.renew_part-rest.ensures.counts)

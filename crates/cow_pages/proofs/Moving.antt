@@ -1,0 +1,122 @@
+-- The moves of pages that are kept.
+use Rattle.cow_pages.proofs.Terms.{All, IsSome, List, ap, arith, false, get_or, inl, inr, length, refl, set, subst, sym, true, ℕ, ◌%◌, ◌+◌, ◌<◌, ◌∙◌, ◌≡◌, ◌≤◌, cases_eq, cases_lt, false≢true, get_or-replicate, get_or-set_other, get_or-set_same, length-replicate, length-set, replicate, All-get_or, All-set, All-weaker, Slot, MOST, RECENT, Pages, slot_at, AreBlank, AreInside, AreLogged, AreMoved, IsKept, IsLogged, IsSlot, IsSound, pages_of}
+use Rattle.cow_pages.proofs.Stores.{slot_within, slot_saved}
+use Rattle.cow_pages.proofs.Slots.{slot_table}
+use Rattle.cow_pages.proofs.Making.{IsBlank}
+
+inside_more : (pages page i : ℕ) (recent : List ℕ) → AreInside pages recent → page < pages → AreInside pages (set recent i page)
+inside_more pages page i recent so less = record {
+  size = length-set recent i page ∙ so.size;
+  below = λ k under.
+      elim (cases_eq i k) [
+        | inl here ↦ subst (λ m. get_or (set recent i page) m 0 < pages) here (omega (arith, get_or-set_same recent i page 0 (omega (arith, length-set recent i page)), less))
+        | inr other ↦ omega (arith, get_or-set_other recent i k page 0 (λ e. other (sym e)), so.below k (omega (arith, length-set recent i page)))
+      ];
+}
+
+one_moved : (pages count after page fresh : ℕ) (recent live : List ℕ) (slot : Slot) → AreInside pages recent → (count < MOST → after ≡ count + 1) → (MOST ≤ count → after ≡ count) → IsLogged count recent live slot → IsLogged after (set recent (count % RECENT) page) (set live page fresh) slot
+one_moved pages count after page fresh recent live slot kept rise still so = record {
+  seen = λ saved.
+      elim (cases_lt count MOST) [
+        | inl under ↦ omega (arith, so.seen saved, rise under)
+        | inr past ↦ omega (arith, so.seen saved, still past)
+      ];
+  moved = λ saved few short k inside other.
+      elim (cases_lt count MOST) [
+        | inl under ↦
+            (let up : after ≡ count + 1 = rise under in
+            elim (cases_eq page k) [
+              | inl here ↦ (count, so.seen saved, omega arith, get_or-set_same recent (count % RECENT) page 0 (omega (arith, kept.size)) ∙ here)
+              | inr away ↦
+                  (let back : get_or (set live page fresh) k 0 ≡ get_or live k 0 = get_or-set_other live page k fresh 0 (λ e. away (sym e)) in
+                  let found = so.moved saved under (omega arith) k (omega (arith, length-set live page fresh)) (λ e. other (e ∙ sym back)) in
+                  let from : slot.seen ≤ found.0 = found.1 in
+                  let to : found.0 < count = found.2 in
+                  let apart : found.0 % RECENT ≡ count % RECENT → ⊥ = λ e. omega arith in
+                  (found.0, from, omega arith, get_or-set_other recent (count % RECENT) (found.0 % RECENT) page 0 apart ∙ found.3))
+            ])
+        | inr past ↦ absurd (omega (arith, still past))
+      ];
+}
+
+-- a page has moved
+pub logged_moved : (pages count after page fresh : ℕ) (recent live next line : List ℕ) (slots : List Slot) → AreLogged pages count recent live slots → page < pages → (count < MOST → after ≡ count + 1) → (MOST ≤ count → after ≡ count) → next ≡ set recent (count % RECENT) page → line ≡ set live page fresh → AreLogged pages after next line slots
+logged_moved pages count after page fresh recent live next line slots so less rise still made moved =
+    subst (λ xs. AreLogged pages after xs line slots) (sym made)
+    (subst (λ xs. AreLogged pages after (set recent (count % RECENT) page) xs slots) (sym moved) record {
+      inside = inside_more pages page (count % RECENT) recent so.inside less;
+      each = All-weaker (IsLogged count recent live) (IsLogged after (set recent (count % RECENT) page) (set live page fresh)) (λ slot one. one_moved pages count after page fresh recent live slot so.inside rise still one) slots so.each;
+    })
+
+-- any page may have moved
+one_lost : (count after : ℕ) (recent live other : List ℕ) (slot : Slot) → (count < MOST → count + RECENT < after) → (MOST ≤ count → after ≡ count) → IsLogged count recent live slot → IsLogged after recent other slot
+one_lost count after recent live other slot rise still so = record {
+  seen = λ saved.
+      elim (cases_lt count MOST) [
+        | inl under ↦ omega (arith, so.seen saved, rise under)
+        | inr past ↦ omega (arith, so.seen saved, still past)
+      ];
+  moved = λ saved few short k inside other.
+      elim (cases_lt count MOST) [
+        | inl under ↦ absurd (omega (arith, so.seen saved, rise under))
+        | inr past ↦ absurd (omega (arith, still past))
+      ];
+}
+
+pub logged_lost : (pages count after : ℕ) (recent live next line : List ℕ) (slots : List Slot) → AreLogged pages count recent live slots → (count < MOST → count + RECENT < after) → (MOST ≤ count → after ≡ count) → next ≡ recent → AreLogged pages after next line slots
+logged_lost pages count after recent live next line slots so rise still same =
+    subst (λ xs. AreLogged pages after xs line slots) (sym same) record {
+      inside = so.inside;
+      each = All-weaker (IsLogged count recent live) (IsLogged after recent line) (λ slot one. one_lost count after recent live line slot rise still one) slots so.each;
+    }
+
+-- a slot holds the live table
+pub logged_saved : (pages count : ℕ) (recent live : List ℕ) (slots : List Slot) (i : ℕ) (next : Slot) → AreLogged pages count recent live slots → next.seen ≡ count → next.table.items ≡ live → AreLogged pages count recent live (set slots i next)
+logged_saved pages count recent live slots i next so seen table = record {
+  inside = so.inside;
+  each = All-set (IsLogged count recent live) slots i next
+      record { seen = λ saved. omega (arith, seen); moved = λ saved few short k inside other. absurd (other (ap (λ xs. get_or xs k 0) table)) } so.each;
+}
+
+-- a slot holds nothing
+pub logged_released : (pages count : ℕ) (recent live : List ℕ) (slots : List Slot) (i : ℕ) (next : Slot) → AreLogged pages count recent live slots → next.saved ≡ false → AreLogged pages count recent live (set slots i next)
+logged_released pages count recent live slots i next so unsaved = record {
+  inside = so.inside;
+  each = All-set (IsLogged count recent live) slots i next
+      record { seen = λ saved. absurd (false≢true (sym unsaved ∙ saved)); moved = λ saved few short k inside other. absurd (false≢true (sym unsaved ∙ saved)) } so.each;
+}
+
+-- no slot holds anything
+pub logged_made : (pages size count : ℕ) (recent live : List ℕ) (slots : List Slot) → 1 ≤ pages → recent ≡ replicate RECENT 0 → AreBlank size pages slots → AreLogged pages count recent live slots
+logged_made pages size count recent live slots some zeros blank =
+    let many : length recent ≡ RECENT = ap length zeros ∙ length-replicate {A = ℕ} RECENT 0 in
+    record {
+      inside = record {
+        size = many;
+        below = λ k under.
+            let near : k < RECENT = omega (arith, many) in
+            let none : get_or recent k 0 ≡ 0 = ap (λ xs. get_or xs k 0) zeros ∙ get_or-replicate {A = ℕ} RECENT k 0 0 near in
+            omega arith;
+      };
+      each = All-weaker (IsBlank pages) (IsLogged count recent live) (λ slot h. record { seen = λ saved. absurd (false≢true (sym h.0 ∙ saved)); moved = λ saved few short k inside other. absurd (false≢true (sym h.0 ∙ saved)) }) slots blank.each;
+    }
+
+-- what a save over a slot asks of the moves
+pub record OverMoves (count seen : ℕ) (recent table live : List ℕ) : Type 0 where
+  pub inside : AreInside (length table) recent
+  pub order : seen ≤ count
+  pub moved : AreMoved count recent seen table live
+
+pub over_moves : (pages frames held : ℕ) (pool live counts free : List ℕ) (reserved : ℕ) (slots : List Slot) (count : ℕ) (recent : List ℕ) (store : Pages) (i : ℕ) (table line : List ℕ) (slot : Slot) → IsKept pages frames held pool live counts free reserved slots count recent → pages_of pages frames pool live slots ≡ store → IsSome (slot_at store i) → table ≡ slot.table.items → line ≡ live → slot ≡ get_or slots i slot → OverMoves count slot.seen recent table line
+over_moves pages frames held pool live counts free reserved slots count recent store i table line slot so seen some first second is =
+    let here : IsSome (slot_at (pages_of pages frames pool live slots) i) = subst (λ s. IsSome (slot_at s i)) (sym seen) some in
+    let less : i < length slots = slot_within pages frames pool live slots i here in
+    let saved : slot.saved ≡ true = slot_saved pages frames pool live slots i slot is here in
+    let one : IsSlot pages so.sound.homes slot = slot_table pages so.sound.homes slots i slot so.sound.slot_tables less is in
+    let log : IsLogged count recent live slot = subst (IsLogged count recent live) (sym is) (All-get_or (IsLogged count recent live) slots i slot less so.logged.each) in
+    let size : length table ≡ pages = ap length first ∙ one.size in
+    record {
+      inside = subst (λ n. AreInside n recent) (sym size) so.logged.inside;
+      order = log.seen saved;
+      moved = subst (λ xs. AreMoved count recent slot.seen table xs) (sym second) (subst (λ xs. AreMoved count recent slot.seen xs live) (sym first) (log.moved saved));
+    }

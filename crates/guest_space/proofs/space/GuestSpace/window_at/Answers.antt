@@ -1,0 +1,34 @@
+use Rattle.guest_space.proofs.Terms.{arith}
+use Rattle.guest_space.proofs.SpaceLemmas.{parts_place}
+use Rattle.guest_space.proofs.StretchLemmas.{parts_open}
+use Rattle.guest_space.proofs.WindowLemmas.{parts_window, none_of_page}
+use Rattle.guest_space.proofs.space.GuestSpace.window_at.Goals as goal
+
+pub returns-then-not-has-clause-window : goal.returns-then-not-has-clause-window
+returns-then-not-has-clause-window c = c.none.ensures.any c.args.flag c.args.self.now.base c.args.self.now.spans c.args.self.now.store
+
+pub returns-then-not-has-clause-page : goal.returns-then-not-has-clause-page
+returns-then-not-has-clause-page c = none_of_page c.args.self.now c.args.at c.none.result c.none.ensures.none
+
+pub returns-then-offset-gt-PAGE-clause-window : goal.returns-then-offset-gt-PAGE-clause-window
+returns-then-offset-gt-PAGE-clause-window c = c.none-then-offset-gt-PAGE.ensures.any c.args.flag c.args.self.now.base c.args.self.now.spans c.args.self.now.store
+
+pub returns-then-offset-gt-PAGE-clause-page : goal.returns-then-offset-gt-PAGE-clause-page
+returns-then-offset-gt-PAGE-clause-page c = none_of_page c.args.self.now c.args.at c.none-then-offset-gt-PAGE.result c.none-then-offset-gt-PAGE.ensures.none
+
+pub overflow_sub-near : goal.overflow_sub-near
+overflow_sub-near c =
+    let is = parts_open c.args.flag c.self.inside.base c.self.inside.spans.items _ c.self.inside.store c.self.inside.code.value c.args.self.now _ c.self.view_is c.deref.ensures.value c.stretch_at-stretch.ensures in
+    (parts_place c.args.flag c.self.inside.base c.self.inside.spans.items c.self.inside.store c.self.inside.code.value c.args.self.now c.args.at 4 c.self.invariant c.self.view_is (omega arith) (is.held c.args.at c.if-not-has.ensures.0 c.if-not-has.ensures.1)).0
+
+pub place-requires : goal.place-requires
+place-requires c =
+    let is = parts_open c.args.flag c.self.inside.base c.self.inside.spans.items _ c.self.inside.store c.self.inside.code.value c.args.self.now _ c.self.view_is c.deref.ensures.value c.stretch_at-stretch.ensures in
+    let room = parts_place c.args.flag c.self.inside.base c.self.inside.spans.items c.self.inside.store c.self.inside.code.value c.args.self.now c.args.at 4 c.self.invariant c.self.view_is (omega arith) (is.held c.args.at c.if-not-has.ensures.0 c.if-not-has.ensures.1) in
+    omega arith
+
+pub returns-clause-window : goal.returns-clause-window
+returns-clause-window c =
+    let is = parts_open c.args.flag c.self.inside.base c.self.inside.spans.items _ c.self.inside.store c.self.inside.code.value c.args.self.now _ c.self.view_is c.deref.ensures.value c.stretch_at-stretch.ensures in
+    parts_window c.args.flag c.self.inside.base c.self.inside.spans.items c.self.inside.store c.self.inside.code.value c.args.self.now c.stretch_at-stretch.result c.args.at c.min-back.result c.min.result c.place.result c.self.invariant c.self.view_is is c.if-not-has.ensures.0 c.if-not-has.ensures.1
+    (omega arith) (omega arith) (omega arith) (omega arith) (omega arith) c.place.ensures.place c.place.ensures.small

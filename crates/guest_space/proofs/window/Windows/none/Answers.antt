@@ -1,0 +1,8 @@
+use Rattle.guest_space.proofs.Terms.{All-replicate, IsLoadWindow, IsStoreWindow}
+use Rattle.guest_space.proofs.window.Windows.none.Goals as goal
+
+pub returns : goal.returns
+returns c = λ space. record {
+  loads = All-replicate (IsLoadWindow space) 32 c.none.result (c.none.ensures.any 4 space.base space.spans space.store);
+  stores = All-replicate (IsStoreWindow space) 32 c.none-2.result (c.none-2.ensures.stores space);
+}

@@ -1,0 +1,60 @@
+// Addresses whose bytes are found without the tables of pages.
+ghost use Rattle.std.specs.Prelude.{◌≡◌, ℕ, ◌+◌, ◌^◌, ◌≤◌, ◌<◌, List};
+ghost use Rattle.std.specs.Bool.{OnTrue};
+ghost use Rattle.cow_pages.specs.Pages.{Pages};
+ghost use Rattle.guest_space.specs.Space.{GuestPages, Span};
+ghost use Rattle.guest_space.specs.Windows.{IsWindow, IsStoreWindow, AreWindows};
+
+/// Addresses of one page from each of which on four bytes may be touched in one way: so many, from a start on. The byte at the first
+/// stands at a place among the bytes of all frames, and the others behind it.
+#[derive(Clone, Copy, Debug)]
+pub struct Window {
+    pub start: u32,
+    pub count: u32,
+    pub place: u32,
+}
+
+impl Window {
+    /// The window of no address.
+    #[inline(always)]
+    pub fn none() -> Window
+        ensures none { result.count ≡ 0 }
+        ensures any { (flag base : ℕ) (spans : List Span) (store : Pages) → IsWindow flag base spans store result }
+        ensures stores { (space : GuestPages) → IsStoreWindow space result }
+    {
+        Window {
+            start: 0,
+            count: 0,
+            place: 0,
+        }
+    }
+
+    /// Whether an address is one of it.
+    #[inline(always)]
+    pub fn has(&self, at: u32) -> bool
+        requires { self.now.start + self.now.count ≤ 2 ^ 32 }
+        ensures { OnTrue result ((self.now.start ≤ at) × (at < self.now.start + self.now.count)) }
+    {
+        at.wrapping_sub(self.start) < self.count
+    }
+}
+
+/// For each register where loads and stores with it as their base were last: the next ones mostly are there too.
+#[derive(Clone, Copy)]
+pub struct Windows {
+    pub loads: [Window; 32],
+    pub stores: [Window; 32],
+}
+
+impl Windows {
+    /// Windows of no address.
+    #[inline(always)]
+    pub fn none() -> Windows
+        ensures { (space : GuestPages) → AreWindows space result }
+    {
+        Windows {
+            loads: [Window::none(); 32],
+            stores: [Window::none(); 32],
+        }
+    }
+}
